@@ -1,0 +1,16 @@
+use Rattle.std.specs.Prelude.{◌-◌, ◌&&◌, nat_eq, if◌then◌else◌, take, Bool, not, ℕ, length, List, [], Result, Ok, Err}
+use Rattle.std.specs.List.{slice_index, list_any}
+use Rattle.td_cdr.specs.declared.fault.CdrFault.{CdrFault}
+use Rattle.td_cdr.specs.declared.fault.CdrFault.TheVariants.{BadString}
+
+-- the bytes before the last one
+abbrev pub front : List ℕ → List ℕ
+front bytes = take (length bytes - 1) bytes
+
+-- the last byte is a NUL and no other is
+abbrev pub ends_in_nul : List ℕ → Bool
+ends_in_nul bytes = nat_eq (slice_index bytes (length bytes - 1)) 0 && not (list_any (λ b. nat_eq b 0) (front bytes))
+
+-- what a string's bytes, its length at place, say: no bytes are no text
+abbrev pub text_of : ℕ → List ℕ → Result (List ℕ) CdrFault
+text_of place bytes = if nat_eq (length bytes) 0 then Ok [] else if ends_in_nul bytes then Ok (front bytes) else Err (BadString place)

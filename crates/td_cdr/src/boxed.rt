@@ -1,0 +1,61 @@
+//! A box that contracts see as the value in it.
+
+ghost use Rattle.std.specs.Prelude.{◌≡◌, IfOk};
+
+use crate::memory::Memory;
+use crate::twin::Twin;
+use std::alloc::Global;
+use std::marker::Model;
+
+/// A value in a block of its own. Contracts see it as the value, so that a copy is equal to its
+/// original, which can't be said of a `Box`.
+#[derive(Debug, Drop)]
+pub struct Boxed<T> {
+    inner: Box<T>,
+}
+
+impl<T> Model for Boxed<T> {
+    ghost Value = { T };
+
+    ghost coded = { T.code };
+
+    ghost view = { λ b. b.inner.value };
+}
+
+impl<T> Boxed<T> {
+    /// The value.
+    pub fn get(&self) -> &T
+        ensures { result.now ≡ self.now }
+    {
+        &self.inner
+    }
+
+    /// The value, taken out.
+    pub fn into_inner(self) -> T
+        ensures { result ≡ self }
+    {
+        let Boxed { inner } = self;
+        Box::into_inner(inner)
+    }
+}
+
+impl<T: Drop> Boxed<T> {
+    /// A block with the value.
+    ///
+    /// # Errors
+    ///
+    /// `Memory` for want of memory alone; the value is then dropped.
+    pub fn new(alloc: Global, value: T) -> Result<Boxed<T>, Memory>
+        ensures { IfOk result (λ b. b ≡ value) }
+    {
+        Ok(Boxed {
+            inner: Box::new(alloc, value)?,
+        })
+    }
+}
+
+impl<T: Twin + Drop> Twin for Boxed<T> {
+    fn copy(&self, alloc: Global) -> Result<Boxed<T>, Memory> {
+        Boxed::new(alloc, self.get().copy(alloc)?)
+    }
+}

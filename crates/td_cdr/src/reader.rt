@@ -1,0 +1,219 @@
+//! Reading along a borrowed slice.
+
+ghost use Rattle.std.specs.Prelude.{◌≡◌, ◌+◌, ◌^◌, ◌<◌, ◌≤◌, length, drop, MatchResult};
+ghost use Rattle.td_cdr.specs.Truth.{truth, order_of};
+ghost use Rattle.td_cdr.specs.Text.{text_of};
+
+use crate::fault::CdrFault;
+use crate::order::Order;
+use byteorder::{BigEndian, ByteOrder, LittleEndian};
+use std::marker::Model;
+
+/// A place in a message.
+#[derive(Drop)]
+pub struct Reader<'a> {
+    rest: &'a [u8],
+    place: u32,
+    origin: u32,
+    order: Order,
+}
+
+impl<'a> Model for Reader<'a> {
+    ghost use Rattle.std.specs.Prelude.{◌+◌, ◌^◌, ◌≤◌, ◌<◌, length};
+    ghost use Rattle.td_cdr.specs.Place.{At};
+
+    ghost Value = { At };
+
+    ghost view = { λ r. record { rest = r.rest.now; place = r.place; origin = r.origin; order = r.order } };
+
+    ghost invariant = { λ r. (r.origin ≤ r.place) × (r.place + length r.rest.now < 2 ^ 32) };
+}
+
+impl<'a> Reader<'a> {
+    ghost use Rattle.std.specs.Prelude.{IfOk, MatchResult, ◌*◌, take, ◌≡◌, ◌+◌, ◌≤◌, ◌<◌, ◌^◌, length, drop};
+    ghost use Rattle.td_cdr.specs.Reading.{inside, aligned, Gives, cell_at, number_at, boolean_at, octets_at, string_at, encapsulation_at};
+
+    pub fn new(bytes: &'a [u8], place: u32, order: Order) -> Reader<'a>
+        requires within { place ≤ length bytes.now }
+        requires short { length bytes.now < 2 ^ 32 }
+        ensures { result ≡ record { rest = drop place bytes.now; place = place; origin = 0; order = order } }
+    {
+        Reader {
+            rest: &bytes[place as usize..],
+            place,
+            origin: 0,
+            order,
+        }
+    }
+
+    /// The bytes of a primitive of this size, behind its padding.
+    #[tactic(auto, unfolding(crate::specs::Reading::cell_at))]
+    fn cell(&mut self, size: u32) -> Result<&'a [u8], CdrFault>
+        requires low { 0 < size }
+        requires high { size ≤ 8 }
+        ensures gives { Gives (λ b. b.now) self.old self.new result (cell_at size self.old) }
+        ensures size { IfOk result (λ b. length b.now ≡ size) }
+        ensures place { IfOk result (λ b. self.new.place ≡ aligned size self.old + size) }
+        ensures order { self.new.order ≡ self.old.order }
+    {
+        let pad = (size - (self.place - self.origin) % size) % size;
+        let wanted = pad + size;
+        if self.rest.len() < wanted as usize {
+            return Err(CdrFault::Short(self.place.saturating_add(pad)));
+        }
+        let (front, rest) = self.rest.split_at(wanted as usize);
+        self.rest = rest;
+        self.place += wanted;
+        Ok(&front[pad as usize..])
+    }
+
+    #[tactic(auto, unfolding(crate::specs::Reading::number_at))]
+    pub fn octet(&mut self) -> Result<u8, CdrFault>
+        ensures { Gives (λ v. v) self.old self.new result (number_at 1 self.old) }
+    {
+        let cell = self.cell(1)?;
+        Ok(cell[0])
+    }
+
+    #[tactic(auto, unfolding(crate::specs::Reading::number_at))]
+    pub fn u16(&mut self) -> Result<u16, CdrFault>
+        ensures { Gives (λ v. v) self.old self.new result (number_at 2 self.old) }
+    {
+        let cell = self.cell(2)?;
+        Ok(match self.order {
+            Order::Big => BigEndian::read_u16(cell),
+            Order::Little => LittleEndian::read_u16(cell),
+        })
+    }
+
+    #[tactic(auto, unfolding(crate::specs::Reading::number_at))]
+    pub fn u32(&mut self) -> Result<u32, CdrFault>
+        ensures gives { Gives (λ v. v) self.old self.new result (number_at 4 self.old) }
+        ensures place { IfOk result (λ v. self.new.place ≡ aligned 4 self.old + 4) }
+    {
+        let cell = self.cell(4)?;
+        Ok(match self.order {
+            Order::Big => BigEndian::read_u32(cell),
+            Order::Little => LittleEndian::read_u32(cell),
+        })
+    }
+
+    #[tactic(auto, unfolding(crate::specs::Reading::boolean_at))]
+    pub fn boolean(&mut self) -> Result<bool, CdrFault>
+        ensures { Gives (λ v. v) self.old self.new result (boolean_at self.old) }
+    {
+        let mut next = self.copied();
+        let value = truth_of(next.octet()?, self.place)?;
+        *self = next;
+        Ok(value)
+    }
+
+    #[tactic(auto, unfolding(crate::specs::Reading::octets_at))]
+    pub fn octets(&mut self) -> Result<&'a [u8], CdrFault>
+        ensures gives { Gives (λ b. b.now) self.old self.new result (octets_at self.old) }
+        ensures passed { IfOk result (λ b. length b.now ≤ self.new.place) }
+    {
+        let mut next = self.copied();
+        let count = next.u32()?;
+        if next.rest.len() < count as usize {
+            return Err(CdrFault::TooLong(self.aligned()));
+        }
+        let (bytes, rest) = next.rest.split_at(count as usize);
+        next.rest = rest;
+        next.place += count;
+        *self = next;
+        Ok(bytes)
+    }
+
+    #[tactic(auto, unfolding(crate::specs::Reading::string_at))]
+    pub fn string(&mut self) -> Result<&'a [u8], CdrFault>
+        ensures { Gives (λ b. b.now) self.old self.new result (string_at self.old) }
+    {
+        let mut next = self.copied();
+        let bytes = next.octets()?;
+        let text = text_before(bytes, self.aligned())?;
+        *self = next;
+        Ok(text)
+    }
+
+    pub fn copied(&self) -> Reader<'a>
+        ensures { result ≡ self.now }
+    {
+        Reader {
+            rest: self.rest,
+            place: self.place,
+            origin: self.origin,
+            order: self.order,
+        }
+    }
+
+    /// Where the next number of four bytes stands.
+    pub fn aligned(&self) -> u32
+        ensures { result ≡ aligned 4 self.now }
+    {
+        self.place
+            .saturating_add((4 - (self.place - self.origin) % 4) % 4)
+    }
+
+    #[tactic(auto, unfolding(crate::specs::Reading::encapsulation_at))]
+    pub fn encapsulation(&mut self) -> Result<Reader<'a>, CdrFault>
+        ensures { Gives (λ r. r) self.old self.new result (encapsulation_at self.old) }
+    {
+        let mut next = self.copied();
+        let bytes = next.octets()?;
+        let inner = Reader::inside(bytes, self.aligned(), next.place)?;
+        *self = next;
+        Ok(inner)
+    }
+
+    /// A reader over octets that end at `end`, the first of which tells the order. Their length is at `place`.
+    fn inside(bytes: &'a [u8], place: u32, end: u32) -> Result<Reader<'a>, CdrFault>
+        requires before { length bytes.now ≤ end }
+        requires in_range { end < 2 ^ 32 }
+        ensures { MatchResult result (λ r. inside place end bytes.now ≡ Ok r) (λ e. inside place end bytes.now ≡ Err e) }
+    {
+        let Some((flag, rest)) = bytes.split_first() else {
+            return Err(CdrFault::Short(place));
+        };
+        let origin = end - bytes.len() as u32;
+        let order = order_of(truth_of(*flag, origin)?);
+        Ok(Reader {
+            rest,
+            place: origin + 1,
+            origin,
+            order,
+        })
+    }
+}
+
+/// The truth value that a byte stands for.
+fn truth_of(byte: u8, place: u32) -> Result<bool, CdrFault>
+    ensures { result ≡ truth place byte }
+{
+    match byte {
+        0 => Ok(false),
+        1 => Ok(true),
+        _ => Err(CdrFault::BadBoolean(place)),
+    }
+}
+
+/// What stands before the closing NUL of a string's bytes, which have their length at `place`.
+fn text_before(bytes: &[u8], place: u32) -> Result<&[u8], CdrFault>
+    ensures { MatchResult result (λ t. text_of place bytes.now ≡ Ok t.now) (λ e. text_of place bytes.now ≡ Err e) }
+{
+    if bytes.is_empty() {
+        return Ok(bytes);
+    }
+    let (text, last) = bytes.split_at(bytes.len() - 1);
+    if last[0] == 0 && !text.contains(&0) {
+        Ok(text)
+    } else {
+        Err(CdrFault::BadString(place))
+    }
+}
+
+fn order_of(little: bool) -> Order
+    ensures { result ≡ order_of little }
+{
+    if little { Order::Little } else { Order::Big }
+}

@@ -1,0 +1,172 @@
+//! Writing at the end of a message.
+
+ghost use Rattle.std.specs.Prelude.{◌≡◌, ◌+◌, ◌^◌, ◌<◌, ◌≤◌, ◌++◌, [], ◌∷◌, length, OnOk, OnErr, IfOk};
+ghost use Rattle.td_cdr.specs.Writing.{Draft, Adds, written_number, written_octets};
+ghost use Rattle.td_cdr.specs.Gap.{gap, bytes_of, flag};
+ghost use Rattle.std.specs.Prelude.{replicate, take, drop};
+
+use crate::memory::Memory;
+use crate::order::Order;
+use byteorder::{BigEndian, ByteOrder, LittleEndian};
+use std::alloc::Global;
+use std::marker::Model;
+
+#[derive(Drop)]
+pub struct Writer {
+    bytes: Vec<u8>,
+    order: Order,
+}
+
+impl Model for Writer {
+    ghost use Rattle.std.specs.Prelude.{◌<◌, ◌^◌, vec_len, vec_capacity, min, ◌-◌};
+    ghost use Rattle.td_cdr.specs.Writing.{Draft};
+
+    ghost Value = { Draft };
+
+    ghost view = { λ w. record { bytes = w.bytes.items; order = w.order; room = min (vec_capacity w.bytes) (2 ^ 32 - 1) } };
+
+    ghost invariant = { λ w. vec_len w.bytes < 2 ^ 32 };
+}
+
+impl Writer {
+    pub fn new(alloc: Global, order: Order) -> Writer
+        ensures bytes { result.bytes ≡ [] }
+        ensures order { result.order ≡ order }
+    {
+        Writer {
+            bytes: Vec::new(alloc),
+            order,
+        }
+    }
+
+    /// Room for this many bytes more.
+    pub fn reserve(&mut self, bytes: usize) -> Result<(), Memory>
+        ensures ok { OnOk result ((self.new.bytes ≡ self.old.bytes) × (self.new.order ≡ self.old.order) × (length self.old.bytes + bytes ≤ self.new.room) × (self.old.room ≤ self.new.room)) }
+        ensures err { OnErr result ((self.new ≡ self.old) × (self.old.room < length self.old.bytes + bytes)) }
+    {
+        if bytes > (u32::MAX as usize) - self.bytes.len() {
+            return Err(Memory);
+        }
+        self.bytes.reserve(bytes)?;
+        Ok(())
+    }
+
+    /// Padding of zeros up to the next multiple of the length of `cell`, and then `cell`.
+    fn put_cell(&mut self, cell: &[u8]) -> Result<(), Memory>
+        requires some { 0 < length cell.now }
+        requires few { length cell.now ≤ 8 }
+        ensures { Adds (replicate (gap (length cell.now) (length self.old.bytes)) 0 ++ cell.now) self.old self.new result }
+    {
+        let size = cell.len();
+        let held = self.bytes.len();
+        let pad = (size - held % size) % size;
+        self.reserve(pad + size)?;
+        self.bytes.resize(held + pad, 0)?;
+        self.bytes.extend_from_slice(cell)?;
+        Ok(())
+    }
+
+    pub fn u32(&mut self, v: u32) -> Result<(), Memory>
+        ensures { Adds (written_number 4 self.old.order (length self.old.bytes) v) self.old self.new result }
+    {
+        let mut cell = [0u8; 4];
+        match self.order {
+            Order::Big => BigEndian::write_u32(&mut cell, v),
+            Order::Little => LittleEndian::write_u32(&mut cell, v),
+        }
+        self.put_cell(&cell)
+    }
+
+    pub fn octets(&mut self, v: &[u8]) -> Result<(), Memory>
+        ensures { Adds (written_octets self.old.order (length self.old.bytes) v.now) self.old self.new result }
+    {
+        let size = v.len();
+        let held = self.bytes.len();
+        if size > u32::MAX as usize {
+            return Err(Memory);
+        }
+        self.reserve((4 - held % 4) % 4 + 4 + size)?;
+        self.u32(size as u32)?;
+        self.bytes.extend_from_slice(v)?;
+        Ok(())
+    }
+
+    pub fn set_u32(&mut self, place: u32, v: u32)
+        requires { place + 4 ≤ length self.old.bytes }
+        ensures { self.new ≡ record self.old { bytes = take place self.old.bytes ++ bytes_of self.old.order 4 v ++ drop (place + 4) self.old.bytes } }
+    {
+        let place = place as usize;
+        let cell = &mut self.bytes[place..place + 4];
+        match self.order {
+            Order::Big => BigEndian::write_u32(cell, v),
+            Order::Little => LittleEndian::write_u32(cell, v),
+        }
+    }
+
+    pub fn bytes(&self) -> &[u8]
+        ensures { result.now ≡ self.now.bytes }
+    {
+        &self.bytes
+    }
+
+    /// How many bytes it holds.
+    pub fn len(&self) -> usize
+        ensures { result ≡ length self.now.bytes }
+    {
+        self.bytes.len()
+    }
+
+    /// Only the first bytes are kept. Takes no memory.
+    pub fn cut(&mut self, len: usize)
+        requires { len ≤ length self.old.bytes }
+        ensures { self.new ≡ record self.old { bytes = take len self.old.bytes } }
+    {
+        self.bytes.truncate(len);
+    }
+
+    pub fn clear(&mut self)
+        ensures { self.new ≡ record self.old { bytes = [] } }
+    {
+        self.bytes.clear();
+    }
+
+    pub fn order(&self) -> Order
+        ensures { result ≡ self.now.order }
+    {
+        self.order
+    }
+
+    /// A writer for the inside of an encapsulation in this order, which begins with the octet that tells it.
+    pub fn inside(alloc: Global, order: Order) -> Result<Writer, Memory>
+        ensures { IfOk result (λ w. (w.bytes ≡ flag order ∷ []) × (w.order ≡ order)) }
+    {
+        let mut writer = Writer::new(alloc, order);
+        writer.put_cell(&[flag_of(order)])?;
+        Ok(writer)
+    }
+
+    /// Text behind its length, with a NUL at its end.
+    pub fn string(&mut self, v: &[u8]) -> Result<(), Memory>
+        ensures { Adds (written_octets self.old.order (length self.old.bytes) (v.now ++ 0 ∷ [])) self.old self.new result }
+    {
+        let size = v.len();
+        let held = self.bytes.len();
+        if size > u32::MAX as usize - 1 {
+            return Err(Memory);
+        }
+        self.reserve((4 - held % 4) % 4 + 4 + size + 1)?;
+        self.u32(size as u32 + 1)?;
+        self.bytes.extend_from_slice(v)?;
+        self.bytes.push(0)?;
+        Ok(())
+    }
+}
+
+fn flag_of(order: Order) -> u8
+    ensures { result ≡ flag order }
+{
+    match order {
+        Order::Big => 0,
+        Order::Little => 1,
+    }
+}
