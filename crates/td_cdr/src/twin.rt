@@ -39,3 +39,33 @@ impl Twin for usize {
         Ok(*self)
     }
 }
+
+impl Twin for u16 {
+    fn copy(&self, _alloc: Global) -> Result<u16, Memory> {
+        Ok(*self)
+    }
+}
+
+impl Twin for i16 {
+    fn copy(&self, _alloc: Global) -> Result<i16, Memory> {
+        Ok(*self)
+    }
+}
+
+impl Twin for i32 {
+    fn copy(&self, _alloc: Global) -> Result<i32, Memory> {
+        Ok(*self)
+    }
+}
+
+impl Twin for i64 {
+    fn copy(&self, _alloc: Global) -> Result<i64, Memory> {
+        Ok(*self)
+    }
+}
+
+impl Twin for bool {
+    fn copy(&self, _alloc: Global) -> Result<bool, Memory> {
+        Ok(*self)
+    }
+}
