@@ -4,6 +4,7 @@
 
 mod boxed;
 mod fault;
+pub mod laws;
 mod list;
 mod memory;
 mod names;
