@@ -33,7 +33,7 @@ number-take : (order : Order) (n : ℕ) (bytes : List ℕ) → number order n (t
 number-take Big n bytes = big_from-take 0 n n bytes (omega arith)
 number-take Little n bytes = little_from-take 0 n n bytes (omega arith)
 
-number-found : (size : ℕ) (a : At) (v : ℕ) (next : At) → number_at size a ≡ Ok (v, next) → Found (SpellsNumber size) a v next
+pub number-found : (size : ℕ) (a : At) (v : ℕ) (next : At) → number_at size a ≡ Ok (v, next) → Found (SpellsNumber size) a v next
 unfolding number_at cell_at
 number-found size a v next e =
     let p = padding size a in
@@ -52,7 +52,7 @@ number-found size a v next e =
       moved = rw (len) (sym next-is);
     }
 
-number-only : (size : ℕ) (a : At) (v : ℕ) (b rest : List ℕ) → SpellsNumber size a.order (a.place - a.origin) v b → a.rest ≡ b ++ rest → number_at size a ≡ Ok (v, after (length b) a)
+pub number-only : (size : ℕ) (a : At) (v : ℕ) (b rest : List ℕ) → SpellsNumber size a.order (a.place - a.origin) v b → a.rest ≡ b ++ rest → number_at size a ≡ Ok (v, after (length b) a)
 unfolding number_at cell_at
 number-only size a v b rest s e =
     let p = padding size a in

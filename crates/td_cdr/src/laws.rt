@@ -1,11 +1,12 @@
 //! What holds of all spellings, as functions that do nothing: each one's contract is the law.
 
-ghost use Rattle.std.specs.Prelude.{ℕ};
-ghost use Rattle.td_cdr.specs.Reading.{number_at, octets_at};
-ghost use Rattle.td_cdr.specs.Spelling.{SpellsNumber, SpellsOctets, Joins};
+ghost use Rattle.td_cdr.specs.Spelling.{Joins};
+ghost use Rattle.td_cdr.specs.Faults.{Refuses};
+ghost use Rattle.td_cdr.specs.Items.{Item, Spells, reading, IsFaulty};
 
-/// What is read is spelled so, and what is spelled so is read, whatever follows.
+/// What is read is spelled so, what is spelled so is read whatever follows, and a reading is refused
+/// exactly where the first item that has no spelling is at fault.
 pub fn is_read()
-    ensures number { (size : ℕ) → Joins (SpellsNumber size) (number_at size) }
-    ensures octets { Joins SpellsOctets octets_at }
+    ensures joins { (item : Item) → Joins (Spells item) (reading item) }
+    ensures refuses { (item : Item) → Refuses (IsFaulty item) (reading item) }
 {}
