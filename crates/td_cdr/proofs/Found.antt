@@ -1,17 +1,17 @@
 -- What is read of the other items is spelled so, and what is spelled so is read.
-use Rattle.std.proofs.Common.{◌≡◌, ℕ, ℤ, zero, suc, ◌+◌, ◌-◌, ◌<◌, ◌≤◌, Bool, true, false, not, ◌&&◌, cond, ltb, eqb, get_or, List, [], ◌∷◌, ◌++◌, length, take, drop, Result, Ok, Err, refl, sym, ap, subst, ◌∙◌, append_assoc, arith, length-append}
-use Rattle.std.proofs.lemmas.Bool.{ltb-false, le-ltb, eqb-true, eqb-false, eq-eqb, ne_eqb, and_parts, not-true, cases_Bool}
-use Rattle.std.proofs.lemmas.List.{take_at, drop_at, take-append-drop, get_or_at, take_more, take_all, nil_from_length}
+use Rattle.std.proofs.Common.{◌≡◌, ℕ, ℤ, zero, suc, ◌+◌, ◌-◌, ◌<◌, ◌≤◌, Bool, true, false, not, cond, eqb, get_or, List, [], ◌∷◌, ◌++◌, length, take, drop, Result, Ok, Err, refl, sym, ap, subst, ◌∙◌, append_assoc, arith, length-append}
+use Rattle.std.proofs.lemmas.Bool.{eqb-true, eqb-false, ne_eqb, and_parts, not-true}
+use Rattle.std.proofs.lemmas.List.{take_at, drop_at, get_or_at, take_more, take_all, nil_from_length}
 use Rattle.std.specs.Int.{Width, cast_signed}
 use Rattle.td_cdr.specs.declared.order.Order.{Order}
 use Rattle.td_cdr.specs.declared.fault.CdrFault.{CdrFault}
 use Rattle.td_cdr.specs.declared.fault.CdrFault.TheVariants.{BadString}
-use Rattle.td_cdr.specs.Truth.{truth, order_of}
+use Rattle.td_cdr.specs.Truth.{truth}
 use Rattle.td_cdr.specs.Text.{text_of, has_nul, HasNoNul, ends_in_nul, front}
 use Rattle.td_cdr.specs.Gap.{gap}
 use Rattle.td_cdr.specs.Place.{At}
 use Rattle.td_cdr.specs.Reading.{after, aligned, number, ◌>>=◌, number_at, signed_at, boolean_at, octets_at, string_at}
-use Rattle.td_cdr.specs.Spelling.{SpellsNumber, SpellsSigned, SpellsBoolean, SpellsOctets, SpellsString, IsText, closed, absent, SpellsThen, IsFlag, Found, Joins}
+use Rattle.td_cdr.specs.Spelling.{SpellsSigned, SpellsBoolean, SpellsString, IsText, closed, absent, SpellsThen, IsFlag, Found, Joins}
 use Rattle.td_cdr.specs.Items.{read_then}
 use Rattle.td_cdr.proofs.Joined.{bind_ok, ok_is, number-found, number-only, octets-found, octets-only, moved-place, after-after, Found-then}
 

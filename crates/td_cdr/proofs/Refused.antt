@@ -1,18 +1,16 @@
 -- A reading is refused exactly where an item is at fault.
-use Rattle.std.proofs.Common.{◌≡◌, ℕ, ℤ, zero, suc, ◌+◌, ◌-◌, ◌<◌, ◌≤◌, Bool, true, false, not, cond, ltb, eqb, List, [], ◌∷◌, ◌++◌, length, take, drop, Result, Ok, Err, refl, sym, ap, subst, ◌∙◌, arith, length-append, ◌⊎◌, inl, inr}
-use Rattle.std.proofs.lemmas.Bool.{ltb-true, lt-ltb, eqb-true, eqb-false, ne_eqb}
-use Rattle.std.proofs.lemmas.List.{nil_from_length}
+use Rattle.std.proofs.Common.{◌≡◌, ℕ, zero, suc, ◌+◌, ◌-◌, ◌<◌, ◌≤◌, Bool, true, false, cond, ltb, eqb, List, [], ◌∷◌, length, take, drop, Result, Ok, Err, refl, sym, ap, ◌∙◌, arith, length-append, ◌⊎◌, inl, inr}
+use Rattle.std.proofs.lemmas.Bool.{ltb-true, lt-ltb, eqb-false, ne_eqb}
 use Rattle.std.specs.Int.{Width, cast_signed}
 use Rattle.td_cdr.specs.declared.order.Order.{Order}
 use Rattle.td_cdr.specs.declared.fault.CdrFault.{CdrFault}
 use Rattle.td_cdr.specs.declared.fault.CdrFault.TheVariants.{Short, BadBoolean, BadString, TooLong}
 use Rattle.td_cdr.specs.Truth.{truth, order_of}
-use Rattle.td_cdr.specs.Text.{text_of, HasNoNul, ends_in_nul, front}
+use Rattle.td_cdr.specs.Text.{text_of, ends_in_nul, front}
 use Rattle.td_cdr.specs.Place.{At}
 use Rattle.td_cdr.specs.Reading.{after, padding, aligned, number, ◌>>=◌, cell_at, number_at, signed_at, boolean_at, octets_at, string_at, inside, encapsulation_at, within}
-use Rattle.td_cdr.specs.Spelling.{SpellsNumber, SpellsOctets, IsFlag, Found, Joins}
+use Rattle.td_cdr.specs.Spelling.{SpellsNumber, SpellsOctets, Found, Joins}
 use Rattle.td_cdr.specs.Items.{read_then}
-use Rattle.td_cdr.specs.Faults
 use Rattle.td_cdr.specs.Faults.{NumberFault, BooleanFault, OctetsFault, StringFault, IsClosed, WithinFault, ThenFault, order_place, within_at, Refuses}
 use Rattle.td_cdr.proofs.Joined.{bind_ok, ok_is, number-found, number-joins, octets-found, octets-joins}
 use Rattle.td_cdr.proofs.Found.{text_of-closed, closed-ends_in_nul, truth-found, truth-only}

@@ -1,6 +1,6 @@
 -- Every item that the calls of a reader and a writer make up: the primitives, strings, sequences of
 -- octets, one item after another, and encapsulations of any of them, to any depth.
-use Rattle.std.specs.Prelude.{◌≡◌, ℕ, ℤ, Bool, List, Result, Ok}
+use Rattle.std.specs.Prelude.{ℕ, ℤ, Bool, List, Result, Ok}
 use Rattle.std.specs.Int.{w16, w32, w64}
 use Rattle.td_cdr.specs.declared.order.Order.{Order}
 use Rattle.td_cdr.specs.declared.fault.CdrFault.{CdrFault}
