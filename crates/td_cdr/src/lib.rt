@@ -24,3 +24,6 @@ pub use reader::Reader;
 pub use text::Text;
 pub use twin::Twin;
 pub use writer::Writer;
+
+#[cfg(test)]
+mod tests;
