@@ -130,6 +130,14 @@ impl Writer {
         self.bytes.clear();
     }
 
+    /// Empties it for a message in this order. Takes no memory, and keeps the room.
+    pub fn restart(&mut self, order: Order)
+        ensures { self.new ≡ record { bytes = []; order = order; room = self.old.room } }
+    {
+        self.bytes.clear();
+        self.order = order;
+    }
+
     pub fn order(&self) -> Order
         ensures { result ≡ self.now.order }
     {
