@@ -1,5 +1,6 @@
 pub mod formers
 pub mod Gap
+pub mod Names
 pub mod Place
 pub mod Reading
 pub mod Spelling
