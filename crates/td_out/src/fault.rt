@@ -1,7 +1,7 @@
 //! How the outside fails.
 
 ghost use Rattle.std.specs.Prelude.{◌≡◌};
-ghost use Rattle.td_out.specs.declared.fault.TextFault.TheVariants.{Memory as of_memory};
+ghost use Rattle.td_out.specs.declared.fault.TextFault.TheVariants.{Failed as of_failure, Memory as of_memory};
 
 use thiserror::Error;
 
@@ -29,5 +29,13 @@ impl From<td_cdr::Memory> for TextFault {
 
     fn from(_e: td_cdr::Memory) -> TextFault {
         TextFault::Memory
+    }
+}
+
+impl From<Failed> for TextFault {
+    ghost from_gives = { λ _ e. e ≡ of_failure };
+
+    fn from(_e: Failed) -> TextFault {
+        TextFault::Failed
     }
 }

@@ -5,17 +5,26 @@
 
 mod calls;
 mod fault;
+mod file_texts;
 mod mem_sink;
 mod mem_source;
 mod mem_texts;
 mod sink;
 mod source;
+mod std_sink;
+mod std_source;
 mod texts;
 
 pub use fault::{Failed, TextFault};
+pub use file_texts::FileTexts;
 pub use mem_sink::MemSink;
 pub use mem_source::MemSource;
 pub use mem_texts::MemTexts;
 pub use sink::Sink;
 pub use source::Source;
+pub use std_sink::StdSink;
+pub use std_source::StdSource;
 pub use texts::Texts;
+
+#[cfg(test)]
+mod tests;

@@ -9,13 +9,10 @@ ghost use Rattle.td_out.specs.declared.fault.TextFault.TheVariants.{Memory as of
 
 use crate::calls::Calls;
 use crate::fault::TextFault;
-use crate::texts::Texts;
+use crate::texts::{LONGEST_TEXT, Texts};
 use std::alloc::Global;
 use std::marker::Model;
 use td_cdr::{List, Octets, Text};
-
-/// How long a text may be, in bytes: 64 MiB.
-const LONGEST_TEXT: usize = 67_108_864;
 
 /// Texts that lie in memory with their names, some of whose calls fail.
 #[derive(Debug, Drop)]

@@ -7,6 +7,9 @@ use crate::fault::TextFault;
 use std::alloc::Global;
 use td_cdr::Octets;
 
+/// How long a text may be, in bytes: 64 MiB.
+pub(crate) const LONGEST_TEXT: usize = 67_108_864;
+
 /// Texts by name.
 pub trait Texts {
     /// The texts with their names, where the object tells; of two texts of one name the first counts.
