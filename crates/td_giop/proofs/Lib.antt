@@ -1,0 +1,3 @@
+pub mod Cond
+pub mod Judged
+pub mod Framing

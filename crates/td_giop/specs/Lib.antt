@@ -1,0 +1,4 @@
+pub mod Cut
+pub mod FramerLends
+pub mod Header
+pub mod Stream
