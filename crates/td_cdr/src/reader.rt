@@ -31,7 +31,8 @@ impl<'a> Model for Reader<'a> {
 
 impl<'a> Reader<'a> {
     ghost use Rattle.std.specs.Prelude.{IfOk, MatchResult, ◌*◌, take, ◌≡◌, ◌+◌, ◌≤◌, ◌<◌, ◌^◌, length, drop};
-    ghost use Rattle.td_cdr.specs.Reading.{inside, aligned, Gives, cell_at, number_at, boolean_at, octets_at, string_at, encapsulation_at};
+    ghost use Rattle.std.specs.Int.{w16, w32, w64};
+    ghost use Rattle.td_cdr.specs.Reading.{inside, aligned, Gives, cell_at, number_at, signed_at, boolean_at, octets_at, string_at, encapsulation_at};
 
     pub fn new(bytes: &'a [u8], place: u32, order: Order) -> Reader<'a>
         requires within { place ≤ length bytes.now }
@@ -44,6 +45,13 @@ impl<'a> Reader<'a> {
             origin: 0,
             order,
         }
+    }
+
+    /// Where it stands, counted from the message's first byte, inside encapsulations too.
+    pub fn place(&self) -> u32
+        ensures { result ≡ self.now.place }
+    {
+        self.place
     }
 
     /// The bytes of a primitive of this size, behind its padding.
@@ -96,6 +104,58 @@ impl<'a> Reader<'a> {
             Order::Big => BigEndian::read_u32(cell),
             Order::Little => LittleEndian::read_u32(cell),
         })
+    }
+
+    /// The next eight bytes as an unsigned long long, aligned to 8.
+    ///
+    /// # Errors
+    ///
+    /// `Short` where its padding or bytes run past the end.
+    #[tactic(auto, unfolding(crate::specs::Reading::number_at))]
+    pub fn u64(&mut self) -> Result<u64, CdrFault>
+        ensures { Gives (λ v. v) self.old self.new result (number_at 8 self.old) }
+    {
+        let cell = self.cell(8)?;
+        Ok(match self.order {
+            Order::Big => BigEndian::read_u64(cell),
+            Order::Little => LittleEndian::read_u64(cell),
+        })
+    }
+
+    /// The next two bytes as a short, in two's complement.
+    ///
+    /// # Errors
+    ///
+    /// As `u16`.
+    #[tactic(auto, unfolding(crate::specs::Reading::signed_at))]
+    pub fn i16(&mut self) -> Result<i16, CdrFault>
+        ensures { Gives (λ v. v) self.old self.new result (signed_at w16 2 self.old) }
+    {
+        Ok(self.u16()?.cast_signed())
+    }
+
+    /// The next four bytes as a long, in two's complement.
+    ///
+    /// # Errors
+    ///
+    /// As `u32`.
+    #[tactic(auto, unfolding(crate::specs::Reading::signed_at))]
+    pub fn i32(&mut self) -> Result<i32, CdrFault>
+        ensures { Gives (λ v. v) self.old self.new result (signed_at w32 4 self.old) }
+    {
+        Ok(self.u32()?.cast_signed())
+    }
+
+    /// The next eight bytes as a long long, in two's complement.
+    ///
+    /// # Errors
+    ///
+    /// As `u64`.
+    #[tactic(auto, unfolding(crate::specs::Reading::signed_at))]
+    pub fn i64(&mut self) -> Result<i64, CdrFault>
+        ensures { Gives (λ v. v) self.old self.new result (signed_at w64 8 self.old) }
+    {
+        Ok(self.u64()?.cast_signed())
     }
 
     #[tactic(auto, unfolding(crate::specs::Reading::boolean_at))]

@@ -1,7 +1,7 @@
 //! Writing at the end of a message.
 
 ghost use Rattle.std.specs.Prelude.{◌≡◌, ◌+◌, ◌^◌, ◌<◌, ◌≤◌, ◌++◌, [], ◌∷◌, length, OnOk, OnErr, IfOk};
-ghost use Rattle.td_cdr.specs.Writing.{Draft, Adds, written_number, written_octets};
+ghost use Rattle.td_cdr.specs.Writing.{Draft, Adds, written_number, written_octets, BeginsWithOrder};
 ghost use Rattle.td_cdr.specs.Gap.{gap, bytes_of, flag};
 ghost use Rattle.std.specs.Prelude.{replicate, take, drop};
 
@@ -64,6 +64,49 @@ impl Writer {
         self.bytes.resize(held + pad, 0)?;
         self.bytes.extend_from_slice(cell)?;
         Ok(())
+    }
+
+    /// One byte.
+    ///
+    /// # Errors
+    ///
+    /// `Memory` for want of room; the writer is then unchanged.
+    pub fn octet(&mut self, v: u8) -> Result<(), Memory>
+        ensures { Adds (written_number 1 self.old.order (length self.old.bytes) v) self.old self.new result }
+    {
+        self.put_cell(&[v])
+    }
+
+    /// An unsigned short, behind its padding of zeros.
+    ///
+    /// # Errors
+    ///
+    /// `Memory` for want of room; the writer is then unchanged.
+    pub fn u16(&mut self, v: u16) -> Result<(), Memory>
+        ensures { Adds (written_number 2 self.old.order (length self.old.bytes) v) self.old self.new result }
+    {
+        let mut cell = [0u8; 2];
+        match self.order {
+            Order::Big => BigEndian::write_u16(&mut cell, v),
+            Order::Little => LittleEndian::write_u16(&mut cell, v),
+        }
+        self.put_cell(&cell)
+    }
+
+    /// An unsigned long long, behind its padding of zeros.
+    ///
+    /// # Errors
+    ///
+    /// `Memory` for want of room; the writer is then unchanged.
+    pub fn u64(&mut self, v: u64) -> Result<(), Memory>
+        ensures { Adds (written_number 8 self.old.order (length self.old.bytes) v) self.old self.new result }
+    {
+        let mut cell = [0u8; 8];
+        match self.order {
+            Order::Big => BigEndian::write_u64(&mut cell, v),
+            Order::Little => LittleEndian::write_u64(&mut cell, v),
+        }
+        self.put_cell(&cell)
     }
 
     pub fn u32(&mut self, v: u32) -> Result<(), Memory>
@@ -134,6 +177,19 @@ impl Writer {
         ensures { result ≡ self.now.order }
     {
         self.order
+    }
+
+    /// What `inner` holds, as an encapsulation: behind the number of its bytes, of which the first
+    /// tells their order.
+    ///
+    /// # Errors
+    ///
+    /// `Memory` for want of room; the writer is then unchanged.
+    pub fn encapsulate(&mut self, inner: &Writer) -> Result<(), Memory>
+        requires { BeginsWithOrder inner.now }
+        ensures { Adds (written_octets self.old.order (length self.old.bytes) inner.now.bytes) self.old self.new result }
+    {
+        self.octets(inner.bytes())
     }
 
     /// A writer for the inside of an encapsulation in this order, which begins with the octet that tells it.
