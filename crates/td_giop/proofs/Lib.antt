@@ -1,3 +1,4 @@
 pub mod Cond
 pub mod Judged
+pub mod Passing
 pub mod Framing

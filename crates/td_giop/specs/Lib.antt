@@ -1,4 +1,5 @@
 pub mod Cut
 pub mod FramerLends
 pub mod Header
+pub mod Heads
 pub mod Stream

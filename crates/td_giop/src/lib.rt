@@ -4,9 +4,13 @@
 
 mod fault;
 mod framer;
+mod head;
 mod header;
 mod raw;
 
 pub use fault::FrameFault;
 pub use framer::Framer;
+pub use head::{
+    ReplyHead, RequestHead, read_cancel, read_locate, read_locate_reply, read_reply, read_request,
+};
 pub use raw::Raw;
