@@ -134,6 +134,19 @@ impl Writer {
         Ok(())
     }
 
+    /// Bytes as they are, with no padding and no length before them.
+    ///
+    /// # Errors
+    ///
+    /// `Memory` for want of room; the writer is then unchanged.
+    pub fn append(&mut self, v: &[u8]) -> Result<(), Memory>
+        ensures { Adds v.now self.old self.new result }
+    {
+        self.reserve(v.len())?;
+        self.bytes.extend_from_slice(v)?;
+        Ok(())
+    }
+
     pub fn set_u32(&mut self, place: u32, v: u32)
         requires { place + 4 ≤ length self.old.bytes }
         ensures { self.new ≡ record self.old { bytes = take place self.old.bytes ++ bytes_of self.old.order 4 v ++ drop (place + 4) self.old.bytes } }
@@ -152,9 +165,10 @@ impl Writer {
         &self.bytes
     }
 
-    /// How many bytes it holds.
+    /// How many bytes it holds. They fit its room, which is below 2^32.
     pub fn len(&self) -> usize
-        ensures { result ≡ length self.now.bytes }
+        ensures len { result ≡ length self.now.bytes }
+        ensures within { (length self.now.bytes ≤ self.now.room) × (self.now.room < 2 ^ 32) }
     {
         self.bytes.len()
     }
