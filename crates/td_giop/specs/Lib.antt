@@ -3,3 +3,4 @@ pub mod FramerLends
 pub mod Header
 pub mod Heads
 pub mod Stream
+pub mod Written

@@ -7,6 +7,7 @@ mod framer;
 mod head;
 mod header;
 mod raw;
+mod write;
 
 pub use fault::FrameFault;
 pub use framer::Framer;
@@ -14,3 +15,4 @@ pub use head::{
     ReplyHead, RequestHead, read_cancel, read_locate, read_locate_reply, read_reply, read_request,
 };
 pub use raw::Raw;
+pub use write::{seal, start_reply};
