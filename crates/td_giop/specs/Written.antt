@@ -1,9 +1,9 @@
 -- What the writers of GIOP 1.0's messages append (chapter "General Inter-ORB Protocol", "GIOP
 -- Messages"): no contexts, an empty principal, and 0 in the size field until the message is sealed.
-use Rattle.std.specs.Prelude.{◌≡◌, ◌<◌, ◌≤◌, Result, OnOk, OnErr, ℕ, ◌-◌, Bool, List, [], ◌∷◌, ◌++◌, length, take, drop}
+use Rattle.std.specs.Prelude.{◌≡◌, ◌<◌, ◌≤◌, Result, OnOk, OnErr, ℕ, ◌+◌, ◌-◌, Bool, List, [], ◌∷◌, ◌++◌, length, take, drop}
 use Rattle.std.specs.Int.{from_bool}
 use Rattle.td_cdr.specs.declared.order.Order.{Order}
-use Rattle.td_cdr.specs.Gap.{bytes_of, flag}
+use Rattle.td_cdr.specs.Gap.{gap, bytes_of, flag}
 use Rattle.td_cdr.specs.Writing.{Draft, written_number, written_octets}
 
 -- an item behind these bytes, spelled at the place where they end
@@ -26,6 +26,14 @@ text order v place = written_octets order place (v ++ 0 ∷ [])
 -- the message header, whose size isn't known yet
 abbrev pub header_written : Order → ℕ → List ℕ
 header_written order kind = 71 ∷ 73 ∷ 79 ∷ 80 ∷ 1 ∷ 0 ∷ flag order ∷ kind ∷ 0 ∷ 0 ∷ 0 ∷ 0 ∷ []
+
+-- where so many octets end whose number is the next item
+abbrev pub octets_end : ℕ → ℕ → ℕ
+octets_end place len = place + (gap 4 place + 4 + len)
+
+-- how long the start of a Request is with a key and an operation of these lengths
+abbrev pub request_size : ℕ → ℕ → ℕ
+request_size key operation = octets_end (octets_end (octets_end 21 key) (operation + 1)) 0
 
 -- Request: no contexts, request id, response expected, object key, operation, no principal
 unfoldable pub request_start : Order → ℕ → Bool → List ℕ → List ℕ → List ℕ

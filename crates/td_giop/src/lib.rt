@@ -15,4 +15,4 @@ pub use head::{
     ReplyHead, RequestHead, read_cancel, read_locate, read_locate_reply, read_reply, read_request,
 };
 pub use raw::Raw;
-pub use write::{seal, start_reply};
+pub use write::{seal, start_reply, start_request, write_locate, write_locate_reply, write_plain};
