@@ -113,6 +113,13 @@ impl Framer {
         }
     }
 
+    /// The place in the stream of the first byte that was not taken away, in bytes from 0.
+    pub fn place(&self) -> u64
+        ensures { result ≡ self.now.start }
+    {
+        self.start
+    }
+
     /// The place of the first byte of a message that began and isn't whole.
     pub fn ended_inside(&self) -> Option<u64>
         ensures { SomeIff result (IsInside self.now) self.now.start }
