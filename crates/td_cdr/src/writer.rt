@@ -155,6 +155,19 @@ impl Writer {
         Ok(())
     }
 
+    /// Bytes as they are, with no padding and no length before them.
+    ///
+    /// # Errors
+    ///
+    /// `Memory` for want of room; the writer is then unchanged.
+    pub fn append(&mut self, v: &[u8]) -> Result<(), Memory>
+        ensures { Adds v.now self.old self.new result }
+    {
+        self.reserve(v.len())?;
+        self.bytes.extend_from_slice(v)?;
+        Ok(())
+    }
+
     /// Puts a number's four bytes, in the writer's order, in the place of the four bytes from `place` on.
     /// Takes no memory.
     pub fn set_u32(&mut self, place: u32, v: u32)
@@ -176,9 +189,10 @@ impl Writer {
         &self.bytes
     }
 
-    /// How many bytes it holds.
+    /// How many bytes it holds. They fit its room, which is below 2^32.
     pub fn len(&self) -> usize
-        ensures { result ≡ length self.now.bytes }
+        ensures len { result ≡ length self.now.bytes }
+        ensures within { (length self.now.bytes ≤ self.now.room) × (self.now.room < 2 ^ 32) }
     {
         self.bytes.len()
     }
@@ -198,7 +212,15 @@ impl Writer {
         self.bytes.clear();
     }
 
-    /// The order that `new` or `inside` was handed.
+    /// Empties it for a message in this order. Takes no memory, and keeps the room.
+    pub fn restart(&mut self, order: Order)
+        ensures { self.new ≡ record { bytes = []; order = order; room = self.old.room } }
+    {
+        self.bytes.clear();
+        self.order = order;
+    }
+
+    /// The order that `new`, `inside` or `restart` was handed.
     pub fn order(&self) -> Order
         ensures { result ≡ self.now.order }
     {
