@@ -1,11 +1,13 @@
 -- The laws of every item, from those of its parts.
-use Rattle.std.proofs.Common.{◌≡◌, ℕ, ◌-◌, List, ◌++◌, length, Ok, refl, sym, ap, ◌∙◌, arith}
+use Rattle.std.proofs.Common.{◌≡◌, ℕ, ◌-◌, ◌≤◌, List, ◌++◌, length, Ok, Err, refl, sym, ap, ◌∙◌, arith}
 use Rattle.std.specs.Int.{w16, w32, w64}
 use Rattle.td_cdr.specs.declared.order.Order.{Order}
+use Rattle.td_cdr.specs.declared.fault.CdrFault.{CdrFault}
+use Rattle.td_cdr.specs.declared.fault.CdrFault.TheVariants.{Memory}
 use Rattle.td_cdr.specs.Place.{At}
 use Rattle.td_cdr.specs.Reading.{after}
 use Rattle.td_cdr.specs.Spelling.{Joins}
-use Rattle.td_cdr.specs.Faults.{Refuses}
+use Rattle.td_cdr.specs.Faults.{NumberFault, BooleanFault, OctetsFault, StringFault, WithinFault, ThenFault, within_at, Refuses}
 use Rattle.td_cdr.specs.Items.{Item, octet, ushort, ulong, ulonglong, short, long, longlong, boolean, string, octets, pair, encapsulated, ValueOf, Spells, reading, IsFaulty}
 use Rattle.td_cdr.proofs.Joined.{number-joins, octets-joins, within-joins, ok_is}
 use Rattle.td_cdr.proofs.Found.{signed-joins, boolean-joins, string-joins, then-joins}
@@ -53,3 +55,48 @@ one-value item order place v w b c more others s t e =
     let a : At = record { rest = b ++ more; place = place; origin = 0; order = order } in
     let same : (v, after (length b) a) ≡ (w, after (length c) a) = ok_is (v, after (length b) a) (w, after (length c) a) (sym (read-as item order place v b more (b ++ more) s refl) ∙ read-as item order place w c others (b ++ more) t e) in
     ap (λ (p : ValueOf item × At). p.0) same
+
+-- ---- no reading wants memory
+
+number-takes_none : (size : ℕ) (a : At) → NumberFault size a Memory → ⊥
+number-takes_none size a n = cc n.fault
+
+octets-takes_none : (a : At) → OctetsFault a Memory → ⊥
+octets-takes_none a (OctetsFault.cut n) = number-takes_none 4 a n
+octets-takes_none a (OctetsFault.above count next found past fault) = cc fault
+
+boolean-takes_none : (a : At) → BooleanFault a Memory → ⊥
+boolean-takes_none a (BooleanFault.cut n) = number-takes_none 1 a n
+boolean-takes_none a (BooleanFault.above byte next found past fault) = cc fault
+
+string-takes_none : (a : At) → StringFault a Memory → ⊥
+string-takes_none a (StringFault.octets o) = octets-takes_none a o
+string-takes_none a (StringFault.unclosed kept next found some not_closed fault) = cc fault
+
+within-takes_none : (inner : At → CdrFault → Type 0) → ((a : At) → inner a Memory → ⊥) → (a : At) → WithinFault inner a Memory → ⊥
+within-takes_none inner none a (WithinFault.octets o) = octets-takes_none a o
+within-takes_none inner none a (WithinFault.empty next found fault) = cc fault
+within-takes_none inner none a (WithinFault.order flag body next found above fault) = cc fault
+within-takes_none inner none a (WithinFault.inside little flag body next found told d) = none (within_at a little body) d
+
+then-takes_none : {X : Type 0} (spells : Order → ℕ → X → List ℕ → Type 0) (first : At → CdrFault → Type 0) (second : X → At → CdrFault → Type 0)
+    → ((a : At) → first a Memory → ⊥) → ((v : X) (a : At) → second v a Memory → ⊥) → (a : At) → ThenFault spells first second a Memory → ⊥
+then-takes_none spells first second one two a (ThenFault.first d) = one a d
+then-takes_none spells first second one two a (ThenFault.second v next found d) = two v next d
+
+item-takes_none : (item : Item) (a : At) → IsFaulty item a Memory → ⊥
+item-takes_none octet = number-takes_none 1
+item-takes_none ushort = number-takes_none 2
+item-takes_none ulong = number-takes_none 4
+item-takes_none ulonglong = number-takes_none 8
+item-takes_none short = number-takes_none 2
+item-takes_none long = number-takes_none 4
+item-takes_none longlong = number-takes_none 8
+item-takes_none boolean = boolean-takes_none
+item-takes_none string = string-takes_none
+item-takes_none octets = octets-takes_none
+item-takes_none (pair first second) = then-takes_none (Spells first) (IsFaulty first) (λ _. IsFaulty second) (item-takes_none first) (λ _. item-takes_none second)
+item-takes_none (encapsulated inner) = within-takes_none (IsFaulty inner) (item-takes_none inner)
+
+pub takes-no-memory : (item : Item) (a : At) → a.origin ≤ a.place → reading item a ≡ Err Memory → ⊥
+takes-no-memory item a h e = item-takes_none item a ((item-refuses item).told a Memory h e)

@@ -1,5 +1,6 @@
--- Where the bytes at a place are no value, and which fault that is, as a condition on the bytes. A
--- fault is that of the first item that has no spelling, all items before it having one.
+-- Where the bytes at a place are no value by CORBA, General Inter-ORB Protocol, "CDR Transfer Syntax", and which fault that
+-- is, as a condition on the bytes. A fault is that of the first item that has no spelling, all items
+-- before it having one.
 use Rattle.std.specs.Prelude.{◌≡◌, ℕ, ◌+◌, ◌<◌, ◌≤◌, Bool, List, [], ◌∷◌, ◌++◌, length, Result, Err}
 use Rattle.td_cdr.specs.declared.order.Order.{Order}
 use Rattle.td_cdr.specs.declared.fault.CdrFault.{CdrFault}

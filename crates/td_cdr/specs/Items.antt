@@ -1,4 +1,4 @@
--- Every item that the calls of a reader and a writer make up: the primitives, strings, sequences of
+-- CORBA, General Inter-ORB Protocol, "CDR Transfer Syntax": every item that the calls of a reader and a writer make up: the primitives, strings, sequences of
 -- octets, one item after another, and encapsulations of any of them, to any depth.
 use Rattle.std.specs.Prelude.{ℕ, ℤ, Bool, List, Result, Ok}
 use Rattle.std.specs.Int.{w16, w32, w64}
@@ -9,6 +9,7 @@ use Rattle.td_cdr.specs.Reading.{◌>>=◌, number_at, signed_at, boolean_at, oc
 use Rattle.td_cdr.specs.Spelling.{SpellsNumber, SpellsSigned, SpellsBoolean, SpellsOctets, SpellsString, SpellsThen, SpellsWithin}
 use Rattle.td_cdr.specs.Faults.{NumberFault, BooleanFault, OctetsFault, StringFault, ThenFault, WithinFault}
 
+-- the names are those of OMG IDL; octets is a sequence of octet, and pair any two members of a struct
 pub data Item : Type 0 where
   octet ushort ulong ulonglong : Item
   short long longlong : Item
@@ -16,6 +17,7 @@ pub data Item : Type 0 where
   pair : Item → Item → Item
   encapsulated : Item → Item
 
+-- what an item's value is: a char is an octet, a string its bytes without the NUL
 abbrev pub ValueOf : Item → Type 0
 ValueOf octet = ℕ
 ValueOf ushort = ℕ
@@ -30,6 +32,7 @@ ValueOf octets = List ℕ
 ValueOf (pair first second) = ValueOf first × ValueOf second
 ValueOf (encapsulated inner) = ValueOf inner
 
+-- which bytes spell the item's value in an order and at a place
 abbrev pub Spells : (item : Item) → Order → ℕ → ValueOf item → List ℕ → Type 0
 Spells octet = SpellsNumber 1
 Spells ushort = SpellsNumber 2
@@ -48,6 +51,7 @@ Spells (encapsulated inner) = SpellsWithin (Spells inner)
 abbrev pub read_then : {X Y : Type 0} → (At → Result (X × At) CdrFault) → (X → At → Result (Y × At) CdrFault) → At → Result ((X × Y) × At) CdrFault
 read_then first second a = first a >>= λ v. second v.0 v.1 >>= λ w. Ok ((v.0, w.0), w.1)
 
+-- how the item is read
 abbrev pub reading : (item : Item) → At → Result (ValueOf item × At) CdrFault
 reading octet = number_at 1
 reading ushort = number_at 2
@@ -62,6 +66,7 @@ reading octets = octets_at
 reading (pair first second) = read_then (reading first) (λ _. reading second)
 reading (encapsulated inner) = within (reading inner)
 
+-- where the item has no spelling, and the fault that this is
 abbrev pub IsFaulty : Item → At → CdrFault → Type 0
 IsFaulty octet = NumberFault 1
 IsFaulty ushort = NumberFault 2

@@ -1,3 +1,4 @@
+-- Trading Object Service, and CORBA's IDL Syntax and Semantics on identifiers.
 -- The names of service types, links, properties, policies and traders, as tests on their bytes. A
 -- service type's and a link's name is a word name, a property's and a policy's an identifier.
 use Rattle.std.specs.Prelude.{ℕ, nat_le, nat_eq, Bool, false, ◌&&◌, ◌||◌, IsTrue, List, [], ◌∷◌, length}

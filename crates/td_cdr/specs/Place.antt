@@ -1,3 +1,4 @@
+-- CORBA, General Inter-ORB Protocol, "CDR Transfer Syntax": an octet stream, seen from where a reader stands in it.
 use Rattle.std.specs.Prelude.{ℕ, List}
 use Rattle.td_cdr.specs.declared.order.Order.{Order}
 

@@ -1,3 +1,5 @@
+-- CORBA, General Inter-ORB Protocol, "CDR Transfer Syntax", "Strings and Wide Strings": bytes of which the last is a NUL and no other. That no bytes at all are
+-- an empty string is a leniency of this reader.
 use Rattle.std.specs.Prelude.{◌≡◌, ◌-◌, ◌&&◌, nat_eq, if◌then◌else◌, take, Bool, false, not, ℕ, length, List, [], Result, Ok, Err}
 use Rattle.std.specs.List.{slice_index, list_any}
 use Rattle.td_cdr.specs.declared.fault.CdrFault.{CdrFault}
@@ -7,6 +9,7 @@ use Rattle.td_cdr.specs.declared.fault.CdrFault.TheVariants.{BadString}
 abbrev pub has_nul : List ℕ → Bool
 has_nul text = list_any (λ b. nat_eq b 0) text
 
+-- what a string can spell
 abbrev pub HasNoNul : List ℕ → Type 0
 HasNoNul text = has_nul text ≡ false
 

@@ -2,10 +2,12 @@
 //! is a primitive, a string, a sequence of octets, one item after another, or an encapsulation of an
 //! item, to any depth (`specs/Items.antt`).
 
-ghost use Rattle.std.specs.Prelude.{◌≡◌, ℕ, ℤ, Bool, ◌+◌, ◌^◌, ◌<◌, List, [], ◌∷◌, ◌++◌, length};
+ghost use Rattle.std.specs.Prelude.{◌≡◌, ◌≢◌, ◌≤◌, Err, ℕ, ℤ, Bool, ◌+◌, ◌^◌, ◌<◌, List, [], ◌∷◌, ◌++◌, length};
 ghost use Rattle.std.specs.Int.{w16, w32, w64, cast_unsigned, from_bool};
 ghost use Rattle.std.specs.Int.RustNames.{FitsSigned};
 ghost use Rattle.td_cdr.specs.declared.order.Order.{Order};
+ghost use Rattle.td_cdr.specs.declared.fault.CdrFault.TheVariants.{Memory};
+ghost use Rattle.td_cdr.specs.Place.{At};
 ghost use Rattle.td_cdr.specs.Gap.{flag};
 ghost use Rattle.td_cdr.specs.Text.{HasNoNul};
 ghost use Rattle.td_cdr.specs.Writing.{written_number, written_octets};
@@ -14,11 +16,12 @@ ghost use Rattle.td_cdr.specs.Faults.{Refuses};
 ghost use Rattle.td_cdr.specs.Items.{Item, pair, encapsulated, ValueOf, Spells, reading, IsFaulty};
 
 /// What is read is spelled so, and what is spelled so is read, whatever follows. A reading is refused
-/// exactly with the fault of the first item that has no spelling. No bytes at one place begin with
-/// spellings of two values.
+/// exactly with the fault of the first item that has no spelling, and never for want of memory. No
+/// bytes at one place begin with spellings of two values.
 pub fn is_read()
     ensures joins { (item : Item) → Joins (Spells item) (reading item) }
     ensures refuses { (item : Item) → Refuses (IsFaulty item) (reading item) }
+    ensures takes_no_memory { (item : Item) (a : At) → a.origin ≤ a.place → reading item a ≢ Err Memory }
     ensures one_value { (item : Item) (order : Order) (place : ℕ) (v w : ValueOf item) (b c more others : List ℕ)
         → Spells item order place v b → Spells item order place w c → b ++ more ≡ c ++ others → v ≡ w }
 {}
