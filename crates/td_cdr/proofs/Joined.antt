@@ -115,7 +115,7 @@ octets-only a v b rest h s e =
     let fits : ltb (length (drop (length s.count) a.rest)) (length v) ≡ false = rw left (le-ltb _ _ (omega (arith, length-append v rest))) in
     let here : take (length v) (drop (length s.count) a.rest) ≡ v = rw left (take_at v rest (length v) refl) in
     let len : length b ≡ length s.count + length v = rw s.parts (length-append s.count v) in
-    rw (one, fits, here, after-after, len) refl
+    rw (one, fits, here, after-after (length s.count) (length v) a, len) refl
 
 pub octets-joins : Joins SpellsOctets octets_at
 octets-joins = record { found = octets-found; only = octets-only }
@@ -173,7 +173,7 @@ within-found {Y = Y} inner reading j a v next h e =
     let i = inside-found (aligned 4 a) oct.0.1.place oct.0.0 ins.0 within-end ins.1 in
     let val-at : reading ins.0 ≡ Ok val.0 = ap (λ (p : At × At). reading p.0) enc-is ∙ val.1 in
     let g = j.found ins.0 val.0.0 val.0.1 (omega (arith, i.place_is)) val-at in
-    let last : (val.0.0, oct.0.1) ≡ made = ap (λ (p : At × At). (val.0.0, p.1)) enc-is ∙ ok_is (val.0.0, enc.0.1) made val.2 in
+    let last : (val.0.0, oct.0.1) ≡ made = ◌∙◌ {b = (val.0.0, enc.0.1)} (ap (λ (p : At × At). (val.0.0, p.1)) enc-is) (ok_is (val.0.0, enc.0.1) made val.2) in
     let here : Found (SpellsWithin inner) a val.0.0 oct.0.1 = within-made inner a oct.0.1 ins.0 val.0.1 oct.0.0 val.0.0 f i g in
     subst (λ (p : Y × At). Found (SpellsWithin inner) a p.0 p.1) last here
 

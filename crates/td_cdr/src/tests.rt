@@ -271,6 +271,10 @@ fn written(rt: HostRuntime) -> Result<(), Fail> {
     assert!(rt; writer.bytes() == [1, 0, 0, 0, 0, 0, 1, 2].as_slice());
     writer.clear();
     assert_eq!(rt; writer.len(), 0);
+    writer.restart(LITTLE);
+    writer.append(&[5, 6])?;
+    writer.u32(1)?;
+    assert!(rt; writer.bytes() == [5, 6, 0, 0, 1, 0, 0, 0].as_slice());
     Ok(())
 }
 
