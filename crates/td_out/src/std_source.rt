@@ -3,6 +3,7 @@
 ghost use Rattle.std.specs.Prelude.{◌≡◌, Option, None};
 ghost use Rattle.std.specs.Io.{ReadsAtMost};
 ghost use Rattle.std.specs.Io.KnownBytes.{ReadConsumes};
+ghost use Rattle.td_out.specs.Causes.{HasCause};
 
 use crate::fault::Failed;
 use crate::source::Source;
@@ -33,7 +34,14 @@ impl<R: Read> Source for StdSource<R> {
 
     ghost same_on = { λ _ _ _ _ _. tt };
 
-    fn read(&mut self, into: &mut [u8]) -> Result<usize, Failed> {
+    /// Reads once from the reader. Of a reader whose bytes are known, they are its next ones.
+    fn read(&mut self, into: &mut [u8]) -> Result<usize, Failed>
+        ensures same { Unit {0} }
+        ensures bound { ReadsAtMost result into.new }
+        ensures bytes { ReadConsumes None None result into.new }
+        ensures cause { HasCause self.old.faults self.new.faults result }
+        ensures passed { ReadConsumes (R.remaining self.old.reader) (R.remaining self.new.reader) result into.new }
+    {
         match read_some(&mut self.reader, into) {
             Ok(size) => Ok(size),
             Err(fault) => {

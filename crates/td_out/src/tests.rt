@@ -5,6 +5,7 @@ use crate::{
     Texts,
 };
 use std::alloc::Global;
+use std::io::Write;
 use std::test::Fail;
 use std::{fs, io, process};
 use td_cdr::{List, Octets, Text};
@@ -126,14 +127,36 @@ fn a_source_over_a_reader_passes_its_bytes_on(rt: HostRuntime) {
     assert_eq!(rt; read_four(StdSource::new(Broken)).answer, Err(Failed));
 }
 
+/// A writer that counts its flushes.
+#[derive(Drop)]
+struct Tally {
+    bytes: Vec<u8>,
+    flushes: u32,
+}
+
+impl io::Write for Tally {
+    fn write(&mut self, buf: &[u8]) -> io::Result<usize> {
+        self.bytes.write(buf)
+    }
+
+    fn flush(&mut self) -> io::Result<()> {
+        self.flushes = self.flushes.saturating_add(1);
+        Ok(())
+    }
+}
+
 #[test]
-fn a_sink_over_a_writer_passes_its_bytes_on(rt: HostRuntime) {
-    let mut written: Vec<u8> = Vec::new(rt.alloc());
-    let mut sink = StdSink::new(&mut written);
+fn a_sink_over_a_writer_passes_its_bytes_on_and_flushes(rt: HostRuntime) {
+    let mut tally = Tally {
+        bytes: Vec::new(rt.alloc()),
+        flushes: 0,
+    };
+    let mut sink = StdSink::new(&mut tally);
     assert_eq!(rt; write_to(&mut sink, &[1, 2]), Ok(2));
     assert_eq!(rt; write_to(&mut sink, &[]), Ok(0));
     assert_eq!(rt; write_to(&mut sink, &[3]), Ok(1));
-    assert_eq!(rt; written.as_slice(), [1, 2, 3].as_slice());
+    assert_eq!(rt; tally.bytes.as_slice(), [1, 2, 3].as_slice());
+    assert_eq!(rt; tally.flushes, 3);
     assert_eq!(rt;
         write_to(StdSink::new(Broken), &[1]),
         Err(Failed),
