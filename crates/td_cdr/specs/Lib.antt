@@ -1,5 +1,8 @@
+pub mod Faults
 pub mod formers
 pub mod Gap
+pub mod Items
+pub mod Names
 pub mod Place
 pub mod Reading
 pub mod Spelling

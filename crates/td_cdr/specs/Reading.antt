@@ -1,5 +1,6 @@
 -- CORBA's common data representation: how values are spelled as bytes, and how a spelling is read.
-use Rattle.std.specs.Prelude.{◌≡◌, ℕ, suc, ◌+◌, ◌-◌, ◌^◌, min, Bool, nat_lt, if◌then◌else◌, List, [], ◌∷◌, length, take, drop, Result, Ok, Err}
+use Rattle.std.specs.Prelude.{◌≡◌, ℕ, ℤ, suc, ◌+◌, ◌-◌, ◌^◌, min, Bool, nat_lt, if◌then◌else◌, List, [], ◌∷◌, length, take, drop, Result, Ok, Err}
+use Rattle.std.specs.Int.{Width, cast_signed}
 use Rattle.byteorder.specs.Endian.{big_number, little_number}
 use Rattle.td_cdr.specs.declared.order.Order.{Order}
 use Rattle.td_cdr.specs.declared.order.Order.TheVariants.{Big, Little}
@@ -43,6 +44,12 @@ unfoldable pub number_at : ℕ → At → Result (ℕ × At) CdrFault
 number_at size a = do
   cell ← cell_at size a
   Ok (number a.order size cell.0, cell.1)
+
+-- a signed number, in two's complement
+unfoldable pub signed_at : Width → ℕ → At → Result (ℤ × At) CdrFault
+signed_at width size a = do
+  n ← number_at size a
+  Ok (cast_signed width n.0, n.1)
 
 unfoldable pub boolean_at : At → Result (Bool × At) CdrFault
 boolean_at a = do

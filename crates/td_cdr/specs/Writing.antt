@@ -1,7 +1,7 @@
 -- What a writer holds, and what it appends.
-use Rattle.std.specs.Prelude.{◌≡◌, ℕ, ◌+◌, ◌<◌, ◌≤◌, List, ◌++◌, length, Result, OnOk, OnErr, replicate}
+use Rattle.std.specs.Prelude.{◌≡◌, ℕ, ◌+◌, ◌<◌, ◌≤◌, List, ◌++◌, [], ◌∷◌, take, length, Result, OnOk, OnErr, replicate}
 use Rattle.td_cdr.specs.declared.order.Order.{Order}
-use Rattle.td_cdr.specs.Gap.{gap, bytes_of}
+use Rattle.td_cdr.specs.Gap.{gap, bytes_of, flag}
 
 pub record Draft : Type 0 where
   pub bytes : List ℕ
@@ -21,3 +21,7 @@ written_octets order place v = written_number 4 order place (length v) ++ v
 pub record Adds {E : Type 0} (more : List ℕ) (old new : Draft) (result : Result (Unit {0}) E) : Type 0 where
   pub done : OnOk result ((new.bytes ≡ old.bytes ++ more) × (new.order ≡ old.order) × (old.room ≤ new.room))
   pub refused : OnErr result ((new ≡ old) × (old.room < length old.bytes + length more))
+
+-- the first octet tells the order in which the bytes after it are written
+abbrev pub BeginsWithOrder : Draft → Type 0
+BeginsWithOrder inner = take 1 inner.bytes ≡ flag inner.order ∷ []
