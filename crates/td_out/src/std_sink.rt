@@ -7,6 +7,7 @@ ghost use Rattle.td_out.specs.Causes.{HasCause, Takes};
 use crate::fault::Failed;
 use crate::sink::Sink;
 use std::io::{ErrorKind, Write};
+use std::marker::Model;
 
 /// A sink over a writer of `std`, such as standard output. It holds nothing back: after each write it
 /// flushes the writer. It tells nothing of its content.
@@ -16,10 +17,18 @@ pub struct StdSink<W> {
     faults: u64,
 }
 
+impl<W> Model for StdSink<W> {
+    ghost use Rattle.td_out.specs.Over.{Over};
+
+    ghost Value = { Over W };
+
+    ghost view = { λ s. record { inner = s.writer; faults = s.faults } };
+}
+
 impl<W> StdSink<W> {
     /// A sink that writes to this writer. No fault was counted yet.
     pub fn new(writer: W) -> StdSink<W>
-        ensures { result ≡ record { writer = writer; faults = 0 } }
+        ensures { result ≡ record { inner = writer; faults = 0 } }
     {
         StdSink { writer, faults: 0 }
     }
@@ -41,7 +50,7 @@ impl<W: Write> Sink for StdSink<W> {
         ensures some { Takes result piece.now }
         ensures bytes { WriteAppends None None result piece.now }
         ensures cause { HasCause self.old.faults self.new.faults result }
-        ensures passed { IfOk result (λ n. Appends (W.contents self.old.writer) (W.contents self.new.writer) (take n piece.now)) }
+        ensures passed { IfOk result (λ n. Appends (W.contents self.old.inner) (W.contents self.new.inner) (take n piece.now)) }
     {
         match write_through(&mut self.writer, piece) {
             Ok(size) => Ok(size),

@@ -8,6 +8,7 @@ ghost use Rattle.td_out.specs.Causes.{HasCause};
 use crate::fault::Failed;
 use crate::source::Source;
 use std::io::{ErrorKind, Read};
+use std::marker::Model;
 
 /// A source over a reader of `std`, such as standard input or a file. It tells nothing of its content.
 #[derive(Drop)]
@@ -16,10 +17,18 @@ pub struct StdSource<R> {
     faults: u64,
 }
 
+impl<R> Model for StdSource<R> {
+    ghost use Rattle.td_out.specs.Over.{Over};
+
+    ghost Value = { Over R };
+
+    ghost view = { λ s. record { inner = s.reader; faults = s.faults } };
+}
+
 impl<R> StdSource<R> {
     /// A source that reads from this reader. No fault was counted yet.
     pub fn new(reader: R) -> StdSource<R>
-        ensures { result ≡ record { reader = reader; faults = 0 } }
+        ensures { result ≡ record { inner = reader; faults = 0 } }
     {
         StdSource { reader, faults: 0 }
     }
@@ -40,7 +49,7 @@ impl<R: Read> Source for StdSource<R> {
         ensures bound { ReadsAtMost result into.new }
         ensures bytes { ReadConsumes None None result into.new }
         ensures cause { HasCause self.old.faults self.new.faults result }
-        ensures passed { ReadConsumes (R.remaining self.old.reader) (R.remaining self.new.reader) result into.new }
+        ensures passed { ReadConsumes (R.remaining self.old.inner) (R.remaining self.new.inner) result into.new }
     {
         match read_some(&mut self.reader, into) {
             Ok(size) => Ok(size),

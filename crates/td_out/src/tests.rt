@@ -23,6 +23,9 @@ fn read_four<S: Source + Drop>(mut source: S) -> Given {
     Given { bytes, answer }
 }
 
+/// A value that may go to another thread.
+fn goes_along<T: Send>(_value: &T) {}
+
 fn write_to<K: Sink + Drop>(mut sink: K, piece: &[u8]) -> Result<usize, Failed> {
     sink.write(piece)
 }
@@ -49,6 +52,7 @@ fn a_source_in_memory_gives_its_pieces_and_fails_where_it_is_set(
         (Ok(3), [5, 6, 7, 0]),
         (Ok(0), [0, 0, 0, 0]),
     ];
+    goes_along(&source);
     for (answer, bytes) in table {
         let given = read_four(&mut source);
         assert_eq!(rt; given.answer, answer);
@@ -61,6 +65,7 @@ fn a_source_in_memory_gives_its_pieces_and_fails_where_it_is_set(
 fn a_sink_in_memory_keeps_what_is_written(rt: HostRuntime) -> Result<(), Fail> {
     let alloc = rt.alloc();
     let mut sink = MemSink::new(alloc, List::from_slice(alloc, &[2])?);
+    goes_along(&sink);
     assert_eq!(rt; write_to(&mut sink, &[1, 2]), Ok(2));
     assert_eq!(rt; write_to(&mut sink, &[3]), Err(Failed));
     assert_eq!(rt; write_to(&mut sink, &[4]), Ok(1));
