@@ -1,4 +1,5 @@
 pub mod Cond
+pub mod Cuts
 pub mod Judged
 pub mod Lengths
 pub mod Passing
