@@ -4,3 +4,4 @@ pub mod Judged
 pub mod Lengths
 pub mod Passing
 pub mod Framing
+pub mod Heads
