@@ -11,8 +11,8 @@ use Rattle.td_cdr.specs.Items.{Item, ValueOf, Spells, reading}
 use Rattle.td_cdr.proofs.Joined.{bind_ok, ok_is, number-found, number-only, number-joins, Found-then, moved-place, after-after}
 use Rattle.td_cdr.proofs.Refused.{bind_err, read_again, number-refuses}
 use Rattle.td_cdr.proofs.Items.{item-joins, item-refuses}
-use Rattle.td_giop.specs.Heads.{passed, context_fields, context_passed, row_passed, contexts_passed}
-use Rattle.td_giop.specs.HeadSpelling.{SpellsRow, SpellsContexts, SpellsHead, RowFault, ContextsFault, HeadFault}
+use Rattle.td_giop.specs.Heads.{passed, alone, context_fields, context_passed, row_passed, contexts_passed}
+use Rattle.td_giop.specs.HeadSpelling.{SpellsAlone, IsReadAlone, SpellsRow, SpellsContexts, SpellsHead, RowFault, ContextsFault, HeadFault}
 
 -- ---- contexts
 
@@ -241,3 +241,32 @@ head-refused {Y = Y} item kept a f h e = elim e [
 
 pub head-refuses : {Y : Type 0} (item : Item) (kept : ValueOf item → Y) → Refuses (HeadFault item) (head_at item kept)
 head-refuses item kept = record { told = head-told item kept; only = head-refused item kept }
+
+-- ---- fields alone
+
+value_is : {A : Type 0} (x y : A) → answer x ≡ answer y → x ≡ y
+value_is x y e = cc
+
+alone-ok : {Y : Type 0} (r : Result (Y × At) CdrFault) (v : Y) → alone r ≡ Ok v → (next : At) × (r ≡ Ok (v, next))
+alone-ok {Y = Y} (Ok w) v e =
+    let same : w.0 ≡ v = value_is w.0 v e in
+    let made : Y → Result (Y × At) CdrFault = λ y. Ok (y, w.1) in
+    (w.1, ap made same)
+alone-ok (Err f) v e = absurd cc
+
+alone-err : {Y : Type 0} (r : Result (Y × At) CdrFault) (f : CdrFault) → alone r ≡ Err f → r ≡ Err f
+alone-err (Ok v) f e = absurd cc
+alone-err (Err g) f e = cc
+
+alone-found : (item : Item) (a : At) (v : ValueOf item) → a.origin ≤ a.place → alone (reading item a) ≡ Ok v → SpellsAlone item a v
+alone-found item a v h e =
+    let r = alone-ok (reading item a) v e in
+    record { next = r.0; found = (item-joins item).found a v r.0 h r.1 }
+
+pub read-alone : (item : Item) → IsReadAlone item (λ a. alone (reading item a))
+read-alone item = record {
+  found = alone-found item;
+  only = λ a v b rest h s e. ap (λ (r : Result (ValueOf item × At) CdrFault). alone r) ((item-joins item).only a v b rest h s e);
+  told = λ a f h e. (item-refuses item).told a f h (alone-err (reading item a) f e);
+  refused = λ a f h p. ap (λ (r : Result (ValueOf item × At) CdrFault). alone r) ((item-refuses item).only a f h p);
+}

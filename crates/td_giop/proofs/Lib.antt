@@ -1,6 +1,7 @@
 pub mod Cond
 pub mod Cuts
 pub mod Judged
+pub mod Messages
 pub mod Lengths
 pub mod Passing
 pub mod Framing

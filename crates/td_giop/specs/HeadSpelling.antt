@@ -1,6 +1,6 @@
 -- The spellings of message heads, as a relation of whole values and whole byte lists, and where bytes
 -- are no head.
-use Rattle.std.specs.Prelude.{◌≡◌, ℕ, zero, suc, List, [], ◌∷◌, length}
+use Rattle.std.specs.Prelude.{◌≡◌, ◌≤◌, ◌-◌, ◌++◌, ℕ, zero, suc, List, [], ◌∷◌, length, Result, Ok, Err}
 use Rattle.td_cdr.specs.declared.order.Order.{Order}
 use Rattle.td_cdr.specs.declared.fault.CdrFault.{CdrFault}
 use Rattle.td_cdr.specs.Place.{At}
@@ -42,3 +42,11 @@ ContextsFault = ThenFault (SpellsNumber 4) (NumberFault 4) RowFault
 -- no contexts, or contexts and no fields
 abbrev pub HeadFault : Item → At → CdrFault → Type 0
 HeadFault item = ThenFault SpellsContexts ContextsFault (λ _. IsFaulty item)
+
+-- a reading of fields alone: what is read is spelled so, what is spelled so is read, and what is
+-- faulty is refused; what follows the fields is ignored
+pub record IsReadAlone (item : Item) (reading : At → Result (ValueOf item) CdrFault) : Type 0 where
+  pub found : (a : At) (v : ValueOf item) → a.origin ≤ a.place → reading a ≡ Ok v → SpellsAlone item a v
+  pub only : (a : At) (v : ValueOf item) (b rest : List ℕ) → a.origin ≤ a.place → Spells item a.order (a.place - a.origin) v b → a.rest ≡ b ++ rest → reading a ≡ Ok v
+  pub told : (a : At) (f : CdrFault) → a.origin ≤ a.place → reading a ≡ Err f → IsFaulty item a f
+  pub refused : (a : At) (f : CdrFault) → a.origin ≤ a.place → IsFaulty item a f → reading a ≡ Err f
