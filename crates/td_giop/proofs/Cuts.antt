@@ -4,7 +4,9 @@ use Rattle.std.specs.List.{concat}
 use Rattle.std.proofs.lemmas.List.{take-append-drop, take_at, drop-append-le, take-append-le, length-take-le}
 use Rattle.td_giop.specs.declared.fault.FrameFault.{FrameFault}
 use Rattle.td_giop.specs.Header.{GoodHeader, Judged, header_at}
-use Rattle.td_giop.specs.Stream.{first_at}
+use Rattle.td_giop.specs.declared.raw.Raw.{Raw}
+use Rattle.td_giop.specs.FramerLends.{IsRaw}
+use Rattle.td_giop.specs.Stream.{Stream, first_at}
 use Rattle.td_giop.specs.Cut.{Ending, border, inside, bad, EndsSo, Front, Fronts, Cut, HasCut, SameCut, IsMessage}
 use Rattle.td_giop.proofs.Judged.{judged, good_at, header_at-append}
 use Rattle.td_giop.proofs.Framing.{whole, bad_header, same_size, first-append, first_of}
@@ -153,3 +155,21 @@ message_front limit m rest i =
     let size : 12 + (length m - 12) ≡ length m = omega arith in
     let first = first_of limit (m ++ rest) (record { kind = i.kind; order = i.order; size = length m - 12 }) there (omega (arith, length-append m rest)) in
     record { size = first ∙ ap (λ (n : ℕ). told_size n) size; bytes = sym (take_at m rest (length m) refl) }
+
+-- ---- what a framer lends
+
+pub raw_front : (s : Stream) (m : Raw) → IsRaw s m → Front s.limit s.rest m.bytes.now
+raw_front s m r = record { size = r.whole; bytes = r.bytes }
+
+pub raw_good : (s : Stream) (m : Raw) → IsRaw s m → GoodHeader s.limit m.bytes.now m.order m.kind (length m.bytes.now - 12)
+raw_good s m r =
+    let bytes = m.bytes.now in
+    let parts : s.rest ≡ bytes ++ drop (length bytes) s.rest = sym (take-append-drop (length bytes) s.rest) ∙ ap (λ (x : List ℕ). x ++ drop (length bytes) s.rest) (sym r.bytes) in
+    let alone : header_at s.limit bytes ≡ Ok (Some (record { kind = m.kind; order = m.order; size = length bytes - 12 })) =
+    sym (header_at-append s.limit bytes (drop (length bytes) s.rest) r.least) ∙ ap (header_at s.limit) (sym parts) ∙ r.header in
+    subst (Judged s.limit bytes) alone (judged s.limit bytes)
+
+-- ---- a whole cut
+
+pub fronts_cut : (limit : ℕ) (s : List ℕ) (ms : List (List ℕ)) (rest : List ℕ) (e : Ending) → Fronts limit s ms rest → EndsSo limit e rest → Cut limit s ms rest e
+fronts_cut limit s ms rest e f ends = record { fronts = f; ends = ends }
