@@ -1,16 +1,15 @@
 -- What one turn of a session adds to what it did before.
-use Rattle.std.proofs.Common.{◌≡◌, ℕ, ◌+◌, ◌≤◌, ◌⊎◌, List, [], ◌∷◌, ◌++◌, length, take, drop, Option, refl, sym, ap, subst, ◌∙◌, inl, inr, append_assoc, arith, length-append, length-take}
+use Rattle.std.proofs.Common.{◌≡◌, ℕ, ◌+◌, ◌≤◌, ◌⊎◌, List, [], ◌∷◌, ◌++◌, length, take, drop, Option, refl, sym, ap, subst, ◌∙◌, inl, inr, append_assoc, arith, length-append}
 use Rattle.std.proofs.KnownBytes.{Appends-nil, Appends-trans, Consumes-nil, Consumes-trans}
 use Rattle.std.proofs.Math.Seq.{take-add}
-use Rattle.std.proofs.lemmas.List.{map-append, take-append-le}
-use lib.Seq.{drop-append-le}
-use Rattle.td_giop.proofs.Framing.{first-append}
+use Rattle.std.proofs.lemmas.List.{map-append}
+use Rattle.td_giop.proofs.Cuts.{fronts_fed}
 use Rattle.std.proofs.lemmas.List.Concat.{flat_map-append}
 use Rattle.std.proofs.lemmas.List.Elements.{All-append}
 use Rattle.std.proofs.lemmas.List.Sums.{sum_by-append}
 use Rattle.std.specs.Io.KnownBytes.{Appends}
 use Rattle.td_out.specs.Causes.{Rose}
-use Rattle.td_giop.specs.Cut.{Front, Fronts}
+use Rattle.td_giop.specs.Cut.{Fronts}
 use Rattle.td_session.specs.declared.end.End.{End}
 use Rattle.td_session.specs.declared.end.End.TheVariants.{Closed, Broken, Truncated, ReadFault, WriteFault, Long, Memory}
 use Rattle.td_session.specs.declared.store.FirstStore.{FirstStore}
@@ -25,18 +24,6 @@ Appends-more a b c piece sent n p q = rw take-add (Appends-trans a b c _ _ p q)
 -- ---- messages in front of a stream
 
 module _ (limit : ℕ) where
-  Front-fits : (s m : List ℕ) → Front limit s m → length m ≤ length s
-  Front-fits s m f = omega (arith, ap (length {A = ℕ}) f.bytes, length-take (length m) s)
-
-  Front-fed : (s m p : List ℕ) → Front limit s m → Front limit (s ++ p) m
-  Front-fed s m p f = let fits = Front-fits s m f in record { size = first-append limit s p (length m) f.size; bytes = rw take-append-le f.bytes }
-
-  pub Fronts-fed : (s : List ℕ) (ms : List (List ℕ)) (rest p : List ℕ) → Fronts limit s ms rest → Fronts limit (s ++ p) ms (rest ++ p)
-  Fronts-fed s [] rest p f = ap (λ (x : List ℕ). x ++ p) f
-  Fronts-fed s (m ∷ ms) rest p f =
-      let fits = Front-fits s m f.0 in
-      (Front-fed s m p f.0, rw (drop-append-le (length m) s p fits) (Fronts-fed (drop (length m) s) ms rest p f.1))
-
   pub Fronts-then : (s : List ℕ) (ms ns : List (List ℕ)) (mid rest : List ℕ) → Fronts limit s ms mid → Fronts limit mid ns rest → Fronts limit s (ms ++ ns) rest
   Fronts-then s [] ns mid rest f g = subst (λ (x : List ℕ). Fronts limit x ns rest) (sym f) g
   Fronts-then s (m ∷ ms) ns mid rest f g = (f.0, Fronts-then (drop (length m) s) ms ns mid rest f.1 g)
@@ -55,7 +42,7 @@ Runs-then store o p q held mid rest ts us xs ys gs hs r s = record {
   answered = All-append (IsTurn store) ts us r.answered s.answered;
   took = Consumes-trans _ _ _ xs ys r.took s.took;
   cut = let messages : messages_of (ts ++ us) ≡ messages_of ts ++ messages_of us = map-append _ ts us in
-      rw (messages, ← append_assoc) (Fronts-then message_limit _ _ _ _ rest (Fronts-fed message_limit _ _ mid ys r.cut) s.cut);
+      rw (messages, ← append_assoc) (Fronts-then message_limit _ _ _ _ rest (fronts_fed message_limit _ ys _ mid r.cut) s.cut);
   gave = Appends-trans _ _ _ gs hs r.gave s.gave;
   reads = let a = r.reads in let b = s.reads in omega arith;
   writes = let a = r.writes in let b = s.writes in omega arith;
