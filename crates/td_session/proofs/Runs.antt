@@ -1,14 +1,13 @@
 -- What one turn of a session adds to what it did before.
-use Rattle.std.proofs.Common.{◌≡◌, ℕ, ◌+◌, ◌≤◌, ◌⊎◌, List, [], ◌∷◌, ◌++◌, length, take, drop, Option, refl, sym, ap, subst, ◌∙◌, inl, inr, append_assoc, arith, length-append}
+use Rattle.std.proofs.Common.{◌≡◌, ℕ, ◌+◌, ◌≤◌, ◌⊎◌, List, [], ◌∷◌, ◌++◌, length, drop, Option, refl, sym, ap, subst, ◌∙◌, inl, inr, append_assoc, arith, length-append}
 use Rattle.std.proofs.KnownBytes.{Appends-nil, Appends-trans, Consumes-nil, Consumes-trans}
-use Rattle.std.proofs.Math.Seq.{take-add}
 use Rattle.std.proofs.lemmas.List.{map-append}
 use Rattle.td_giop.proofs.Cuts.{fronts_fed}
 use Rattle.std.proofs.lemmas.List.Concat.{flat_map-append}
 use Rattle.std.proofs.lemmas.List.Elements.{All-append}
 use Rattle.std.proofs.lemmas.List.Sums.{sum_by-append}
-use Rattle.std.specs.Io.KnownBytes.{Appends}
 use Rattle.td_out.specs.Causes.{Rose}
+use Rattle.td_out.proofs.Steps.{Rose-later}
 use Rattle.td_giop.specs.Cut.{Fronts}
 use Rattle.td_session.specs.declared.end.End.{End}
 use Rattle.td_session.specs.declared.end.End.TheVariants.{Closed, Broken, Truncated, ReadFault, WriteFault, Long, Memory}
@@ -17,9 +16,6 @@ use Rattle.td_session.specs.Outside.{Outside, outside}
 use Rattle.td_session.specs.Steps.{Turn, IsTurn, message_limit}
 use Rattle.td_session.specs.Progress.{Stand, GoesOn}
 use Rattle.td_session.specs.Sessions.{output, messages_of, requests, Runs, HasReason, Gives, Finishes}
-
-pub Appends-more : (a b c : Option (List ℕ)) (piece : List ℕ) (sent n : ℕ) → Appends a b (take sent piece) → Appends b c (take n (drop sent piece)) → Appends a c (take (sent + n) piece)
-Appends-more a b c piece sent n p q = rw take-add (Appends-trans a b c _ _ p q)
 
 -- ---- messages in front of a stream
 
@@ -32,9 +28,6 @@ module _ (limit : ℕ) where
 
 pub requests-append : (ts us : List Turn) → requests (ts ++ us) ≡ requests ts + requests us
 requests-append ts us = sum_by-append _ ts us
-
-pub Rose-before : (a b c : ℕ) → a ≤ b → Rose b c → Rose a c
-Rose-before a b c le rose = omega arith
 
 pub Runs-then : (store : FirstStore) (o p q : Outside) (held mid rest : List ℕ) (ts us : List Turn) (xs ys gs hs : List ℕ)
     → Runs store o p held ts xs mid gs → Runs store p q mid us ys rest hs → Runs store o q held (ts ++ us) (xs ++ ys) rest (gs ++ hs)
@@ -54,13 +47,13 @@ pub HasReason-before : (store : FirstStore) (end : End) (o p q : Outside) (count
 HasReason-before store Closed o p q count asked rest r w h = h
 HasReason-before store (Broken place cause) o p q count asked rest r w h = h
 HasReason-before store (Truncated place) o p q count asked rest r w h = h
-HasReason-before store ReadFault o p q count asked rest r w h = (h.0, record { few = h.1.few; not_whole = h.1.not_whole; rose = Rose-before _ _ _ r h.1.rose })
-HasReason-before store WriteFault o p q count asked rest r w h = Rose-before _ _ _ w h
+HasReason-before store ReadFault o p q count asked rest r w h = (h.0, record { few = h.1.few; not_whole = h.1.not_whole; rose = Rose-later _ _ _ r h.1.rose })
+HasReason-before store WriteFault o p q count asked rest r w h = Rose-later _ _ _ w h
 HasReason-before store Long o p q count asked rest r w h = h
 HasReason-before store Memory o p q count asked rest r w h = tt
 
 still_rose : (a b c n : ℕ) → a ≤ b → (n ≡ 12) ⊎ Rose b c → (n ≡ 12) ⊎ Rose a c
-still_rose a b c n le h = elim h [ inl e ↦ inl e | inr rose ↦ inr (Rose-before a b c le rose) ]
+still_rose a b c n le h = elim h [ inl e ↦ inl e | inr rose ↦ inr (Rose-later a b c le rose) ]
 
 -- what was given before stands in front
 pub Gives-behind : (end : End) (o p q : Outside) (front output given : List ℕ) → o.writes ≤ p.writes → Gives end p q output given → Gives end o q (front ++ output) (front ++ given)

@@ -1,6 +1,6 @@
 use Rattle.std.proofs.Common.{arith}
 use Rattle.std.proofs.lemmas.List.{take_rest}
-use Rattle.td_session.proofs.Runs.{Appends-more}
+use Rattle.td_out.proofs.Steps.{Appends-more}
 use Rattle.td_session.proofs.piece.write_all.Goals as goal
 
 pub loop-sent-preserved : goal.loop-sent-preserved
