@@ -1,12 +1,14 @@
 -- What the judging of a header says of its octets.
-use Rattle.std.proofs.Common.{◌≡◌, ℕ, ◌<◌, ◌≤◌, ◌%◌, Bool, true, false, not, ltb, eqb, List, ◌++◌, length, drop, slice_index, refl, sym, ap, subst, ◌∙◌, arith, length-append}
-use Rattle.std.proofs.lemmas.Bool.{ltb-true, ltb-false, le-ltb, eqb-true, eq-eqb}
+use Rattle.std.proofs.Common.{◌≡◌, ℕ, ◌<◌, ◌≤◌, ◌%◌, Bool, true, false, not, ltb, eqb, List, ◌++◌, length, drop, slice_index, Some, None, Ok, Err, refl, sym, ap, subst, ◌∙◌, arith, length-append}
+use Rattle.std.proofs.lemmas.Bool.{ltb-true, ltb-false, lt-ltb, le-ltb, eqb-true, eq-eqb}
 use Rattle.std.proofs.lemmas.List.{get_or_append_left, drop-append-le, length-drop}
 use Rattle.byteorder.specs.Numbers.{big_from-append, little_from-append}
 use Rattle.td_cdr.specs.declared.order.Order.{Order}
 use Rattle.td_cdr.specs.declared.order.Order.TheVariants.{Big, Little}
 use Rattle.td_cdr.specs.Reading.{number}
-use Rattle.td_giop.specs.Header.{HasMagic, HasVersion, TellsOrder, has_magic, has_version, order_told, size_told, header_at, Judged}
+use Rattle.td_giop.specs.declared.fault.FrameFault.{FrameFault}
+use Rattle.td_giop.specs.declared.fault.FrameFault.TheVariants.{BadMagic, BadVersion, BadType, TooLarge}
+use Rattle.td_giop.specs.Header.{GoodHeader, FirstFault, HasMagic, HasVersion, TellsOrder, has_magic, has_version, order_told, size_told, header_at, Judged}
 use Rattle.td_giop.proofs.Cond.{cond_case, both_true, and_true}
 
 -- ---- tests and what they test
@@ -113,3 +115,50 @@ header_at-append limit s p h =
     let e7 = octet-append s p 7 h (omega arith) in
     let e8 = size_told-append (order_told (slice_index s 6)) s p h in
     rw (there, still, e0, e1, e2, e3, e4, e5, e6, e7, e8) refl
+
+-- ---- what is so is answered
+
+pub good_at : (limit : ℕ) (bytes : List ℕ) (order : Order) (kind size : ℕ) → GoodHeader limit bytes order kind size
+    → header_at limit bytes ≡ Ok (Some (record { kind = kind; order = order; size = size }))
+unfolding header_at
+good_at limit bytes order kind size g =
+    let there : ltb (length bytes) 12 ≡ false = le-ltb _ _ g.whole in
+    let magic = magic_test bytes g.magic in
+    let version = version_test bytes g.version in
+    let known : ltb 6 kind ≡ false = le-ltb _ _ g.type_octet.1 in
+    let told_is : order_told (slice_index bytes 6) ≡ order = sym (only_told (slice_index bytes 6) order g.order_octet) in
+    let small : ltb limit size ≡ false = le-ltb _ _ g.within in
+    rw (there, magic, version, g.type_octet.0, known, told_is, g.size_field, small) refl
+
+pub cut_at : (limit : ℕ) (bytes : List ℕ) → length bytes < 12 → header_at limit bytes ≡ Ok None
+unfolding header_at
+cut_at limit bytes h = rw (lt-ltb (length bytes) 12 h) refl
+
+true_or_false : (b : Bool) → (b ≡ true → ⊥) → b ≡ false
+true_or_false true h = absurd (h refl)
+true_or_false false h = refl
+
+pub fault_at : (limit : ℕ) (bytes : List ℕ) (f : FrameFault) → 12 ≤ length bytes → FirstFault f limit bytes → header_at limit bytes ≡ Err f
+unfolding header_at
+fault_at limit bytes BadMagic h e =
+    let there : ltb (length bytes) 12 ≡ false = le-ltb _ _ h in
+    let no = true_or_false (has_magic bytes) (λ x. e (magic_true bytes x)) in
+    rw (there, no) refl
+fault_at limit bytes BadVersion h e =
+    let there : ltb (length bytes) 12 ≡ false = le-ltb _ _ h in
+    let magic = magic_test bytes e.0 in
+    let no = true_or_false (has_version bytes) (λ x. e.1 (version_true bytes x)) in
+    rw (there, magic, no) refl
+fault_at limit bytes BadType h e =
+    let there : ltb (length bytes) 12 ≡ false = le-ltb _ _ h in
+    let magic = magic_test bytes e.0 in
+    let version = version_test bytes e.1 in
+    let above : ltb 6 (slice_index bytes 7) ≡ true = lt-ltb _ _ e.2 in
+    rw (there, magic, version, above) refl
+fault_at limit bytes TooLarge h e =
+    let there : ltb (length bytes) 12 ≡ false = le-ltb _ _ h in
+    let magic = magic_test bytes e.0 in
+    let version = version_test bytes e.1 in
+    let known : ltb 6 (slice_index bytes 7) ≡ false = le-ltb _ _ e.2 in
+    let above : ltb limit (size_told (order_told (slice_index bytes 6)) bytes) ≡ true = lt-ltb _ _ (e.3 (order_told (slice_index bytes 6)) (told (slice_index bytes 6))) in
+    rw (there, magic, version, known, above) refl

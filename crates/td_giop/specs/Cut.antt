@@ -1,5 +1,7 @@
 -- A stream is whole messages, and then a rest in which no whole message stands in front.
-use Rattle.std.specs.Prelude.{◌≡◌, ℕ, List, [], ◌∷◌, ◌<◌, length, take, drop, Some, None, Ok, Err}
+use Rattle.std.specs.Prelude.{◌≡◌, ℕ, List, [], ◌∷◌, ◌-◌, ◌<◌, length, take, drop, Some, None, Ok, Err}
+use Rattle.td_cdr.specs.declared.order.Order.{Order}
+use Rattle.td_giop.specs.Header.{GoodHeader}
 use Rattle.td_giop.specs.declared.fault.FrameFault.{FrameFault}
 use Rattle.td_giop.specs.Stream.{first_at}
 
@@ -36,3 +38,15 @@ pub record HasCut (limit : ℕ) (s : List ℕ) : Type 0 where
   pub rest : List ℕ
   pub ending : Ending
   pub cut : Cut limit s messages rest ending
+
+-- two cuts are one
+pub record SameCut (ms ns : List (List ℕ)) (r s : List ℕ) (e f : Ending) : Type 0 where
+  pub messages : ms ≡ ns
+  pub rest : r ≡ s
+  pub ending : e ≡ f
+
+-- a whole message by itself: a good header that tells as many bytes as follow it
+pub record IsMessage (limit : ℕ) (m : List ℕ) : Type 0 where
+  pub order : Order
+  pub kind : ℕ
+  pub good : GoodHeader limit m order kind (length m - 12)

@@ -4,8 +4,8 @@ use Rattle.std.specs.Prelude.{◌≡◌, ℕ, zero, suc, ◌^◌, ◌≤◌, ◌
 use Rattle.td_cdr.specs.declared.order.Order.{Order}
 use Rattle.td_cdr.specs.declared.fault.CdrFault.{CdrFault}
 use Rattle.td_cdr.specs.Place.{At}
-use Rattle.td_cdr.specs.Reading.{◌>>=◌, number_at, octets_at}
-use Rattle.td_cdr.specs.Items.{Item, ulong, boolean, octets, string, pair, reading}
+use Rattle.td_cdr.specs.Reading.{◌>>=◌, number_at}
+use Rattle.td_cdr.specs.Items.{Item, ulong, boolean, octets, string, pair, ValueOf, reading}
 
 -- ---- the fields, in the standard's order
 
@@ -40,6 +40,12 @@ pub record Reply : Type 0 where
   pub id : ℕ
   pub status : ℕ
 
+abbrev pub request_of : ValueOf request_fields → Request
+request_of v = record { id = v.0; answered = v.1.0; key = v.1.1.0; operation = v.1.1.1.0 }
+
+abbrev pub reply_of : ValueOf reply_fields → Reply
+reply_of v = record { id = v.0; status = v.1 }
+
 -- ---- reading them
 
 -- a message with a whole header, of which a u32 can name each place
@@ -51,12 +57,14 @@ pub record IsReadable (bytes : List ℕ) : Type 0 where
 abbrev pub behind_header : Order → List ℕ → At
 behind_header order bytes = record { rest = drop 12 bytes; place = 12; origin = 0; order = order }
 
+-- where a reading leads; its value is dropped
+abbrev pub passed : {Y : Type 0} → Result (Y × At) CdrFault → Result At CdrFault
+passed (Ok v) = Ok v.1
+passed (Err e) = Err e
+
 -- a context is passed over
 unfoldable pub context_passed : At → Result At CdrFault
-context_passed a = do
-  id ← number_at 4 a
-  held ← octets_at id.1
-  Ok held.1
+context_passed a = passed (reading context_fields a)
 
 -- so many contexts, one after the other
 abbrev pub row_passed : ℕ → At → Result At CdrFault
@@ -76,14 +84,14 @@ unfoldable pub request_at : At → Result (Request × At) CdrFault
 request_at a = do
   next ← contexts_passed a
   fields ← reading request_fields next
-  Ok (record { id = fields.0.0; answered = fields.0.1.0; key = fields.0.1.1.0; operation = fields.0.1.1.1.0 }, fields.1)
+  Ok (request_of fields.0, fields.1)
 
 -- a Reply's head, and where its body begins
 unfoldable pub reply_at : At → Result (Reply × At) CdrFault
 reply_at a = do
   next ← contexts_passed a
   fields ← reading reply_fields next
-  Ok (record { id = fields.0.0; status = fields.0.1 }, fields.1)
+  Ok (reply_of fields.0, fields.1)
 
 -- what is read, and what follows it is ignored
 abbrev pub alone : {Y : Type 0} → Result (Y × At) CdrFault → Result Y CdrFault

@@ -1,6 +1,7 @@
 pub mod Cut
 pub mod FramerLends
 pub mod Header
+pub mod HeadSpelling
 pub mod Heads
 pub mod Stream
 pub mod Written

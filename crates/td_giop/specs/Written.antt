@@ -1,8 +1,10 @@
 -- What the writers of GIOP 1.0's messages append (chapter "General Inter-ORB Protocol", "GIOP
 -- Messages"): no contexts, an empty principal, and 0 in the size field until the message is sealed.
-use Rattle.std.specs.Prelude.{◌≡◌, ◌<◌, ◌≤◌, Result, OnOk, OnErr, ℕ, ◌+◌, ◌-◌, Bool, List, [], ◌∷◌, ◌++◌, length, take, drop}
+use Rattle.std.specs.Prelude.{◌≡◌, ◌<◌, ◌≤◌, Result, OnOk, OnErr, ℕ, ◌+◌, ◌-◌, ◌^◌, Bool, List, [], ◌∷◌, ◌++◌, length, take, drop}
 use Rattle.std.specs.Int.{from_bool}
 use Rattle.td_cdr.specs.declared.order.Order.{Order}
+use Rattle.td_cdr.specs.Place.{At}
+use Rattle.td_giop.specs.Header.{GoodHeader}
 use Rattle.td_cdr.specs.Gap.{gap, bytes_of, flag}
 use Rattle.td_cdr.specs.Writing.{Draft, written_number, written_octets}
 
@@ -60,3 +62,11 @@ pub record Puts {E : Type 0} (bytes : List ℕ) (old new : Draft) (result : Resu
 -- the same bytes with the size of what follows the header in its field
 abbrev pub sealed : Order → List ℕ → List ℕ
 sealed order bytes = take 8 bytes ++ bytes_of order 4 (length bytes - 12) ++ drop 12 bytes
+
+-- where a reader stands once it has read a start
+abbrev pub at_body : Order → List ℕ → List ℕ → At
+at_body order start body = record { rest = body; place = length start; origin = 0; order = order }
+
+-- once it is sealed, it is a whole good message, if a size field can tell its size and the limit allows it
+pub record IsSealed (limit : ℕ) (order : Order) (kind : ℕ) (bytes : List ℕ) : Type 0 where
+  pub good : length bytes < 2 ^ 32 → length bytes ≤ limit + 12 → GoodHeader limit (sealed order bytes) order kind (length bytes - 12)

@@ -6,6 +6,7 @@ mod fault;
 mod framer;
 mod head;
 mod header;
+mod laws;
 mod raw;
 mod write;
 
@@ -13,6 +14,10 @@ pub use fault::FrameFault;
 pub use framer::Framer;
 pub use head::{
     ReplyHead, RequestHead, read_cancel, read_locate, read_locate_reply, read_reply, read_request,
+};
+pub use laws::{
+    front_is_message, fronts_go_on, header_is_judged, heads_are_read, one_cut, sealed_is_whole,
+    written_is_read,
 };
 pub use raw::Raw;
 pub use write::{seal, start_reply, start_request, write_locate, write_locate_reply, write_plain};

@@ -2,3 +2,4 @@ pub mod Causes
 pub mod Texts
 pub mod Calls
 pub mod InMemory
+pub mod Over

@@ -11,6 +11,7 @@ use crate::texts::{LONGEST_TEXT, Texts};
 use std::alloc::Global;
 use std::fs;
 use std::io::Read;
+use std::marker::Model;
 use std::rt::Files;
 use td_cdr::Octets;
 
@@ -21,11 +22,19 @@ pub struct FileTexts<'a, R> {
     faults: u64,
 }
 
+impl<'a, R> Model for FileTexts<'a, R> {
+    ghost use Rattle.std.specs.Prelude.{ℕ};
+
+    // the count of faults
+    ghost Value = { ℕ };
+
+    ghost view = { λ s. s.faults };
+}
+
 impl<'a, R> FileTexts<'a, R> {
     /// The files that this runtime reaches. No fault was counted yet.
     pub fn new(rt: &'a R) -> FileTexts<'a, R>
-        ensures runtime { result.rt ≡ rt.entry }
-        ensures faults { result.faults ≡ 0 }
+        ensures { result ≡ 0 }
     {
         FileTexts { rt, faults: 0 }
     }
@@ -34,7 +43,7 @@ impl<'a, R> FileTexts<'a, R> {
 impl<'a, R: Files> Texts for FileTexts<'a, R> {
     ghost told = { λ _. None };
 
-    ghost faults = { λ s. s.faults };
+    ghost faults = { λ s. s };
 
     ghost same = { λ _ _. Unit {0} };
 

@@ -5,6 +5,7 @@ use crate::{
     Texts,
 };
 use std::alloc::Global;
+use std::io::Write;
 use std::test::Fail;
 use std::{fs, io, process};
 use td_cdr::{List, Octets, Text};
@@ -21,6 +22,9 @@ fn read_four<S: Source + Drop>(mut source: S) -> Given {
     let answer = source.read(&mut bytes);
     Given { bytes, answer }
 }
+
+/// A value that may go to another thread.
+fn goes_along<T: Send>(_value: &T) {}
 
 fn write_to<K: Sink + Drop>(mut sink: K, piece: &[u8]) -> Result<usize, Failed> {
     sink.write(piece)
@@ -48,6 +52,7 @@ fn a_source_in_memory_gives_its_pieces_and_fails_where_it_is_set(
         (Ok(3), [5, 6, 7, 0]),
         (Ok(0), [0, 0, 0, 0]),
     ];
+    goes_along(&source);
     for (answer, bytes) in table {
         let given = read_four(&mut source);
         assert_eq!(rt; given.answer, answer);
@@ -60,6 +65,7 @@ fn a_source_in_memory_gives_its_pieces_and_fails_where_it_is_set(
 fn a_sink_in_memory_keeps_what_is_written(rt: HostRuntime) -> Result<(), Fail> {
     let alloc = rt.alloc();
     let mut sink = MemSink::new(alloc, List::from_slice(alloc, &[2])?);
+    goes_along(&sink);
     assert_eq!(rt; write_to(&mut sink, &[1, 2]), Ok(2));
     assert_eq!(rt; write_to(&mut sink, &[3]), Err(Failed));
     assert_eq!(rt; write_to(&mut sink, &[4]), Ok(1));
@@ -126,14 +132,36 @@ fn a_source_over_a_reader_passes_its_bytes_on(rt: HostRuntime) {
     assert_eq!(rt; read_four(StdSource::new(Broken)).answer, Err(Failed));
 }
 
+/// A writer that counts its flushes.
+#[derive(Drop)]
+struct Tally {
+    bytes: Vec<u8>,
+    flushes: u32,
+}
+
+impl io::Write for Tally {
+    fn write(&mut self, buf: &[u8]) -> io::Result<usize> {
+        self.bytes.write(buf)
+    }
+
+    fn flush(&mut self) -> io::Result<()> {
+        self.flushes = self.flushes.saturating_add(1);
+        Ok(())
+    }
+}
+
 #[test]
-fn a_sink_over_a_writer_passes_its_bytes_on(rt: HostRuntime) {
-    let mut written: Vec<u8> = Vec::new(rt.alloc());
-    let mut sink = StdSink::new(&mut written);
+fn a_sink_over_a_writer_passes_its_bytes_on_and_flushes(rt: HostRuntime) {
+    let mut tally = Tally {
+        bytes: Vec::new(rt.alloc()),
+        flushes: 0,
+    };
+    let mut sink = StdSink::new(&mut tally);
     assert_eq!(rt; write_to(&mut sink, &[1, 2]), Ok(2));
     assert_eq!(rt; write_to(&mut sink, &[]), Ok(0));
     assert_eq!(rt; write_to(&mut sink, &[3]), Ok(1));
-    assert_eq!(rt; written.as_slice(), [1, 2, 3].as_slice());
+    assert_eq!(rt; tally.bytes.as_slice(), [1, 2, 3].as_slice());
+    assert_eq!(rt; tally.flushes, 3);
     assert_eq!(rt;
         write_to(StdSink::new(Broken), &[1]),
         Err(Failed),

@@ -1,2 +1,14 @@
-pub mod Items
+pub mod Answers
+pub mod Asked
+pub mod Ends
+pub mod Outside
+pub mod Parts
+pub mod Pieces
+pub mod Prepared
+pub mod Progress
+pub mod Queries
+pub mod QueryBodies
 pub mod Replies
+pub mod Sessions
+pub mod Steps
+pub mod Turns

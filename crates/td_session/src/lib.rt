@@ -1,7 +1,17 @@
 //! A session: the bytes of a client in, the bytes of the replies out.
 #![tactic(auto)]
 
+mod answer;
+mod end;
+mod front;
+mod piece;
+mod query;
 mod replies;
+mod room;
+mod session;
 mod store;
 
+pub use end::{Cause, End};
+pub use room::Room;
+pub use session::serve_connection;
 pub use store::{Address, FirstOffer, FirstStore};

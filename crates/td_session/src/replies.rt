@@ -1,8 +1,8 @@
 //! Replies: the bodies that a session writes.
 
-ghost use Rattle.std.specs.Prelude.{◌≡◌, ◌+◌, ◌≤◌, ◌<◌, [], length, OnOk};
-ghost use Rattle.td_session.specs.Items.{Puts, each, sequence};
-ghost use Rattle.td_session.specs.Replies.{id_of, profile_item, offer_item, nil, found, exception, offers_of, profile, reference, version};
+ghost use Rattle.std.specs.Prelude.{◌≡◌, ◌+◌, ◌≤◌, ◌<◌, [], length, OnOk, IsOk};
+ghost use Rattle.td_session.specs.Parts.{Puts, each, sequence};
+ghost use Rattle.td_session.specs.Replies.{id_of, profile_part, offer_part, nil, found, exception, offers_of, profile, reference, version};
 
 use crate::store::FirstOffer;
 use td_cdr::{Memory, Order, Writer};
@@ -28,7 +28,8 @@ fn repository_id(kind: SystemKind) -> &'static [u8]
 
 /// The body of a system exception, with minor code 0 and completion NO.
 pub(crate) fn put_exception(reply: &mut Writer, kind: SystemKind) -> Result<(), Memory>
-    ensures { Puts (exception kind) reply.old reply.new result }
+    ensures puts { Puts (exception kind) reply.old reply.new result }
+    ensures fits { length reply.old.bytes ≤ 24 → 512 ≤ reply.old.room → IsOk result }
 {
     reply.string(repository_id(kind))?;
     reply.u32(0)?;
@@ -46,7 +47,7 @@ fn make_profile(writer: &mut Writer, offer: &FirstOffer) -> Result<(), Memory>
 
 /// An IIOP 1.0 profile.
 fn put_profile(profile: &mut Writer, offer: &FirstOffer) -> Result<(), Memory>
-    ensures { Puts (profile_item offer.now) profile.old profile.new result }
+    ensures { Puts (profile_part offer.now) profile.old profile.new result }
 {
     put_version(profile)?;
     profile.string(&offer.host)?;
@@ -65,7 +66,7 @@ fn put_version(profile: &mut Writer) -> Result<(), Memory>
 
 /// An offer without properties. The other writer is for the profile alone.
 fn put_offer(reply: &mut Writer, profile: &mut Writer, offer: &FirstOffer) -> Result<(), Memory>
-    ensures { Puts (offer_item offer.now) reply.old reply.new result }
+    ensures { Puts (offer_part offer.now) reply.old reply.new result }
 {
     make_profile(profile, offer)?;
     put_reference(reply, &offer.id, profile.bytes())?;
@@ -89,7 +90,7 @@ fn put_offers(
     offers: &[FirstOffer],
     service_type: &[u8],
 ) -> Result<(), Memory>
-    ensures { Puts (each offer_item (offers_of service_type.now offers.now)) reply.old reply.new result }
+    ensures { Puts (each offer_part (offers_of service_type.now offers.now)) reply.old reply.new result }
 {
     for offer in offers {
         if offer.service_type.as_slice() == service_type {

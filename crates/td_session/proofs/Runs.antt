@@ -1,0 +1,136 @@
+-- What one turn of a session adds to what it did before.
+use Rattle.std.proofs.Common.{◌≡◌, ℕ, ◌+◌, ◌≤◌, ◌⊎◌, List, [], ◌∷◌, ◌++◌, length, drop, Option, refl, sym, ap, subst, ◌∙◌, inl, inr, append_assoc, arith, length-append}
+use Rattle.std.proofs.KnownBytes.{Appends-nil, Appends-trans, Consumes-nil, Consumes-trans}
+use Rattle.std.proofs.lemmas.List.{map-append}
+use Rattle.td_giop.proofs.Cuts.{fronts_fed}
+use Rattle.std.proofs.lemmas.List.Concat.{flat_map-append}
+use Rattle.std.proofs.lemmas.List.Elements.{All-append}
+use Rattle.std.proofs.lemmas.List.Sums.{sum_by-append}
+use Rattle.td_out.specs.Causes.{Rose}
+use Rattle.td_out.proofs.Steps.{Rose-later}
+use Rattle.td_giop.specs.Cut.{Fronts}
+use Rattle.td_session.specs.declared.end.End.{End}
+use Rattle.td_session.specs.declared.end.End.TheVariants.{Closed, Broken, Truncated, ReadFault, WriteFault, Long, Memory}
+use Rattle.td_session.specs.declared.store.FirstStore.{FirstStore}
+use Rattle.td_session.specs.Outside.{Outside, outside}
+use Rattle.td_session.specs.Steps.{Turn, IsTurn, message_limit}
+use Rattle.td_session.specs.Progress.{Stand, GoesOn}
+use Rattle.td_session.specs.Sessions.{output, messages_of, requests, Runs, HasReason, Gives, Finishes}
+
+-- ---- messages in front of a stream
+
+module _ (limit : ℕ) where
+  pub Fronts-then : (s : List ℕ) (ms ns : List (List ℕ)) (mid rest : List ℕ) → Fronts limit s ms mid → Fronts limit mid ns rest → Fronts limit s (ms ++ ns) rest
+  Fronts-then s [] ns mid rest f g = subst (λ (x : List ℕ). Fronts limit x ns rest) (sym f) g
+  Fronts-then s (m ∷ ms) ns mid rest f g = (f.0, Fronts-then (drop (length m) s) ms ns mid rest f.1 g)
+
+-- ---- one run after another
+
+pub requests-append : (ts us : List Turn) → requests (ts ++ us) ≡ requests ts + requests us
+requests-append ts us = sum_by-append _ ts us
+
+pub Runs-then : (store : FirstStore) (o p q : Outside) (held mid rest : List ℕ) (ts us : List Turn) (xs ys gs hs : List ℕ)
+    → Runs store o p held ts xs mid gs → Runs store p q mid us ys rest hs → Runs store o q held (ts ++ us) (xs ++ ys) rest (gs ++ hs)
+Runs-then store o p q held mid rest ts us xs ys gs hs r s = record {
+  answered = All-append (IsTurn store) ts us r.answered s.answered;
+  took = Consumes-trans _ _ _ xs ys r.took s.took;
+  cut = let messages : messages_of (ts ++ us) ≡ messages_of ts ++ messages_of us = map-append _ ts us in
+      rw (messages, ← append_assoc) (Fronts-then message_limit _ _ _ _ rest (fronts_fed message_limit _ ys _ mid r.cut) s.cut);
+  gave = Appends-trans _ _ _ gs hs r.gave s.gave;
+  reads = let a = r.reads in let b = s.reads in omega arith;
+  writes = let a = r.writes in let b = s.writes in omega arith;
+}
+
+-- a reason stands from an earlier beginning
+pub HasReason-before : (store : FirstStore) (end : End) (o p q : Outside) (count asked : ℕ) (rest : List ℕ) → o.reads ≤ p.reads → o.writes ≤ p.writes
+    → HasReason store end p q count asked rest → HasReason store end o q count asked rest
+HasReason-before store Closed o p q count asked rest r w h = h
+HasReason-before store (Broken place cause) o p q count asked rest r w h = h
+HasReason-before store (Truncated place) o p q count asked rest r w h = h
+HasReason-before store ReadFault o p q count asked rest r w h = (h.0, record { few = h.1.few; not_whole = h.1.not_whole; rose = Rose-later _ _ _ r h.1.rose })
+HasReason-before store WriteFault o p q count asked rest r w h = Rose-later _ _ _ w h
+HasReason-before store Long o p q count asked rest r w h = h
+HasReason-before store Memory o p q count asked rest r w h = tt
+
+still_rose : (a b c n : ℕ) → a ≤ b → (n ≡ 12) ⊎ Rose b c → (n ≡ 12) ⊎ Rose a c
+still_rose a b c n le h = elim h [ inl e ↦ inl e | inr rose ↦ inr (Rose-later a b c le rose) ]
+
+-- what was given before stands in front
+pub Gives-behind : (end : End) (o p q : Outside) (front output given : List ℕ) → o.writes ≤ p.writes → Gives end p q output given → Gives end o q (front ++ output) (front ++ given)
+Gives-behind Closed o p q front output given w h = ap (λ (x : List ℕ). front ++ x) h
+Gives-behind (Broken place cause) o p q front output given w h = record {
+  sent = h.sent;
+  is = ap (λ (x : List ℕ). front ++ x) h.is ∙ sym (append_assoc front output _);
+  whole = still_rose _ _ _ _ w h.whole;
+}
+Gives-behind (Truncated place) o p q front output given w h = ap (λ (x : List ℕ). front ++ x) h
+Gives-behind ReadFault o p q front output given w h = ap (λ (x : List ℕ). front ++ x) h
+Gives-behind WriteFault o p q front output given w h = record { unsent = h.unsent; is = append_assoc front given h.unsent ∙ ap (λ (x : List ℕ). front ++ x) h.is }
+Gives-behind Long o p q front output given w h = ap (λ (x : List ℕ). front ++ x) h
+Gives-behind Memory o p q front output given w h = ap (λ (x : List ℕ). front ++ x) h
+
+-- a run, and then a session from where it stands, is a session
+pub finishes : (store : FirstStore) (end : End) (o p q : Outside) (held mid : List ℕ) (ts : List Turn) (xs : List ℕ) (count asked : ℕ)
+    → Runs store o p held ts xs mid (output ts) → Finishes store end p q mid (count + length xs) (asked + requests ts) → Finishes store end o q held count asked
+finishes store end o p q held mid ts xs count asked r f =
+    let bytes-are : count + length (xs ++ f.taken) ≡ (count + length xs) + length f.taken = omega (arith, length-append xs f.taken) in
+    let few-are : asked + requests (ts ++ f.turns) ≡ (asked + requests ts) + requests f.turns = omega (arith, requests-append ts f.turns) in
+    record {
+      turns = ts ++ f.turns;
+      taken = xs ++ f.taken;
+      rest = f.rest;
+      given = output ts ++ f.given;
+      runs = Runs-then store o p q held mid f.rest ts f.turns xs f.taken (output ts) f.given r f.runs;
+      bytes = rw bytes-are f.bytes;
+      few = rw few-are f.few;
+      reason = rw (bytes-are, few-are) (HasReason-before store end o p q _ _ f.rest r.reads r.writes f.reason);
+      gives = rw flat_map-append (Gives-behind end o p q (output ts) (output f.turns) f.given r.writes f.gives);
+    }
+
+-- ---- from the beginning
+
+-- what was done since the beginning, and where it stands now
+pub record Sofar (store : FirstStore) (before now : Outside) (s : Stand) : Type 0 where
+  pub turns : List Turn
+  pub taken : List ℕ
+  pub runs : Runs store before now [] turns taken s.stream.rest (output turns)
+  pub bytes : s.taken ≡ length taken
+  pub asked : s.requests ≡ requests turns
+
+pub begins : (store : FirstStore) (l w : Option (List ℕ)) (r f : ℕ) (s : Stand) → s.stream.rest ≡ [] → s.taken ≡ 0 → s.requests ≡ 0 → Sofar store (outside l r w f) (outside l r w f) s
+begins store l w r f s rest-is taken-is asked-is = record {
+  turns = [];
+  taken = [];
+  runs = record { answered = λ k d h. absurd (omega arith); took = Consumes-nil l; cut = sym rest-is; gave = Appends-nil w; reads = omega arith; writes = omega arith };
+  bytes = taken-is;
+  asked = asked-is;
+}
+
+pub goes_on : (store : FirstStore) (before now next : Outside) (old new : Stand) → Sofar store before now old → GoesOn store now next old new → Sofar store before next new
+goes_on store before now next old new s g = record {
+  turns = s.turns ++ g.turns;
+  taken = s.taken ++ g.taken;
+  runs = rw flat_map-append (Runs-then store before now next [] old.stream.rest new.stream.rest s.turns g.turns s.taken g.taken (output s.turns) (output g.turns) s.runs g.runs);
+  bytes = omega (arith, s.bytes, g.bytes, length-append s.taken g.taken);
+  asked = omega (arith, s.asked, g.asked, requests-append s.turns g.turns);
+}
+
+pub ends : (store : FirstStore) (end : End) (before now next : Outside) (s : Stand) → Sofar store before now s → Finishes store end now next s.stream.rest s.taken s.requests → Finishes store end before next [] 0 0
+ends store end before now next s sofar f =
+    let bytes-are : 0 + length sofar.taken ≡ s.taken = omega (arith, sofar.bytes) in
+    let asked-are : 0 + requests sofar.turns ≡ s.requests = omega (arith, sofar.asked) in
+    finishes store end before now next [] s.stream.rest sofar.turns sofar.taken 0 0 sofar.runs (rw (bytes-are, asked-are) f)
+
+-- a session for which there is no memory
+pub no_session : (store : FirstStore) (l w : Option (List ℕ)) (r f : ℕ) → Finishes store Memory (outside l r w f) (outside l r w f) [] 0 0
+no_session store l w r f = record {
+  turns = [];
+  taken = [];
+  rest = [];
+  given = [];
+  runs = record { answered = λ k d h. absurd (omega arith); took = Consumes-nil l; cut = refl; gave = Appends-nil w; reads = omega arith; writes = omega arith };
+  bytes = omega arith;
+  few = omega arith;
+  reason = tt;
+  gives = refl;
+}

@@ -1,0 +1,126 @@
+-- What a session does, from one state of its source and its sink to another.
+use Rattle.std.specs.Prelude.{◌≡◌, ◌⊎◌, ℕ, ◌+◌, ◌^◌, ◌<◌, ◌≤◌, List, [], ◌++◌, map, count_by, All, length, take, Some, None, Ok, Err}
+use Rattle.std.specs.List.{flat_map}
+use Rattle.std.specs.Io.KnownBytes.{Appends, Consumes, IsAtEnd}
+use Rattle.td_out.specs.Causes.{Rose}
+use Rattle.td_giop.specs.declared.fault.FrameFault.{FrameFault}
+use Rattle.td_giop.specs.Stream.{first_at}
+use Rattle.td_giop.specs.Cut.{Front, Fronts}
+use Rattle.td_session.specs.declared.end.Cause.{Cause}
+use Rattle.td_session.specs.declared.end.End.{End}
+use Rattle.td_session.specs.declared.end.End.TheVariants.{Closed, Broken, Truncated, ReadFault, WriteFault, Long, Memory}
+use Rattle.td_session.specs.declared.store.FirstStore.{FirstStore}
+use Rattle.td_session.specs.Outside.{Outside}
+use Rattle.td_session.specs.Steps.{Step, closes, breaks, step_of, Turn, IsTurn, message_limit, is_request, cause_of, message_error}
+
+-- how many bytes a session takes, and how many Requests it serves, at most
+abbrev pub bytes_limit : ℕ
+bytes_limit = 2 ^ 40
+
+abbrev pub request_limit : ℕ
+request_limit = 1000000
+
+-- what the served messages are answered with
+abbrev pub output : List Turn → List ℕ
+output turns = flat_map (λ t. t.reply) turns
+
+abbrev pub messages_of : List Turn → List (List ℕ)
+messages_of turns = map (λ t. t.message) turns
+
+abbrev pub requests : List Turn → ℕ
+requests turns = count_by (λ t. is_request t.message) turns
+
+-- Behind bytes that were taken before, more were taken. In front of them all stand the messages that were
+-- served, one after the other, each answered as its turn says, and the rest behind them. These bytes were given.
+pub record Runs (store : FirstStore) (before after : Outside) (held : List ℕ) (turns : List Turn) (taken rest given : List ℕ) : Type 0 where
+  pub answered : All (IsTurn store) turns
+  pub took : Consumes before.left after.left taken
+  pub cut : Fronts message_limit (held ++ taken) (messages_of turns) rest
+  pub gave : Appends before.written after.written given
+  pub reads : before.reads ≤ after.reads
+  pub writes : before.writes ≤ after.writes
+
+-- the message in front has this step
+pub record Meets (store : FirstStore) (rest : List ℕ) (step : Step) : Type 0 where
+  pub message : List ℕ
+  pub front : Front message_limit rest message
+  pub has_step : step_of store message ≡ step
+
+-- no whole message stands in front
+abbrev pub IsServed : List ℕ → Type 0
+IsServed rest = (n : ℕ) → first_at message_limit rest ≡ Ok (Some n) → ⊥
+
+-- The input ended where no message had begun, or the message in front closes the session.
+abbrev pub ClosesAt : FirstStore → Outside → ℕ → List ℕ → Type 0
+ClosesAt store after count rest = ((count < bytes_limit) × (rest ≡ []) × IsAtEnd after.left) ⊎ Meets store rest closes
+
+-- The header in front is bad, or the message in front can't be served.
+abbrev pub BreaksAt : FirstStore → ℕ → List ℕ → Cause → Type 0
+BreaksAt store count rest cause =
+    ((fault : FrameFault) × (count < bytes_limit) × (first_at message_limit rest ≡ Err fault) × (cause ≡ cause_of fault)) ⊎ Meets store rest (breaks cause)
+
+-- The input ended inside a message.
+pub record EndsInside (after : Outside) (count : ℕ) (rest : List ℕ) : Type 0 where
+  pub few : count < bytes_limit
+  pub began : 0 < length rest
+  pub not_whole : first_at message_limit rest ≡ Ok None
+  pub ended : IsAtEnd after.left
+
+-- The source failed where it was to be read: behind the last whole message.
+pub record ReadFails (before after : Outside) (count : ℕ) (rest : List ℕ) : Type 0 where
+  pub few : count < bytes_limit
+  pub not_whole : first_at message_limit rest ≡ Ok None
+  pub rose : Rose before.reads after.reads
+
+-- The end comes for its reason: so many bytes were taken and so many Requests served, and this rest is left.
+abbrev pub HasReason : FirstStore → End → Outside → Outside → (count requests : ℕ) → List ℕ → Type 0
+HasReason store Closed before after count requests rest = (requests < request_limit) × ClosesAt store after count rest
+HasReason store (Broken place cause) before after count requests rest =
+    (requests < request_limit) × (place + length rest ≡ count) × BreaksAt store count rest cause
+HasReason store (Truncated place) before after count requests rest =
+    (requests < request_limit) × (place + length rest ≡ count) × EndsInside after count rest
+HasReason store ReadFault before after count requests rest = (requests < request_limit) × ReadFails before after count rest
+HasReason store WriteFault before after count requests rest = Rose before.writes after.writes
+HasReason store Long before after count requests rest = (requests ≡ request_limit) ⊎ ((count ≡ bytes_limit) × IsServed rest)
+HasReason store Memory before after count requests rest = Unit {0}
+
+-- a whole MessageError, or its front where the sink failed
+pub record SendsError (before after : Outside) (output given : List ℕ) : Type 0 where
+  pub sent : ℕ
+  pub is : given ≡ output ++ take sent message_error
+  pub whole : (sent ≡ 12) ⊎ Rose before.writes after.writes
+
+-- some of it is unsent
+pub record SendsFront (output given : List ℕ) : Type 0 where
+  pub unsent : List ℕ
+  pub is : given ++ unsent ≡ output
+
+-- what was given of the output by this end
+abbrev pub Gives : End → Outside → Outside → (output given : List ℕ) → Type 0
+Gives (Broken place cause) before after output given = SendsError before after output given
+Gives WriteFault before after output given = SendsFront output given
+Gives Closed before after output given = given ≡ output
+Gives (Truncated place) before after output given = given ≡ output
+Gives ReadFault before after output given = given ≡ output
+Gives Long before after output given = given ≡ output
+Gives Memory before after output given = given ≡ output
+
+-- A session goes on to its end from where these bytes are held, so many were taken and so many Requests served.
+pub record Finishes (store : FirstStore) (end : End) (before after : Outside) (held : List ℕ) (count requests_before : ℕ) : Type 0 where
+  -- each served message with its answer, in order
+  pub turns : List Turn
+  -- the bytes that are taken
+  pub taken : List ℕ
+  -- those behind the served messages
+  pub rest : List ℕ
+  -- the bytes that are written
+  pub given : List ℕ
+  pub runs : Runs store before after held turns taken rest given
+  pub bytes : count + length taken ≤ bytes_limit
+  pub few : requests_before + requests turns ≤ request_limit
+  pub reason : HasReason store end before after (count + length taken) (requests_before + requests turns) rest
+  pub gives : Gives end before after (output turns) given
+
+-- A session, whole.
+abbrev pub Serves : FirstStore → End → Outside → Outside → Type 0
+Serves store end before after = Finishes store end before after [] 0 0

@@ -1,0 +1,164 @@
+//! The message in front of the stream: what it asks for, and its answer.
+
+ghost use Rattle.std.specs.Prelude.{◌≡◌, ◌≤◌};
+ghost use Rattle.td_session.specs.declared.store.FirstStore.{FirstStore as Stored};
+ghost use Rattle.td_session.specs.Steps.{broken_head};
+ghost use Rattle.td_session.specs.Prepared.{IsMessage, Prepares};
+ghost use Rattle.td_session.specs.Turns.{Finds, Responds};
+
+use crate::answer::{answer_locate, answer_request};
+use crate::end::Cause;
+use crate::piece::write_all;
+use crate::room::Room;
+use crate::store::FirstStore;
+use td_cdr::CdrFault;
+use td_giop::{FrameFault, Framer, Raw, read_cancel, read_locate, read_request};
+use td_out::Sink;
+
+/// The message types that a session tells apart.
+const REQUEST: u8 = 0;
+
+const REPLY: u8 = 1;
+
+const CANCEL_REQUEST: u8 = 2;
+
+const LOCATE_REQUEST: u8 = 3;
+
+const LOCATE_REPLY: u8 = 4;
+
+/// What stood in front of the stream, and what became of it.
+#[derive(Clone, Copy, Debug, PartialEq, Eq)]
+pub(crate) enum Front {
+    /// No whole message.
+    Nothing,
+    /// A bad header.
+    Bad(FrameFault),
+    /// A message that closes the session.
+    Closes,
+    /// A message that can't be served.
+    Breaks(Cause),
+    /// A message that was served, and whether it is a Request.
+    Answered { request: bool },
+    /// A message whose answer the sink didn't take whole.
+    Unsent,
+}
+
+/// What a message asks for.
+#[derive(Clone, Copy, Debug, PartialEq, Eq)]
+pub(crate) enum Prepared {
+    /// To be answered with the reply in the room, which may be empty.
+    Answer { request: bool },
+    Close,
+    Break(Cause),
+}
+
+/// Serves the message in front of the stream, which stays there.
+pub(crate) fn serve_front<K: Sink>(
+    store: &FirstStore,
+    room: &mut Room,
+    framer: &mut Framer,
+    sink: &mut K,
+) -> Front
+    requires { framer.old.limit ≡ 16777216 }
+    ensures finds { Finds store.now result framer.old.rest (K.written sink.old) (K.written sink.new) (K.faults sink.old) (K.faults sink.new) }
+    ensures later { K.faults sink.old ≤ K.faults sink.new }
+    ensures framer { framer.new ≡ framer.old }
+{
+    match framer.next_message() {
+        Err(fault) => Front::Bad(fault),
+        Ok(None) => Front::Nothing,
+        Ok(Some(message)) => respond(store, room, &message, sink),
+    }
+}
+
+/// Answers a message.
+fn respond<K: Sink>(store: &FirstStore, room: &mut Room, message: &Raw<'_>, sink: &mut K) -> Front
+    requires { IsMessage message.now }
+    ensures responds { Responds store.now message.now.bytes.now result (K.written sink.old) (K.written sink.new) (K.faults sink.old) (K.faults sink.new) }
+    ensures later { K.faults sink.old ≤ K.faults sink.new }
+{
+    match prepare(store, room, message) {
+        Prepared::Close => Front::Closes,
+        Prepared::Break(cause) => Front::Breaks(cause),
+        Prepared::Answer { request } => match write_all(sink, room.reply.bytes()) {
+            Ok(()) => Front::Answered { request },
+            Err(_) => Front::Unsent,
+        },
+    }
+}
+
+/// What a message asks for, with its answer in the room.
+#[tactic(auto, unfolding(crate::specs::Steps::step_of))]
+fn prepare(store: &FirstStore, room: &mut Room, message: &Raw<'_>) -> Prepared
+    requires { IsMessage message.now }
+    ensures { Prepares store.now message.now.bytes.now result room.new.reply.bytes }
+{
+    match message.kind {
+        REQUEST => prepare_request(store, room, message),
+        CANCEL_REQUEST => prepare_cancel(room, message),
+        LOCATE_REQUEST => prepare_locate(store, room, message),
+        REPLY | LOCATE_REPLY => Prepared::Break(Cause::NotForServer),
+        _ => Prepared::Close,
+    }
+}
+
+/// Prepares the answer to a Request.
+#[tactic(auto, unfolding(crate::specs::Steps::step_of))]
+fn prepare_request(store: &FirstStore, room: &mut Room, message: &Raw<'_>) -> Prepared
+    requires whole { IsMessage message.now }
+    requires kind { message.now.kind ≡ 0 }
+    ensures { Prepares store.now message.now.bytes.now result room.new.reply.bytes }
+{
+    match read_request(message) {
+        Err(fault) => Prepared::Break(broken_head(fault)),
+        Ok(head) => {
+            answer_request(store, room, message.order, &head);
+            Prepared::Answer { request: true }
+        }
+    }
+}
+
+/// Prepares the answer to a LocateRequest.
+#[tactic(auto, unfolding(crate::specs::Steps::step_of))]
+fn prepare_locate(store: &FirstStore, room: &mut Room, message: &Raw<'_>) -> Prepared
+    requires whole { IsMessage message.now }
+    requires kind { message.now.kind ≡ 3 }
+    ensures { Prepares store.now message.now.bytes.now result room.new.reply.bytes }
+{
+    match read_locate(message) {
+        Err(fault) => Prepared::Break(broken_head(fault)),
+        Ok((id, key)) => {
+            answer_locate(store, &mut room.reply, message.order, id, key);
+            Prepared::Answer { request: false }
+        }
+    }
+}
+
+/// Passes over a CancelRequest, which is answered with no bytes.
+#[tactic(auto, unfolding(crate::specs::Steps::step_of))]
+fn prepare_cancel(room: &mut Room, message: &Raw<'_>) -> Prepared
+    requires whole { IsMessage message.now }
+    requires kind { message.now.kind ≡ 2 }
+    ensures { (store : Stored) → Prepares store message.now.bytes.now result room.new.reply.bytes }
+{
+    match read_cancel(message) {
+        Err(fault) => Prepared::Break(broken_head(fault)),
+        Ok(_) => {
+            room.reply.restart(message.order);
+            Prepared::Answer { request: false }
+        }
+    }
+}
+
+/// Where a head that isn't in the grammar breaks it.
+fn broken_head(fault: CdrFault) -> Cause
+    ensures { result ≡ broken_head fault }
+{
+    match fault {
+        CdrFault::Short(place)
+        | CdrFault::BadBoolean(place)
+        | CdrFault::BadString(place)
+        | CdrFault::TooLong(place) => Cause::Header(place),
+        CdrFault::Memory => Cause::Header(0),
+    }
+}

@@ -1,0 +1,176 @@
+//! The session: messages are served in order until the stream ends.
+
+ghost use Rattle.std.specs.Prelude.{◌≡◌, ◌+◌, ◌^◌, ◌<◌, ◌≤◌, length};
+ghost use Rattle.td_session.specs.Outside.{outside};
+ghost use Rattle.td_session.specs.Sessions.{Serves};
+ghost use Rattle.td_session.specs.Steps.{cause_of};
+
+use crate::end::{Cause, End};
+use crate::front::{Front, serve_front};
+use crate::piece::{Piece, take_piece, write_all};
+use crate::room::Room;
+use crate::store::FirstStore;
+use std::alloc::Global;
+use td_cdr::Memory;
+use td_giop::{FrameFault, Framer};
+use td_out::{Sink, Source};
+
+/// How many bytes may follow a message's header: 16 MiB.
+const MESSAGE_LIMIT: u32 = 16777216;
+
+/// How many bytes a session takes at most.
+const BYTES_LIMIT: u64 = 1 << 40;
+
+/// How many Requests a session serves at most.
+const REQUEST_LIMIT: u64 = 1_000_000;
+
+/// A MessageError in big order.
+const MESSAGE_ERROR: [u8; 12] = [b'G', b'I', b'O', b'P', 1, 0, 0, 6, 0, 0, 0, 0];
+
+/// How far a session has come.
+#[derive(Drop)]
+struct Session {
+    framer: Framer,
+    /// How many bytes were taken.
+    taken: u64,
+    /// How many Requests were served.
+    requests: u64,
+    ghost counted: { framer.start + length framer.rest ≡ taken },
+    ghost limited: { framer.limit ≡ 16777216 },
+    ghost short: { taken ≤ 2 ^ 40 },
+    ghost few: { requests ≤ 1000000 },
+}
+
+impl Session {
+    ghost use Rattle.std.specs.Prelude.{◌≡◌, [], IfOk};
+    ghost use Rattle.td_session.specs.Outside.{outside};
+    ghost use Rattle.std.specs.Prelude.{ℕ, ◌<◌, ◌≤◌, List, Option, Ok, None};
+    ghost use Rattle.std.specs.Io.KnownBytes.{Appends};
+    ghost use Rattle.td_giop.specs.Stream.{first_at};
+    ghost use Rattle.td_session.specs.declared.store.FirstStore.{FirstStore};
+    ghost use Rattle.td_session.specs.Ends.{EndsInput, EndsAtBad, Breaks};
+    ghost use Rattle.td_session.specs.Progress.{Turns, stand};
+    ghost use Rattle.td_session.specs.Steps.{message_limit};
+
+    /// A session that has taken nothing.
+    fn new(alloc: Global) -> Result<Session, Memory>
+        ensures { IfOk result (λ s. (s.framer.rest ≡ []) × (s.taken ≡ 0) × (s.requests ≡ 0)) }
+    {
+        Ok(Session {
+            framer: Framer::new(alloc, MESSAGE_LIMIT)?,
+            taken: 0,
+            requests: 0,
+        })
+    }
+
+    /// Serves the message in front, or takes a piece, or says how the session ends.
+    fn turn<S: Source, K: Sink>(
+        &mut self,
+        store: &FirstStore,
+        room: &mut Room,
+        source: &mut S,
+        sink: &mut K,
+    ) -> Option<End>
+        ensures { Turns store.now (outside (S.left source.old) (S.faults source.old) (K.written sink.old) (K.faults sink.old)) (outside (S.left source.new) (S.faults source.new) (K.written sink.new) (K.faults sink.new)) (stand self.old.framer self.old.taken self.old.requests) (stand self.new.framer self.new.taken self.new.requests) result }
+    {
+        if self.requests == REQUEST_LIMIT {
+            return Some(End::Long);
+        }
+        match serve_front(store, room, &mut self.framer, sink) {
+            Front::Nothing => self.take(source),
+            Front::Bad(fault) => Some(self.end_at_bad_header(sink, fault)),
+            Front::Closes => Some(End::Closed),
+            Front::Breaks(cause) => Some(self.break_off(sink, cause)),
+            Front::Unsent => Some(End::WriteFault),
+            Front::Answered { request } => {
+                self.framer.drop_message();
+                self.requests += u64::from(request);
+                None
+            }
+        }
+    }
+
+    /// Takes a piece of the stream, where no whole message is in front.
+    fn take<S: Source>(&mut self, source: &mut S) -> Option<End>
+        requires served { first_at message_limit self.old.framer.rest ≡ Ok None }
+        requires open { self.old.requests < 1000000 }
+        ensures { (store : FirstStore) (w0 w1 : Option (List ℕ)) (f0 f1 : ℕ) → Appends w0 w1 [] → f0 ≤ f1
+            → Turns store (outside (S.left source.old) (S.faults source.old) w0 f0) (outside (S.left source.new) (S.faults source.new) w1 f1) (stand self.old.framer self.old.taken self.old.requests) (stand self.new.framer self.new.taken self.new.requests) result }
+    {
+        if self.taken == BYTES_LIMIT {
+            return Some(End::Long);
+        }
+        match take_piece(&mut self.framer, source, BYTES_LIMIT - self.taken) {
+            Piece::Came(count) => {
+                self.taken += count;
+                None
+            }
+            Piece::Ended => Some(self.end_of_input()),
+            Piece::Failed => Some(End::ReadFault),
+            Piece::Memory => Some(End::Memory),
+        }
+    }
+
+    /// How a session ends whose input has ended.
+    fn end_of_input(&self) -> End
+        requires { first_at message_limit self.now.framer.rest ≡ Ok None }
+        ensures { EndsInput self.now.framer result }
+    {
+        match self.framer.ended_inside() {
+            Some(place) => End::Truncated(place),
+            None => End::Closed,
+        }
+    }
+
+    /// How a session ends that is at a bad header.
+    fn end_at_bad_header<K: Sink>(&self, sink: &mut K, fault: FrameFault) -> End
+        ensures { EndsAtBad self.now.framer.start self.now.taken fault result (K.written sink.old) (K.written sink.new) (K.faults sink.old) (K.faults sink.new) }
+    {
+        if self.taken == BYTES_LIMIT {
+            return End::Long;
+        }
+        self.break_off(sink, cause_of(fault))
+    }
+
+    /// Ends the session with a MessageError, as far as the sink takes it.
+    fn break_off<K: Sink>(&self, sink: &mut K, cause: Cause) -> End
+        ensures end { result ≡ End.Broken self.now.framer.start cause }
+        ensures sends { Breaks (K.written sink.old) (K.written sink.new) (K.faults sink.old) (K.faults sink.new) }
+    {
+        let _ = write_all(sink, &MESSAGE_ERROR);
+        End::Broken(self.framer.place(), cause)
+    }
+}
+
+/// What a bad header means for the session.
+fn cause_of(fault: FrameFault) -> Cause
+    ensures { result ≡ cause_of fault }
+{
+    match fault {
+        FrameFault::BadMagic => Cause::BadMagic,
+        FrameFault::BadVersion => Cause::BadVersion,
+        FrameFault::BadType => Cause::BadType,
+        FrameFault::TooLarge => Cause::TooLarge,
+    }
+}
+
+/// Serves the messages of a source in order, and writes their replies to a sink, until the stream ends.
+pub fn serve_connection<S: Source, K: Sink>(
+    alloc: Global,
+    store: &FirstStore,
+    room: &mut Room,
+    source: &mut S,
+    sink: &mut K,
+) -> End
+    ensures { Serves store.now result (outside (S.left source.old) (S.faults source.old) (K.written sink.old) (K.faults sink.old)) (outside (S.left source.new) (S.faults source.new) (K.written sink.new) (K.faults sink.new)) }
+{
+    let Ok(mut session) = Session::new(alloc) else {
+        return End::Memory;
+    };
+    loop {
+        match session.turn(store, room, source, sink) {
+            Some(end) => return end,
+            None => {}
+        }
+    }
+}
