@@ -96,9 +96,11 @@ impl Framer {
         }))
     }
 
-    /// Takes the first whole message away. Where none is whole, nothing changes.
+    /// Takes the first whole message away. Where none is whole, nothing changes. So many bytes have
+    /// been fed as before.
     pub fn drop_message(&mut self)
-        ensures { self.new ≡ dropped self.old (first_at self.old.limit self.old.rest) }
+        ensures end { self.new.start + length self.new.rest ≡ self.old.start + length self.old.rest }
+        ensures dropped { self.new ≡ dropped self.old (first_at self.old.limit self.old.rest) }
     {
         let front = self.message.len();
         if front > 0 {

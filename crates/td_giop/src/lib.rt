@@ -21,3 +21,6 @@ pub use laws::{
 };
 pub use raw::Raw;
 pub use write::{seal, start_reply, start_request, write_locate, write_locate_reply, write_plain};
+
+#[cfg(test)]
+mod tests;
