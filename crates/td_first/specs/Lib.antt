@@ -1,0 +1,6 @@
+pub mod Entries
+pub mod Line
+pub mod Port
+pub mod Reference
+pub mod Whole
+pub mod Words
