@@ -1,4 +1,5 @@
 pub mod Entries
+pub mod Form
 pub mod Line
 pub mod Port
 pub mod Reference

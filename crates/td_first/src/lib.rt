@@ -9,6 +9,7 @@
 mod draft;
 mod fault;
 mod file;
+mod law;
 mod line;
 mod port;
 mod reference;
@@ -18,3 +19,4 @@ mod words;
 
 pub use fault::FirstFault;
 pub use file::read_first;
+pub use law::first_file_law;
