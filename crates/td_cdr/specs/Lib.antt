@@ -1,5 +1,7 @@
+pub mod Faults
 pub mod formers
 pub mod Gap
+pub mod Items
 pub mod Names
 pub mod Place
 pub mod Reading

@@ -1,8 +1,10 @@
 -- The spellings of a value, as a relation of whole values and whole byte lists.
-use Rattle.std.specs.Prelude.{◌≡◌, ℕ, ◌+◌, ◌-◌, ◌≤◌, Bool, true, false, List, ◌∷◌, ◌++◌, length, drop, Result, Ok}
+use Rattle.std.specs.Prelude.{◌≡◌, ℕ, ℤ, ◌+◌, ◌-◌, ◌≤◌, Bool, true, false, List, [], ◌∷◌, ◌++◌, length, drop, Result, Ok}
+use Rattle.std.specs.Int.{Width, cast_signed}
 use Rattle.td_cdr.specs.declared.order.Order.{Order}
 use Rattle.td_cdr.specs.declared.fault.CdrFault.{CdrFault}
 use Rattle.td_cdr.specs.Truth.{order_of}
+use Rattle.td_cdr.specs.Text.{HasNoNul}
 use Rattle.td_cdr.specs.Gap.{gap}
 use Rattle.td_cdr.specs.Place.{At}
 use Rattle.td_cdr.specs.Reading.{after, number}
@@ -25,11 +27,33 @@ pub record SpellsThen {X Y : Type 0} (first : Order → ℕ → X → List ℕ �
   pub spelled : first order place v.0 front
   pub then_spelled : second v.0 order (place + length front) v.1 back
 
+-- the same of a signed number, whose bytes are in two's complement
+pub record SpellsSigned (width : Width) (size : ℕ) (order : Order) (place : ℕ) (v : ℤ) (b : List ℕ) : Type 0 where
+  pub long : length b ≡ gap size place + size
+  pub value : cast_signed width (number order size (drop (gap size place) b)) ≡ v
+
+-- an octet that is 0 or 1
+pub record SpellsBoolean (order : Order) (place : ℕ) (v : Bool) (b : List ℕ) : Type 0 where
+  pub flag : ℕ
+  pub told : IsFlag v flag
+  pub octet : SpellsNumber 1 order place flag b
+
 -- bytes behind their number
 pub record SpellsOctets (order : Order) (place : ℕ) (v : List ℕ) (b : List ℕ) : Type 0 where
   pub count : List ℕ
   pub counted : SpellsNumber 4 order place (length v) count
   pub parts : b ≡ count ++ v
+
+-- the bytes of a string are the text and a NUL; those of an empty text may be none at all
+pub data IsText (text : List ℕ) (kept : List ℕ) : Type 0 where
+  closed : HasNoNul text → kept ≡ text ++ 0 ∷ [] → IsText text kept
+  absent : text ≡ [] → kept ≡ [] → IsText text kept
+
+-- a string's bytes behind their number
+pub record SpellsString (order : Order) (place : ℕ) (v : List ℕ) (b : List ℕ) : Type 0 where
+  pub kept : List ℕ
+  pub text : IsText v kept
+  pub octets : SpellsOctets order place kept b
 
 -- octets, the first of which tells the order for the value that is spelled from place 1 on; bytes may follow it
 pub record SpellsWithin {Y : Type 0} (inner : Order → ℕ → Y → List ℕ → Type 0) (order : Order) (place : ℕ) (v : Y) (b : List ℕ) : Type 0 where

@@ -4,6 +4,7 @@
 
 mod boxed;
 mod fault;
+pub mod laws;
 mod list;
 mod memory;
 mod names;
@@ -23,3 +24,6 @@ pub use reader::Reader;
 pub use text::Text;
 pub use twin::Twin;
 pub use writer::Writer;
+
+#[cfg(test)]
+mod tests;

@@ -1,4 +1,4 @@
-//! Reading along a borrowed slice.
+//! Reading along a borrowed slice, by the rules of CORBA's common data representation.
 
 ghost use Rattle.std.specs.Prelude.{◌≡◌, ◌+◌, ◌^◌, ◌<◌, ◌≤◌, length, drop, MatchResult};
 ghost use Rattle.td_cdr.specs.Truth.{truth, order_of};
@@ -9,7 +9,11 @@ use crate::order::Order;
 use byteorder::{BigEndian, ByteOrder, LittleEndian};
 use std::marker::Model;
 
-/// A place in a message.
+/// A place in a message, or inside an encapsulation of one. A call reads the value that stands there
+/// and moves on behind it; a call that is refused leaves the reader where it was. Alignment counts
+/// from the message's first byte, or from the octet that tells the order of the encapsulation, and
+/// padding may hold any bytes. Contracts see a reader as `At`: the bytes that are left, where they
+/// stand, where alignment counts from, and the order.
 #[derive(Drop)]
 pub struct Reader<'a> {
     rest: &'a [u8],
@@ -34,6 +38,8 @@ impl<'a> Reader<'a> {
     ghost use Rattle.std.specs.Int.{w16, w32, w64};
     ghost use Rattle.td_cdr.specs.Reading.{inside, aligned, Gives, cell_at, number_at, signed_at, boolean_at, octets_at, string_at, encapsulation_at};
 
+    /// A reader of a message's bytes from this place on. `place` counts from their first byte, from which
+    /// alignment counts too.
     pub fn new(bytes: &'a [u8], place: u32, order: Order) -> Reader<'a>
         requires within { place ≤ length bytes.now }
         requires short { length bytes.now < 2 ^ 32 }
@@ -75,6 +81,11 @@ impl<'a> Reader<'a> {
         Ok(&front[pad as usize..])
     }
 
+    /// The next octet, or char.
+    ///
+    /// # Errors
+    ///
+    /// `Short` where no byte is left.
     #[tactic(auto, unfolding(crate::specs::Reading::number_at))]
     pub fn octet(&mut self) -> Result<u8, CdrFault>
         ensures { Gives (λ v. v) self.old self.new result (number_at 1 self.old) }
@@ -83,6 +94,11 @@ impl<'a> Reader<'a> {
         Ok(cell[0])
     }
 
+    /// The next unsigned short: two bytes, aligned to 2.
+    ///
+    /// # Errors
+    ///
+    /// `Short` where its padding or bytes run past the end.
     #[tactic(auto, unfolding(crate::specs::Reading::number_at))]
     pub fn u16(&mut self) -> Result<u16, CdrFault>
         ensures { Gives (λ v. v) self.old self.new result (number_at 2 self.old) }
@@ -94,6 +110,11 @@ impl<'a> Reader<'a> {
         })
     }
 
+    /// The next unsigned long, count or enumerated value: four bytes, aligned to 4.
+    ///
+    /// # Errors
+    ///
+    /// `Short` where its padding or bytes run past the end.
     #[tactic(auto, unfolding(crate::specs::Reading::number_at))]
     pub fn u32(&mut self) -> Result<u32, CdrFault>
         ensures gives { Gives (λ v. v) self.old self.new result (number_at 4 self.old) }
@@ -106,7 +127,7 @@ impl<'a> Reader<'a> {
         })
     }
 
-    /// The next eight bytes as an unsigned long long, aligned to 8.
+    /// The next unsigned long long: eight bytes, aligned to 8.
     ///
     /// # Errors
     ///
@@ -122,7 +143,7 @@ impl<'a> Reader<'a> {
         })
     }
 
-    /// The next two bytes as a short, in two's complement.
+    /// The next short: two bytes, aligned to 2, in two's complement.
     ///
     /// # Errors
     ///
@@ -134,7 +155,7 @@ impl<'a> Reader<'a> {
         Ok(self.u16()?.cast_signed())
     }
 
-    /// The next four bytes as a long, in two's complement.
+    /// The next long: four bytes, aligned to 4, in two's complement.
     ///
     /// # Errors
     ///
@@ -146,7 +167,7 @@ impl<'a> Reader<'a> {
         Ok(self.u32()?.cast_signed())
     }
 
-    /// The next eight bytes as a long long, in two's complement.
+    /// The next long long: eight bytes, aligned to 8, in two's complement.
     ///
     /// # Errors
     ///
@@ -158,6 +179,11 @@ impl<'a> Reader<'a> {
         Ok(self.u64()?.cast_signed())
     }
 
+    /// The next boolean: an octet that is 0 or 1.
+    ///
+    /// # Errors
+    ///
+    /// `Short` where no byte is left; `BadBoolean` where the octet is above 1.
     #[tactic(auto, unfolding(crate::specs::Reading::boolean_at))]
     pub fn boolean(&mut self) -> Result<bool, CdrFault>
         ensures { Gives (λ v. v) self.old self.new result (boolean_at self.old) }
@@ -168,6 +194,12 @@ impl<'a> Reader<'a> {
         Ok(value)
     }
 
+    /// The next sequence of octets: their number as an unsigned long, and then they.
+    ///
+    /// # Errors
+    ///
+    /// `Short` where no number can be read; `TooLong` where it is above the bytes that follow it. Both
+    /// have the number's place.
     #[tactic(auto, unfolding(crate::specs::Reading::octets_at))]
     pub fn octets(&mut self) -> Result<&'a [u8], CdrFault>
         ensures gives { Gives (λ b. b.now) self.old self.new result (octets_at self.old) }
@@ -185,6 +217,13 @@ impl<'a> Reader<'a> {
         Ok(bytes)
     }
 
+    /// The next string, without its closing NUL: the number of its bytes as an unsigned long, and then
+    /// they, of which the last is a NUL and no other. A string of length 0 is read as an empty one.
+    ///
+    /// # Errors
+    ///
+    /// `Short` and `TooLong` as for octets; else `BadString` where the last byte is no NUL, or one before
+    /// it is. All have the length's place.
     #[tactic(auto, unfolding(crate::specs::Reading::string_at))]
     pub fn string(&mut self) -> Result<&'a [u8], CdrFault>
         ensures { Gives (λ b. b.now) self.old self.new result (string_at self.old) }
@@ -196,6 +235,7 @@ impl<'a> Reader<'a> {
         Ok(text)
     }
 
+    /// A reader at the same place.
     pub fn copied(&self) -> Reader<'a>
         ensures { result ≡ self.now }
     {
@@ -207,7 +247,8 @@ impl<'a> Reader<'a> {
         }
     }
 
-    /// Where the next number of four bytes stands.
+    /// Where the next unsigned long stands, behind its padding, counted from the message's first byte. A
+    /// place past the last that a `u32` can name is that last one.
     pub fn aligned(&self) -> u32
         ensures { result ≡ aligned 4 self.now }
     {
@@ -215,6 +256,14 @@ impl<'a> Reader<'a> {
             .saturating_add((4 - (self.place - self.origin) % 4) % 4)
     }
 
+    /// A reader of the inside of the next encapsulation: a sequence of octets, of which the first tells
+    /// the order of the others. It stands behind that octet, from which its alignment counts, and ends
+    /// where the octets end. This reader moves on behind them.
+    ///
+    /// # Errors
+    ///
+    /// `Short` and `TooLong` as for octets, and `Short` for an encapsulation of length 0, at the length's
+    /// place; `BadBoolean` at the octet that tells the order where it is above 1.
     #[tactic(auto, unfolding(crate::specs::Reading::encapsulation_at))]
     pub fn encapsulation(&mut self) -> Result<Reader<'a>, CdrFault>
         ensures { Gives (λ r. r) self.old self.new result (encapsulation_at self.old) }

@@ -1,4 +1,4 @@
-//! Writing at the end of a message.
+//! Writing at the end of a message, by the rules of CORBA's common data representation.
 
 ghost use Rattle.std.specs.Prelude.{◌≡◌, ◌+◌, ◌^◌, ◌<◌, ◌≤◌, ◌++◌, [], ◌∷◌, length, OnOk, OnErr, IfOk};
 ghost use Rattle.td_cdr.specs.Writing.{Draft, Adds, written_number, written_octets, BeginsWithOrder};
@@ -11,6 +11,12 @@ use byteorder::{BigEndian, ByteOrder, LittleEndian};
 use std::alloc::Global;
 use std::marker::Model;
 
+/// The bytes of a message, or of the inside of an encapsulation, in one order. Each call appends the
+/// spelling of a value, with padding of zeros; alignment counts from the first byte. A call that is
+/// refused leaves the writer unchanged, and is refused only for want of room: a call that fits the room
+/// that `reserve` made is not. A writer has fewer than 2^32 bytes. Signed numbers and booleans are
+/// written by their unsigned form. Contracts see a writer as `Draft`: its bytes, its order, and how
+/// many bytes it has room for.
 #[derive(Drop)]
 pub struct Writer {
     bytes: Vec<u8>,
@@ -29,6 +35,7 @@ impl Model for Writer {
 }
 
 impl Writer {
+    /// A writer of no bytes, which takes no memory.
     pub fn new(alloc: Global, order: Order) -> Writer
         ensures bytes { result.bytes ≡ [] }
         ensures order { result.order ≡ order }
@@ -39,7 +46,11 @@ impl Writer {
         }
     }
 
-    /// Room for this many bytes more.
+    /// Makes room for this many bytes more.
+    ///
+    /// # Errors
+    ///
+    /// `Memory` for want of memory, or where the writer would come to 2^32 bytes; it is then unchanged.
     pub fn reserve(&mut self, bytes: usize) -> Result<(), Memory>
         ensures ok { OnOk result ((self.new.bytes ≡ self.old.bytes) × (self.new.order ≡ self.old.order) × (length self.old.bytes + bytes ≤ self.new.room) × (self.old.room ≤ self.new.room)) }
         ensures err { OnErr result ((self.new ≡ self.old) × (self.old.room < length self.old.bytes + bytes)) }
@@ -109,6 +120,11 @@ impl Writer {
         self.put_cell(&cell)
     }
 
+    /// An unsigned long, behind its padding of zeros.
+    ///
+    /// # Errors
+    ///
+    /// `Memory` for want of room; the writer is then unchanged.
     pub fn u32(&mut self, v: u32) -> Result<(), Memory>
         ensures { Adds (written_number 4 self.old.order (length self.old.bytes) v) self.old self.new result }
     {
@@ -120,6 +136,11 @@ impl Writer {
         self.put_cell(&cell)
     }
 
+    /// A sequence of octets, behind their number.
+    ///
+    /// # Errors
+    ///
+    /// `Memory` for want of room; the writer is then unchanged.
     pub fn octets(&mut self, v: &[u8]) -> Result<(), Memory>
         ensures { Adds (written_octets self.old.order (length self.old.bytes) v.now) self.old self.new result }
     {
@@ -134,6 +155,21 @@ impl Writer {
         Ok(())
     }
 
+    /// Bytes as they are, with no padding and no length before them.
+    ///
+    /// # Errors
+    ///
+    /// `Memory` for want of room; the writer is then unchanged.
+    pub fn append(&mut self, v: &[u8]) -> Result<(), Memory>
+        ensures { Adds v.now self.old self.new result }
+    {
+        self.reserve(v.len())?;
+        self.bytes.extend_from_slice(v)?;
+        Ok(())
+    }
+
+    /// Puts a number's four bytes, in the writer's order, in the place of the four bytes from `place` on.
+    /// Takes no memory.
     pub fn set_u32(&mut self, place: u32, v: u32)
         requires { place + 4 ≤ length self.old.bytes }
         ensures { self.new ≡ record self.old { bytes = take place self.old.bytes ++ bytes_of self.old.order 4 v ++ drop (place + 4) self.old.bytes } }
@@ -146,20 +182,22 @@ impl Writer {
         }
     }
 
+    /// The bytes that were written.
     pub fn bytes(&self) -> &[u8]
         ensures { result.now ≡ self.now.bytes }
     {
         &self.bytes
     }
 
-    /// How many bytes it holds.
+    /// How many bytes it holds. They fit its room, which is below 2^32.
     pub fn len(&self) -> usize
-        ensures { result ≡ length self.now.bytes }
+        ensures len { result ≡ length self.now.bytes }
+        ensures within { (length self.now.bytes ≤ self.now.room) × (self.now.room < 2 ^ 32) }
     {
         self.bytes.len()
     }
 
-    /// Only the first bytes are kept. Takes no memory.
+    /// Keeps the first `len` bytes alone, and the room. Takes no memory.
     pub fn cut(&mut self, len: usize)
         requires { len ≤ length self.old.bytes }
         ensures { self.new ≡ record self.old { bytes = take len self.old.bytes } }
@@ -167,20 +205,30 @@ impl Writer {
         self.bytes.truncate(len);
     }
 
+    /// Takes all bytes away, and keeps the room. Takes no memory.
     pub fn clear(&mut self)
         ensures { self.new ≡ record self.old { bytes = [] } }
     {
         self.bytes.clear();
     }
 
+    /// Empties it for a message in this order. Takes no memory, and keeps the room.
+    pub fn restart(&mut self, order: Order)
+        ensures { self.new ≡ record { bytes = []; order = order; room = self.old.room } }
+    {
+        self.bytes.clear();
+        self.order = order;
+    }
+
+    /// The order that `new`, `inside` or `restart` was handed.
     pub fn order(&self) -> Order
         ensures { result ≡ self.now.order }
     {
         self.order
     }
 
-    /// What `inner` holds, as an encapsulation: behind the number of its bytes, of which the first
-    /// tells their order.
+    /// An encapsulation of what `inner` holds: its bytes behind their number. They begin with the octet
+    /// that tells their order, as those of a writer that `inside` made do.
     ///
     /// # Errors
     ///
@@ -193,6 +241,10 @@ impl Writer {
     }
 
     /// A writer for the inside of an encapsulation in this order, which begins with the octet that tells it.
+    ///
+    /// # Errors
+    ///
+    /// `Memory` for want of memory alone.
     pub fn inside(alloc: Global, order: Order) -> Result<Writer, Memory>
         ensures { IfOk result (λ w. (w.bytes ≡ flag order ∷ []) × (w.order ≡ order)) }
     {
@@ -201,7 +253,12 @@ impl Writer {
         Ok(writer)
     }
 
-    /// Text behind its length, with a NUL at its end.
+    /// A string: the text's bytes and a closing NUL, behind their number. The text has no NUL, else what is
+    /// written is no string.
+    ///
+    /// # Errors
+    ///
+    /// `Memory` for want of room; the writer is then unchanged.
     pub fn string(&mut self, v: &[u8]) -> Result<(), Memory>
         ensures { Adds (written_octets self.old.order (length self.old.bytes) (v.now ++ 0 ∷ [])) self.old self.new result }
     {

@@ -1,0 +1,38 @@
+-- A stream is whole messages, and then a rest in which no whole message stands in front.
+use Rattle.std.specs.Prelude.{◌≡◌, ℕ, List, [], ◌∷◌, ◌<◌, length, take, drop, Some, None, Ok, Err}
+use Rattle.td_giop.specs.declared.fault.FrameFault.{FrameFault}
+use Rattle.td_giop.specs.Stream.{first_at}
+
+-- why no message follows: the stream is at the border of a message, inside one, or at a bad header
+pub data Ending : Type 0 where
+  border : Ending
+  inside : Ending
+  bad : FrameFault → Ending
+
+-- the rest begins with no whole message, for this reason
+abbrev pub EndsSo : ℕ → Ending → List ℕ → Type 0
+EndsSo limit border rest = rest ≡ []
+EndsSo limit inside rest = (first_at limit rest ≡ Ok None) × (0 < length rest)
+EndsSo limit (bad fault) rest = first_at limit rest ≡ Err fault
+
+-- m is the whole message in front of s
+pub record Front (limit : ℕ) (s m : List ℕ) : Type 0 where
+  pub size : first_at limit s ≡ Ok (Some (length m))
+  pub bytes : m ≡ take (length m) s
+
+-- these messages stand one after the other in front of s, and then the rest, whatever it is
+abbrev pub Fronts : ℕ → List ℕ → List (List ℕ) → List ℕ → Type 0
+Fronts limit s [] rest = s ≡ rest
+Fronts limit s (m ∷ ms) rest = Front limit s m × Fronts limit (drop (length m) s) ms rest
+
+-- s is these messages and this rest
+pub record Cut (limit : ℕ) (s : List ℕ) (messages : List (List ℕ)) (rest : List ℕ) (ending : Ending) : Type 0 where
+  pub fronts : Fronts limit s messages rest
+  pub ends : EndsSo limit ending rest
+
+-- there are messages and a rest that s is
+pub record HasCut (limit : ℕ) (s : List ℕ) : Type 0 where
+  pub messages : List (List ℕ)
+  pub rest : List ℕ
+  pub ending : Ending
+  pub cut : Cut limit s messages rest ending

@@ -1,0 +1,6 @@
+pub mod Cut
+pub mod FramerLends
+pub mod Header
+pub mod Heads
+pub mod Stream
+pub mod Written

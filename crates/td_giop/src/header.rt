@@ -1,0 +1,103 @@
+//! The message header: 12 octets in front of each message (chapter "General Inter-ORB Protocol",
+//! "GIOP Message Header").
+
+ghost use Rattle.std.specs.Prelude.{◌≡◌, ◌≤◌, length, slice_index, IsTrue, ◌↔◌};
+ghost use Rattle.td_cdr.specs.Reading.{number};
+ghost use Rattle.td_giop.specs.Header.{has_magic, has_version, order_told, size_told, header_at};
+
+use crate::fault::FrameFault;
+use byteorder::{BigEndian, ByteOrder, LittleEndian};
+use circular_buffer::HeapCircularBuffer;
+use td_cdr::Order;
+
+/// How many octets a header has.
+pub const HEADER_SIZE: usize = 12;
+
+/// The highest message type, MessageError.
+const LAST_TYPE: u8 = 6;
+
+/// What a good header tells.
+#[derive(Clone, Copy, Debug, PartialEq, Eq)]
+pub struct Header {
+    /// The message type.
+    pub kind: u8,
+    /// The order of the message's numbers.
+    pub order: Order,
+    /// How many bytes follow the header.
+    pub size: u32,
+}
+
+/// The header in front, once its octets are there.
+#[tactic(auto, unfolding(crate::specs::Header::header_at))]
+pub fn judge(ring: &HeapCircularBuffer<u8>, limit: u32) -> Result<Option<Header>, FrameFault>
+    ensures { result ≡ header_at limit ring.now.items }
+{
+    if ring.len() < HEADER_SIZE {
+        return Ok(None);
+    }
+    if !has_magic(ring) {
+        return Err(FrameFault::BadMagic);
+    }
+    if !has_version(ring) {
+        return Err(FrameFault::BadVersion);
+    }
+    let kind = octet(ring, 7);
+    if kind > LAST_TYPE {
+        return Err(FrameFault::BadType);
+    }
+    let order = order_of(octet(ring, 6));
+    let size = size_of(ring, order);
+    if size > limit {
+        return Err(FrameFault::TooLarge);
+    }
+    Ok(Some(Header { kind, order, size }))
+}
+
+fn has_magic(ring: &HeapCircularBuffer<u8>) -> bool
+    ensures { result ≡ has_magic ring.now.items }
+{
+    octet(ring, 0) == b'G'
+        && octet(ring, 1) == b'I'
+        && octet(ring, 2) == b'O'
+        && octet(ring, 3) == b'P'
+}
+
+fn has_version(ring: &HeapCircularBuffer<u8>) -> bool
+    ensures { result ≡ has_version ring.now.items }
+{
+    octet(ring, 4) == 1 && octet(ring, 5) == 0
+}
+
+/// The size field, which is a number in the message's order.
+fn size_of(ring: &HeapCircularBuffer<u8>, order: Order) -> u32
+    ensures { result ≡ size_told order ring.now.items }
+{
+    let cell = [
+        octet(ring, 8),
+        octet(ring, 9),
+        octet(ring, 10),
+        octet(ring, 11),
+    ];
+    match order {
+        Order::Big => BigEndian::read_u32(&cell),
+        Order::Little => LittleEndian::read_u32(&cell),
+    }
+}
+
+/// The order that the lowest bit of the header's order octet tells.
+pub fn order_of(octet: u8) -> Order
+    ensures { result ≡ order_told octet }
+{
+    if octet % 2 == 0 {
+        Order::Big
+    } else {
+        Order::Little
+    }
+}
+
+/// An octet of the ring, or 0 past its end.
+fn octet(ring: &HeapCircularBuffer<u8>, index: usize) -> u8
+    ensures { result ≡ slice_index ring.now.items index }
+{
+    ring.get(index).copied().unwrap_or(0)
+}

@@ -1,0 +1,18 @@
+//! The General Inter-ORB Protocol (GIOP) 1.0: messages out of a stream, message heads, and writers
+//! of both.
+#![tactic(auto)]
+
+mod fault;
+mod framer;
+mod head;
+mod header;
+mod raw;
+mod write;
+
+pub use fault::FrameFault;
+pub use framer::Framer;
+pub use head::{
+    ReplyHead, RequestHead, read_cancel, read_locate, read_locate_reply, read_reply, read_request,
+};
+pub use raw::Raw;
+pub use write::{seal, start_reply, start_request, write_locate, write_locate_reply, write_plain};

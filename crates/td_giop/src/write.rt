@@ -1,0 +1,200 @@
+//! Writing messages (chapter "General Inter-ORB Protocol", "GIOP Messages"): a start, what the caller
+//! appends, and the seal that sets the size field.
+
+ghost use Rattle.std.specs.Prelude.{◌≡◌, ◌+◌, ◌≤◌, ◌<◌, ◌^◌, [], ◌∷◌, ◌++◌, length, OnOk, OnErr};
+ghost use Rattle.td_cdr.specs.Gap.{flag, gap};
+ghost use Rattle.td_cdr.specs.Writing.{Adds, written_octets};
+ghost use Rattle.td_giop.specs.Written.{Puts, octets_end, request_size, header_written, request_start, reply_start, locate_written, locate_reply_written, sealed};
+
+use td_cdr::{Memory, Order, Writer};
+
+const REQUEST: u8 = 0;
+
+const REPLY: u8 = 1;
+
+const LOCATE_REQUEST: u8 = 3;
+
+const LOCATE_REPLY: u8 = 4;
+
+/// Where the size field stands in the header.
+const SIZE_PLACE: u32 = 8;
+
+/// Starts a Request, behind which its parameters follow. The writer is empty. The request has no
+/// contexts and an empty principal.
+///
+/// # Errors
+///
+/// `Memory` for want of room; the writer is then unchanged.
+#[tactic(auto, using(crate::proofs::Lengths::request_start_length))]
+pub fn start_request(
+    w: &mut Writer,
+    id: u32,
+    answered: bool,
+    key: &[u8],
+    operation: &[u8],
+) -> Result<(), Memory>
+    requires { w.old.bytes ≡ [] }
+    ensures { Adds (request_start w.old.order id answered key.now operation.now) w.old w.new result }
+{
+    let most = u32::MAX as usize - w.len();
+    if key.len() > most || operation.len() > most {
+        return Err(Memory);
+    }
+    w.reserve(request_size(key.len(), operation.len()))?;
+    put_request(w, id, answered, key, operation)
+}
+
+#[tactic(auto, unfolding(crate::specs::Written::request_start))]
+fn put_request(
+    w: &mut Writer,
+    id: u32,
+    answered: bool,
+    key: &[u8],
+    operation: &[u8],
+) -> Result<(), Memory>
+    requires { w.old.bytes ≡ [] }
+    ensures { Puts (request_start w.old.order id answered key.now operation.now) w.old w.new result }
+{
+    put_header(w, REQUEST)?;
+    w.u32(0)?;
+    w.u32(id)?;
+    w.octet(answered as u8)?;
+    w.octets(key)?;
+    w.string(operation)?;
+    w.octets(&[])
+}
+
+/// How long the start of a Request is with a key and an operation of these lengths.
+fn request_size(key: usize, operation: usize) -> usize
+    requires key { key < 2 ^ 32 }
+    requires operation { operation < 2 ^ 32 }
+    ensures { result ≡ request_size key operation }
+{
+    let key_end = octets_end(21, key);
+    let operation_end = octets_end(key_end, operation + 1);
+    octets_end(operation_end, 0)
+}
+
+/// Where so many octets end whose number is the next item.
+fn octets_end(place: usize, len: usize) -> usize
+    requires place { place < 2 ^ 40 }
+    requires len { len < 2 ^ 40 }
+    ensures { result ≡ octets_end place len }
+{
+    place + (4 - place % 4) % 4 + 4 + len
+}
+
+/// Starts a Reply, behind which its body follows. The writer is empty.
+///
+/// # Errors
+///
+/// `Memory` for want of room; the writer is then unchanged.
+#[tactic(auto, using(crate::proofs::Lengths::reply_start_length))]
+pub fn start_reply(w: &mut Writer, id: u32, status: u32) -> Result<(), Memory>
+    requires { w.old.bytes ≡ [] }
+    ensures { Adds (reply_start w.old.order id status) w.old w.new result }
+{
+    w.reserve(24)?;
+    put_reply(w, id, status)
+}
+
+#[tactic(auto, unfolding(crate::specs::Written::reply_start))]
+fn put_reply(w: &mut Writer, id: u32, status: u32) -> Result<(), Memory>
+    requires { w.old.bytes ≡ [] }
+    ensures { Puts (reply_start w.old.order id status) w.old w.new result }
+{
+    put_header(w, REPLY)?;
+    w.u32(0)?;
+    w.u32(id)?;
+    w.u32(status)
+}
+
+/// Writes a LocateRequest. The writer is empty.
+///
+/// # Errors
+///
+/// `Memory` for want of room; the writer is then unchanged.
+#[tactic(auto, using(crate::proofs::Lengths::locate_written_length))]
+pub fn write_locate(w: &mut Writer, id: u32, key: &[u8]) -> Result<(), Memory>
+    requires { w.old.bytes ≡ [] }
+    ensures { Adds (locate_written w.old.order id key.now) w.old w.new result }
+{
+    w.reserve(20 + key.len())?;
+    put_locate(w, id, key)
+}
+
+#[tactic(auto, unfolding(crate::specs::Written::locate_written))]
+fn put_locate(w: &mut Writer, id: u32, key: &[u8]) -> Result<(), Memory>
+    requires { w.old.bytes ≡ [] }
+    ensures { Puts (locate_written w.old.order id key.now) w.old w.new result }
+{
+    put_header(w, LOCATE_REQUEST)?;
+    w.u32(id)?;
+    w.octets(key)
+}
+
+/// Writes a LocateReply. The writer is empty.
+///
+/// # Errors
+///
+/// `Memory` for want of room; the writer is then unchanged.
+#[tactic(auto, using(crate::proofs::Lengths::locate_reply_written_length))]
+pub fn write_locate_reply(w: &mut Writer, id: u32, status: u32) -> Result<(), Memory>
+    requires { w.old.bytes ≡ [] }
+    ensures { Adds (locate_reply_written w.old.order id status) w.old w.new result }
+{
+    w.reserve(20)?;
+    put_locate_reply(w, id, status)
+}
+
+#[tactic(auto, unfolding(crate::specs::Written::locate_reply_written))]
+fn put_locate_reply(w: &mut Writer, id: u32, status: u32) -> Result<(), Memory>
+    requires { w.old.bytes ≡ [] }
+    ensures { Puts (locate_reply_written w.old.order id status) w.old w.new result }
+{
+    put_header(w, LOCATE_REPLY)?;
+    w.u32(id)?;
+    w.u32(status)
+}
+
+/// Writes a message that is a header alone: a CloseConnection, of type 5, or a MessageError, of type
+/// 6. The writer is empty.
+///
+/// # Errors
+///
+/// `Memory` for want of room; the writer is then unchanged.
+pub fn write_plain(w: &mut Writer, kind: u8) -> Result<(), Memory>
+    requires { w.old.bytes ≡ [] }
+    ensures { Adds (header_written w.old.order kind) w.old w.new result }
+{
+    put_header(w, kind)
+}
+
+/// The header of a message of this type, with 0 in the size field.
+fn put_header(w: &mut Writer, kind: u8) -> Result<(), Memory>
+    ensures { Adds (header_written w.old.order kind) w.old w.new result }
+{
+    let order = flag_of(w.order());
+    w.append(&[b'G', b'I', b'O', b'P', 1, 0, order, kind, 0, 0, 0, 0])
+}
+
+/// The octet that tells the order.
+fn flag_of(order: Order) -> u8
+    ensures { result ≡ flag order }
+{
+    match order {
+        Order::Big => 0,
+        Order::Little => 1,
+    }
+}
+
+/// Sets the size field to the number of bytes behind the header. Takes no memory.
+///
+/// The writer's bytes begin with what a `start_` or `write_` call wrote, so with a header.
+pub fn seal(w: &mut Writer)
+    requires { 12 ≤ length w.old.bytes }
+    ensures { w.new ≡ record w.old { bytes = sealed w.old.order w.old.bytes } }
+{
+    let size = w.len() as u32 - 12;
+    w.set_u32(SIZE_PLACE, size);
+}

@@ -1,0 +1,75 @@
+-- Sources, sinks and texts in memory.
+use Rattle.std.specs.Prelude.{◌≡◌, ℕ, ◌-◌, ◌^◌, map, min, max, nat_lt, if◌then◌else◌, List, ◌++◌, length, take, drop, Option, None, Some, Result, Ok, Err, IfOk, OnOk, OnErr, is_err, false}
+use Rattle.std.specs.List.{slice_get}
+use Rattle.td_out.specs.declared.fault.Failed.{Failed}
+use Rattle.td_out.specs.declared.fault.TextFault.{TextFault}
+use Rattle.td_out.specs.declared.fault.TextFault.TheVariants as fault
+use Rattle.td_out.specs.declared.calls.Calls.{Calls}
+use Rattle.td_out.specs.Calls.{fails, counted, failed}
+use Rattle.td_out.specs.Texts.{Named, longest_text, text_named}
+
+-- ---- a source
+
+pub record Supply : Type 0 where
+  -- the bytes that are left
+  pub left : List ℕ
+  -- the greatest size of each call in turn, those of the calls that were made too
+  pub pieces : List ℕ
+  pub calls : Calls
+
+-- the greatest size of a call: at least a byte, since a read of none is the end, and none is set past the list's end
+abbrev pub most_of : Option ℕ → ℕ
+most_of None = 2 ^ 64 - 1
+most_of (Some piece) = max piece 1
+
+-- how many bytes the next call gives to so much room
+abbrev pub given : Supply → ℕ → ℕ
+given s room = min (most_of (slice_get s.pieces s.calls.made)) (min (length s.left) room)
+
+-- a read: it fails exactly where its number is among those that do, and then moves nothing
+pub record Reads (old new : Supply) (before after : List ℕ) (result : Result ℕ Failed) : Type 0 where
+  pub fails_as_set : is_err result ≡ fails old.calls
+  pub gave : IfOk result (λ n. n ≡ given old (length before))
+  pub filled : IfOk result (λ n. after ≡ take n old.left ++ drop n before)
+  pub moved : IfOk result (λ n. new ≡ record old { left = drop n old.left; calls = counted old.calls })
+  pub refused : OnErr result ((after ≡ before) × (new ≡ record old { calls = failed old.calls }))
+
+-- ---- a sink
+
+pub record Kept : Type 0 where
+  -- what was written
+  pub written : List ℕ
+  pub calls : Calls
+
+-- a write: it takes the whole piece. It fails where its number is among those that do, and for want of memory alone besides
+pub record Writes (old new : Kept) (piece : List ℕ) (result : Result ℕ Failed) : Type 0 where
+  pub fails_as_set : OnOk result (fails old.calls ≡ false)
+  pub took : IfOk result (λ n. n ≡ length piece)
+  pub added : OnOk result (new ≡ record { written = old.written ++ piece; calls = counted old.calls })
+  pub refused : OnErr result (new ≡ record old { calls = failed old.calls })
+
+-- ---- texts
+
+pub record Shelf : Type 0 where
+  pub texts : List Named
+  pub calls : Calls
+
+-- a text as it is given
+abbrev pub as_given : Option (List ℕ) → Result (List ℕ) TextFault
+as_given None = Err fault.Failed
+as_given (Some text) = if nat_lt longest_text (length text) then Err fault.TooLong else Ok text
+
+-- what a call answers for that name where memory is there: it fails where its number is among those that do, and for a name that isn't there
+abbrev pub answer_of : Shelf → List ℕ → Result (List ℕ) TextFault
+answer_of s name = if fails s.calls then Err fault.Failed else as_given (text_named name s.texts)
+
+-- what an answer leaves: want of memory leaves all as it was
+abbrev pub left_by : Result (List ℕ) TextFault → Shelf → Shelf
+left_by (Ok text) s = record s { calls = counted s.calls }
+left_by (Err fault.Failed) s = record s { calls = failed s.calls }
+left_by (Err fault.TooLong) s = record s { calls = counted s.calls }
+left_by (Err fault.Memory) s = s
+
+-- the files with their names
+abbrev pub named : List (List ℕ × List ℕ) → List Named
+named files = map (λ f. record { name = f.0; bytes = f.1 }) files

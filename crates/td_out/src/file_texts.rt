@@ -1,0 +1,84 @@
+//! Texts in files.
+
+ghost use Rattle.std.specs.Prelude.{◌≡◌, ◌≤◌, ◌<◌, ℕ, length, Option, None, IfOk, IfSome, IsErrOf};
+ghost use Rattle.std.specs.Io.KnownBytes.{Consumes, IsAtEnd};
+ghost use Rattle.td_out.specs.Texts.{longest_text};
+ghost use Rattle.td_out.specs.declared.fault.TextFault.TheVariants.{TooLong as of_length};
+
+use crate::fault::TextFault;
+use crate::std_source::read_some;
+use crate::texts::{LONGEST_TEXT, Texts};
+use std::alloc::Global;
+use std::fs;
+use std::io::Read;
+use std::rt::Files;
+use td_cdr::Octets;
+
+/// The texts of files, named by their paths. It tells nothing of their content.
+#[derive(Drop)]
+pub struct FileTexts<'a, R> {
+    rt: &'a R,
+    faults: u64,
+}
+
+impl<'a, R> FileTexts<'a, R> {
+    /// The files that this runtime reaches. No fault was counted yet.
+    pub fn new(rt: &'a R) -> FileTexts<'a, R>
+        ensures runtime { result.rt ≡ rt.entry }
+        ensures faults { result.faults ≡ 0 }
+    {
+        FileTexts { rt, faults: 0 }
+    }
+}
+
+impl<'a, R: Files> Texts for FileTexts<'a, R> {
+    ghost told = { λ _. None };
+
+    ghost faults = { λ s. s.faults };
+
+    ghost same = { λ _ _. Unit {0} };
+
+    ghost same_on = { λ _ _ _ _ _. tt };
+
+    /// A file that can't be opened or read is a fault. At most 64 MiB and a byte are read of it.
+    fn text(&mut self, alloc: Global, name: &str) -> Result<Octets, TextFault> {
+        match read_file(alloc, self.rt, name) {
+            Ok(text) => Ok(text),
+            Err(TextFault::Failed) => {
+                self.faults = self.faults.saturating_add(1);
+                Err(TextFault::Failed)
+            }
+            Err(fault) => Err(fault),
+        }
+    }
+}
+
+/// The text of the file at this path.
+fn read_file<R: Files>(alloc: Global, rt: &R, path: &str) -> Result<Octets, TextFault>
+    ensures { IfOk result (λ text. length text ≤ longest_text) }
+{
+    let mut file = fs::open(rt, path).map_err(|_| TextFault::Failed)?;
+    read_text(alloc, &mut file)
+}
+
+/// All that the reader has left, and `TooLong` where that is more than a text may have.
+fn read_text<R: Read>(alloc: Global, reader: &mut R) -> Result<Octets, TextFault>
+    ensures short { IfOk result (λ text. length text ≤ longest_text) }
+    ensures whole { IfOk result (λ text. Consumes (R.remaining reader.old) (R.remaining reader.new) text × IsAtEnd (R.remaining reader.new)) }
+    ensures too_long { IsErrOf result of_length → IfSome (R.remaining reader.old) (λ all. longest_text < length all) }
+{
+    let mut text = Vec::new(alloc);
+    let mut piece = [0u8; 4096];
+    loop {
+        let room = (LONGEST_TEXT + 1 - text.len()).min(piece.len());
+        let size = read_some(reader, &mut piece[..room])?;
+        if size == 0 {
+            return Ok(Octets::from_vec(text));
+        }
+        if size > LONGEST_TEXT - text.len() {
+            return Err(TextFault::TooLong);
+        }
+        text.extend_from_slice(&piece[..size])
+            .map_err(|_| TextFault::Memory)?;
+    }
+}
