@@ -7,3 +7,4 @@ pub mod Growing
 pub mod Wholes
 pub mod Forms
 pub mod Misfits
+pub mod Texts

@@ -4,4 +4,5 @@ pub mod Line
 pub mod Port
 pub mod Reference
 pub mod Whole
+pub mod Written
 pub mod Words

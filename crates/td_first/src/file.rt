@@ -1,7 +1,8 @@
 //! A whole file.
 
-ghost use Rattle.std.specs.Prelude.{◌≤◌, length};
+ghost use Rattle.std.specs.Prelude.{◌≤◌, length, IfOk};
 ghost use Rattle.td_first.specs.Whole.{file_of, Answers};
+ghost use Rattle.td_first.specs.Written.{CanBeWritten};
 
 use crate::draft::Draft;
 use crate::fault::{FirstFault, Misfit};
@@ -9,14 +10,23 @@ use crate::line::next_line;
 use std::alloc::Global;
 use td_session::FirstStore;
 
-/// The store of a server's file.
+/// The store of a server's file, at most 64 MiB (67,108,864 bytes). Its texts have no NUL.
 ///
 /// # Errors
 ///
 /// `Line` exactly for a file that isn't in the form, with the number of the first line that doesn't
 /// fit, and `Memory` for want of memory.
-#[tactic(auto, unfolding(crate::specs::Whole::file_of))]
 pub fn read_first(alloc: Global, text: &[u8]) -> Result<FirstStore, FirstFault>
+    requires { length text.now ≤ 67108864 }
+    ensures gives { Answers (file_of text.now) result }
+    ensures clean { IfOk result CanBeWritten }
+{
+    read_lines(alloc, text)
+}
+
+/// The store that the lines of a file give.
+#[tactic(auto, unfolding(crate::specs::Whole::file_of))]
+fn read_lines(alloc: Global, text: &[u8]) -> Result<FirstStore, FirstFault>
     requires { length text.now ≤ 67108864 }
     ensures { Answers (file_of text.now) result }
 {

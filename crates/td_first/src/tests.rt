@@ -11,6 +11,97 @@ use td_cdr::Memory;
 const PRINTERS: &[u8] =
     b"address h 9\ntrader A\ntype Printer IDL:Printer:1.0\noffer Printer ref:IDL:Printer:1.0,h,9,p1\noffer Printer ref:IDL:Printer:1.0,h,9,p2\n";
 
+/// Files, with how many offers they have or the line at which they are refused.
+const FILES: [(&[u8], Result<usize, FirstFault>); 36] = [
+    (PRINTERS, Ok(2)),
+    (b"address h 9\ntrader A\ntype B -", Ok(0)),
+    (b"address h 65535\r\ntrader A\r\ntype B -\r\n", Ok(0)),
+    (b"address h 0\ntrader A\ntype B - \n", Ok(0)),
+    (
+        b"# one\n\naddress h 9\n#\ntrader A\n\n type\tB  - \n# end",
+        Ok(0),
+    ),
+    (
+        b"address h 9\ntrader A\ntype B -\noffer B ref:,h,0,\n",
+        Ok(1),
+    ),
+    (
+        b"address h 9\ntrader A\ntype B a,b\noffer B ref:a,b,,0,\n",
+        Ok(1),
+    ),
+    (
+        b"address h 9\ntrader A\ntype B x\ntype C -\noffer C ref:,h,1,k\noffer B ref:x,h,1,k",
+        Ok(2),
+    ),
+    (b"", Err(FirstFault::Line(1))),
+    (b"# only\n\n", Err(FirstFault::Line(3))),
+    (b"address h 9\n", Err(FirstFault::Line(2))),
+    (b"address h 9\ntrader A", Err(FirstFault::Line(3))),
+    (
+        b"address h 9\ntrader A\ntype Printer\n",
+        Err(FirstFault::Line(3)),
+    ),
+    (b"trader A\n", Err(FirstFault::Line(1))),
+    (b"address h 9\naddress h 9\n", Err(FirstFault::Line(2))),
+    (
+        b"address h 9\ntrader A\ntrader A\n",
+        Err(FirstFault::Line(3)),
+    ),
+    (b"address h 9\ntype B -\n", Err(FirstFault::Line(2))),
+    (
+        b"address h 9\ntrader A\noffer B ref:,h,1,k\n",
+        Err(FirstFault::Line(3)),
+    ),
+    (
+        b"address h 9\ntrader A\ntype B -\ntype B -\n",
+        Err(FirstFault::Line(4)),
+    ),
+    (
+        b"address h 9\ntrader A\ntype B -\noffer B ref:,h,1,k\ntype C -\n",
+        Err(FirstFault::Line(5)),
+    ),
+    (
+        b"address h 9\ntrader A\ntype B -\noffer C ref:,h,1,k\n",
+        Err(FirstFault::Line(4)),
+    ),
+    (
+        b"address h 9\ntrader A\ntype B -\noffer B ref:x,h,1,k\n",
+        Err(FirstFault::Line(4)),
+    ),
+    (
+        b"address h 9\ntrader A\ntype B -\noffer B ref:h,1,k\n",
+        Err(FirstFault::Line(4)),
+    ),
+    (
+        b"address h 9\ntrader A\ntype B -\noffer B REF:,h,1,k\n",
+        Err(FirstFault::Line(4)),
+    ),
+    (
+        b"address h 9\ntrader A\ntype B -\noffer B ref:,h,01,k\n",
+        Err(FirstFault::Line(4)),
+    ),
+    (b"address h 65536\n", Err(FirstFault::Line(1))),
+    (b"address h 007\n", Err(FirstFault::Line(1))),
+    (b"address h \n", Err(FirstFault::Line(1))),
+    (b"address h 9 9\n", Err(FirstFault::Line(1))),
+    (b"address h -9\n", Err(FirstFault::Line(1))),
+    (
+        b"address h 99999999999999999999\n",
+        Err(FirstFault::Line(1)),
+    ),
+    (b"address h 9\n  \n", Err(FirstFault::Line(2))),
+    (b"address h 9\n #\n", Err(FirstFault::Line(2))),
+    (b"address h 9\ntrader A/B\n", Err(FirstFault::Line(2))),
+    (
+        b"address h 9\ntrader A\ntype B -\n\r",
+        Err(FirstFault::Line(4)),
+    ),
+    (
+        b"address h 9\ntrader A\ntype B -\n# \0\n",
+        Err(FirstFault::Line(4)),
+    ),
+];
+
 /// How many offers a file has, or why it is refused.
 fn read(rt: &HostRuntime, text: &[u8]) -> Result<usize, FirstFault>
     requires { length text.now < 100000 }
@@ -21,76 +112,7 @@ fn read(rt: &HostRuntime, text: &[u8]) -> Result<usize, FirstFault>
 
 #[test]
 fn files(rt: HostRuntime) {
-    let fault = |line| Err(FirstFault::Line(line));
-    let cases: [(&[u8], Result<usize, FirstFault>); 36] = [
-        (PRINTERS, Ok(2)),
-        (b"address h 9\ntrader A\ntype B -", Ok(0)),
-        (b"address h 65535\r\ntrader A\r\ntype B -\r\n", Ok(0)),
-        (b"address h 0\ntrader A\ntype B - \n", Ok(0)),
-        (
-            b"# one\n\naddress h 9\n#\ntrader A\n\n type\tB  - \n# end",
-            Ok(0),
-        ),
-        (
-            b"address h 9\ntrader A\ntype B -\noffer B ref:,h,0,\n",
-            Ok(1),
-        ),
-        (
-            b"address h 9\ntrader A\ntype B a,b\noffer B ref:a,b,,0,\n",
-            Ok(1),
-        ),
-        (
-            b"address h 9\ntrader A\ntype B x\ntype C -\noffer C ref:,h,1,k\noffer B ref:x,h,1,k",
-            Ok(2),
-        ),
-        (b"", fault(1)),
-        (b"# only\n\n", fault(3)),
-        (b"address h 9\n", fault(2)),
-        (b"address h 9\ntrader A", fault(3)),
-        (b"address h 9\ntrader A\ntype Printer\n", fault(3)),
-        (b"trader A\n", fault(1)),
-        (b"address h 9\naddress h 9\n", fault(2)),
-        (b"address h 9\ntrader A\ntrader A\n", fault(3)),
-        (b"address h 9\ntype B -\n", fault(2)),
-        (b"address h 9\ntrader A\noffer B ref:,h,1,k\n", fault(3)),
-        (b"address h 9\ntrader A\ntype B -\ntype B -\n", fault(4)),
-        (
-            b"address h 9\ntrader A\ntype B -\noffer B ref:,h,1,k\ntype C -\n",
-            fault(5),
-        ),
-        (
-            b"address h 9\ntrader A\ntype B -\noffer C ref:,h,1,k\n",
-            fault(4),
-        ),
-        (
-            b"address h 9\ntrader A\ntype B -\noffer B ref:x,h,1,k\n",
-            fault(4),
-        ),
-        (
-            b"address h 9\ntrader A\ntype B -\noffer B ref:h,1,k\n",
-            fault(4),
-        ),
-        (
-            b"address h 9\ntrader A\ntype B -\noffer B REF:,h,1,k\n",
-            fault(4),
-        ),
-        (
-            b"address h 9\ntrader A\ntype B -\noffer B ref:,h,01,k\n",
-            fault(4),
-        ),
-        (b"address h 65536\n", fault(1)),
-        (b"address h 007\n", fault(1)),
-        (b"address h \n", fault(1)),
-        (b"address h 9 9\n", fault(1)),
-        (b"address h -9\n", fault(1)),
-        (b"address h 99999999999999999999\n", fault(1)),
-        (b"address h 9\n  \n", fault(2)),
-        (b"address h 9\n #\n", fault(2)),
-        (b"address h 9\ntrader A/B\n", fault(2)),
-        (b"address h 9\ntrader A\ntype B -\n\r", fault(4)),
-        (b"address h 9\ntrader A\ntype B -\n# \0\n", fault(4)),
-    ];
-    for (text, want) in cases {
+    for (text, want) in FILES {
         assert!(rt; text.len() < 1000);
         assert_eq!(rt; read(&rt, text), want);
     }

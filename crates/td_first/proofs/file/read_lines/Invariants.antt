@@ -1,7 +1,7 @@
 use Rattle.std.proofs.Common.{◌≡◌, ◌≤◌, ◌+◌, length}
 use Rattle.std.specs.Str.Lines.{lines}
 use Rattle.td_first.specs.Whole.{rest_of_file, file_of}
-use Rattle.td_first.proofs.file.read_first.Given as goal
+use Rattle.td_first.proofs.file.read_lines.Given as goal
 
 abbrev pub decreases-loop-rest : goal.decreases-loop-rest
 decreases-loop-rest l = length l.rest
