@@ -1,0 +1,10 @@
+pub mod Commas
+pub mod TypeNames
+pub mod Numbers
+pub mod Pieces
+pub mod References
+pub mod Growing
+pub mod Wholes
+pub mod Forms
+pub mod Misfits
+pub mod Texts

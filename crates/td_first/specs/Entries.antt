@@ -1,0 +1,70 @@
+-- The lines of a file that aren't skipped, and what may follow what stands above.
+use Rattle.std.specs.Prelude.{codes, ◌≡◌, ℕ, nat_eq, nat_lt, is_some, Bool, not, ◌&&◌, List, [], ◌∷◌, ◌++◌, length, if◌then◌else◌, Option, Some, None, Result, Ok, Err}
+use Rattle.std.specs.List.{list_any}
+use Rattle.std.specs.Str.{bytes_eq}
+use Rattle.td_cdr.specs.Names.{word_name, trader_name}
+use Rattle.td_first.specs.declared.draft.Draft.{Draft}
+use Rattle.td_first.specs.declared.draft.Kind.{Kind}
+use Rattle.td_first.specs.declared.fault.Misfit.{Misfit}
+use Rattle.td_first.specs.declared.fault.Misfit.TheVariants.{Words, Memory}
+use Rattle.td_first.specs.Line.{is_plain, is_skipped}
+use Rattle.td_first.specs.Port.{port_of}
+use Rattle.td_first.specs.Reference.{◌>>=◌, offer_of}
+use Rattle.td_first.specs.Words.{words}
+
+abbrev pub when : {A : Type 0} → Bool → A → Option A
+when holds x = if holds then Some x else None
+
+-- `-` stands for the empty text
+abbrev pub interface_of : List ℕ → List ℕ
+interface_of word = if bytes_eq word (codes "-") then [] else word
+
+abbrev pub is_named : List ℕ → Kind → Bool
+is_named name kind = bytes_eq kind.name name
+
+-- the type of this name has this interface
+abbrev pub is_kind : List ℕ → List ℕ → Kind → Bool
+is_kind name interface kind = bytes_eq kind.name name && bytes_eq kind.interface interface
+
+-- `address HOST PORT` comes first, once
+abbrev pub with_address : Draft → List ℕ → List ℕ → Option Draft
+with_address draft host port = do
+  number ← port_of port
+  when (not (is_some draft.home)) (record draft { home = Some (record { host = host; port = number }) })
+
+-- `trader NAME` comes after it, once
+abbrev pub with_trader : Draft → List ℕ → Option Draft
+with_trader draft name =
+    when (is_some draft.home && not (is_some draft.trader) && trader_name name) (record draft { trader = Some name })
+
+-- `type NAME IFID` comes after it and before any offer, once for each name
+abbrev pub with_kind : Draft → List ℕ → List ℕ → Option Draft
+with_kind draft name interface =
+    when (is_some draft.trader && nat_eq (length draft.offers) 0 && word_name name && not (list_any (is_named name) draft.kinds))
+    (record draft { kinds = draft.kinds ++ (record { name = name; interface = interface_of interface }) ∷ [] })
+
+-- `offer TYPE REF` comes after its type, at most 100 times; its reference's id is its type's interface
+abbrev pub with_offer : Draft → List ℕ → List ℕ → Option Draft
+with_offer draft name reference = do
+  offer ← offer_of name reference
+  when (nat_lt (length draft.offers) 100 && list_any (is_kind name offer.id) draft.kinds) (record draft { offers = draft.offers ++ offer ∷ [] })
+
+-- a line of these words
+abbrev pub with_words : Draft → List (List ℕ) → Option Draft
+with_words draft (first ∷ second ∷ []) = if bytes_eq first (codes "trader") then with_trader draft second else None
+with_words draft (first ∷ second ∷ third ∷ []) =
+    if bytes_eq first (codes "address") then with_address draft second third
+    else (if bytes_eq first (codes "type") then with_kind draft second third
+    else (if bytes_eq first (codes "offer") then with_offer draft second third else None))
+with_words draft _ = None
+
+-- what the file says so far, with one more line, where that line may stand there
+unfoldable pub with_line : Draft → List ℕ → Option Draft
+with_line draft line =
+    if is_plain line then (if is_skipped line then Some draft else with_words draft (words line)) else None
+
+-- what a call that takes a line answers, and what the draft is then
+abbrev pub Takes : Option Draft → Draft → Result (Unit {0}) Misfit → Type 0
+Takes next new (Ok _) = next ≡ Some new
+Takes next new (Err Words) = next ≡ None
+Takes next new (Err Memory) = Unit {0}
