@@ -15,3 +15,6 @@ pub use end::{Cause, End};
 pub use room::Room;
 pub use session::serve_connection;
 pub use store::{Address, FirstOffer, FirstStore};
+
+#[cfg(test)]
+mod tests;
