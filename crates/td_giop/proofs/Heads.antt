@@ -3,14 +3,15 @@ use Rattle.std.proofs.Common.{◌≡◌, inl, inr, ℕ, zero, suc, ◌+◌, ◌-
 use Rattle.std.proofs.lemmas.List.{drop_at}
 use Rattle.td_cdr.specs.declared.order.Order.{Order}
 use Rattle.td_cdr.specs.declared.fault.CdrFault.{CdrFault}
+use Rattle.td_cdr.specs.declared.fault.CdrFault.TheVariants.{Memory}
 use Rattle.td_cdr.specs.Place.{At}
 use Rattle.td_cdr.specs.Reading.{◌>>=◌, after, number_at}
 use Rattle.td_cdr.specs.Spelling.{SpellsNumber, Found, Joins}
 use Rattle.td_cdr.specs.Faults.{first, second, Refuses}
-use Rattle.td_cdr.specs.Items.{Item, ValueOf, Spells, reading}
+use Rattle.td_cdr.specs.Items.{ulong, Item, ValueOf, Spells, reading}
 use Rattle.td_cdr.proofs.Joined.{bind_ok, ok_is, number-found, number-only, number-joins, Found-then, moved-place, after-after}
 use Rattle.td_cdr.proofs.Refused.{bind_err, read_again, number-refuses}
-use Rattle.td_cdr.proofs.Items.{item-joins, item-refuses}
+use Rattle.td_cdr.proofs.Items.{item-joins, item-refuses, takes-no-memory}
 use Rattle.td_giop.specs.Heads.{passed, alone, context_fields, context_passed, row_passed, contexts_passed}
 use Rattle.td_giop.specs.HeadSpelling.{SpellsAlone, IsReadAlone, SpellsRow, SpellsContexts, SpellsHead, RowFault, ContextsFault, HeadFault}
 
@@ -270,3 +271,39 @@ read-alone item = record {
   told = λ a f h e. (item-refuses item).told a f h (alone-err (reading item a) f e);
   refused = λ a f h p. ap (λ (r : Result (ValueOf item × At) CdrFault). alone r) ((item-refuses item).only a f h p);
 }
+
+-- ---- no reading wants memory
+
+context-takes_none : (a : At) → a.origin ≤ a.place → context_passed a ≡ Err Memory → ⊥
+context-takes_none a h e = takes-no-memory context_fields a h (context_refused a Memory e)
+
+row-takes_none : (count : ℕ) (a : At) → a.origin ≤ a.place → row_passed count a ≡ Err Memory → ⊥
+row-takes_none zero a h e = cc
+row-takes_none (suc count) a h e = elim (bind_err (context_passed a) (row_passed count) Memory e) [
+  | inl r ↦ context-takes_none a h r
+  | inr r ↦
+      let v = context_led a r.0 r.1 in
+      let found = (item-joins context_fields).found a v.0 r.0 h v.1 in
+      row-takes_none count r.0 (moved_on (Spells context_fields) a v.0 r.0 h found) r.2
+]
+
+contexts-takes_none : (a : At) → a.origin ≤ a.place → contexts_passed a ≡ Err Memory → ⊥
+unfolding contexts_passed
+contexts-takes_none a h e = elim (bind_err (number_at 4 a) (λ count. row_passed count.0 count.1) Memory e) [
+  | inl r ↦ takes-no-memory ulong a h r
+  | inr r ↦ row-takes_none r.0.0 r.0.1 (moved_on (SpellsNumber 4) a r.0.0 r.0.1 h (number-found 4 a r.0.0 r.0.1 r.1)) r.2
+]
+
+pub head-takes_none : {Y : Type 0} (item : Item) (kept : ValueOf item → Y) (a : At) → a.origin ≤ a.place → head_at item kept a ≡ Err Memory → ⊥
+head-takes_none item kept a h e = elim (bind_err (contexts_passed a) (λ next. reading item next >>= λ fields. Ok (kept fields.0, fields.1)) Memory e) [
+  | inl r ↦ contexts-takes_none a h r
+  | inr r ↦
+      let c = contexts-found a r.0 h r.1 in
+      elim (bind_err (reading item r.0) (λ fields. Ok (kept fields.0, fields.1)) Memory r.2) [
+        | inl s ↦ takes-no-memory item r.0 (moved_on SpellsContexts a c.0 r.0 h c.1) s
+        | inr s ↦ not_both (kept s.0.0, s.0.1) Memory s.2
+      ]
+]
+
+pub alone-takes_none : (item : Item) (a : At) → a.origin ≤ a.place → alone (reading item a) ≡ Err Memory → ⊥
+alone-takes_none item a h e = takes-no-memory item a h (alone-err (reading item a) Memory e)

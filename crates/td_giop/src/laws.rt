@@ -4,6 +4,8 @@
 ghost use Rattle.std.specs.Prelude.{◌≡◌, ◌↔◌, ◌≤◌, ◌<◌, ◌^◌, ◌+◌, ◌-◌, ℕ, Bool, List, [], ◌∷◌, ◌++◌, length, drop, Option, Some, None, Result, Ok, Err};
 ghost use Rattle.std.specs.List.{concat};
 ghost use Rattle.td_cdr.specs.declared.order.Order.{Order};
+ghost use Rattle.td_cdr.specs.declared.fault.CdrFault.TheVariants.{Memory};
+ghost use Rattle.td_cdr.specs.Place.{At};
 ghost use Rattle.td_cdr.specs.Text.{HasNoNul};
 ghost use Rattle.td_cdr.specs.Spelling.{Joins};
 ghost use Rattle.td_cdr.specs.Faults.{Refuses};
@@ -64,6 +66,15 @@ pub fn heads_are_read()
     ensures locate { IsReadAlone locate_fields locate_at }
     ensures locate_reply { IsReadAlone locate_reply_fields locate_reply_at }
     ensures cancel { IsReadAlone ulong cancel_at }
+{}
+
+/// No reading of a head wants memory.
+pub fn heads_take_no_memory()
+    ensures request { (a : At) → a.origin ≤ a.place → request_at a ≡ Err Memory → ⊥ }
+    ensures reply { (a : At) → a.origin ≤ a.place → reply_at a ≡ Err Memory → ⊥ }
+    ensures locate { (a : At) → a.origin ≤ a.place → locate_at a ≡ Err Memory → ⊥ }
+    ensures locate_reply { (a : At) → a.origin ≤ a.place → locate_reply_at a ≡ Err Memory → ⊥ }
+    ensures cancel { (a : At) → a.origin ≤ a.place → cancel_at a ≡ Err Memory → ⊥ }
 {}
 
 /// What was written and sealed is read back, and the reader then stands at the body.

@@ -16,8 +16,8 @@ pub use head::{
     ReplyHead, RequestHead, read_cancel, read_locate, read_locate_reply, read_reply, read_request,
 };
 pub use laws::{
-    front_is_message, fronts_go_on, header_is_judged, heads_are_read, one_cut, sealed_is_whole,
-    written_is_read,
+    front_is_message, fronts_go_on, header_is_judged, heads_are_read, heads_take_no_memory,
+    one_cut, sealed_is_whole, written_is_read,
 };
 pub use raw::Raw;
 pub use write::{seal, start_reply, start_request, write_locate, write_locate_reply, write_plain};
