@@ -7,3 +7,5 @@ pub mod Spelled
 pub mod CodesWritten
 pub mod Rows
 pub mod Admitted
+pub mod Alike
+pub mod Sameness

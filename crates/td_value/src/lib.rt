@@ -12,6 +12,7 @@ mod laws;
 mod mode;
 mod reading;
 mod reference;
+mod same;
 mod writing;
 
 pub use code::{Any, Arm, Member, TypeCode, Value};
@@ -20,4 +21,5 @@ pub use key::{Kind, ObjectKey};
 pub use laws::codes_are_spelled;
 pub use reading::read_typecode;
 pub use reference::{Ior, Profile};
+pub use same::same_type;
 pub use writing::write_typecode;
