@@ -1,0 +1,9 @@
+pub mod Codes
+pub mod Grammar
+pub mod Labels
+pub mod Laws
+pub mod References
+pub mod Same
+pub mod Values
+pub mod Writing
+pub mod WritingCodes
