@@ -60,6 +60,14 @@ impl<'a> Reader<'a> {
         self.place
     }
 
+    /// What is left of the message or encapsulation.
+    pub fn left(&self) -> &'a [u8]
+        ensures left { result.now ≡ self.now.rest }
+        ensures inside { self.now.origin ≤ self.now.place }
+    {
+        self.rest
+    }
+
     /// The bytes of a primitive of this size, behind its padding.
     #[tactic(auto, unfolding(crate::specs::Reading::cell_at))]
     fn cell(&mut self, size: u32) -> Result<&'a [u8], CdrFault>

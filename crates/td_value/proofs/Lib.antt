@@ -1,0 +1,11 @@
+pub mod Octets
+pub mod Joins
+pub mod Loop
+pub mod Layers
+pub mod CodesJoined
+pub mod Spelled
+pub mod CodesWritten
+pub mod Rows
+pub mod Admitted
+pub mod Alike
+pub mod Sameness

@@ -1,0 +1,41 @@
+//! The objects of a trader, as their keys name them.
+
+use std::alloc::Global;
+use td_cdr::{Memory, Text, Twin};
+
+/// Which object of a trader is meant.
+#[derive(Clone, Copy, Debug, PartialEq, Eq)]
+pub enum Kind {
+    Lookup,
+    Register,
+    Link,
+    Proxy,
+    Admin,
+    /// The repository of service types.
+    Types,
+    /// The iterator of this number, counted from 1.
+    Iterator(u64),
+}
+
+/// The key of an object of this server.
+#[derive(Drop)]
+pub struct ObjectKey {
+    /// The trader's name.
+    pub trader: Text,
+    pub kind: Kind,
+}
+
+impl Twin for Kind {
+    fn copy(&self, _alloc: Global) -> Result<Kind, Memory> {
+        Ok(*self)
+    }
+}
+
+impl Twin for ObjectKey {
+    fn copy(&self, alloc: Global) -> Result<ObjectKey, Memory> {
+        Ok(ObjectKey {
+            trader: self.trader.copy(alloc)?,
+            kind: self.kind,
+        })
+    }
+}

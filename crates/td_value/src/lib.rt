@@ -1,0 +1,25 @@
+//! CORBA's TypeCodes, values under them, anys and object references.
+#![tactic(auto)]
+
+mod code;
+mod copy;
+mod fault;
+mod key;
+mod kinds;
+mod label;
+mod labels;
+mod laws;
+mod mode;
+mod reading;
+mod reference;
+mod same;
+mod writing;
+
+pub use code::{Any, Arm, Member, TypeCode, Value};
+pub use fault::ValueFault;
+pub use key::{Kind, ObjectKey};
+pub use laws::codes_are_spelled;
+pub use reading::read_typecode;
+pub use reference::{Ior, Profile};
+pub use same::same_type;
+pub use writing::write_typecode;
