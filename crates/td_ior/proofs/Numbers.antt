@@ -61,11 +61,11 @@ if_none : (b : Bool) (v : ℕ) → (if b then Some v else None) ≡ None → b �
 if_none true v e = absurd cc
 if_none false v e = refl
 
-and-left : (a b : Bool) → (a && b) ≡ true → a ≡ true
+pub and-left : (a b : Bool) → (a && b) ≡ true → a ≡ true
 and-left true b e = refl
 and-left false b e = e
 
-and-right : (a b : Bool) → (a && b) ≡ true → b ≡ true
+pub and-right : (a b : Bool) → (a && b) ≡ true → b ≡ true
 and-right true b e = e
 and-right false b e = absurd cc
 
