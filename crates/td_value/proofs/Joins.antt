@@ -49,7 +49,7 @@ later spells a v b f h = rw f.moved (omega arith)
 -- ---- the items of the common data representation
 
 -- an item of the common data representation
-lifted-joins : {Y : Type 0} (spells : Order → ℕ → Y → List ℕ → Type 0) (reading : At → Result (Y × At) CdrFault) (admits : Y → Type 0) → CdrJoins spells reading
+pub lifted-joins : {Y : Type 0} (spells : Order → ℕ → Y → List ℕ → Type 0) (reading : At → Result (Y × At) CdrFault) (admits : Y → Type 0) → CdrJoins spells reading
     → ((order : Order) (place : ℕ) (v : Y) (b : List ℕ) → AreOctets b → spells order place v b → admits v) → Joins (record { reading = λ a. lifted (reading a); spells = spells; admits = admits })
 lifted-joins spells reading admits j ok = record {
   found = λ a v next h e. j.found a v next h (lifted_ok (reading a) (v, next) e);

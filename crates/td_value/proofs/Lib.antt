@@ -8,4 +8,7 @@ pub mod CodesWritten
 pub mod Rows
 pub mod Admitted
 pub mod Alike
-pub mod Sameness
+pub mod Symmetry
+pub mod Kept
+pub mod ReferencesLawful
+pub mod ValuesJoined

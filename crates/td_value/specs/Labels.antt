@@ -54,9 +54,9 @@ unfoldable pub labels : ℕ → TypeCode → Grammar Value
 labels zero code = refused no_value
 labels (suc n) code = label_layer (labels n) (out-TypeCode code)
 
--- ---- the number that spells a label
+-- ---- the number that spells a plain value, and so a label
 
--- what no discriminator can be is seen as the octet 0
+-- any other value is seen as the octet 0
 abbrev pub label_of_layer : {T V A R M : Type 0} → Value-F T V A R M → Label
 label_of_layer (c.Value::Short z) = Two (cast_unsigned w16 z)
 label_of_layer (c.Value::Long z) = Four (cast_unsigned w32 z)
@@ -66,6 +66,7 @@ label_of_layer (c.Value::LongLong z) = Eight (cast_unsigned w64 z)
 label_of_layer (c.Value::ULongLong n) = Eight n
 label_of_layer (c.Value::Boolean b) = One (from_bool b)
 label_of_layer (c.Value::Char n) = One n
+label_of_layer (c.Value::Octet n) = One n
 label_of_layer (c.Value::Enum n) = Four n
 label_of_layer l = One 0
 

@@ -2,6 +2,8 @@ pub mod Codes
 pub mod Grammar
 pub mod Labels
 pub mod Laws
+pub mod References
 pub mod Same
+pub mod Values
 pub mod Writing
 pub mod WritingCodes

@@ -1,13 +1,12 @@
 -- When two TypeCodes are the same (CORBA's chapter on the interface repository, "TypeCodes", on the
 -- comparison of TypeCodes): without their aliases, and names don't count.
-use Rattle.std.specs.Prelude.{◌≡◌, ℕ, ℤ, pos, Bool, true, false, IsTrue, ◌&&◌, ◌||◌, List, [], ◌∷◌, length, map, nat_eq}
+use Rattle.std.specs.Prelude.{ℕ, ℤ, pos, Bool, true, false, IsTrue, ◌&&◌, ◌||◌, List, [], ◌∷◌, length, nat_eq}
 use Rattle.std.specs.Ordering.{int_eq}
 use Rattle.std.specs.Cmp.Lexicographic.{pointwise}
 use Rattle.td_value.specs.declared.label.Label.{Label}
 use Rattle.td_value.specs.declared.code.TypeCode.{TypeCode, fold-TypeCode, TypeCode-F}
 use Rattle.td_value.specs.declared.code.TypeCode.TheOpen as c
 use Rattle.td_value.specs.declared.code.TypeCode.TheOpen.{Value-F, Any-F, Arm-F, Member-F}
-use Rattle.td_value.specs.declared.code.Value.{Value, fold-Value}
 use Rattle.td_value.specs.declared.code.Arm.{Arm, fold-Arm}
 use Rattle.td_value.specs.declared.code.Member.{Member, fold-Member}
 use Rattle.td_value.specs.Labels.{label_of_layer, same_label}

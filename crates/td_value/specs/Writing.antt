@@ -1,5 +1,5 @@
 -- How values are written: the bytes, from the place where they stand, with padding 0.
-use Rattle.std.specs.Prelude.{◌≡◌, ℕ, ◌+◌, List, [], ◌∷◌, ◌++◌, length, Result, OnOk, OnErr}
+use Rattle.std.specs.Prelude.{◌≡◌, ℕ, ◌+◌, List, [], ◌∷◌, ◌++◌, length, take, Result, OnOk, OnErr}
 use Rattle.td_cdr.specs.declared.order.Order.{Order}
 use Rattle.td_cdr.specs.Gap.{flag}
 use Rattle.td_cdr.specs.Writing.{Draft, written_number, written_octets}
@@ -44,3 +44,9 @@ pub record Appends {E : Type 0} (piece : Piece) (old new : Draft) (result : Resu
   pub done : OnOk result (new.bytes ≡ old.bytes ++ piece old.order (length old.bytes))
   pub order : new.order ≡ old.order
   pub refused : OnErr result (new.bytes ≡ old.bytes)
+
+-- these bytes were appended, where the call did not fail; else some may have been, behind those that were there
+pub record Puts {E : Type 0} (piece : Piece) (old new : Draft) (result : Result (Unit {0}) E) : Type 0 where
+  pub done : OnOk result (new.bytes ≡ old.bytes ++ piece old.order (length old.bytes))
+  pub order : new.order ≡ old.order
+  pub kept : OnErr result (take (length old.bytes) new.bytes ≡ old.bytes)

@@ -1,4 +1,4 @@
-//! The labels of a union's arms.
+//! The numbers that spell plain values, among them the labels of a union's arms.
 
 ghost use Rattle.std.specs.Prelude.{◌≡◌};
 ghost use Rattle.td_value.specs.declared.code.Value.{out-Value};
@@ -6,7 +6,7 @@ ghost use Rattle.td_value.specs.Labels.{label_of, same_label};
 
 use crate::code::Value;
 
-/// The number that spells a label, by how many bytes it has. A signed number is that of its bits.
+/// The number that spells a plain value, by how many bytes it has. A signed number is that of its bits.
 #[derive(Clone, Copy, Debug, PartialEq, Eq)]
 pub enum Label {
     One(u8),
@@ -15,7 +15,7 @@ pub enum Label {
     Eight(u64),
 }
 
-/// The label that a value is; what can't be one is taken as the octet 0.
+/// The number that spells a plain value; any other one is taken as the octet 0.
 pub fn label_of(v: &Value) -> Label
     ensures { result ≡ label_of v.now }
 {
@@ -28,6 +28,7 @@ pub fn label_of(v: &Value) -> Label
         Value::ULongLong(n) => Label::Eight(*n),
         Value::Boolean(b) => Label::One(u8::from(*b)),
         Value::Char(c) => Label::One(*c),
+        Value::Octet(o) => Label::One(*o),
         Value::Enum(n) => Label::Four(*n),
         _ => Label::One(0),
     }

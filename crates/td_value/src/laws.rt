@@ -2,6 +2,8 @@
 
 ghost use Rattle.std.specs.Prelude.{◌≡◌, ℕ};
 ghost use Rattle.td_value.specs.declared.mode.Mode.{Mode};
+ghost use Rattle.td_value.specs.declared.code.TypeCode.{TypeCode};
+ghost use Rattle.td_value.specs.Same.{Same};
 ghost use Rattle.td_value.specs.Codes.{type_codes, codes};
 ghost use Rattle.td_value.specs.WritingCodes.{written};
 ghost use Rattle.td_value.specs.Laws.{Joins, ReadsBack};
@@ -13,4 +15,11 @@ pub fn codes_are_spelled()
     ensures joins { (levels : ℕ) (mode : Mode) → Joins (codes levels mode) }
     ensures back { (levels : ℕ) (mode : Mode) → ReadsBack (codes levels mode) written }
     ensures in_a_body { Joins type_codes }
+{}
+
+/// A TypeCode is the same as itself, and so as its copy, and being the same goes both ways. It isn't
+/// transitive, since a TypeCode without an id is the same as two of different ids.
+pub fn sameness()
+    ensures reflexive { (a : TypeCode) → Same a a }
+    ensures symmetric { (a b : TypeCode) → Same a b → Same b a }
 {}

@@ -12,14 +12,21 @@ mod laws;
 mod mode;
 mod reading;
 mod reference;
+mod references;
 mod same;
+mod values;
 mod writing;
 
 pub use code::{Any, Arm, Member, TypeCode, Value};
 pub use fault::ValueFault;
 pub use key::{Kind, ObjectKey};
-pub use laws::codes_are_spelled;
+pub use laws::{codes_are_spelled, sameness};
 pub use reading::read_typecode;
 pub use reference::{Ior, Profile};
+pub use references::{read_ior, write_ior};
 pub use same::same_type;
+pub use values::read_any;
 pub use writing::write_typecode;
+
+#[cfg(test)]
+mod tests;

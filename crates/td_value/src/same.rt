@@ -127,7 +127,9 @@ fn same_enum(id: &[u8], count: usize, b: &TypeCode) -> bool
 {
     match b {
         TypeCode::Enum {
-            id: other, labels, ..
+            id: other,
+            labels,
+            ..
         } => count == labels.len() && ids_agree(id, other.as_slice()),
         _ => false,
     }

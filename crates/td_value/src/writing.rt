@@ -156,8 +156,9 @@ fn write_texts(w: &mut Writer, id: &[u8], name: &[u8]) -> Result<(), Memory>
     w.string(name)
 }
 
-fn write_count(w: &mut Writer, count: usize) -> Result<(), Memory>
-    ensures { Writes (number 4 count) w.old w.new result }
+/// A number of items.
+pub fn write_count(w: &mut Writer, count: usize) -> Result<(), Memory>
+    ensures { Appends (number 4 count) w.old w.new result }
 {
     if count > u32::MAX as usize {
         return Err(Memory);
@@ -291,7 +292,7 @@ fn write_arm(alloc: Global, w: &mut Writer, arm: &Arm) -> Result<(), Memory>
 
 /// The number that spells a label.
 pub fn write_label(w: &mut Writer, label: Label) -> Result<(), Memory>
-    ensures { Writes (label_piece label) w.old w.new result }
+    ensures { Appends (label_piece label) w.old w.new result }
 {
     match label {
         Label::One(n) => w.octet(n),

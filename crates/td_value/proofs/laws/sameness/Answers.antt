@@ -1,4 +1,4 @@
-use Rattle.td_value.proofs.Sameness.{same-refl, same-symm}
+use Rattle.td_value.proofs.Symmetry.{same-refl, same-symm}
 use Rattle.td_value.proofs.laws.sameness.Goals as goal
 
 pub returns-clause-reflexive : goal.returns-clause-reflexive

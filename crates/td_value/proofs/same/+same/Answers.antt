@@ -1,4 +1,4 @@
-use Rattle.std.proofs.Common.{◌≡◌, ◌<◌, length, sym, ◌∙◌, arith}
+use Rattle.std.proofs.Common.{◌<◌, length, sym, ◌∙◌, arith}
 use Rattle.td_value.specs.Same.{member_entry, arm_entry}
 use Rattle.td_value.proofs.Alike.{here-long, here-fails, here-next}
 use Rattle.td_value.proofs.same.+same.Goals as goal
