@@ -1,0 +1,4 @@
+pub mod Keys
+pub mod Made
+pub mod Numbers
+pub mod Profiles

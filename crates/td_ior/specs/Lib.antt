@@ -1,0 +1,5 @@
+pub mod Enclosed
+pub mod Keys
+pub mod Laws
+pub mod Number
+pub mod Profiles

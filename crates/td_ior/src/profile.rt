@@ -1,0 +1,119 @@
+//! The IIOP profiles of a reference.
+
+ghost use Rattle.std.specs.Prelude.{◌≡◌, IfOk};
+ghost use Rattle.std.specs.Option.{option_map};
+ghost use Rattle.td_cdr.specs.Text.{HasNoNul};
+ghost use Rattle.td_ior.specs.Enclosed.{value_in, enclosing};
+ghost use Rattle.td_ior.specs.Profiles.{profile_body, iiop_in, first_iiop, iiop_of, ReadsIiop, profile_piece, made_reference};
+
+use crate::enclosed::start_of;
+use crate::fault::IorFault;
+use std::alloc::Global;
+use td_cdr::{List, Memory, Octets, Order, Reader, Text, Writer};
+use td_value::{Ior, Profile};
+
+/// What an IIOP profile says: where an object's server listens, and the object's key there.
+#[derive(Debug, Drop)]
+pub struct Iiop {
+    pub host: Text,
+    pub port: u16,
+    pub key: Octets,
+}
+
+/// The same, of borrowed octets.
+#[derive(Drop)]
+struct Body<'a> {
+    host: &'a [u8],
+    port: u16,
+    key: &'a [u8],
+}
+
+/// The first IIOP profile of a reference: it has tag 0, and its octets hold a version whose major part
+/// is 1, a host, a port and a key, in either order. What follows the key is ignored.
+///
+/// # Errors
+///
+/// `NoIiop` exactly where no profile is of IIOP; `Memory` for want of memory.
+pub fn iiop_of(alloc: Global, reference: &Ior) -> Result<Iiop, IorFault>
+    ensures { ReadsIiop (iiop_of reference.now) result }
+{
+    let Some(body) = first_iiop(reference.profiles.as_slice()) else {
+        return Err(IorFault::NoIiop);
+    };
+    let host = Text::from_slice(alloc, body.host)?;
+    let key = Octets::from_slice(alloc, body.key)?;
+    Ok(Iiop {
+        host,
+        port: body.port,
+        key,
+    })
+}
+
+fn first_iiop(profiles: &[Profile]) -> Option<Body<'_>>
+    ensures { option_map (λ b. record { host = b.host.now; port = b.port; key = b.key.now }) result ≡ first_iiop profiles.now }
+{
+    for profile in profiles {
+        let found = iiop_in(profile);
+        if found.is_some() {
+            return found;
+        }
+    }
+    None
+}
+
+fn iiop_in(profile: &Profile) -> Option<Body<'_>>
+    ensures { option_map (λ b. record { host = b.host.now; port = b.port; key = b.key.now }) result ≡ iiop_in profile.now }
+{
+    if profile.tag != 0 {
+        return None;
+    }
+    body_of(start_of(profile.octets.as_slice())?)
+}
+
+/// The body of a profile, behind the octet that tells its order.
+fn body_of(mut r: Reader<'_>) -> Option<Body<'_>>
+    ensures { option_map (λ b. record { host = b.host.now; port = b.port; key = b.key.now }) result ≡ value_in (profile_body.reading r.entry) }
+{
+    if r.octet().ok()? != 1 {
+        return None;
+    }
+    let _minor = r.octet().ok()?;
+    let host = r.string().ok()?;
+    let port = r.u16().ok()?;
+    let key = r.octets().ok()?;
+    Some(Body { host, port, key })
+}
+
+/// A reference with one profile: IIOP 1.0, in big order. The host has no NUL.
+///
+/// # Errors
+///
+/// `Memory` for want of memory, or where the profile would come to 2^32 octets.
+pub fn make_ior(
+    alloc: Global,
+    id: &[u8],
+    host: &[u8],
+    port: u16,
+    key: &[u8],
+) -> Result<Ior, Memory>
+    requires { HasNoNul host.now }
+    ensures made { IfOk result (λ i. i ≡ made_reference id.now host.now port key.now) }
+{
+    let id = Text::from_slice(alloc, id)?;
+    let octets = profile_octets(alloc, host, port, key)?;
+    let mut profiles = List::new(alloc);
+    profiles.push(Profile { tag: 0, octets })?;
+    Ok(Ior { id, profiles })
+}
+
+fn profile_octets(alloc: Global, host: &[u8], port: u16, key: &[u8]) -> Result<Octets, Memory>
+    ensures { IfOk result (λ o. o ≡ enclosing (profile_piece host.now port key.now)) }
+{
+    let mut w = Writer::inside(alloc, Order::Big)?;
+    w.octet(1)?;
+    w.octet(0)?;
+    w.string(host)?;
+    w.u16(port)?;
+    w.octets(key)?;
+    Octets::from_slice(alloc, w.bytes())
+}
