@@ -14,7 +14,8 @@ use td_cdr::Memory;
 
 /// What has come of a stream and was not taken away: fed in pieces, lent message by message.
 ///
-/// Each byte is moved at most twice: into the ring, and with its message into the block that is lent.
+/// Each byte is moved at most twice, into the ring and with its message into the block that is lent,
+/// beside what the doubling of their room moves.
 #[derive(Drop)]
 pub struct Framer {
     /// The place of the first byte that was not taken away.
