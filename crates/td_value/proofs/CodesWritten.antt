@@ -140,40 +140,43 @@ written_arm-is label name t = folded_arm-is label name t ∙ ap (λ (l : Label).
 
 -- ---- labels
 
-label-short : (z : ℤ) → label_of (value.Short z) ≡ Two (cast_unsigned w16 z)
+pub label-short : (z : ℤ) → label_of (value.Short z) ≡ Two (cast_unsigned w16 z)
 label-short z = ap label_of_layer (ap out-Value (sym (value.rolls-Short z)) ∙ out-roll-Value (c.Value::Short z))
 
-label-long : (z : ℤ) → label_of (value.Long z) ≡ Four (cast_unsigned w32 z)
+pub label-long : (z : ℤ) → label_of (value.Long z) ≡ Four (cast_unsigned w32 z)
 label-long z = ap label_of_layer (ap out-Value (sym (value.rolls-Long z)) ∙ out-roll-Value (c.Value::Long z))
 
-label-ushort : (n : ℕ) → label_of (value.UShort n) ≡ Two n
+pub label-ushort : (n : ℕ) → label_of (value.UShort n) ≡ Two n
 label-ushort n = ap label_of_layer (ap out-Value (sym (value.rolls-UShort n)) ∙ out-roll-Value (c.Value::UShort n))
 
-label-ulong : (n : ℕ) → label_of (value.ULong n) ≡ Four n
+pub label-ulong : (n : ℕ) → label_of (value.ULong n) ≡ Four n
 label-ulong n = ap label_of_layer (ap out-Value (sym (value.rolls-ULong n)) ∙ out-roll-Value (c.Value::ULong n))
 
-label-longlong : (z : ℤ) → label_of (value.LongLong z) ≡ Eight (cast_unsigned w64 z)
+pub label-longlong : (z : ℤ) → label_of (value.LongLong z) ≡ Eight (cast_unsigned w64 z)
 label-longlong z = ap label_of_layer (ap out-Value (sym (value.rolls-LongLong z)) ∙ out-roll-Value (c.Value::LongLong z))
 
-label-ulonglong : (n : ℕ) → label_of (value.ULongLong n) ≡ Eight n
+pub label-ulonglong : (n : ℕ) → label_of (value.ULongLong n) ≡ Eight n
 label-ulonglong n = ap label_of_layer (ap out-Value (sym (value.rolls-ULongLong n)) ∙ out-roll-Value (c.Value::ULongLong n))
 
-label-boolean : (b : Bool) → label_of (value.Boolean b) ≡ One (from_bool b)
+pub label-boolean : (b : Bool) → label_of (value.Boolean b) ≡ One (from_bool b)
 label-boolean b = ap label_of_layer (ap out-Value (sym (value.rolls-Boolean b)) ∙ out-roll-Value (c.Value::Boolean b))
 
-label-char : (n : ℕ) → label_of (value.Char n) ≡ One n
+pub label-octet : (n : ℕ) → label_of (value.Octet n) ≡ One n
+label-octet n = ap label_of_layer (ap out-Value (sym (value.rolls-Octet n)) ∙ out-roll-Value (c.Value::Octet n))
+
+pub label-char : (n : ℕ) → label_of (value.Char n) ≡ One n
 label-char n = ap label_of_layer (ap out-Value (sym (value.rolls-Char n)) ∙ out-roll-Value (c.Value::Char n))
 
 label-enum : (n : ℕ) → label_of (value.Enum n) ≡ Four n
 label-enum n = ap label_of_layer (ap out-Value (sym (value.rolls-Enum n)) ∙ out-roll-Value (c.Value::Enum n))
 
 -- a label that is made of a number
-label-made : {X : Type 0} (f : X → Value) (g : Grammar X) (x : X) (v : Value) (l : Label) → f x ≡ v → label_of (f x) ≡ l → Spelled g x (label_piece l) → Spelled (made f g) v (label_piece (label_of v))
+pub label-made : {X : Type 0} (f : X → Value) (g : Grammar X) (x : X) (v : Value) (l : Label) → f x ≡ v → label_of (f x) ≡ l → Spelled g x (label_piece l) → Spelled (made f g) v (label_piece (label_of v))
 label-made f g x v l e is s =
     let here : label_of v ≡ l = ap label_of (sym e) ∙ is in
     rw here (made-spelled f g x v (label_piece l) e s)
 
-one_of-spelled : (count : ℕ) (v : Value) → (one_of count).admits v → Spelled (one_of count) v (label_piece (label_of v))
+pub one_of-spelled : (count : ℕ) (v : Value) → (one_of count).admits v → Spelled (one_of count) v (label_piece (label_of v))
 one_of-spelled count v a = label-made (λ n. value.Enum n) _ a.0 v (Four a.0) a.1 (label-enum a.0) (checked-spelled _ _ _ a.0 (a_number 4 a.0) a.2.0 (number-spelled 4 a.0 a.2.1))
 
 label_layer-spelled : (inner : TypeCode → Grammar Value) → ((t : TypeCode) (v : Value) → (inner t).admits v → Spelled (inner t) v (label_piece (label_of v)))

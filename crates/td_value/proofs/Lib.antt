@@ -12,3 +12,5 @@ pub mod Symmetry
 pub mod Kept
 pub mod ReferencesLawful
 pub mod ValuesJoined
+pub mod Putting
+pub mod ValuesWritten

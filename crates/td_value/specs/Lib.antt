@@ -7,3 +7,4 @@ pub mod Same
 pub mod Values
 pub mod Writing
 pub mod WritingCodes
+pub mod WritingValues

@@ -34,7 +34,7 @@ fn follow_option(rt: HostRuntime) -> Result<(), Fail> {
         Order::Little,
     )?;
     assert!(rt; same_type(&big, &little.copy(alloc)?));
-    let TypeCode::Enum { id, name, labels } = big else {
+    let TypeCode::Enum { id, name, labels } = &big else {
         return Err("an enumeration".into());
     };
     assert!(rt; id.as_slice() == b"IDL:omg.org/CosTrading/FollowOption:1.0".as_slice());

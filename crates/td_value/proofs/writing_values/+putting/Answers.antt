@@ -1,0 +1,85 @@
+use Rattle.std.proofs.Common.{◌≡◌, ◌<◌, ◌≤◌, ◌-◌, length, min, map, take, ap, sym, ◌∙◌, arith}
+use Rattle.std.proofs.lemmas.List.{take_all}
+use Rattle.std.specs.Prelude.{option_copied}
+use Rattle.td_value.specs.declared.code.TypeCode.{TypeCode}
+use Rattle.td_value.specs.declared.code.TypeCode.TheVariants as code
+use Rattle.td_value.specs.declared.code.TypeCode.TheOpen as layer_of
+use Rattle.td_value.specs.declared.code.Value.{Value}
+use Rattle.td_value.specs.Values.{branch_of}
+use Rattle.td_value.specs.Writing.{row, ◌then◌}
+use Rattle.td_value.specs.WritingCodes.{written}
+use Rattle.td_value.specs.WritingValues.{written_any, written_value, zipped, branch_piece, plain_piece}
+use Rattle.td_value.proofs.Rows.{goes_on}
+use Rattle.td_value.proofs.Kept.{puts-then}
+use Rattle.td_value.proofs.Layers.{out-sequence, out-array}
+use Rattle.td_value.proofs.ValuesWritten.{out-union}
+use Rattle.td_value.proofs.Putting.{value-piece-is, any-piece-is, puts-nothing, zipped-at, zipped-length}
+use Rattle.td_value.proofs.writing_values.+putting.Goals as goal
+
+pub put_any-returns-then-levels-eq0 : goal.put_any-returns-then-levels-eq0
+put_any-returns-then-levels-eq0 t c = puts-nothing c.args.levels c.args.any.now c.args.w.now c.if-levels-eq0.true
+
+pub put_any-returns : goal.put_any-returns
+put_any-returns t c =
+    rw (any-piece-is c.args.levels c.args.any.now c.if-levels-eq0.false)
+    (puts-then (written c.args.any.now.code) (written_value (written_any (c.args.levels - 1)) c.args.levels c.args.any.now.code c.args.any.now.value)
+    c.args.w.now c.write_typecode.new.w c.put_value.new.w c.put_value.result c.in_ok-write_typecode.ensures.done c.in_ok-write_typecode.ensures.order c.put_value.ensures)
+
+pub put_fields-loop-i-preserved : goal.put_fields-loop-i-preserved
+put_fields-loop-i-preserved t c =
+    let few : c.loop-i.i < min (length c.args.members.now) (length c.args.values.now) = omega (arith, c.loop-i-test.true, c.min-count.ensures) in
+    let low : c.loop-i.i < length (zipped c.args.members.now c.args.values.now) = omega (arith, few, zipped-length c.args.members.now c.args.values.now) in
+    let in_members : c.loop-i.i < length c.args.members.now = omega (arith, few) in
+    let in_values : c.loop-i.i < length c.args.values.now = omega (arith, few) in
+    record {
+      bytes = goes_on (λ (p : TypeCode × Value). written_value (written_any c.args.levels) c.args.depth p.0 p.1) (zipped c.args.members.now c.args.values.now) c.loop-i.i (c.index-members-i.result.code, c.index-values-i.result)
+          c.args.w.now.order c.args.w.now.bytes c.loop-i.w.bytes c.put_value.new.w.bytes low
+          (zipped-at c.args.members.now c.args.values.now c.loop-i.i c.index-members-i.result c.index-values-i.result in_members in_values c.index-members-i.is c.index-values-i.is)
+          c.loop-i.invariant.bytes (rw (c.loop-i.invariant.order, ← c.index-members-i.is) at c.in_ok-put_value.ensures.done);
+      order = c.in_ok-put_value.ensures.order ∙ c.loop-i.invariant.order;
+    }
+
+pub put_fields-returns : goal.put_fields-returns
+put_fields-returns t c =
+    let all : length (zipped c.args.members.now c.args.values.now) ≤ c.loop-i.i = omega (arith, c.loop-i-test.false, c.min-count.ensures, zipped-length c.args.members.now c.args.values.now) in
+    record {
+      done = rw (take_all c.loop-i.i (zipped c.args.members.now c.args.values.now) all) at c.loop-i.invariant.bytes;
+      order = c.loop-i.invariant.order;
+      kept = tt;
+    }
+
+pub put_items-loop-value-preserved : goal.put_items-loop-value-preserved
+put_items-loop-value-preserved t c = record {
+  bytes = goes_on (written_value (written_any c.args.levels) c.args.depth c.args.item.now) c.args.items.now c.loop-value.value-index c.value-item.result c.args.w.now.order c.args.w.now.bytes c.loop-value.w.bytes
+      c.put_value.new.w.bytes c.loop-value-test.true c.value-item.is c.loop-value.invariant.bytes (rw c.loop-value.invariant.order at c.in_ok-put_value.ensures.done);
+  order = c.in_ok-put_value.ensures.order ∙ c.loop-value.invariant.order;
+}
+
+pub put_union-returns-in_ok-write_label-in-Union :
+    goal.put_union-returns-in_ok-write_label-in-Union
+put_union-returns-in_ok-write_label-in-Union t c =
+    let first = rw (c.label_of.ensures, c.get.ensures) at c.in_ok-write_label-in-Union.ensures.done in
+    let others = rw (c.branch_of.ensures, c.get-in-Union.ensures) at c.put_branch.ensures in
+    rw (c.in-Union.is, out-union c.in-Union.label c.in-Union.arm)
+    (puts-then (plain_piece c.in-Union.label) (branch_piece (written_any c.args.levels) (written_value (written_any c.args.levels) c.args.depth) (branch_of c.args.default c.in-Union.label c.args.arms.now) c.in-Union.arm)
+    c.args.w.now c.write_label.new.w c.put_branch.new.w c.put_branch.result first c.in_ok-write_label-in-Union.ensures.order others)
+
+pub put_value-returns-in-Sequence : goal.put_value-returns-in-Sequence
+put_value-returns-in-Sequence t c =
+    rw (
+      c.in-Sequence.is,
+      value-piece-is (written_any c.args.levels) c.args.depth (code.Sequence c.in-Sequence.item c.in-Sequence.bound) (layer_of.Sequence c.in-Sequence.item c.in-Sequence.bound) c.args.value.now
+          c.if-depth-eq0.false (out-sequence c.in-Sequence.item c.in-Sequence.bound),
+      ← c.items_in-in-Sequence.ensures,
+      ← c.get.ensures,
+    ) c.put_sequence.ensures
+
+pub put_value-returns-in-Array : goal.put_value-returns-in-Array
+put_value-returns-in-Array t c =
+    rw (
+      c.in-Array.is,
+      value-piece-is (written_any c.args.levels) c.args.depth (code.Array c.in-Array.item c.in-Array.len) (layer_of.Array c.in-Array.item c.in-Array.len) c.args.value.now
+          c.if-depth-eq0.false (out-array c.in-Array.item c.in-Array.len),
+      ← c.items_in-in-Array.ensures,
+      ← c.get-in-Array.ensures,
+    ) c.put_items.ensures
