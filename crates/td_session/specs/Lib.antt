@@ -1,5 +1,6 @@
 pub mod Answers
 pub mod Asked
+pub mod Completeness
 pub mod Ends
 pub mod Outside
 pub mod Parts

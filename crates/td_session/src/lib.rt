@@ -4,6 +4,7 @@
 mod answer;
 mod end;
 mod front;
+mod laws;
 mod piece;
 mod query;
 mod replies;
@@ -12,6 +13,7 @@ mod session;
 mod store;
 
 pub use end::{Cause, End};
+pub use laws::all_messages_are_served;
 pub use room::Room;
 pub use session::serve_connection;
 pub use store::{Address, FirstOffer, FirstStore};
