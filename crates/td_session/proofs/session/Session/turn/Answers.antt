@@ -38,4 +38,4 @@ returns-in-Unsent g c =
 pub returns-in-Answered : goal.returns-in-Answered
 returns-in-Answered g c =
     answers _ _ _ _ _ c.in-Answered.request (Consumes-nil _) (omega arith) c.in-Answered.ensures.later c.in-Answered.ensures.finds c.args.self.now.limited
-    (rw c.in-Answered.ensures.framer at c.drop_message.ensures) refl (ap (λ n. c.args.self.now.requests + n) (c.from.ensures ∙ byte_of c.in-Answered.request))
+    (rw c.in-Answered.ensures.framer at c.drop_message.ensures.dropped) refl (ap (λ n. c.args.self.now.requests + n) (c.from.ensures ∙ byte_of c.in-Answered.request))
