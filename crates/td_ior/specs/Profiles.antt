@@ -1,5 +1,5 @@
 -- IIOP profiles (CORBA's chapter on the General Inter-ORB Protocol, "IIOP IOR Profiles").
-use Rattle.std.specs.Prelude.{◌≡◌, ℕ, nat_eq, Bool, true, false, List, [], ◌∷◌, ◌++◌, if◌then◌else◌, Option, Some, None, Result, Ok, Err}
+use Rattle.std.specs.Prelude.{◌≡◌, ℕ, nat_eq, List, [], ◌∷◌, ◌++◌, if◌then◌else◌, Option, Some, None, Result, Ok, Err}
 use Rattle.td_value.specs.declared.reference.Ior.{Ior}
 use Rattle.td_value.specs.declared.reference.Profile.{Profile}
 use Rattle.td_value.specs.Grammar.{Grammar, number, text, pair, made, checked}
@@ -7,7 +7,7 @@ use Rattle.td_value.specs.Labels.{bad_value}
 use Rattle.td_value.specs.References.{octets}
 use Rattle.td_value.specs.Writing.{Piece, ◌then◌, number as a_number, text as a_text, octets as some_octets}
 use Rattle.td_ior.specs.declared.fault.IorFault.{IorFault}
-use Rattle.td_ior.specs.declared.fault.IorFault.TheVariants.{NotIor, NoIiop, BadKey, Memory}
+use Rattle.td_ior.specs.declared.fault.IorFault.TheVariants.{NoIiop, Memory}
 use Rattle.td_ior.specs.declared.profile.Iiop.{Iiop}
 use Rattle.td_ior.specs.Enclosed.{Encloses, enclosed_in, enclosing}
 

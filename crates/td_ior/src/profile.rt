@@ -89,13 +89,7 @@ fn body_of(mut r: Reader<'_>) -> Option<Body<'_>>
 /// # Errors
 ///
 /// `Memory` for want of memory, or where the profile would come to 2^32 octets.
-pub fn make_ior(
-    alloc: Global,
-    id: &[u8],
-    host: &[u8],
-    port: u16,
-    key: &[u8],
-) -> Result<Ior, Memory>
+pub fn make_ior(alloc: Global, id: &[u8], host: &[u8], port: u16, key: &[u8]) -> Result<Ior, Memory>
     requires { HasNoNul host.now }
     ensures made { IfOk result (λ i. i ≡ made_reference id.now host.now port key.now) }
 {

@@ -1,0 +1,8 @@
+use Rattle.td_ior.proofs.Texts.{texts-agree, printed-found}
+use Rattle.td_ior.proofs.laws.texts_are_read.Goals as goal
+
+pub returns-clause-agrees : goal.returns-clause-agrees
+returns-clause-agrees c = texts-agree
+
+pub returns-clause-back : goal.returns-clause-back
+returns-clause-back c = printed-found
