@@ -1,5 +1,5 @@
 -- The first profile of IIOP: how it is found, and that a made one is found.
-use Rattle.std.proofs.Common.{◌≡◌, ℕ, suc, ◌+◌, ◌^◌, ◌<◌, ◌≤◌, nat_eq, Bool, true, false, List, [], ◌∷◌, ◌++◌, length, drop, get_or, add-one, drop-cons, Option, Some, None, refl, sym, ap, ◌∙◌, arith, if◌then◌else◌}
+use Rattle.std.proofs.Common.{◌≡◌, ℕ, suc, ◌+◌, ◌^◌, ◌<◌, ◌≤◌, nat_eq, Bool, true, false, List, [], ◌∷◌, ◌++◌, length, drop, get_or, add-one, drop-cons, Option, Some, None, refl, sym, ap, ◌∙◌, subst, arith, if◌then◌else◌}
 use Rattle.std.specs.Option.{option_map, is_some}
 use Rattle.std.proofs.lemmas.List.{drop_all, length-append}
 use Rattle.std.proofs.lemmas.Bool.{eqb-true}
@@ -143,3 +143,9 @@ unfolding first_iiop
 made-found id host key port clean low short =
     let holds = enclosing-holds profile_body (record { host = host; port = port; key = key }) (profile_piece host port key) (body-spelled host key port clean low) short in
     rw (enclosed-only profile_body body-joins (enclosing (profile_piece host port key)) (record { host = host; port = port; key = key }) holds) refl
+
+pub made-back : (id host key octets : List ℕ) (port : ℕ) (profiles : List Profile) → HasNoNul host → port < 65536 → length octets < 2 ^ 32 → octets ≡ enclosing (profile_piece host port key)
+    → profiles ≡ record { tag = 0; octets = octets } ∷ [] → first_iiop profiles ≡ Some (record { host = host; port = port; key = key })
+made-back id host key octets port profiles clean low short e f =
+    let profiles_are : profiles ≡ (made_reference id host port key).profiles = f ∙ ap (λ (o : List ℕ). record { tag = 0; octets = o } ∷ []) e in
+    ap first_iiop profiles_are ∙ made-found id host key port clean low (subst (λ (o : List ℕ). length o < 2 ^ 32) e short)

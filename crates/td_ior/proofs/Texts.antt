@@ -1,7 +1,7 @@
 -- References in their text forms, and how these are cut.
 use Rattle.std.proofs.Common.{codes, ◌≡◌, ℕ, ◌^◌, ◌<◌, ◌||◌, Bool, true, false, nat_eq, List, [], ◌∷◌, ◌++◌, length, take, drop, append_assoc, append-nil, subst, ◌⊎◌, inl, inr, Option, Some, None, Result, Ok, Err, refl, sym, ap, ◌∙◌, arith, if◌then◌else◌}
 use Rattle.std.specs.List.{list_any}
-use Rattle.std.specs.Result.{result_ok}
+use Rattle.std.specs.Result.{result_ok, IfOk}
 use Rattle.std.specs.Str.{bytes_eq}
 use Rattle.std.proofs.lemmas.Bool.{eqb-true}
 use Rattle.std.proofs.lemmas.List.{take-append-drop}
@@ -215,3 +215,10 @@ pub printed-found : (r : Ior) → reference.admits r → IsBytes (enclosing (ref
 printed-found r ok bytes short =
     hex-only (encode_lower (enclosing (reference_piece r))) (enclosing (reference_piece r)) r (decode_of-encode_lower (enclosing (reference_piece r)) bytes)
     (enclosing-holds reference r (reference_piece r) (reference-spelled r ok) short)
+
+pub printed-back : {E : Type 0} (r : Ior) (octets : List ℕ) (result : Result (List ℕ) E) → IfOk result (λ t. t ≡ codes "IOR:" ++ encode_lower octets) → octets ≡ enclosing (reference_piece r) → IsBytes octets → length octets < 2 ^ 32
+    → IfOk result (λ t. reference.admits r → reference_in t ≡ Some r)
+printed-back r octets (Ok t) e held bytes short = λ ok.
+    let printed_is : t ≡ printed r = e ∙ ap (λ (o : List ℕ). codes "IOR:" ++ encode_lower o) held in
+    ap reference_in printed_is ∙ printed-found r ok (subst IsBytes held bytes) (subst (λ (o : List ℕ). length o < 2 ^ 32) held short)
+printed-back r octets (Err d) e held bytes short = tt

@@ -1,9 +1,10 @@
 //! References as text.
 
-ghost use Rattle.std.specs.Prelude.{◌≡◌, MatchOption, IfSome, IfOk};
+ghost use Rattle.std.specs.Prelude.{codes, ◌≡◌, ◌<◌, ◌^◌, ◌++◌, length, Some, MatchOption, IfSome, IfOk};
+ghost use Rattle.hex.specs.Hex.{IsBytes, encode_lower};
 ghost use Rattle.std.specs.Option.{option_map, option_copied};
 ghost use Rattle.td_cdr.specs.Text.{has_nul, HasNoNul};
-ghost use Rattle.td_value.specs.References.{reference, reference_piece};
+ghost use Rattle.td_value.specs.References.{reference as references, reference_piece};
 ghost use Rattle.td_ior.specs.Enclosed.{enclosed_in, enclosing};
 ghost use Rattle.td_ior.specs.Texts.{cut_last, unmarked, parts_of, hex_form, plain_form, reference_in, ReadsText, printed};
 
@@ -45,7 +46,7 @@ fn hex_form(alloc: Global, digits: &[u8]) -> Result<Ior, IorFault>
 }
 
 fn enclosed_reference(alloc: Global, octets: &[u8]) -> Result<Ior, IorFault>
-    ensures { ReadsText (enclosed_in reference octets.now) result }
+    ensures { ReadsText (enclosed_in references octets.now) result }
 {
     let Some(mut inside) = start_of(octets) else {
         return Err(IorFault::NotIor);
@@ -131,10 +132,18 @@ fn parts_of(text: &[u8]) -> Option<Parts<'_>>
 ///
 /// `Memory` for want of memory, or where the encapsulation would come to 2^32 octets.
 pub fn print_text(alloc: Global, reference: &Ior) -> Result<Text, Memory>
-    ensures { IfOk result (λ t. t ≡ printed reference.now) }
+    ensures printed { IfOk result (λ t. t ≡ printed reference.now) }
+    ensures back { IfOk result (λ t. references.admits reference.now → reference_in t ≡ Some reference.now) }
 {
     let octets = enclose(alloc, reference)?;
-    let digits = hex::encode(alloc, octets.as_slice())?;
+    hex_text(alloc, octets.as_slice())
+}
+
+/// `IOR:` and the octets' digits.
+fn hex_text(alloc: Global, octets: &[u8]) -> Result<Text, Memory>
+    ensures { IfOk result (λ t. t ≡ codes "IOR:" ++ encode_lower octets.now) }
+{
+    let digits = hex::encode(alloc, octets)?;
     let mut text = Vec::from_slice(alloc, b"IOR:")?;
     text.extend_from_slice(digits.as_bytes())?;
     Ok(Text::from_vec(text))
@@ -142,9 +151,18 @@ pub fn print_text(alloc: Global, reference: &Ior) -> Result<Text, Memory>
 
 /// The octets of an encapsulation of the reference.
 fn enclose(alloc: Global, reference: &Ior) -> Result<Octets, Memory>
-    ensures { IfOk result (λ o. o ≡ enclosing (reference_piece reference.now)) }
+    ensures held { IfOk result (λ o. o ≡ enclosing (reference_piece reference.now)) }
+    ensures short { IfOk result (λ o. length o < 2 ^ 32) }
+    ensures octets { IfOk result (λ o. IsBytes o) }
 {
     let mut w = Writer::inside(alloc, Order::Big)?;
     write_ior(&mut w, reference)?;
-    Octets::from_slice(alloc, w.bytes())
+    owned(alloc, w.bytes())
+}
+
+fn owned(alloc: Global, octets: &[u8]) -> Result<Octets, Memory>
+    ensures same { IfOk result (λ o. o ≡ octets.now) }
+    ensures octets { IsBytes octets.now }
+{
+    Octets::from_slice(alloc, octets)
 }
