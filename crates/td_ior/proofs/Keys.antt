@@ -180,3 +180,6 @@ one-key key other n m k l e =
     let one = key-only (written_key key) key (record { trader = n; kind = k; written = refl }) in
     let two = key-only (written_key key) other (record { trader = m; kind = l; written = e }) in
     some-is key other (sym one ∙ two)
+
+pub written-found : (key : ObjectKey) → IsTraderName key.trader → IsKind key.kind → key_of (written_key key) ≡ Some key
+written-found key n k = key-only (written_key key) key (record { trader = n; kind = k; written = refl })

@@ -144,8 +144,8 @@ made-found id host key port clean low short =
     let holds = enclosing-holds profile_body (record { host = host; port = port; key = key }) (profile_piece host port key) (body-spelled host key port clean low) short in
     rw (enclosed-only profile_body body-joins (enclosing (profile_piece host port key)) (record { host = host; port = port; key = key }) holds) refl
 
-pub made-back : (id host key octets : List ℕ) (port : ℕ) (profiles : List Profile) → HasNoNul host → port < 65536 → length octets < 2 ^ 32 → octets ≡ enclosing (profile_piece host port key)
-    → profiles ≡ record { tag = 0; octets = octets } ∷ [] → first_iiop profiles ≡ Some (record { host = host; port = port; key = key })
-made-back id host key octets port profiles clean low short e f =
+pub made-back : (id host key kept : List ℕ) (port : ℕ) (profiles : List Profile) → HasNoNul host → port < 65536 → length kept < 2 ^ 32 → kept ≡ enclosing (profile_piece host port key)
+    → profiles ≡ record { tag = 0; octets = kept } ∷ [] → first_iiop profiles ≡ Some (record { host = host; port = port; key = key })
+made-back id host key kept port profiles clean low short e f =
     let profiles_are : profiles ≡ (made_reference id host port key).profiles = f ∙ ap (λ (o : List ℕ). record { tag = 0; octets = o } ∷ []) e in
     ap first_iiop profiles_are ∙ made-found id host key port clean low (subst (λ (o : List ℕ). length o < 2 ^ 32) e short)

@@ -10,13 +10,14 @@ use Rattle.hex.specs.declared.error.FromHexError.{FromHexError}
 use Rattle.hex.proofs.HexLemmas.{decode_of-encode_lower}
 use Rattle.td_cdr.specs.Text.{has_nul, HasNoNul}
 use Rattle.td_value.specs.declared.reference.Ior.{Ior}
+use Rattle.td_value.specs.declared.reference.Profile.{Profile}
 use Rattle.td_value.specs.References.{reference, reference_piece}
 use Rattle.td_value.proofs.ReferencesLawful.{reference-joins, reference-spelled}
 use Rattle.td_ior.specs.Enclosed.{Encloses, enclosed_in, enclosing}
 use Rattle.td_ior.specs.Keys.{◌>>=◌}
 use Rattle.td_ior.specs.Laws.{Agrees}
 use Rattle.td_ior.specs.Number.{port_of}
-use Rattle.td_ior.specs.Profiles.{made_reference}
+use Rattle.td_ior.specs.Profiles.{made_profile, made_reference}
 use Rattle.td_ior.specs.Texts.{IsHexForm, IsPlainForm, IsReferenceText, HasNoComma, hex_form, cut_last, unmarked, Parts, with_port, parts_of, plain_form, reference_in, printed}
 use Rattle.td_ior.proofs.Commas.{cut_last-none, cut_last-here, cut_last-append}
 use Rattle.td_ior.proofs.Encapsulated.{enclosed-found, enclosed-only, enclosing-holds}
@@ -140,6 +141,7 @@ parts-found text parts e =
     let at_last = cut-Some rest.0 last.0 last.1 in
     let at_before = cut-Some last.0.0 before.0 before.1 in
     let at_first = cut-Some before.0.0 first.0 first.1 in
+    let made_as : made_of parts ≡ made_reference first.0.0 first.0.1 port.0 last.0.1 = ap made_of (sym ported.is) in
     record {
       id = first.0.0;
       host = first.0.1;
@@ -153,7 +155,7 @@ parts-found text parts e =
       id_plain = ported.id_plain;
       host_plain = ported.host_plain;
       number = below-read 65536 before.0.1 port.0 (omega arith) port.1;
-      made = ap made_of (sym ported.is);
+      made = made_as;
     }
 
 plain-found : (text : List ℕ) (r : Ior) → plain_form text ≡ Some r → IsPlainForm text r
@@ -222,3 +224,9 @@ printed-back r octets (Ok t) e held bytes short = λ ok.
     let printed_is : t ≡ printed r = e ∙ ap (λ (o : List ℕ). codes "IOR:" ++ encode_lower o) held in
     ap reference_in printed_is ∙ printed-found r ok (subst IsBytes held bytes) (subst (λ (o : List ℕ). length o < 2 ^ 32) held short)
 printed-back r octets (Err d) e held bytes short = tt
+
+-- a made reference has a spelling
+pub made-admitted : (id host key : List ℕ) (port : ℕ) → HasNoNul id → reference.admits (made_reference id host port key)
+made-admitted id host key port plain =
+    let p : Profile = made_profile host port key in
+    ((id, p ∷ []), refl, (plain, (1, omega arith, ((p, []), refl, (((0, p.octets), refl, (omega arith, tt)), refl)))))

@@ -18,6 +18,7 @@ ghost use Rattle.td_ior.specs.Texts.{IsReferenceText, reference_in, printed};
 /// A key is read as it is written, and only so, and no two keys are written alike.
 pub fn keys_are_read()
     ensures agrees { Agrees SpellsKey key_of }
+    ensures back { (key : ObjectKey) → IsTraderName key.trader → IsKind key.kind → key_of (written_key key) ≡ Some key }
     ensures one_key { (key other : ObjectKey) → IsTraderName key.trader → IsTraderName other.trader → IsKind key.kind → IsKind other.kind → written_key key ≡ written_key other → key ≡ other }
 {}
 
@@ -34,8 +35,9 @@ pub fn profiles_are_read()
 {}
 
 /// A text is read as the reference that one of the two forms says it spells, and only so. A printed
-/// reference is read back as that reference.
+/// reference is read back as that reference where it has a spelling, as a made one does.
 pub fn texts_are_read()
     ensures agrees { Agrees IsReferenceText reference_in }
     ensures back { (r : Ior) → reference.admits r → IsBytes (enclosing (reference_piece r)) → length (enclosing (reference_piece r)) < 2 ^ 32 → reference_in (printed r) ≡ Some r }
+    ensures made { (id host key : List ℕ) (port : ℕ) → HasNoNul id → reference.admits (made_reference id host port key) }
 {}
