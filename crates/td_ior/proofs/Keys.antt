@@ -1,5 +1,5 @@
 -- Keys are read as they are spelled, and only so.
-use Rattle.std.proofs.Common.{codes, rules, ◌≡◌, ℕ, ◌+◌, ◌^◌, ◌<◌, ◌≤◌, ◌&&◌, ◌⊎◌, inl, inr, nat_eq, nat_lt, nat_le, Bool, true, false, IsTrue, List, [], ◌∷◌, ◌++◌, length, take, drop, get_or, suc, add-one, drop-cons, Option, Some, None, refl, sym, ap, subst, ◌∙◌, arith, if◌then◌else◌, eq-eqb}
+use Rattle.std.proofs.Common.{codes, ◌≡◌, ℕ, ◌+◌, ◌^◌, ◌<◌, ◌&&◌, ◌⊎◌, inl, inr, nat_eq, nat_lt, nat_le, Bool, true, false, List, [], ◌∷◌, ◌++◌, length, take, drop, get_or, suc, add-one, drop-cons, Option, Some, None, refl, sym, ap, subst, ◌∙◌, arith, if◌then◌else◌}
 use Rattle.std.specs.List.{list_all, position, position_or_len}
 use Rattle.std.specs.Str.{bytes_eq}
 use Rattle.std.specs.Fmt.{decimal}
@@ -180,3 +180,6 @@ one-key key other n m k l e =
     let one = key-only (written_key key) key (record { trader = n; kind = k; written = refl }) in
     let two = key-only (written_key key) other (record { trader = m; kind = l; written = e }) in
     some-is key other (sym one ∙ two)
+
+pub written-found : (key : ObjectKey) → IsTraderName key.trader → IsKind key.kind → key_of (written_key key) ≡ Some key
+written-found key n k = key-only (written_key key) key (record { trader = n; kind = k; written = refl })

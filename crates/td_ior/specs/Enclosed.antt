@@ -2,7 +2,6 @@
 -- Syntax", on encapsulation): the first tells the order of the value behind it, and alignment counts
 -- from it. They are counted by an unsigned long, so there are fewer than 2 ^ 32.
 use Rattle.std.specs.Prelude.{◌≡◌, ℕ, ◌+◌, ◌^◌, ◌<◌, nat_eq, nat_lt, Bool, true, false, List, [], ◌∷◌, ◌++◌, length, if◌then◌else◌, Option, Some, None, Ok, Err}
-use Rattle.td_cdr.specs.declared.order.Order.{Order}
 use Rattle.td_cdr.specs.declared.order.Order.TheVariants.{Big}
 use Rattle.td_cdr.specs.Gap.{flag}
 use Rattle.td_cdr.specs.Place.{At}

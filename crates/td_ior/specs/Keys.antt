@@ -2,6 +2,7 @@
 use Rattle.std.specs.Prelude.{codes, ◌≡◌, ℕ, ◌+◌, ◌<◌, ◌^◌, nat_eq, List, [], ◌∷◌, ◌++◌, take, drop, if◌then◌else◌, Option, Some, None, Result, Ok, Err}
 use Rattle.std.specs.Fmt.{decimal}
 use Rattle.std.specs.List.{position}
+use Rattle.std.specs.Option.{IsSome}
 use Rattle.std.specs.Str.{bytes_eq}
 use Rattle.td_cdr.specs.Names.{trader_name, IsTraderName}
 use Rattle.td_value.specs.declared.key.Kind.{Kind}
@@ -76,9 +77,10 @@ key_of octets = do
   kind ← kind_of parts.1
   named parts.0 kind
 
--- What a reader of keys answers: the key, and BadKey exactly where there is none.
+-- What a reader of keys answers: the key, and BadKey exactly where there is none. Memory wants only for
+-- a key's copy.
 abbrev pub ReadsKey : Option ObjectKey → Result ObjectKey IorFault → Type 0
 ReadsKey found (Ok key) = found ≡ Some key
 ReadsKey found (Err BadKey) = found ≡ None
-ReadsKey found (Err Memory) = Unit {0}
+ReadsKey found (Err Memory) = IsSome found
 ReadsKey found (Err e) = ⊥

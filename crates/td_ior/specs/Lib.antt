@@ -3,3 +3,4 @@ pub mod Keys
 pub mod Laws
 pub mod Number
 pub mod Profiles
+pub mod Texts

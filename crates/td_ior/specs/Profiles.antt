@@ -1,5 +1,6 @@
 -- IIOP profiles (CORBA's chapter on the General Inter-ORB Protocol, "IIOP IOR Profiles").
-use Rattle.std.specs.Prelude.{◌≡◌, ℕ, nat_eq, Bool, true, false, List, [], ◌∷◌, ◌++◌, if◌then◌else◌, Option, Some, None, Result, Ok, Err}
+use Rattle.std.specs.Prelude.{◌≡◌, ℕ, nat_eq, List, [], ◌∷◌, ◌++◌, if◌then◌else◌, Option, Some, None, Result, Ok, Err}
+use Rattle.std.specs.Option.{IsSome}
 use Rattle.td_value.specs.declared.reference.Ior.{Ior}
 use Rattle.td_value.specs.declared.reference.Profile.{Profile}
 use Rattle.td_value.specs.Grammar.{Grammar, number, text, pair, made, checked}
@@ -7,7 +8,7 @@ use Rattle.td_value.specs.Labels.{bad_value}
 use Rattle.td_value.specs.References.{octets}
 use Rattle.td_value.specs.Writing.{Piece, ◌then◌, number as a_number, text as a_text, octets as some_octets}
 use Rattle.td_ior.specs.declared.fault.IorFault.{IorFault}
-use Rattle.td_ior.specs.declared.fault.IorFault.TheVariants.{NotIor, NoIiop, BadKey, Memory}
+use Rattle.td_ior.specs.declared.fault.IorFault.TheVariants.{NoIiop, Memory}
 use Rattle.td_ior.specs.declared.profile.Iiop.{Iiop}
 use Rattle.td_ior.specs.Enclosed.{Encloses, enclosed_in, enclosing}
 
@@ -50,11 +51,11 @@ first_iiop (p ∷ ps) = or_else (iiop_in p) (first_iiop ps)
 abbrev pub iiop_of : Ior → Option Iiop
 iiop_of reference = first_iiop reference.profiles
 
--- the profile that is found, and NoIiop exactly where there is none
+-- the profile that is found, and NoIiop exactly where there is none; memory wants only for a copy of it
 abbrev pub ReadsIiop : Option Iiop → Result Iiop IorFault → Type 0
 ReadsIiop found (Ok v) = found ≡ Some v
 ReadsIiop found (Err NoIiop) = found ≡ None
-ReadsIiop found (Err Memory) = Unit {0}
+ReadsIiop found (Err Memory) = IsSome found
 ReadsIiop found (Err e) = ⊥
 
 -- ---- how it is made: one profile of version 1.0 in big order

@@ -5,10 +5,17 @@
 mod enclosed;
 mod fault;
 mod key;
+mod laws;
 mod number;
 mod profile;
+mod text;
 
 pub use fault::IorFault;
 pub use key::{read_key, write_key};
+pub use laws::{keys_are_read, profiles_are_read, texts_are_read};
 pub use profile::{Iiop, iiop_of, make_ior};
 pub use td_value::{Kind, ObjectKey};
+pub use text::{print_text, read_text};
+
+#[cfg(test)]
+mod tests;

@@ -1,6 +1,6 @@
 //! The IIOP profiles of a reference.
 
-ghost use Rattle.std.specs.Prelude.{◌≡◌, IfOk};
+ghost use Rattle.std.specs.Prelude.{◌≡◌, ◌<◌, ◌^◌, length, Some, IfOk};
 ghost use Rattle.std.specs.Option.{option_map};
 ghost use Rattle.td_cdr.specs.Text.{HasNoNul};
 ghost use Rattle.td_ior.specs.Enclosed.{value_in, enclosing};
@@ -92,6 +92,7 @@ fn body_of(mut r: Reader<'_>) -> Option<Body<'_>>
 pub fn make_ior(alloc: Global, id: &[u8], host: &[u8], port: u16, key: &[u8]) -> Result<Ior, Memory>
     requires { HasNoNul host.now }
     ensures made { IfOk result (λ i. i ≡ made_reference id.now host.now port key.now) }
+    ensures back { IfOk result (λ i. iiop_of i ≡ Some (record { host = host.now; port = port; key = key.now })) }
 {
     let id = Text::from_slice(alloc, id)?;
     let octets = profile_octets(alloc, host, port, key)?;
@@ -101,7 +102,8 @@ pub fn make_ior(alloc: Global, id: &[u8], host: &[u8], port: u16, key: &[u8]) ->
 }
 
 fn profile_octets(alloc: Global, host: &[u8], port: u16, key: &[u8]) -> Result<Octets, Memory>
-    ensures { IfOk result (λ o. o ≡ enclosing (profile_piece host.now port key.now)) }
+    ensures made { IfOk result (λ o. o ≡ enclosing (profile_piece host.now port key.now)) }
+    ensures short { IfOk result (λ o. length o < 2 ^ 32) }
 {
     let mut w = Writer::inside(alloc, Order::Big)?;
     w.octet(1)?;

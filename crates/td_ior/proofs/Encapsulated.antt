@@ -1,0 +1,78 @@
+-- What stands alone as the octets of an encapsulation is read as it is spelled, and only so.
+use Rattle.std.proofs.Common.{◌≡◌, ℕ, ◌+◌, ◌^◌, ◌<◌, nat_eq, nat_lt, Bool, true, false, List, [], ◌∷◌, ◌++◌, length, Option, Some, None, Ok, Err, refl, sym, ap, subst, ◌∙◌, arith, if◌then◌else◌}
+use Rattle.std.proofs.lemmas.List.{append-nil}
+use Rattle.std.proofs.lemmas.Bool.{eqb-true, lt-ltb}
+use Rattle.std.proofs.lemmas.Bool.Decides.{nat_tests}
+use Rattle.td_cdr.specs.declared.order.Order.TheVariants.{Big}
+use Rattle.td_cdr.specs.Place.{At}
+use Rattle.td_cdr.specs.Spelling.{IsFlag}
+use Rattle.td_value.specs.Grammar.{Grammar, Read}
+use Rattle.td_value.specs.Laws.{Joins, Spelled}
+use Rattle.td_value.specs.Writing.{Piece}
+use Rattle.td_ior.specs.Enclosed.{Encloses, start, start_of, value_in, enclosed_in, enclosing}
+use Rattle.td_ior.proofs.Keys.{bind-Some, some-is}
+
+abbrev some_at : At → Option At
+some_at a = Some a
+
+record Starts (octets : List ℕ) (a : At) : Type 0 where
+  little : Bool
+  octet : ℕ
+  body : List ℕ
+  told : IsFlag little octet
+  parts : octets ≡ octet ∷ body
+  short : length octets < 2 ^ 32
+  is : start little body ≡ a
+
+order-told : (t u : Bool) (octet : ℕ) (body : List ℕ) (a : At) → length body + 1 < 2 ^ 32 → nat_eq octet 0 ≡ t → nat_eq octet 1 ≡ u
+    → (if t then some_at (start false body) else if u then some_at (start true body) else None) ≡ Some a → Starts (octet ∷ body) a
+order-told true u octet body a h e f g = record { little = false; octet = octet; body = body; told = eqb-true octet 0 e; parts = refl; short = omega arith; is = some-is (start false body) a g }
+order-told false true octet body a h e f g = record { little = true; octet = octet; body = body; told = eqb-true octet 1 f; parts = refl; short = omega arith; is = some-is (start true body) a g }
+order-told false false octet body a h e f g = absurd cc
+
+short-told : (t : Bool) (octet : ℕ) (body : List ℕ) (a : At) → nat_lt (length body + 1) (2 ^ 32) ≡ t
+    → (if t then (if nat_eq octet 0 then some_at (start false body) else if nat_eq octet 1 then some_at (start true body) else None) else None) ≡ Some a → Starts (octet ∷ body) a
+short-told true octet body a h g = let lt : length body + 1 < 2 ^ 32 = grind (arith, nat_tests) in order-told (nat_eq octet 0) (nat_eq octet 1) octet body a lt refl refl g
+short-told false octet body a h g = absurd cc
+
+start-found : (octets : List ℕ) (a : At) → start_of octets ≡ Some a → Starts octets a
+start-found [] a e = absurd cc
+start-found (octet ∷ body) a e = short-told (nat_lt (length body + 1) (2 ^ 32)) octet body a refl e
+
+start-only : (little : Bool) (octet : ℕ) (body : List ℕ) → IsFlag little octet → length (octet ∷ body) < 2 ^ 32 → start_of (octet ∷ body) ≡ Some (start little body)
+start-only false octet body e h = let t = lt-ltb (length body + 1) (2 ^ 32) (omega arith) in rw (t, e) refl
+start-only true octet body e h = let t = lt-ltb (length body + 1) (2 ^ 32) (omega arith) in rw (t, e) refl
+
+value-found : {Y : Type 0} (r : Read Y) (v : Y) → value_in r ≡ Some v → (next : At) × (r ≡ Ok (v, next))
+value-found (Ok x) v e = (x.1, ap (λ (y : _). Ok (y, x.1)) (some-is x.0 v e))
+value-found (Err d) v e = absurd cc
+
+pub enclosed-found : {Y : Type 0} (g : Grammar Y) → Joins g → (octets : List ℕ) (v : Y) → enclosed_in g octets ≡ Some v → Encloses g octets v
+enclosed-found {Y = Y} g j octets v e =
+    let b = bind-Some (start_of octets) (λ (a : At). value_in (g.reading a)) v e in
+    let s = start-found octets b.0 b.1 in
+    let n = value-found (g.reading b.0) v b.2 in
+    let at : g.reading (start s.little s.body) ≡ Ok (v, n.0) = ap g.reading s.is ∙ n.1 in
+    let f = j.found (start s.little s.body) v n.0 (omega arith) at in
+    record { little = s.little; order_octet = s.octet; body = f.bytes; ignored = n.0.rest; order_told = s.told; parts = s.parts ∙ ap (λ (x : List ℕ). s.octet ∷ x) f.parts; short = s.short; spelled = f.spelled }
+
+pub enclosed-only : {Y : Type 0} (g : Grammar Y) → Joins g → (octets : List ℕ) (v : Y) → Encloses g octets v → enclosed_in g octets ≡ Some v
+enclosed-only {Y = Y} g j octets v s =
+    let body : List ℕ = s.body ++ s.ignored in
+    let short : length (s.order_octet ∷ body) < 2 ^ 32 = subst (λ (x : List ℕ). length x < 2 ^ 32) s.parts s.short in
+    let begins = start-only s.little s.order_octet body s.order_told short in
+    let one = j.only (start s.little body) v s.body s.ignored (omega arith) s.spelled refl in
+    ap (enclosed_in g) s.parts ∙ rw (begins, one) refl
+
+-- what is written for a value, behind the octet that tells big order
+pub enclosing-holds : {Y : Type 0} (g : Grammar Y) (v : Y) (piece : Piece) → Spelled g v piece → length (enclosing piece) < 2 ^ 32 → Encloses g (enclosing piece) v
+enclosing-holds g v piece s short = record {
+  little = false;
+  order_octet = 0;
+  body = piece Big 1;
+  ignored = [];
+  order_told = refl;
+  parts = ap (λ (x : List ℕ). 0 ∷ x) (sym (append-nil (piece Big 1)));
+  short = short;
+  spelled = s.from Big 1 (omega arith);
+}
