@@ -14,3 +14,5 @@ pub mod ReferencesLawful
 pub mod ValuesJoined
 pub mod Putting
 pub mod ValuesWritten
+pub mod EnumerationsLawful
+pub mod StructuresLawful

@@ -8,3 +8,6 @@ pub mod Values
 pub mod Writing
 pub mod WritingCodes
 pub mod WritingValues
+pub mod Enumerations
+pub mod Structures
+pub mod Dynamic

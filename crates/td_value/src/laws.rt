@@ -7,6 +7,7 @@ ghost use Rattle.td_value.specs.Same.{Same};
 ghost use Rattle.td_value.specs.Codes.{type_codes, codes};
 ghost use Rattle.td_value.specs.WritingCodes.{written};
 ghost use Rattle.td_value.specs.References.{reference, reference_piece};
+ghost use Rattle.td_value.specs.Structures.{property, policy, incarnation_number, prop_struct, offer, offer_info, link_info, proxy_info, type_struct, dynamic_prop, specified_props, specified_types, property_piece, policy_piece, incarnation_number_piece, prop_struct_piece, offer_piece, offer_info_piece, link_info_piece, proxy_info_piece, type_struct_piece, dynamic_prop_piece, specified_props_piece, specified_types_piece};
 ghost use Rattle.td_value.specs.Values.{any_values, anys};
 ghost use Rattle.td_value.specs.WritingValues.{any_piece, written_any};
 ghost use Rattle.td_value.specs.Laws.{Joins, ReadsBack};
@@ -30,6 +31,35 @@ pub fn values_are_spelled()
     ensures in_a_body_back { ReadsBack any_values any_piece }
     ensures references { Joins reference }
     ensures references_back { ReadsBack reference reference_piece }
+{}
+
+/// What holds of anys holds of the structures of the trading service: each is read as it is spelled,
+/// whatever follows, and only so; what is written for an admitted one is read back.
+pub fn structures_are_spelled()
+    ensures property { Joins property }
+    ensures property_back { ReadsBack property property_piece }
+    ensures policy { Joins policy }
+    ensures policy_back { ReadsBack policy policy_piece }
+    ensures incarnation_number { Joins incarnation_number }
+    ensures incarnation_number_back { ReadsBack incarnation_number incarnation_number_piece }
+    ensures prop_struct { Joins prop_struct }
+    ensures prop_struct_back { ReadsBack prop_struct prop_struct_piece }
+    ensures offer { Joins offer }
+    ensures offer_back { ReadsBack offer offer_piece }
+    ensures offer_info { Joins offer_info }
+    ensures offer_info_back { ReadsBack offer_info offer_info_piece }
+    ensures link_info { Joins link_info }
+    ensures link_info_back { ReadsBack link_info link_info_piece }
+    ensures proxy_info { Joins proxy_info }
+    ensures proxy_info_back { ReadsBack proxy_info proxy_info_piece }
+    ensures type_struct { Joins type_struct }
+    ensures type_struct_back { ReadsBack type_struct type_struct_piece }
+    ensures dynamic_prop { Joins dynamic_prop }
+    ensures dynamic_prop_back { ReadsBack dynamic_prop dynamic_prop_piece }
+    ensures specified_props { Joins specified_props }
+    ensures specified_props_back { ReadsBack specified_props specified_props_piece }
+    ensures specified_types { Joins specified_types }
+    ensures specified_types_back { ReadsBack specified_types specified_types_piece }
 {}
 
 /// A TypeCode is the same as itself, and so as its copy, and being the same goes both ways. It isn't

@@ -61,7 +61,7 @@ pub fn same_type(a: &TypeCode, b: &TypeCode) -> bool
 }
 
 /// The TypeCode under its aliases.
-fn bare(code: &TypeCode) -> &TypeCode
+pub fn bare(code: &TypeCode) -> &TypeCode
     ensures same { shape result.now ≡ shape code.now }
     ensures bare { is_alias (out-TypeCode result.now) ≡ false }
 {

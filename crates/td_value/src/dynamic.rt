@@ -1,0 +1,60 @@
+//! Anys that hold a property which is evaluated when it is asked for.
+
+ghost use Rattle.std.specs.Prelude.{◌≡◌, map, nat_eq, [], ◌∷◌};
+ghost use Rattle.std.specs.Cmp.Lexicographic.{pointwise};
+ghost use Rattle.td_value.specs.Same.{shape, row, member_entry};
+ghost use Rattle.td_value.specs.Dynamic.{dynamic_shape, has_kinds, dynamic_id};
+
+use crate::code::{Member, TypeCode};
+use crate::same::bare;
+
+/// The repository id of a DynamicProp.
+const DYNAMIC_ID: &[u8] = b"IDL:omg.org/CosTradingDynamic/DynamicProp:1.0";
+
+/// Whether an any of this TypeCode holds a DynamicProp: without aliases it is a structure of that id
+/// with an object reference, a TypeCode and an any. Takes no memory.
+pub fn is_dynamic(code: &TypeCode) -> bool
+    ensures { result ≡ dynamic_shape (shape code.now) }
+{
+    match bare(code) {
+        TypeCode::Struct { id, members, .. } => {
+            is_dynamic_id(id.as_slice()) && has_dynamic_members(members.as_slice())
+        }
+        _ => false,
+    }
+}
+
+fn is_dynamic_id(id: &[u8]) -> bool
+    ensures { result ≡ pointwise nat_eq id.now dynamic_id }
+{
+    id == DYNAMIC_ID
+}
+
+fn has_dynamic_members(members: &[Member]) -> bool
+    ensures { result ≡ has_kinds (14 ∷ 12 ∷ 11 ∷ []) (row (map member_entry members.now)) }
+{
+    match members {
+        [first, second, third] => {
+            is_object(&first.code) && is_code(&second.code) && is_any(&third.code)
+        }
+        _ => false,
+    }
+}
+
+fn is_object(code: &TypeCode) -> bool
+    ensures { result ≡ nat_eq (shape code.now).kind 14 }
+{
+    matches!(bare(code), TypeCode::ObjRef { .. })
+}
+
+fn is_code(code: &TypeCode) -> bool
+    ensures { result ≡ nat_eq (shape code.now).kind 12 }
+{
+    matches!(bare(code), TypeCode::Code)
+}
+
+fn is_any(code: &TypeCode) -> bool
+    ensures { result ≡ nat_eq (shape code.now).kind 11 }
+{
+    matches!(bare(code), TypeCode::AnyCode)
+}
