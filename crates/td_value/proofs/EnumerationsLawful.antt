@@ -1,9 +1,7 @@
 -- Enumerations are read as they are spelled, and what is written for one spells it.
-use Rattle.std.proofs.Common.{◌≡◌, ℕ, zero, suc, Bool, IsTrue, nat_lt, refl, sym, ap, ◌∙◌, arith}
-use Rattle.td_value.specs.Grammar.{Grammar, number, made, checked}
-use Rattle.td_value.specs.Labels.{bad_value}
+use Rattle.std.proofs.Common.{◌≡◌, ℕ, zero, suc, IsTrue, nat_lt, refl, sym, ap, ◌∙◌, arith}
 use Rattle.td_value.specs.Laws.{Joins, Spelled}
-use Rattle.td_value.specs.Writing.{Piece, number as a_number}
+use Rattle.td_value.specs.Writing.{number as a_number}
 use Rattle.td_value.proofs.Joins.{number-joined, made-joins, checked-joins}
 use Rattle.td_value.proofs.Spelled.{number-spelled, made-spelled, checked-spelled}
 use Rattle.td_value.specs.Enumerations.{follow_option, follow_option_of, follow_option_number, how_many_props, how_many_props_of, how_many_props_number, property_mode, property_mode_of, property_mode_number, list_option, list_option_of, list_option_number}

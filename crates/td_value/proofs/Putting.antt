@@ -1,5 +1,5 @@
 -- The pieces that the writer of values puts.
-use Rattle.std.proofs.Common.{arith, ◌≡◌, ℕ, zero, suc, ◌-◌, ◌<◌, List, [], ◌∷◌, ◌++◌, length, min, get_or, Ok, refl, sym, ap, ◌∙◌}
+use Rattle.std.proofs.Common.{arith, ◌≡◌, ℕ, zero, suc, ◌-◌, ◌<◌, List, [], ◌∷◌, length, min, get_or, Ok, refl, sym, ap}
 use Rattle.std.proofs.lemmas.List.{append-nil}
 use Rattle.td_cdr.specs.Writing.{Draft}
 use Rattle.td_value.specs.declared.code.TypeCode.{TypeCode, out-TypeCode}

@@ -1,16 +1,14 @@
 -- Structures are read as they are spelled, and what is written for one spells it.
-use Rattle.std.proofs.Common.{◌≡◌, ℕ, Bool, List, [], ◌∷◌, ◌++◌, length, map, refl, sym, ap, subst, ◌∙◌}
+use Rattle.std.proofs.Common.{◌≡◌, ℕ, Bool, List, map, refl, ap, subst, ◌∙◌}
 use Rattle.std.specs.Int.{from_bool}
 use Rattle.std.proofs.lemmas.List.{append-nil}
 use Rattle.td_cdr.specs.declared.order.Order.{Order}
-use Rattle.td_value.specs.Grammar.{Grammar, number, boolean, text, pair, chosen, made, nothing, times}
+use Rattle.td_value.specs.Grammar.{Grammar, number, boolean, text, pair, times}
 use Rattle.td_value.specs.Codes.{type_codes}
-use Rattle.td_value.specs.References.{reference, reference_piece}
+use Rattle.td_value.specs.References.{reference}
 use Rattle.td_value.specs.Values.{any_values}
 use Rattle.td_value.specs.Laws.{Joins, Spelled, ReadsBack}
 use Rattle.td_value.specs.Writing.{Piece, none, ◌then◌, number as a_number, text as a_text, row}
-use Rattle.td_value.specs.WritingCodes.{written}
-use Rattle.td_value.specs.WritingValues.{any_piece}
 use Rattle.td_value.specs.declared.mode.Mode.TheVariants.{Outer}
 use Rattle.td_value.specs.declared.enumerations.HowManyProps.{HowManyProps}
 use Rattle.td_value.specs.declared.enumerations.HowManyProps.TheVariants as how_many
@@ -30,7 +28,7 @@ use Rattle.td_value.specs.declared.structures.LinkInfo.{LinkInfo}
 use Rattle.td_value.specs.declared.structures.ProxyInfo.{ProxyInfo}
 use Rattle.td_value.specs.declared.structures.TypeStruct.{TypeStruct}
 use Rattle.td_value.specs.declared.structures.DynamicProp.{DynamicProp}
-use Rattle.td_value.specs.Enumerations.{follow_option, follow_option_number, how_many_props, how_many_props_number, property_mode, property_mode_number, list_option, list_option_number}
+use Rattle.td_value.specs.Enumerations.{follow_option, how_many_props, how_many_props_number, property_mode, list_option, list_option_number}
 use Rattle.td_value.specs.Structures.{many, many_piece, property, policy, incarnation_number, prop_struct, offer, offer_info, link_info, proxy_info, type_struct, dynamic_prop, property_piece, policy_piece, incarnation_number_piece, prop_struct_piece, offer_piece, offer_info_piece, link_info_piece, proxy_info_piece, type_struct_piece, dynamic_prop_piece, props_under, specified_props, specified_props_piece, types_under, specified_types, specified_types_piece}
 use Rattle.td_value.proofs.Joins.{number-joined, boolean-joined, text-joined, pair-joins, chosen-joins, made-joins, nothing-joins, times-joins}
 use Rattle.td_value.proofs.Spelled.{same-spelled, number-spelled, boolean-spelled, text-spelled, pair-spelled, chosen-spelled, made-spelled, nothing-spelled, times-spelled, times-length}

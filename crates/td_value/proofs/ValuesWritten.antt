@@ -11,14 +11,14 @@ use Rattle.td_value.specs.declared.code.Any.{Any}
 use Rattle.td_value.specs.declared.code.Member.{Member}
 use Rattle.td_value.specs.declared.reference.Ior.{Ior}
 use Rattle.td_value.specs.declared.mode.Mode.TheVariants.{Outer}
-use Rattle.td_value.specs.Grammar.{Grammar, number, signed, boolean, text, pair, chosen, made, checked, nothing, refused, times}
-use Rattle.td_value.specs.Labels.{Layer, Held, bad_value, one_of, labels, label_of}
+use Rattle.td_value.specs.Grammar.{Grammar, number, chosen, checked, times}
+use Rattle.td_value.specs.Labels.{Layer, Held, bad_value, labels}
 use Rattle.td_value.specs.Codes.{codes}
-use Rattle.td_value.specs.References.{reference, reference_piece}
-use Rattle.td_value.specs.Values.{values, anys, layer, each, branch, bounded, fits, branch_of, index_of}
-use Rattle.td_value.specs.Writing.{Piece, none, ◌then◌, number as a_number, text as a_text, row}
+use Rattle.td_value.specs.References.{reference_piece}
+use Rattle.td_value.specs.Values.{values, anys, layer, each, branch, fits, branch_of, index_of}
+use Rattle.td_value.specs.Writing.{Piece, ◌then◌, number as a_number, text as a_text, row}
 use Rattle.td_value.specs.WritingCodes.{written}
-use Rattle.td_value.specs.WritingValues.{text_in, items_in, reference_in, code_in, any_in, zipped, plain_piece, fields, branch_piece, union_piece, value_layer, written_value, written_any}
+use Rattle.td_value.specs.WritingValues.{text_in, items_in, reference_in, code_in, any_in, plain_piece, fields, branch_piece, union_piece, value_layer, written_value, written_any}
 use Rattle.td_value.specs.Laws.{Spelled, ReadsBack}
 use Rattle.td_value.proofs.Spelled.{same-spelled, number-spelled, signed-spelled, boolean-spelled, text-spelled, pair-spelled, chosen-spelled, made-spelled, checked-spelled, nothing-spelled, times-spelled, times-length}
 use Rattle.td_value.proofs.CodesWritten.{label-short, label-long, label-ushort, label-ulong, label-longlong, label-ulonglong, label-boolean, label-octet, label-char, label-made, one_of-spelled, labels-spelled, codes-spelled}

@@ -1,6 +1,6 @@
 -- When an any holds a DynamicProp (OMG's Trading Object Service, module CosTradingDynamic): by its
 -- TypeCode, without aliases at every level.
-use Rattle.std.specs.Prelude.{◌≡◌, ℕ, Bool, true, false, IsTrue, ◌&&◌, List, [], ◌∷◌, nat_eq, codes}
+use Rattle.std.specs.Prelude.{ℕ, Bool, true, false, IsTrue, ◌&&◌, List, [], ◌∷◌, nat_eq, codes}
 use Rattle.std.specs.Cmp.Lexicographic.{pointwise}
 use Rattle.td_value.specs.declared.code.TypeCode.{TypeCode}
 use Rattle.td_value.specs.Same.{Shapes, empty, node, Shape, shape}

@@ -1,6 +1,6 @@
 -- The enumerations of the trading service (OMG's Trading Object Service, modules CosTrading and
 -- CosTradingRepos): each is spelled by its number.
-use Rattle.std.specs.Prelude.{◌≡◌, ℕ, zero, suc, nat_lt, nat_eq, if◌then◌else◌}
+use Rattle.std.specs.Prelude.{ℕ, nat_lt, nat_eq, if◌then◌else◌}
 use Rattle.td_value.specs.Grammar.{Grammar, number, made, checked}
 use Rattle.td_value.specs.Labels.{bad_value}
 use Rattle.td_value.specs.declared.enumerations.FollowOption.{FollowOption}

@@ -1,6 +1,6 @@
 -- The structures of the trading service (OMG's Trading Object Service, modules CosTrading,
 -- CosTradingDynamic and CosTradingRepos): a structure is spelled by its members in order.
-use Rattle.std.specs.Prelude.{◌≡◌, ℕ, List, [], ◌∷◌, length, map}
+use Rattle.std.specs.Prelude.{List, length, map}
 use Rattle.std.specs.Int.{from_bool}
 use Rattle.td_value.specs.Grammar.{Grammar, number, boolean, text, pair, chosen, made, nothing, times}
 use Rattle.td_value.specs.Codes.{type_codes}
@@ -17,7 +17,7 @@ use Rattle.td_value.specs.declared.structures.SpecifiedProps.{SpecifiedProps}
 use Rattle.td_value.specs.declared.structures.SpecifiedProps.TheVariants as props
 use Rattle.td_value.specs.declared.structures.SpecifiedServiceTypes.{SpecifiedServiceTypes}
 use Rattle.td_value.specs.declared.structures.SpecifiedServiceTypes.TheVariants as types
-use Rattle.td_value.specs.Enumerations.{follow_option, follow_option_number, how_many_props, how_many_props_number, property_mode, property_mode_number, list_option, list_option_number}
+use Rattle.td_value.specs.Enumerations.{follow_option, follow_option_number, how_many_props, property_mode, property_mode_number, list_option}
 use Rattle.td_value.specs.declared.structures.Property.{Property}
 use Rattle.td_value.specs.declared.structures.Policy.{Policy}
 use Rattle.td_value.specs.declared.structures.IncarnationNumber.{IncarnationNumber}

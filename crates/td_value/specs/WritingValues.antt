@@ -1,12 +1,11 @@
 -- How a value is written under its TypeCode, and an any.
-use Rattle.std.specs.Prelude.{◌≡◌, ℕ, ℤ, zero, suc, List, [], ◌∷◌, length, map, Option, Some, None}
+use Rattle.std.specs.Prelude.{ℕ, zero, suc, List, [], ◌∷◌, length, map, Option, Some, None}
 use Rattle.td_value.specs.declared.code.TypeCode.{TypeCode, out-TypeCode}
 use Rattle.td_value.specs.declared.code.TypeCode.TheOpen as c
 use Rattle.td_value.specs.declared.code.Value.{Value, out-Value}
 use Rattle.td_value.specs.declared.code.Arm.{Arm}
 use Rattle.td_value.specs.declared.code.Any.{Any}
 use Rattle.td_value.specs.declared.code.Member.{Member}
-use Rattle.td_value.specs.declared.reference.Ior.{Ior}
 use Rattle.td_value.specs.Labels.{Layer, Held, label_of}
 use Rattle.td_value.specs.Values.{branch_of, index_of}
 use Rattle.td_value.specs.References.{reference_piece}

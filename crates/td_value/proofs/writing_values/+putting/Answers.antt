@@ -1,12 +1,10 @@
-use Rattle.std.proofs.Common.{◌≡◌, ◌<◌, ◌≤◌, ◌-◌, length, min, map, take, ap, sym, ◌∙◌, arith}
+use Rattle.std.proofs.Common.{◌<◌, ◌≤◌, ◌-◌, length, min, ◌∙◌, arith}
 use Rattle.std.proofs.lemmas.List.{take_all}
-use Rattle.std.specs.Prelude.{option_copied}
 use Rattle.td_value.specs.declared.code.TypeCode.{TypeCode}
 use Rattle.td_value.specs.declared.code.TypeCode.TheVariants as code
 use Rattle.td_value.specs.declared.code.TypeCode.TheOpen as layer_of
 use Rattle.td_value.specs.declared.code.Value.{Value}
 use Rattle.td_value.specs.Values.{branch_of}
-use Rattle.td_value.specs.Writing.{row, ◌then◌}
 use Rattle.td_value.specs.WritingCodes.{written}
 use Rattle.td_value.specs.WritingValues.{written_any, written_value, zipped, branch_piece, plain_piece}
 use Rattle.td_value.proofs.Rows.{goes_on}
