@@ -1,0 +1,9 @@
+//! The trading service's languages: constraints, preferences and the recipes of proxy offers (OMG's
+//! Trading Object Service, appendix "OMG Constraint Language BNF").
+#![tactic(auto)]
+
+mod expr;
+mod fault;
+
+pub use expr::{Constraint, Expr, Op, Part, Preference, Recipe};
+pub use fault::LangFault;
