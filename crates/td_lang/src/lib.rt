@@ -4,6 +4,10 @@
 
 mod expr;
 mod fault;
+mod lexer;
+mod machine;
+mod reader;
+mod token;
 
 pub use expr::{Constraint, Expr, Op, Part, Preference, Recipe};
 pub use fault::LangFault;
