@@ -1,1 +1,5 @@
+pub mod Answered
+pub mod Complete
+pub mod Derived
+pub mod Sound
 pub mod Turn
