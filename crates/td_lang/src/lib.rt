@@ -2,12 +2,16 @@
 //! Trading Object Service, appendix "OMG Constraint Language BNF").
 #![tactic(auto)]
 
+mod constraint;
+mod copy;
 mod expr;
 mod fault;
+pub mod laws;
 mod lexer;
 mod machine;
 mod reader;
 mod token;
 
+pub use constraint::read_constraint;
 pub use expr::{Constraint, Expr, Op, Part, Preference, Recipe};
 pub use fault::LangFault;
