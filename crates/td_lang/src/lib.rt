@@ -15,3 +15,6 @@ mod token;
 pub use constraint::read_constraint;
 pub use expr::{Constraint, Expr, Op, Part, Preference, Recipe};
 pub use fault::LangFault;
+
+#[cfg(test)]
+mod tests;
