@@ -90,7 +90,7 @@ word_at_kept place text letter =
     let size = lead is_word text in
     refused_or (nat_lt 256 size) (fault.Syntax place) (Ok (word_token (take size text), size)) (λ h. word_kept (take size text) (name_front text letter (ltb-false 256 size h)))
 
-behind : (text : List ℕ) → byte_at text 1 ≡ byte_at (drop 1 text) 0
+pub behind : (text : List ℕ) → byte_at text 1 ≡ byte_at (drop 1 text) 0
 behind [] = refl
 behind (b ∷ bs) = refl
 

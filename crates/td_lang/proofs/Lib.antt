@@ -3,6 +3,10 @@ pub mod Begun
 pub mod Complete
 pub mod Decided
 pub mod Derived
+pub mod Found
 pub mod Lexed
+pub mod OneTape
+pub mod Respelled
+pub mod Scanned
 pub mod Sound
 pub mod Turn

@@ -6,4 +6,5 @@ pub mod Levels
 pub mod Lexing
 pub mod Machine
 pub mod Reading
+pub mod Spelling
 pub mod Tape
