@@ -1,10 +1,10 @@
 -- Numbers, texts in quotes and signs are spelled where the lexer finds them; and so is each token.
-use Rattle.std.proofs.Common.{◌≡◌, ℕ, zero, suc, ◌+◌, ◌*◌, ◌-◌, ◌^◌, ◌<◌, ◌≤◌, nat_lt, Bool, true, false, not, ◌&&◌, ◌||◌, ◌==◌, if◌then◌else◌, List, [], ◌∷◌, ◌++◌, length, take, drop, Option, None, Some, Result, Ok, Err, ◌⊎◌, inl, inr, refl, sym, ap, subst, ◌∙◌, append_assoc, arith}
-use Rattle.std.specs.Prelude.{IfSome, codes}
+use Rattle.std.proofs.Common.{◌≡◌, ℕ, suc, ◌+◌, ◌*◌, ◌-◌, ◌^◌, ◌<◌, ◌≤◌, nat_lt, Bool, true, false, ◌&&◌, ◌||◌, ◌==◌, if◌then◌else◌, List, [], ◌∷◌, ◌++◌, length, take, drop, Option, None, Some, Ok, Err, refl, sym, ap, subst, ◌∙◌, append_assoc, arith}
+use Rattle.std.specs.Prelude.{IfSome}
 use Rattle.std.specs.List.{list_all}
 use Rattle.std.specs.Char.{digit_value}
 use Rattle.std.specs.Str.Parse.{AllDigits, digits_value, digits_value_after}
-use Rattle.std.proofs.lemmas.Bool.{ltb-true, ltb-false, leb-true, eqb-true, and_parts, and_from, or_parts, or_left, or_right, cases_Bool}
+use Rattle.std.proofs.lemmas.Bool.{ltb-true, leb-true, eqb-true, and_parts, and_from, or_parts, or_left, or_right}
 use Rattle.std.proofs.lemmas.List.{length-take-le, append-nil, length-append}
 use Rattle.std.proofs.lemmas.Str.{digit_value_digit}
 use Rattle.td_cdr.specs.Names.{is_letter, is_digit, is_word}
@@ -12,12 +12,11 @@ use Rattle.td_lang.specs.declared.expr.Op.{Op}
 use Rattle.td_lang.specs.declared.expr.Op.TheVariants as op
 use Rattle.td_lang.specs.declared.token.Token.{Token}
 use Rattle.td_lang.specs.declared.token.Token.TheVariants as token
-use Rattle.td_lang.specs.declared.fault.LangFault.{LangFault}
 use Rattle.td_lang.specs.declared.fault.LangFault.TheVariants as fault
 use Rattle.td_lang.specs.Lexing.{Taken, lead, byte_at, word_at, own_name_at, onward, value_of, number_of, number_at, quoted_from, quoted_of, quoted_at, with_equal, comparison_at, sign_at, token_at}
-use Rattle.td_lang.specs.Spelling.{operator_word, needs_backslash, inside_quotes, Spells, EndsWord, Apart, Front, is_float, token_fault}
-use Rattle.td_lang.proofs.Lexed.{lead_within, all_lead}
-use Rattle.td_lang.proofs.Scanned.{Takes, Found, found_if, syntax_fault, float_fault, no_float, plain_fault, digit_plain, letter_plain, next_not, byte_drop, taken_front, word_found, own_name_found}
+use Rattle.td_lang.specs.Spelling.{operator_word, needs_backslash, inside_quotes, Spells, EndsWord, Apart, token_fault}
+use Rattle.td_lang.proofs.Words.{lead_within, all_lead}
+use Rattle.td_lang.proofs.Scanned.{Takes, Found, found_if, syntax_fault, float_fault, plain_fault, digit_plain, byte_drop, taken_front, word_found, own_name_found}
 
 -- digits, in the words of std
 digit_low : (c : ℕ) → is_digit c ≡ true → (digit_value c < 10) × (digit_value c ≡ c - 48)

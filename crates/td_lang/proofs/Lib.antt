@@ -4,9 +4,10 @@ pub mod Complete
 pub mod Decided
 pub mod Derived
 pub mod Found
-pub mod Lexed
+pub mod Kept
 pub mod OneTape
 pub mod Respelled
 pub mod Scanned
 pub mod Sound
 pub mod Turn
+pub mod Words

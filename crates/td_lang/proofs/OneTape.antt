@@ -1,5 +1,5 @@
 -- A text has one list of tokens, and their spellings with blanks between them are the text.
-use Rattle.std.proofs.Common.{◌≡◌, ℕ, zero, suc, ◌+◌, ◌-◌, ◌<◌, ◌≤◌, Bool, true, false, ◌==◌, if◌then◌else◌, List, [], ◌∷◌, ◌++◌, length, drop, Result, Ok, Err, ◌⊎◌, inl, inr, refl, sym, ap, subst, ◌∙◌, arith, IsTrue}
+use Rattle.std.proofs.Common.{◌≡◌, ℕ, zero, suc, ◌+◌, ◌-◌, ◌<◌, ◌≤◌, Bool, true, false, if◌then◌else◌, List, [], ◌∷◌, ◌++◌, length, drop, Ok, Err, ◌⊎◌, inl, inr, refl, sym, ap, subst, ◌∙◌, arith}
 use Rattle.std.specs.List.{list_all}
 use Rattle.std.specs.Char.{digit_value}
 use Rattle.std.specs.Str.Parse.{AllDigits}
@@ -15,7 +15,7 @@ use Rattle.td_lang.specs.declared.token.Token.TheVariants as token
 use Rattle.td_lang.specs.declared.fault.LangFault.{LangFault}
 use Rattle.td_lang.specs.Lexing.{Taken, is_blank, lead, token_at}
 use Rattle.td_lang.specs.Tape.{Tape, Over, Broken, Spot, spot, tape}
-use Rattle.td_lang.specs.Spelling.{reserved, Spells, Apart, Front, token_fault, Halts, Written}
+use Rattle.td_lang.specs.Spelling.{reserved, Spells, Apart, Front, token_fault, Written}
 use Rattle.td_lang.proofs.Begun.{blank_tape}
 use Rattle.td_lang.proofs.Turn.{tape_skips}
 use Rattle.td_lang.proofs.Scanned.{Found}

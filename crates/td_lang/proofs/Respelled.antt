@@ -1,11 +1,11 @@
 -- A token that is spelled in front of a text is found there.
-use Rattle.std.proofs.Common.{◌≡◌, ℕ, zero, suc, ◌+◌, ◌*◌, ◌-◌, ◌^◌, ◌<◌, ◌≤◌, nat_lt, nat_le, Bool, true, false, not, ◌&&◌, ◌||◌, ◌==◌, if◌then◌else◌, List, [], ◌∷◌, ◌++◌, length, take, drop, Option, None, Some, Result, Ok, Err, ◌⊎◌, inl, inr, refl, sym, ap, subst, ◌∙◌, append_assoc, arith}
+use Rattle.std.proofs.Common.{◌≡◌, ℕ, ◌+◌, ◌*◌, ◌-◌, ◌^◌, ◌<◌, ◌≤◌, nat_le, Bool, true, false, ◌&&◌, ◌||◌, ◌==◌, if◌then◌else◌, List, [], ◌∷◌, ◌++◌, length, take, Option, Some, Ok, ◌⊎◌, inl, inr, refl, sym, ap, ◌∙◌, append_assoc, arith}
 use Rattle.std.specs.Prelude.{codes}
 use Rattle.std.specs.Str.{bytes_eq}
-use Rattle.std.specs.List.{list_all, list_any}
+use Rattle.std.specs.List.{list_all}
 use Rattle.std.specs.Char.{digit_value}
 use Rattle.std.specs.Str.Parse.{AllDigits, digits_value, digits_value_after}
-use Rattle.std.proofs.lemmas.Bool.{lt-ltb, le-ltb, leb-true, and_parts, or_parts, eq-eqb}
+use Rattle.std.proofs.lemmas.Bool.{lt-ltb, le-ltb, leb-true, and_parts, or_parts}
 use Rattle.std.proofs.lemmas.Bool.Decides.{nat_tests}
 use Rattle.std.proofs.lemmas.List.{take_at, append-nil, length-append}
 use Rattle.std.proofs.lemmas.Str.{digit_value_digit}
@@ -16,7 +16,7 @@ use Rattle.td_lang.specs.declared.expr.Op.TheVariants as op
 use Rattle.td_lang.specs.declared.token.Keyword.TheVariants as keyword
 use Rattle.td_lang.specs.declared.token.Token.{Token}
 use Rattle.td_lang.specs.declared.token.Token.TheVariants as token
-use Rattle.td_lang.specs.Lexing.{Taken, is_blank, lead, plain_word, word_token, byte_at, word_at, own_name_at, value_of, number_at, quoted_from, quoted_of, quoted_at, comparison_at, sign_at, token_at}
+use Rattle.td_lang.specs.Lexing.{lead, word_token, byte_at, word_at, own_name_at, value_of, number_at, quoted_from, quoted_of, quoted_at, comparison_at, sign_at, token_at}
 use Rattle.td_lang.specs.Spelling.{operator_word, reserved, needs_backslash, inside_quotes, Spells, EndsWord, Apart}
 
 lead_exact : (p : ℕ → Bool) (w more : List ℕ) → list_all p w ≡ true → p (byte_at more 0) ≡ false → lead p (w ++ more) ≡ length w
@@ -145,29 +145,21 @@ number_again place n (c ∷ cs) more some all value small ends point =
     (no_exponent (byte_at more 0) ends point) read
 
 -- texts in quotes
-inside_again : (t own : List ℕ) (k : ℕ) (more : List ℕ) → quoted_from false own k (inside_quotes t ++ 39 ∷ more) ≡ Some (own ++ t, k + length (inside_quotes t) + 1)
-inside_again [] own k more = ap (λ (xs : List ℕ). Some (xs, k + 1)) (sym (append-nil own)) ∙ ap (λ (n : ℕ). Some (own ++ [], n)) (omega arith)
-inside_again (b ∷ t) own k more =
-    byte_again (needs_backslash b) b t own k more refl (λ n. inside_again t (own ++ b ∷ []) n more)
-  where
-    byte_again : (c : Bool) (b : ℕ) (t own : List ℕ) (k : ℕ) (more : List ℕ) → needs_backslash b ≡ c
-        → ((n : ℕ) → quoted_from false (own ++ b ∷ []) n (inside_quotes t ++ 39 ∷ more) ≡ Some ((own ++ b ∷ []) ++ t, n + length (inside_quotes t) + 1))
-        → quoted_from false own k (inside_quotes (b ∷ t) ++ 39 ∷ more) ≡ Some (own ++ b ∷ t, k + length (inside_quotes (b ∷ t)) + 1)
-    byte_again true b t own k more is rest =
-        let spelled : inside_quotes (b ∷ t) ≡ 92 ∷ b ∷ inside_quotes t = rw is refl in
-        let first : quoted_from false own k (92 ∷ b ∷ (inside_quotes t ++ 39 ∷ more)) ≡ quoted_from false (own ++ b ∷ []) (k + 1 + 1) (inside_quotes t ++ 39 ∷ more) = rw is refl in
-        let size : k + 1 + 1 + length (inside_quotes t) + 1 ≡ k + length (inside_quotes (b ∷ t)) + 1 = omega (arith, ap (length {A = ℕ}) spelled) in
-        let read : quoted_from false own k (inside_quotes (b ∷ t) ++ 39 ∷ more) ≡ Some ((own ++ b ∷ []) ++ t, k + 1 + 1 + length (inside_quotes t) + 1) =
-        ap (λ (xs : List ℕ). quoted_from false own k (xs ++ 39 ∷ more)) spelled ∙ first ∙ rest (k + 1 + 1) in
-        read ∙ ap (λ (xs : List ℕ). Some (xs, k + 1 + 1 + length (inside_quotes t) + 1)) (append_assoc own (b ∷ []) t) ∙ ap (λ (n : ℕ). Some (own ++ b ∷ t, n)) size
-    byte_again false b t own k more is rest =
-        let parts = or_parts (b == 39) (b == 92) is in
-        let spelled : inside_quotes (b ∷ t) ≡ b ∷ inside_quotes t = rw is refl in
-        let first : quoted_from false own k (b ∷ (inside_quotes t ++ 39 ∷ more)) ≡ quoted_from false (own ++ b ∷ []) (k + 1) (inside_quotes t ++ 39 ∷ more) = rw parts.0 (rw parts.1 refl) in
-        let size : k + 1 + length (inside_quotes t) + 1 ≡ k + length (inside_quotes (b ∷ t)) + 1 = omega (arith, ap (length {A = ℕ}) spelled) in
-        let read : quoted_from false own k (inside_quotes (b ∷ t) ++ 39 ∷ more) ≡ Some ((own ++ b ∷ []) ++ t, k + 1 + length (inside_quotes t) + 1) =
-        ap (λ (xs : List ℕ). quoted_from false own k (xs ++ 39 ∷ more)) spelled ∙ first ∙ rest (k + 1) in
-        read ∙ ap (λ (xs : List ℕ). Some (xs, k + 1 + length (inside_quotes t) + 1)) (append_assoc own (b ∷ []) t) ∙ ap (λ (n : ℕ). Some (own ++ b ∷ t, n)) size
+byte_again : (c : Bool) (b : ℕ) (t own : List ℕ) (k n : ℕ) (more : List ℕ) → needs_backslash b ≡ c → n ≡ k + length (inside_quotes (b ∷ t)) + 1
+    → ((m : ℕ) → n ≡ m + length (inside_quotes t) + 1 → quoted_from false (own ++ b ∷ []) m (inside_quotes t ++ 39 ∷ more) ≡ Some ((own ++ b ∷ []) ++ t, n))
+    → quoted_from false own k (inside_quotes (b ∷ t) ++ 39 ∷ more) ≡ Some ((own ++ b ∷ []) ++ t, n)
+byte_again true b t own k n more is size rest =
+    let spelled : inside_quotes (b ∷ t) ≡ 92 ∷ b ∷ inside_quotes t = rw is refl in
+    rw spelled (rw is (rest (k + 1 + 1) (omega (arith, size, ap (length {A = ℕ}) spelled))))
+byte_again false b t own k n more is size rest =
+    let parts = or_parts (b == 39) (b == 92) is in
+    let spelled : inside_quotes (b ∷ t) ≡ b ∷ inside_quotes t = rw is refl in
+    rw spelled (rw parts.0 (rw parts.1 (rest (k + 1) (omega (arith, size, ap (length {A = ℕ}) spelled)))))
+
+inside_again : (t own : List ℕ) (k n : ℕ) (more : List ℕ) → n ≡ k + length (inside_quotes t) + 1 → quoted_from false own k (inside_quotes t ++ 39 ∷ more) ≡ Some (own ++ t, n)
+inside_again [] own k n more size = let here : k + 1 ≡ n = omega (arith, size) in ap (λ (m : ℕ). Some (own, m)) here ∙ ap (λ (xs : List ℕ). Some (xs, n)) (sym (append-nil own))
+inside_again (b ∷ t) own k n more size =
+    byte_again (needs_backslash b) b t own k n more refl size (λ m is. inside_again t (own ++ b ∷ []) m n more is) ∙ ap (λ (xs : List ℕ). Some (xs, n)) (append_assoc own (b ∷ []) t)
 
 quoted_taken : (place : ℕ) (bs : List ℕ) → token_at place (39 ∷ bs) ≡ quoted_of place (quoted_from false [] 1 bs)
 unfolding token_at quoted_at
@@ -175,9 +167,9 @@ quoted_taken place bs = refl
 
 quoted_again : (place : ℕ) (t more : List ℕ) → token_at place ((39 ∷ (inside_quotes t ++ 39 ∷ [])) ++ more) ≡ Ok (token.Quoted t, length (39 ∷ (inside_quotes t ++ 39 ∷ [])))
 quoted_again place t more =
-    let size : 1 + length (inside_quotes t) + 1 ≡ length (39 ∷ (inside_quotes t ++ 39 ∷ [])) = omega (arith, length-append (inside_quotes t) (39 ∷ [])) in
+    let size = length (39 ∷ (inside_quotes t ++ 39 ∷ [])) in
     ap (λ (xs : List ℕ). token_at place (39 ∷ xs)) (append_assoc (inside_quotes t) (39 ∷ []) more) ∙ quoted_taken place (inside_quotes t ++ 39 ∷ more)
-    ∙ ap (λ (o : Option (List ℕ × ℕ)). quoted_of place o) (inside_again t [] 1 more) ∙ ap (λ (n : ℕ). Ok (token.Quoted t, n)) size
+    ∙ ap (λ (o : Option (List ℕ × ℕ)). quoted_of place o) (inside_again t [] 1 size more (omega (arith, length-append (inside_quotes t) (39 ∷ []))))
 
 -- signs
 operator_again : (o : Op) (place : ℕ) (more : List ℕ) → Apart (token.Operator o) more → token_at place (operator_word o ++ more) ≡ Ok (token.Operator o, length (operator_word o))

@@ -1,26 +1,20 @@
 -- What the lexer finds in front of a text is spelled there, and where it finds nothing its fault is the one of the text.
-use Rattle.std.proofs.Common.{◌≡◌, ℕ, zero, suc, ◌+◌, ◌*◌, ◌-◌, ◌^◌, ◌<◌, ◌≤◌, nat_lt, Bool, true, false, not, ◌&&◌, ◌||◌, ◌==◌, if◌then◌else◌, List, [], ◌∷◌, ◌++◌, length, take, drop, Option, None, Some, Result, Ok, Err, ◌⊎◌, inl, inr, refl, sym, ap, subst, ◌∙◌, append_assoc, arith}
-use Rattle.std.specs.Prelude.{IfSome, codes}
+use Rattle.std.proofs.Common.{◌≡◌, ℕ, zero, suc, ◌+◌, ◌≤◌, nat_lt, Bool, true, false, not, ◌&&◌, ◌||◌, ◌==◌, if◌then◌else◌, List, [], ◌∷◌, ◌++◌, length, take, drop, Ok, Err, inl, inr, refl, sym, ap, ◌∙◌, arith}
+use Rattle.std.specs.Prelude.{codes}
 use Rattle.std.specs.Str.{bytes_eq}
-use Rattle.std.specs.List.{list_all}
-use Rattle.std.specs.Char.{digit_value}
-use Rattle.std.specs.Str.Parse.{AllDigits, digits_value, digits_value_after}
-use Rattle.std.proofs.lemmas.Bool.{ltb-true, ltb-false, leb-true, eqb-true, and_parts, or_parts, or_cases, not-false, cases_Bool}
+use Rattle.std.proofs.lemmas.Bool.{ltb-false, eqb-true, not-false}
 use Rattle.std.proofs.lemmas.Bool.Decides.{nat_tests}
 use Rattle.std.proofs.lemmas.List.{length-take-le}
 use Rattle.std.proofs.lemmas.Slice.Eq.{bytes_eq-Decides}
-use Rattle.std.proofs.lemmas.Str.{digit_value_digit}
 use Rattle.td_cdr.specs.Names.{is_letter, is_digit, is_word, IsIdentifier}
-use Rattle.td_lang.specs.declared.expr.Op.{Op}
 use Rattle.td_lang.specs.declared.expr.Op.TheVariants as op
 use Rattle.td_lang.specs.declared.token.Keyword.TheVariants as keyword
 use Rattle.td_lang.specs.declared.token.Token.{Token}
 use Rattle.td_lang.specs.declared.token.Token.TheVariants as token
-use Rattle.td_lang.specs.declared.fault.LangFault.{LangFault}
 use Rattle.td_lang.specs.declared.fault.LangFault.TheVariants as fault
-use Rattle.td_lang.specs.Lexing.{Taken, lead, plain_word, word_token, byte_at, word_at, own_name_at, onward, value_of, number_of, number_at, quoted_from, quoted_of, quoted_at, with_equal, comparison_at, sign_at, token_at}
-use Rattle.td_lang.specs.Spelling.{operator_word, reserved, needs_backslash, inside_quotes, Spells, EndsWord, Apart, Front, is_float, token_fault}
-use Rattle.td_lang.proofs.Lexed.{lead_within, all_lead, name_front, behind}
+use Rattle.td_lang.specs.Lexing.{Taken, lead, plain_word, word_token, byte_at, word_at, own_name_at}
+use Rattle.td_lang.specs.Spelling.{Spells, EndsWord, Apart, Front, is_float, token_fault}
+use Rattle.td_lang.proofs.Words.{lead_within, name_front}
 
 -- the token stands in front, and takes so many bytes
 pub record Takes (t : Token) (size : ℕ) (text : List ℕ) : Type 0 where
