@@ -4,6 +4,9 @@
 
 mod expr;
 mod fault;
+mod recipe;
+pub mod recipe_laws;
 
 pub use expr::{Constraint, Expr, Op, Part, Preference, Recipe};
 pub use fault::LangFault;
+pub use recipe::read_recipe;
