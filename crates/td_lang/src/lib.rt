@@ -6,6 +6,10 @@ mod expr;
 mod fault;
 mod recipe;
 pub mod recipe_laws;
+mod lexer;
+mod machine;
+mod reader;
+mod token;
 
 pub use expr::{Constraint, Expr, Op, Part, Preference, Recipe};
 pub use fault::LangFault;

@@ -1,0 +1,90 @@
+//! Reading a text: token after token, from its front.
+
+ghost use Rattle.std.specs.Prelude.{◌≡◌, [], ◌+◌, ◌<◌, ◌≤◌, take, drop, reverse, length, ℕ, Ok, Err, IfOk};
+ghost use Rattle.td_lang.specs.Lexing.{GivesFault, is_blank};
+ghost use Rattle.td_lang.specs.Machine.{IsSmall, stand, step_of, Gives};
+ghost use Rattle.td_lang.specs.Reading.{start};
+ghost use Rattle.td_lang.specs.Tape.{tape, read_tape, placed, Turns};
+
+use crate::expr::Expr;
+use crate::fault::LangFault;
+use crate::lexer::{is_blank, token_at};
+use crate::machine::{Frame, State, Stop, end, step};
+use crate::token::Token;
+use std::alloc::Global;
+
+/// Where a refusal stands.
+fn fault_at(place: u32, stop: Stop) -> LangFault
+    ensures { placed {A = ℕ} place (Err stop) ≡ Err result }
+{
+    match stop {
+        Stop::Memory => LangFault::Memory,
+        Stop::Refused => LangFault::Syntax(place),
+        Stop::Deep => LangFault::Depth(place),
+    }
+}
+
+/// Takes a token that stands at a place.
+fn step_at(
+    alloc: Global,
+    stack: &mut Vec<Frame>,
+    depth: u32,
+    state: State,
+    place: u32,
+    token: Token,
+) -> Result<(u32, State), LangFault>
+    requires depth { depth ≤ 64 }
+    requires small { IsSmall token }
+    ensures gives { GivesFault (λ r. stand r.0 (reverse stack.new.items) r.1) result (placed place (step_of depth (reverse stack.old.items) state token)) }
+    ensures depth { IfOk result (λ r. r.0 ≤ 64) }
+{
+    match step(alloc, stack, depth, state, token) {
+        Ok(next) => Ok(next),
+        Err(stop) => Err(fault_at(place, stop)),
+    }
+}
+
+/// One turn: the token at a place, and where the text goes on.
+fn turn(
+    alloc: Global,
+    stack: &mut Vec<Frame>,
+    depth: u32,
+    state: State,
+    text: &[u8],
+    place: u32,
+) -> Result<(u32, State, u32), LangFault>
+    requires depth { depth ≤ 64 }
+    requires place { place < length text.now }
+    requires short { length text.now ≤ 4096 }
+    ensures turns { Turns (λ r. read_tape (stand r.0 (reverse stack.new.items) r.1) (tape 0 r.2 (drop r.2 text.now))) result
+        (read_tape (stand depth (reverse stack.old.items) state) (tape 0 place (drop place text.now))) }
+    ensures depth { IfOk result (λ r. r.0 ≤ 64) }
+    ensures place { IfOk result (λ r. (place < r.2) × (r.2 ≤ length text.now)) }
+{
+    if is_blank(text[place as usize]) {
+        return Ok((depth, state, place + 1));
+    }
+    let (_, rest) = text.split_at(place as usize);
+    let (token, size) = token_at(alloc, place, rest)?;
+    let (depth, state) = step_at(alloc, stack, depth, state, place, token)?;
+    Ok((depth, state, place + size as u32))
+}
+
+/// The expression that stands in a text from a place on, up to its end.
+pub fn read_from(alloc: Global, text: &[u8], from: u32) -> Result<Expr, LangFault>
+    requires short { length text.now ≤ 4096 }
+    requires place { from ≤ length text.now }
+    ensures { GivesFault (λ e. e) result (read_tape start (tape 0 from (drop from text.now))) }
+{
+    let mut stack = Vec::new(alloc);
+    let mut depth = 0;
+    let mut state = State::Operand;
+    let mut place = from;
+    'turns: while (place as usize) < text.len() {
+        (depth, state, place) = turn(alloc, &mut stack, depth, state, text, place)?;
+    }
+    match end(alloc, stack, state) {
+        Ok(found) => Ok(found),
+        Err(stop) => Err(fault_at(place, stop)),
+    }
+}
