@@ -1,5 +1,5 @@
 -- The phrases are the derivations.
-use Rattle.std.proofs.Common.{◌≡◌, ℕ, ◌≤◌, List, [], ◌∷◌, ◌++◌, refl, ap, ◌∙◌, arith}
+use Rattle.std.proofs.Common.{ℕ, ◌≤◌, List, [], ◌∷◌, ◌++◌, refl, ap, ◌∙◌, arith}
 use Rattle.td_lang.specs.declared.expr.Op.{Op}
 use Rattle.td_lang.specs.declared.expr.Op.TheVariants as op
 use Rattle.td_lang.specs.declared.expr.Expr.{Expr}

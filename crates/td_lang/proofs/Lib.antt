@@ -1,6 +1,11 @@
 pub mod Answered
 pub mod Complete
 pub mod Derived
+pub mod Plain
+pub mod Printed
 pub mod RecipeParts
+pub mod Round
+pub mod Row
 pub mod Sound
+pub mod Spelled
 pub mod Turn

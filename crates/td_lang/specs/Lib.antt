@@ -4,6 +4,8 @@ pub mod Grammar
 pub mod Levels
 pub mod Lexing
 pub mod Machine
+pub mod Printed
+pub mod Printing
 pub mod Reading
 pub mod Recipes
 pub mod Tape

@@ -1,5 +1,5 @@
 -- Reading token by token: what was begun, the last on top, and what may come next.
-use Rattle.std.specs.Prelude.{◌<◌, ◌^◌, ℤ, pos, neg_ℤ, ◌≡◌, Bool, true, false, ℕ, ◌+◌, ◌-◌, nat_lt, if◌then◌else◌, List, [], ◌∷◌, Result, Ok, Err}
+use Rattle.std.specs.Prelude.{◌<◌, ◌^◌, pos, neg_ℤ, ◌≡◌, Bool, true, false, ℕ, ◌+◌, ◌-◌, nat_lt, if◌then◌else◌, List, [], ◌∷◌, Result, Ok, Err}
 use Rattle.td_lang.specs.declared.expr.Op.{Op}
 use Rattle.td_lang.specs.declared.expr.Op.TheVariants as op
 use Rattle.td_lang.specs.declared.expr.Expr.{Expr}

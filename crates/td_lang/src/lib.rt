@@ -4,13 +4,17 @@
 
 mod expr;
 mod fault;
-mod recipe;
-pub mod recipe_laws;
 mod lexer;
 mod machine;
+mod print;
+pub mod print_laws;
+mod printer;
 mod reader;
+mod recipe;
+pub mod recipe_laws;
 mod token;
 
 pub use expr::{Constraint, Expr, Op, Part, Preference, Recipe};
 pub use fault::LangFault;
+pub use print::{print_constraint, print_preference};
 pub use recipe::read_recipe;
