@@ -1,6 +1,9 @@
 pub mod Answered
+pub mod Begun
 pub mod Complete
+pub mod Decided
 pub mod Derived
+pub mod Lexed
 pub mod Plain
 pub mod Printed
 pub mod RecipeParts

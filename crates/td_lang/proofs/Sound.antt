@@ -129,7 +129,7 @@ settles n (frame.Binary o a ∷ st) d m e ts need high h =
 settles n (frame.Not ∷ st) d m e ts need high h = settles n st d 8 (expr.Not e) ts h.before.0 (omega arith) (denies st d m e ts need h)
 settles n (frame.Open ∷ st) d m e ts need high h = record { needed = need; high = high; takes = λ p. p; holds = h }
 
-before_more : (ts : List Token) (t : Token) → HasSpelling t → Viable (ts ++ t ∷ []) → Viable ts
+pub before_more : (ts : List Token) (t : Token) → HasSpelling t → Viable (ts ++ t ∷ []) → Viable ts
 before_more ts t own v = record {
   more = t ∷ v.more;
   spelled = (own, v.spelled);

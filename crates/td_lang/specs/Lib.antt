@@ -1,3 +1,4 @@
+pub mod Asked
 pub mod Derivation
 pub mod First
 pub mod Grammar

@@ -57,6 +57,18 @@ fn word_length(text: &[u8]) -> usize
     n
 }
 
+/// How many blanks stand in front.
+pub fn blank_length(text: &[u8]) -> usize
+    ensures lead { result ≡ lead is_blank text.now }
+    ensures within { result ≤ length text.now }
+{
+    let mut n = 0;
+    while n < text.len() && is_blank(text[n]) {
+        n += 1;
+    }
+    n
+}
+
 fn digit_length(text: &[u8]) -> usize
     ensures lead { result ≡ lead is_digit text.now }
     ensures within { result ≤ length text.now }

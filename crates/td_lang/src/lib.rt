@@ -2,8 +2,11 @@
 //! Trading Object Service, appendix "OMG Constraint Language BNF").
 #![tactic(auto)]
 
+mod constraint;
+mod copy;
 mod expr;
 mod fault;
+pub mod laws;
 mod lexer;
 mod machine;
 mod print;
@@ -14,6 +17,7 @@ mod recipe;
 pub mod recipe_laws;
 mod token;
 
+pub use constraint::read_constraint;
 pub use expr::{Constraint, Expr, Op, Part, Preference, Recipe};
 pub use fault::LangFault;
 pub use print::{print_constraint, print_preference};

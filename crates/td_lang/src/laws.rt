@@ -1,0 +1,33 @@
+//! What holds of the languages, whatever is read.
+
+ghost use Rattle.std.specs.Prelude.{◌≡◌, ℕ, List, Result, Ok, Err};
+ghost use Rattle.td_lang.specs.declared.expr.Constraint.{Constraint};
+ghost use Rattle.td_lang.specs.declared.expr.Expr.{Expr};
+ghost use Rattle.td_lang.specs.declared.fault.LangFault.{LangFault};
+ghost use Rattle.td_lang.specs.declared.token.Token.{Token};
+ghost use Rattle.td_lang.specs.Asked.{Says, constraint_of};
+ghost use Rattle.td_lang.specs.Derivation.{Derives, Made, Or};
+ghost use Rattle.td_lang.specs.Grammar.{Phrase, Fits, Sentence, tokens, tree};
+
+/// Each text is a constraint or has a first fault, by the grammar, and `read_constraint` finds it.
+#[tactic(auto, using(crate::proofs::Decided::says_so))]
+pub fn reads_the_grammar()
+    ensures { (text : List ℕ) → Says text (constraint_of text) }
+{}
+
+/// No text has two trees, a tree and a fault, or two first faults.
+#[tactic(auto, using(crate::proofs::Decided::one_said))]
+pub fn one_answer()
+    ensures { (text : List ℕ) (r q : Result Constraint LangFault) → Says text r → Says text q → r ≡ q }
+{}
+
+/// No list of tokens has two trees.
+pub fn one_tree()
+    ensures { (ts : List Token) (e f : Expr) → Sentence ts e → Sentence ts f → e ≡ f }
+{}
+
+/// The phrases that fit are the derivations by the grammar's productions.
+pub fn phrases_are_derivations()
+    ensures derived { (c : Phrase) → Fits 1 c → Derives Or (tokens c) (tree c) }
+    ensures made { (ts : List Token) (e : Expr) → Derives Or ts e → Made 1 ts e }
+{}
