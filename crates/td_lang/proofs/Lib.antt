@@ -1,3 +1,4 @@
+pub mod Ahead
 pub mod Answered
 pub mod Begun
 pub mod Complete
@@ -5,6 +6,7 @@ pub mod Decided
 pub mod Derived
 pub mod Lexed
 pub mod Plain
+pub mod Preferring
 pub mod Printed
 pub mod RecipeParts
 pub mod Round

@@ -5,6 +5,7 @@ pub mod Grammar
 pub mod Levels
 pub mod Lexing
 pub mod Machine
+pub mod Preferred
 pub mod Printed
 pub mod Printing
 pub mod Reading

@@ -4,13 +4,11 @@ ghost use Rattle.std.specs.Prelude.{◌≡◌, ◌<◌, ◌≤◌, nat_eq, lengt
 ghost use Rattle.std.specs.List.{position};
 ghost use Rattle.td_lang.specs.Recipes.{ReadsRecipe, part_in_front, escaped, replaced, property_part, named_part};
 
+use crate::constraint::LONGEST;
 use crate::expr::{Part, Recipe};
 use crate::fault::LangFault;
 use std::alloc::Global;
 use td_cdr::{List, Memory, Text, is_identifier};
-
-/// The most bytes that a text of a language has.
-pub(crate) const MOST_BYTES: usize = 4096;
 
 /// The recipe that a text spells (Trading Object Service, "Proxy"): `$*` is the importer's constraint,
 /// `$(name)` the property of that name, `\c` the byte c, and any other byte itself. The name is an
@@ -23,7 +21,7 @@ pub(crate) const MOST_BYTES: usize = 4096;
 pub fn read_recipe(alloc: Global, text: &[u8]) -> Result<Recipe, LangFault>
     ensures { ReadsRecipe text.now result }
 {
-    if text.len() > MOST_BYTES {
+    if text.len() > LONGEST {
         return Err(LangFault::TooLong);
     }
     let mut parts = List::new(alloc);
