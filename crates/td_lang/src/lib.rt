@@ -25,3 +25,6 @@ pub use fault::LangFault;
 pub use preference::read_preference;
 pub use print::{print_constraint, print_preference};
 pub use recipe::read_recipe;
+
+#[cfg(test)]
+mod tests;
