@@ -59,7 +59,7 @@ none_ahead text rest from blanks is count all =
     nothing_left : (xs : List ℕ) (n : ℕ) → length xs ≤ n → drop n xs ≡ []
     nothing_left xs n h = drop_all n xs h
 
-spot_here : (place size : ℕ) (b : ℕ) (others : List ℕ) (t : Token) → is_blank b ≡ false → 0 < size → size ≤ length (b ∷ others) → token_at place (b ∷ others) ≡ Ok (t, size)
+pub spot_here : (place size : ℕ) (b : ℕ) (others : List ℕ) (t : Token) → is_blank b ≡ false → 0 < size → size ≤ length (b ∷ others) → token_at place (b ∷ others) ≡ Ok (t, size)
     → tape 0 place (b ∷ others) ≡ Spot place t (tape 0 (place + size) (drop size (b ∷ others)))
 spot_here place size b others t blank some within found =
     let size_is : suc (size - 1) ≡ size = omega arith in

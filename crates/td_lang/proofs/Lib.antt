@@ -1,5 +1,6 @@
 pub mod Ahead
 pub mod Answered
+pub mod Back
 pub mod Begun
 pub mod Complete
 pub mod Decided
@@ -13,4 +14,5 @@ pub mod Round
 pub mod Row
 pub mod Sound
 pub mod Spelled
+pub mod Tight
 pub mod Turn

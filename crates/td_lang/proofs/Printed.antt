@@ -112,7 +112,7 @@ pub of-Truth : (b : Bool) (l : ℕ) → phrase_of (expr.Truth b) l ≡ Truth b
 of-Truth b l = ap (λ (e : Expr). phrase_of e l) (sym (expr.rolls-Truth b)) ∙ ap (λ (f : ℕ → Phrase). f l) (fold-roll-Expr (ℕ → Phrase) phrase_layer (layer.Truth b))
 
 -- a phrase, in parentheses or not
-abbrev Bare : Expr → Type 0
+abbrev pub Bare : Expr → Type 0
 Bare e = (l : ℕ) → (b : Bool) × (phrase_of e l ≡ (if b then Enclosed (phrase_of e 1) else phrase_of e 1))
 
 bare_step : (y : Expr-F Expr) → Bare (roll-Expr y)
@@ -125,7 +125,7 @@ bare_step (layer.Number n) l = (false, rw (fold-roll-Expr (ℕ → Phrase) phras
 bare_step (layer.Str t) l = (false, rw (fold-roll-Expr (ℕ → Phrase) phrase_layer (layer.Str t)) refl)
 bare_step (layer.Truth b) l = (false, rw (fold-roll-Expr (ℕ → Phrase) phrase_layer (layer.Truth b)) refl)
 
-bare : (e : Expr) → Bare e
+pub bare : (e : Expr) → Bare e
 bare = ind-Expr Bare (λ x y is. bare_step x)
 
 shallow_if : (b : Bool) (r : ℕ) (c : Phrase) → 0 < r → Shallow (r - 1) c → Shallow r (if b then Enclosed c else c)

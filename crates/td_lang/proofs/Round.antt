@@ -17,10 +17,10 @@ use Rattle.td_lang.proofs.Printed.{is_read}
 use Rattle.td_lang.proofs.Spelled.{Apart, token_again, solid, row_of}
 use Rattle.td_lang.proofs.Turn.{here}
 
-abbrev finish : Result Stand Stop → Result Expr Stop
+abbrev pub finish : Result Stand Stop → Result Expr Stop
 finish r = reading.◌>>=◌ r (λ s. end_of s.stack s.state)
 
-apart : (ts : List Token) → Apart (row_of ts)
+pub apart : (ts : List Token) → Apart (row_of ts)
 apart [] = tt
 apart (t ∷ ts) = refl
 
@@ -48,7 +48,7 @@ stepped (Ok next) t ts s place e spelled is h more =
     token_first t (row_of ts) place s next spelled (apart ts) (rw is refl) ∙ more next (place + length (bytes_of t)) h
 stepped (Err x) t ts s place e spelled is h more = absurd (cc)
 
-row_reads : (ts : List Token) (s : Stand) (place : ℕ) (e : Expr) → AllSpelled ts → finish (run s ts) ≡ Ok e → read_tape s (tape 0 place (row_of ts)) ≡ Ok e
+pub row_reads : (ts : List Token) (s : Stand) (place : ℕ) (e : Expr) → AllSpelled ts → finish (run s ts) ≡ Ok e → read_tape s (tape 0 place (row_of ts)) ≡ Ok e
 row_reads [] s place e a h = placed_ok place (end_of s.stack s.state) e h
 row_reads (t ∷ ts) s place e a h = stepped (step s t) t ts s (place + 1) e a.0 refl h (λ next p k. row_reads ts next p e a.1 k)
 
@@ -57,13 +57,13 @@ unfolding put
 put_grows [] x xs = sym (append-nil (x ∷ xs))
 put_grows (t ∷ ts) x xs = put_grows ts x (xs ++ 32 ∷ bytes_of t) ∙ append_assoc (x ∷ xs) (32 ∷ bytes_of t) (row_of ts)
 
-put_first : (t : Token) (ts : List Token) → HasSpelling t → put_all [] (t ∷ ts) ≡ bytes_of t ++ row_of ts
+pub put_first : (t : Token) (ts : List Token) → HasSpelling t → put_all [] (t ∷ ts) ≡ bytes_of t ++ row_of ts
 unfolding put
 put_first t ts s =
     let b = solid t s in
     ap (λ (x : List ℕ). put_all x ts) b.is ∙ put_grows ts b.first b.others ∙ ap (λ (x : List ℕ). x ++ row_of ts) (sym b.is)
 
-put_reads : (ts : List Token) (e : Expr) → AllSpelled ts → read ts ≡ Ok e → read_tape start (tape 0 0 (put_all [] ts)) ≡ Ok e
+pub put_reads : (ts : List Token) (e : Expr) → AllSpelled ts → read ts ≡ Ok e → read_tape start (tape 0 0 (put_all [] ts)) ≡ Ok e
 put_reads [] e a h = absurd (cc)
 put_reads (t ∷ ts) e a h =
     ap (λ (x : List ℕ). read_tape start (tape 0 0 x)) (put_first t ts a.0) ∙ stepped (step start t) t ts start 0 e a.0 refl h (λ next p k. row_reads ts next p e a.1 k)

@@ -9,7 +9,7 @@ use Rattle.td_lang.specs.declared.token.Keyword.TheVariants as keyword
 use Rattle.td_lang.specs.declared.token.Token.{Token}
 use Rattle.td_lang.specs.declared.token.Token.TheVariants as token
 use Rattle.td_lang.specs.Grammar.{tokens}
-use Rattle.td_lang.specs.Printing.{phrase_of, put_all}
+use Rattle.td_lang.specs.Printing.{phrase_of, put_all, CanBeRead}
 
 abbrev pub constraint_tokens : Constraint → List Token
 constraint_tokens constraint.Empty = []
@@ -28,3 +28,15 @@ printed_constraint c = put_all [] (constraint_tokens c)
 
 abbrev pub printed_preference : Preference → List ℕ
 printed_preference p = put_all [] (preference_tokens p)
+
+abbrev pub ConstraintCanBeRead : Constraint → Type 0
+ConstraintCanBeRead constraint.Empty = Unit {0}
+ConstraintCanBeRead (constraint.Is e) = CanBeRead e
+
+abbrev pub PreferenceCanBeRead : Preference → Type 0
+PreferenceCanBeRead preference.Empty = Unit {0}
+PreferenceCanBeRead preference.First = Unit {0}
+PreferenceCanBeRead preference.Random = Unit {0}
+PreferenceCanBeRead (preference.Min e) = CanBeRead e
+PreferenceCanBeRead (preference.Max e) = CanBeRead e
+PreferenceCanBeRead (preference.With e) = CanBeRead e

@@ -1,7 +1,7 @@
 -- Trading Object Service, appendix "OMG Constraint Language BNF".
 -- How a tree is printed: an operand stands in parentheses exactly where the grammar doesn't have its form in that place, and a single space stands
 -- between two tokens.
-use Rattle.std.specs.Prelude.{ℤ, pos, negsuc, suc, Bool, true, false, ◌&&◌, ◌||◌, ◌==◌, ℕ, ◌^◌, nat_lt, if◌then◌else◌, List, [], ◌∷◌, ◌++◌, codes, IsTrue}
+use Rattle.std.specs.Prelude.{ℤ, pos, negsuc, suc, Bool, true, false, ◌&&◌, ◌||◌, ◌==◌, ℕ, ◌^◌, ◌<◌, nat_lt, if◌then◌else◌, List, [], ◌∷◌, ◌++◌, codes, IsTrue}
 use Rattle.std.specs.Fmt.{decimal}
 use Rattle.std.specs.Str.{bytes_eq}
 use Rattle.td_cdr.specs.Names.{identifier}
@@ -14,7 +14,7 @@ use Rattle.td_lang.specs.declared.token.Keyword.TheVariants as keyword
 use Rattle.td_lang.specs.declared.token.Token.{Token}
 use Rattle.td_lang.specs.declared.token.Token.TheVariants as token
 use Rattle.td_lang.specs.Levels.{level, left, right}
-use Rattle.td_lang.specs.Grammar.{Phrase, Joined, Within, Denied, Exists, Named, Counted, Opposed, Quoted, Truth, Enclosed, tokens}
+use Rattle.td_lang.specs.Grammar.{Phrase, Joined, Within, Denied, Exists, Named, Counted, Opposed, Quoted, Truth, Enclosed, tokens, Fits, Shallow}
 
 -- ---- the phrase of a tree
 
@@ -146,3 +146,22 @@ plain = fold-Expr Bool plain_layer
 
 abbrev pub IsPlain : Expr → Type 0
 IsPlain e = IsTrue (plain e)
+
+-- names, numbers and depth allow that what is printed is read
+abbrev pub CanBeRead : Expr → Type 0
+CanBeRead e = IsPlain e × Shallow 64 (phrase_of e 1)
+
+-- ---- a phrase without spare parentheses
+
+-- where the grammar has something of level l, no pair of parentheses could be left out, and no `-` stands before 0
+abbrev pub IsTight : ℕ → Phrase → Type 0
+IsTight l (Joined o a b) = IsTight (left o) a × IsTight (right o) b
+IsTight l (Within a name) = IsTight 5 a
+IsTight l (Denied a) = IsTight 9 a
+IsTight l (Exists name) = Unit {0}
+IsTight l (Named name) = Unit {0}
+IsTight l (Counted n) = Unit {0}
+IsTight l (Opposed n) = 0 < n
+IsTight l (Quoted t) = Unit {0}
+IsTight l (Truth b) = Unit {0}
+IsTight l (Enclosed a) = (Fits l a → ⊥) × IsTight 1 a

@@ -1,6 +1,10 @@
-use Rattle.td_lang.proofs.Round.{round}
-use Rattle.td_lang.proofs.Plain.{plain-spelled}
+use Rattle.td_lang.proofs.Back.{constraint_back, preference_back, constraint_can, preference_can}
 use Rattle.td_lang.proofs.print_laws.printed_is_read.Goals as goal
 
 pub returns : goal.returns
-returns c = λ e plain shallow short. round e shallow (plain-spelled e 1 plain) short
+returns c = record {
+  constraint = λ x can short. constraint_back x can short;
+  preference = λ p can short. preference_back p can short;
+  read_constraint = λ text x h. constraint_can text x h;
+  read_preference = λ text p h. preference_can text p h;
+}
