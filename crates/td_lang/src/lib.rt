@@ -27,4 +27,8 @@ pub use print::{print_constraint, print_preference};
 pub use recipe::read_recipe;
 
 #[cfg(test)]
+mod print_tests;
+#[cfg(test)]
+mod recipe_tests;
+#[cfg(test)]
 mod tests;
