@@ -1,7 +1,6 @@
 -- Constraints and preferences that are printed are read again.
-use Rattle.std.proofs.Common.{pos, neg_ℤ, zero, suc, ◌≡◌, ℕ, ◌+◌, ◌^◌, ◌<◌, ◌≤◌, true, List, [], ◌∷◌, ◌++◌, length, drop, inl, inr, Result, Ok, refl, sym, ap, subst, ◌∙◌, arith, length-append}
+use Rattle.std.proofs.Common.{pos, neg_ℤ, zero, suc, ◌≡◌, ℕ, ◌+◌, ◌^◌, ◌<◌, ◌≤◌, true, List, [], ◌∷◌, ◌++◌, length, inl, inr, Result, Ok, refl, sym, ap, subst, ◌∙◌, arith}
 use Rattle.std.proofs.lemmas.Bool.{le-ltb, lt-ltb}
-use Rattle.std.proofs.lemmas.List.{drop_at}
 use Rattle.td_lang.specs.declared.expr.Expr.{Expr}
 use Rattle.td_lang.specs.declared.expr.Constraint.{Constraint}
 use Rattle.td_lang.specs.declared.expr.Constraint.TheVariants as constraint
@@ -15,35 +14,20 @@ use Rattle.td_lang.specs.declared.fault.LangFault.{LangFault}
 use Rattle.td_lang.specs.Asked.{Made, Asks, Says, asked, constraint_of}
 use Rattle.td_lang.specs.First.{Whole}
 use Rattle.td_lang.specs.Grammar.{Phrase, Joined, Within, Denied, Exists, Named, Counted, Opposed, Quoted, Truth, Enclosed, tokens, tree, Shallow, Sentence}
-use Rattle.td_lang.specs.Lexing.{token_at, HasSpelling, AllSpelled}
+use Rattle.td_lang.specs.Lexing.{HasSpelling, AllSpelled}
 use Rattle.td_lang.specs.Preferred.{Follows, IsPreference, WholePreference, Prefers, behind, chosen, preference_of}
 use Rattle.td_lang.specs.Printing.{bytes_of, put_all, phrase_of, plain, plain_number, IsPlain, CanBeRead}
 use Rattle.td_lang.specs.Printed.{printed_constraint, printed_preference, ConstraintCanBeRead, PreferenceCanBeRead}
 use Rattle.td_lang.specs.Reading.{start, read}
 use Rattle.td_lang.specs.Tape.{Tape, Over, Broken, Spot, tape, read_tape, ◌>>=◌}
-use Rattle.td_lang.proofs.Ahead.{spot_here}
 use Rattle.td_lang.proofs.Complete.{reads}
 use Rattle.td_lang.proofs.Decided.{says_so}
-use Rattle.td_lang.proofs.Lexed.{AllOnTape, tape_kept}
+use Rattle.td_lang.proofs.Kept.{AllOnTape, tape_kept}
 use Rattle.td_lang.proofs.Plain.{spelled-append, spelled-front, spelled-back, plain-spelled, plain-Binary, plain-Within, plain-Not, plain-Exist, plain-Name, plain-Number, plain-Str, plain-Truth}
 use Rattle.td_lang.proofs.Preferring.{prefers_so}
 use Rattle.td_lang.proofs.Printed.{is_read, least}
-use Rattle.td_lang.proofs.Round.{apart, row_reads, put_first, put_reads}
-use Rattle.td_lang.proofs.Spelled.{Apart, token_again, solid, row_of}
-
--- a printed token stands on the tape
-tape_token : (t : Token) (rest : List ℕ) (place : ℕ) → HasSpelling t → Apart rest → tape 0 place (bytes_of t ++ rest) ≡ Spot place t (tape 0 (place + length (bytes_of t)) rest)
-tape_token t rest place spelled apart =
-    let b = solid t spelled in
-    let size = length (bytes_of t) in
-    let long : size ≡ suc (length b.others) = ap (length {A = ℕ}) b.is in
-    let parts : bytes_of t ++ rest ≡ b.first ∷ (b.others ++ rest) = ap (λ (x : List ℕ). x ++ rest) b.is in
-    let found : token_at place (b.first ∷ (b.others ++ rest)) ≡ Ok (t, size) = subst (λ (x : List ℕ). token_at place x ≡ Ok (t, size)) parts (token_again t place rest spelled apart) in
-    let on : drop size (b.first ∷ (b.others ++ rest)) ≡ rest = ap (drop size) (sym parts) ∙ drop_at (bytes_of t) rest size refl in
-    let within : size ≤ length (b.first ∷ (b.others ++ rest)) = omega (arith, long, length-append b.others rest) in
-    ap (λ (x : List ℕ). tape 0 place x) parts
-    ∙ spot_here place size b.first (b.others ++ rest) t b.no_blank (omega (arith, long)) within found
-    ∙ ap (λ (x : List ℕ). Spot place t (tape 0 (place + size) x)) on
+use Rattle.td_lang.proofs.Round.{apart, tape_token, row_reads, put_first, put_reads}
+use Rattle.td_lang.proofs.Spelled.{row_of}
 
 -- the first of printed tokens stands on the tape
 first_on : (t : Token) (ts : List Token) → HasSpelling t → tape 0 0 (put_all [] (t ∷ ts)) ≡ Spot 0 t (tape 0 (0 + length (bytes_of t)) (row_of ts))

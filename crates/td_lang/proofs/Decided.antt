@@ -17,7 +17,7 @@ use Rattle.td_lang.specs.Asked.{Made, Asks, Says, asked, constraint_of, Answered
 use Rattle.td_lang.proofs.Complete.{one_tree}
 use Rattle.td_lang.proofs.Sound.{before_more}
 use Rattle.td_lang.proofs.Answered.{answered}
-use Rattle.td_lang.proofs.Lexed.{AllOnTape, tape_kept}
+use Rattle.td_lang.proofs.Kept.{AllOnTape, tape_kept}
 
 whole_viable : (rest : Tape) (ts : List Token) (e : Expr) → AllOnTape rest → Whole ts rest e → Viable ts
 whole_viable (Over place) ts e own w = record { more = []; spelled = tt; expr = e; sentence = subst (λ (xs : List Token). Sentence xs e) (sym (append-nil ts)) w }

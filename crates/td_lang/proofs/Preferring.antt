@@ -24,7 +24,7 @@ use Rattle.td_lang.specs.Tape.{Tape, Over, Broken, Spot, tape, read_tape, ◌>>=
 use Rattle.td_lang.proofs.Answered.{answered}
 use Rattle.td_lang.proofs.Complete.{reads}
 use Rattle.td_lang.proofs.Decided.{answered_so}
-use Rattle.td_lang.proofs.Lexed.{AllOnTape, tape_kept}
+use Rattle.td_lang.proofs.Kept.{AllOnTape, tape_kept}
 
 -- ---- a list of tokens is one preference
 

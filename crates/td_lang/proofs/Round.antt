@@ -1,26 +1,22 @@
 -- A printed tree is read again.
-use Rattle.std.proofs.Common.{◌≡◌, ℕ, suc, ◌+◌, ◌-◌, ◌≤◌, List, [], ◌∷◌, ◌++◌, length, drop, Result, Ok, Err, refl, sym, ap, subst, ◌∙◌, append_assoc, arith, length-append}
+use Rattle.std.proofs.Common.{◌≡◌, ℕ, suc, ◌+◌, ◌≤◌, List, [], ◌∷◌, ◌++◌, length, drop, Result, Ok, Err, refl, sym, ap, subst, ◌∙◌, append_assoc, arith, length-append}
 use Rattle.std.proofs.lemmas.List.{drop_at, append-nil}
-use Rattle.std.proofs.lemmas.Bool.{le-ltb}
 use Rattle.td_lang.specs.declared.expr.Expr.{Expr}
 use Rattle.td_lang.specs.declared.token.Token.{Token}
 use Rattle.td_lang.specs.declared.machine.Stop.{Stop}
 use Rattle.td_lang.specs.Machine.{Stand, step, end_of}
-use Rattle.td_lang.specs.Grammar.{tokens, Shallow}
 use Rattle.td_lang.specs.Lexing.{token_at, HasSpelling, AllSpelled}
-use Rattle.td_lang.specs.Printing.{bytes_of, put, put_all, printed, phrase_of}
+use Rattle.td_lang.specs.Printing.{bytes_of, put, put_all}
 use Rattle.td_lang.specs.Reading.{run, start, read}
 use Rattle.td_lang.specs.Reading as reading
-use Rattle.td_lang.specs.Tape.{tape, read_tape, placed, read_text}
-use Rattle.td_lang.proofs.Complete.{reads}
-use Rattle.td_lang.proofs.Printed.{is_read}
-use Rattle.td_lang.proofs.Spelled.{Apart, token_again, solid, row_of}
-use Rattle.td_lang.proofs.Turn.{here}
+use Rattle.td_lang.specs.Tape.{Tape, Spot, tape, read_tape, placed}
+use Rattle.td_lang.proofs.Ahead.{spot_here}
+use Rattle.td_lang.proofs.Spelled.{Spaced, token_again, solid, row_of}
 
 abbrev pub finish : Result Stand Stop → Result Expr Stop
 finish r = reading.◌>>=◌ r (λ s. end_of s.stack s.state)
 
-pub apart : (ts : List Token) → Apart (row_of ts)
+pub apart : (ts : List Token) → Spaced (row_of ts)
 apart [] = tt
 apart (t ∷ ts) = refl
 
@@ -28,18 +24,23 @@ placed_ok : (place : ℕ) (r : Result Expr Stop) (e : Expr) → r ≡ Ok e → p
 placed_ok place (Ok x) e h = cc
 placed_ok place (Err x) e h = absurd (cc)
 
-token_first : (t : Token) (rest : List ℕ) (place : ℕ) (s next : Stand) → HasSpelling t → Apart rest → placed place (step s t) ≡ Ok next
-    → read_tape s (tape 0 place (bytes_of t ++ rest)) ≡ read_tape next (tape 0 (place + length (bytes_of t)) rest)
-token_first t rest place s next spelled apart taken =
+-- a printed token stands on the tape
+pub tape_token : (t : Token) (rest : List ℕ) (place : ℕ) → HasSpelling t → Spaced rest → tape 0 place (bytes_of t ++ rest) ≡ Spot place t (tape 0 (place + length (bytes_of t)) rest)
+tape_token t rest place spelled spaced =
     let b = solid t spelled in
     let size = length (bytes_of t) in
     let long : size ≡ suc (length b.others) = ap (length {A = ℕ}) b.is in
     let parts : bytes_of t ++ rest ≡ b.first ∷ (b.others ++ rest) = ap (λ (x : List ℕ). x ++ rest) b.is in
-    let found : token_at place (b.first ∷ (b.others ++ rest)) ≡ Ok (t, size) = subst (λ (x : List ℕ). token_at place x ≡ Ok (t, size)) parts (token_again t place rest spelled apart) in
-    let on : drop (size - 1) (b.others ++ rest) ≡ rest = drop_at b.others rest (size - 1) (omega arith) in
-    ap (λ (x : List ℕ). read_tape s (tape 0 place x)) parts
-    ∙ here b.first (b.others ++ rest) place size t s next (omega arith) b.no_blank found (omega (arith, length-append b.others rest)) taken
-    ∙ ap (λ (x : List ℕ). read_tape next (tape 0 (place + size) x)) on
+    let found : token_at place (b.first ∷ (b.others ++ rest)) ≡ Ok (t, size) = subst (λ (x : List ℕ). token_at place x ≡ Ok (t, size)) parts (token_again t place rest spelled spaced) in
+    let on : drop size (b.first ∷ (b.others ++ rest)) ≡ rest = ap (drop size) (sym parts) ∙ drop_at (bytes_of t) rest size refl in
+    let within : size ≤ length (b.first ∷ (b.others ++ rest)) = omega (arith, long, length-append b.others rest) in
+    ap (λ (x : List ℕ). tape 0 place x) parts
+    ∙ spot_here place size b.first (b.others ++ rest) t b.no_blank (omega (arith, long)) within found
+    ∙ ap (λ (x : List ℕ). Spot place t (tape 0 (place + size) x)) on
+
+token_first : (t : Token) (rest : List ℕ) (place : ℕ) (s next : Stand) → HasSpelling t → Spaced rest → placed place (step s t) ≡ Ok next
+    → read_tape s (tape 0 place (bytes_of t ++ rest)) ≡ read_tape next (tape 0 (place + length (bytes_of t)) rest)
+token_first t rest place s next spelled spaced taken = ap (λ (x : Tape). read_tape s x) (tape_token t rest place spelled spaced) ∙ rw taken refl
 
 stepped : (r : Result Stand Stop) (t : Token) (ts : List Token) (s : Stand) (place : ℕ) (e : Expr) → HasSpelling t → step s t ≡ r → finish (reading.◌>>=◌ r (λ next. run next ts)) ≡ Ok e
     → ((next : Stand) (p : ℕ) → finish (run next ts) ≡ Ok e → read_tape next (tape 0 p (row_of ts)) ≡ Ok e)
@@ -67,7 +68,3 @@ pub put_reads : (ts : List Token) (e : Expr) → AllSpelled ts → read ts ≡ O
 put_reads [] e a h = absurd (cc)
 put_reads (t ∷ ts) e a h =
     ap (λ (x : List ℕ). read_tape start (tape 0 0 x)) (put_first t ts a.0) ∙ stepped (step start t) t ts start 0 e a.0 refl h (λ next p k. row_reads ts next p e a.1 k)
-
--- what is printed is read as the same tree
-pub round : (e : Expr) → Shallow 64 (phrase_of e 1) → AllSpelled (tokens (phrase_of e 1)) → length (printed [] e 1) ≤ 4096 → read_text (printed [] e 1) ≡ Ok e
-round e shallow spelled short = rw (le-ltb 4096 (length (printed [] e 1)) short) (put_reads (tokens (phrase_of e 1)) e spelled (reads (tokens (phrase_of e 1)) e (is_read e shallow)))

@@ -10,4 +10,5 @@ pub mod Printed
 pub mod Printing
 pub mod Reading
 pub mod Recipes
+pub mod Spelling
 pub mod Tape

@@ -1,19 +1,15 @@
 -- Trading Object Service, appendix "OMG Constraint Language BNF".
 -- How a tree is printed: an operand stands in parentheses exactly where the grammar doesn't have its form in that place, and a single space stands
 -- between two tokens.
-use Rattle.std.specs.Prelude.{ℤ, pos, negsuc, suc, Bool, true, false, ◌&&◌, ◌||◌, ◌==◌, ℕ, ◌^◌, ◌<◌, nat_lt, if◌then◌else◌, List, [], ◌∷◌, ◌++◌, codes, IsTrue}
+use Rattle.std.specs.Prelude.{ℤ, pos, negsuc, suc, Bool, true, false, ◌&&◌, ℕ, ◌^◌, ◌<◌, nat_lt, if◌then◌else◌, List, [], ◌∷◌, ◌++◌, codes, IsTrue}
 use Rattle.std.specs.Fmt.{decimal}
-use Rattle.std.specs.Str.{bytes_eq}
 use Rattle.td_cdr.specs.Names.{identifier}
-use Rattle.td_lang.specs.declared.expr.Op.{Op}
-use Rattle.td_lang.specs.declared.expr.Op.TheVariants as op
 use Rattle.td_lang.specs.declared.expr.Expr.{Expr, fold-Expr, Expr-F}
 use Rattle.td_lang.specs.declared.expr.Expr.TheOpen as layer
-use Rattle.td_lang.specs.declared.token.Keyword.{Keyword}
-use Rattle.td_lang.specs.declared.token.Keyword.TheVariants as keyword
 use Rattle.td_lang.specs.declared.token.Token.{Token}
 use Rattle.td_lang.specs.declared.token.Token.TheVariants as token
 use Rattle.td_lang.specs.Levels.{level, left, right}
+use Rattle.td_lang.specs.Spelling.{operator_word, preference_word, reserved, inside_quotes}
 use Rattle.td_lang.specs.Grammar.{Phrase, Joined, Within, Denied, Exists, Named, Counted, Opposed, Quoted, Truth, Enclosed, tokens, Fits, Shallow}
 
 -- ---- the phrase of a tree
@@ -42,54 +38,16 @@ phrase_of = fold-Expr (ℕ → Phrase) phrase_layer
 
 -- ---- the bytes of a token
 
-abbrev pub sign : Op → List ℕ
-sign op.Or = codes "or"
-sign op.And = codes "and"
-sign op.Eq = codes "=="
-sign op.Ne = codes "!="
-sign op.Lt = codes "<"
-sign op.Le = codes "<="
-sign op.Gt = codes ">"
-sign op.Ge = codes ">="
-sign op.Twiddle = codes "~"
-sign op.Add = codes "+"
-sign op.Sub = codes "-"
-sign op.Mul = codes "*"
-sign op.Div = codes "/"
-
-abbrev pub key_word : Keyword → List ℕ
-key_word keyword.First = codes "first"
-key_word keyword.Random = codes "random"
-key_word keyword.Min = codes "min"
-key_word keyword.Max = codes "max"
-key_word keyword.With = codes "with"
-
 abbrev pub truth_word : Bool → List ℕ
 truth_word true = codes "TRUE"
 truth_word false = codes "FALSE"
 
--- the words of an expression, and those that begin a preference with the truth values
-abbrev pub reserved_in_expressions : List ℕ → Bool
-reserved_in_expressions w = bytes_eq w (codes "and") || (bytes_eq w (codes "or") || (bytes_eq w (codes "not") || (bytes_eq w (codes "in") || bytes_eq w (codes "exist"))))
-
-abbrev pub reserved_elsewhere : List ℕ → Bool
-reserved_elsewhere w =
-    bytes_eq w (codes "min") || (bytes_eq w (codes "max") || (bytes_eq w (codes "first") || (bytes_eq w (codes "random") || (bytes_eq w (codes "with") || (bytes_eq w (codes "TRUE") || bytes_eq w (codes "FALSE"))))))
-
 -- a reserved name has a `\` in front
 abbrev pub name_bytes : List ℕ → List ℕ
-name_bytes name = if reserved_in_expressions name || reserved_elsewhere name then 92 ∷ name else name
-
--- a `\` stands before a quote and before a `\`
-abbrev pub guarded_byte : ℕ → List ℕ
-guarded_byte b = if (b == 39) || (b == 92) then 92 ∷ b ∷ [] else b ∷ []
-
-abbrev pub guarded : List ℕ → List ℕ
-guarded [] = []
-guarded (b ∷ bytes) = guarded_byte b ++ guarded bytes
+name_bytes name = if reserved name then 92 ∷ name else name
 
 abbrev pub bytes_of : Token → List ℕ
-bytes_of (token.Operator o) = sign o
+bytes_of (token.Operator o) = operator_word o
 bytes_of token.Within = codes "in"
 bytes_of token.Not = codes "not"
 bytes_of token.Exist = codes "exist"
@@ -97,9 +55,9 @@ bytes_of token.Open = codes "("
 bytes_of token.Close = codes ")"
 bytes_of (token.Name n) = name_bytes n
 bytes_of (token.Number n) = decimal n
-bytes_of (token.Quoted t) = 39 ∷ (guarded t ++ 39 ∷ [])
+bytes_of (token.Quoted t) = 39 ∷ (inside_quotes t ++ 39 ∷ [])
 bytes_of (token.Truth b) = truth_word b
-bytes_of (token.Keyword k) = key_word k
+bytes_of (token.Keyword k) = preference_word k
 
 -- ---- the text of tokens
 

@@ -4,7 +4,8 @@ ghost use Rattle.std.specs.Prelude.{◌≡◌, [], ◌++◌, ◌∷◌, ◌||◌
 ghost use Rattle.td_lang.specs.declared.token.Token.TheVariants.{Operator, Within, Not, Exist, Open, Close, Name, Number, Quoted, Truth, Keyword as keyword};
 ghost use Rattle.td_lang.specs.Levels.{level, left, right};
 ghost use Rattle.td_lang.specs.Grammar.{tokens};
-ghost use Rattle.td_lang.specs.Printing.{number_phrase, phrase_of, sign, key_word, truth_word, put, put_all, printed, spaced, reserved_in_expressions, reserved_elsewhere, name_bytes, guarded_byte, guarded, open_if, close_if};
+ghost use Rattle.td_lang.specs.Printing.{number_phrase, put, put_all, printed, spaced, open_if, close_if};
+ghost use Rattle.td_lang.specs.Spelling.{operator_word, reserved, needs_backslash, inside_quotes};
 
 use crate::expr::{Expr, Op};
 use crate::machine::{left, level, right};
@@ -24,7 +25,7 @@ fn put(out: &mut Vec<u8>, piece: &[u8]) -> Result<(), Memory>
 }
 
 fn sign(op: Op) -> &'static [u8]
-    ensures { result.now ≡ sign op }
+    ensures { result.now ≡ operator_word op }
 {
     match op {
         Op::Or => b"or".as_slice(),
@@ -50,20 +51,15 @@ fn put_sign(out: &mut Vec<u8>, op: Op) -> Result<(), Memory>
     put(out, sign(op))
 }
 
-fn is_reserved_in_expressions(word: &[u8]) -> bool
-    ensures { result ≡ reserved_in_expressions word.now }
+fn is_reserved(word: &[u8]) -> bool
+    ensures { result ≡ reserved word.now }
 {
     word == b"and".as_slice()
         || word == b"or".as_slice()
         || word == b"not".as_slice()
         || word == b"in".as_slice()
         || word == b"exist".as_slice()
-}
-
-fn is_reserved_elsewhere(word: &[u8]) -> bool
-    ensures { result ≡ reserved_elsewhere word.now }
-{
-    word == b"min".as_slice()
+        || word == b"min".as_slice()
         || word == b"max".as_slice()
         || word == b"first".as_slice()
         || word == b"random".as_slice()
@@ -76,7 +72,7 @@ fn is_reserved_elsewhere(word: &[u8]) -> bool
 fn put_name(alloc: Global, out: &mut Vec<u8>, name: &[u8]) -> Result<(), Memory>
     ensures { OnOk result (out.new.items ≡ put out.old.items (Name name.now)) }
 {
-    if is_reserved_in_expressions(name) || is_reserved_elsewhere(name) {
+    if is_reserved(name) {
         let mut word = Vec::new(alloc);
         word.push(b'\\')?;
         word.extend_from_slice(name)?;
@@ -94,23 +90,22 @@ fn put_number(alloc: Global, out: &mut Vec<u8>, size: u64) -> Result<(), Memory>
     put(out, digits.as_bytes())
 }
 
-/// A byte of a quoted text, with a backslash in front of a quote or a backslash.
-fn guard(word: &mut Vec<u8>, byte: u8) -> Result<(), Memory>
-    ensures { OnOk result (word.new.items ≡ word.old.items ++ guarded_byte byte) }
+/// Whether a byte of a quoted text has a backslash in front.
+fn needs_backslash(byte: u8) -> bool
+    ensures { result ≡ needs_backslash byte }
 {
-    if byte == b'\'' || byte == b'\\' {
-        word.push(b'\\')?;
-    }
-    word.push(byte)?;
-    Ok(())
+    byte == b'\'' || byte == b'\\'
 }
 
 /// The bytes of a quoted text, without the quotes.
-fn guard_all(word: &mut Vec<u8>, text: &[u8]) -> Result<(), Memory>
-    ensures { OnOk result (word.new.items ≡ word.old.items ++ guarded text.now) }
+fn put_inside(word: &mut Vec<u8>, text: &[u8]) -> Result<(), Memory>
+    ensures { OnOk result (word.new.items ≡ word.old.items ++ inside_quotes text.now) }
 {
     for byte in text {
-        guard(word, *byte)?;
+        if needs_backslash(*byte) {
+            word.push(b'\\')?;
+        }
+        word.push(*byte)?;
     }
     Ok(())
 }
@@ -121,7 +116,7 @@ fn put_quoted(alloc: Global, out: &mut Vec<u8>, text: &[u8]) -> Result<(), Memor
 {
     let mut word = Vec::new(alloc);
     word.push(b'\'')?;
-    guard_all(&mut word, text)?;
+    put_inside(&mut word, text)?;
     word.push(b'\'')?;
     put(out, word.as_slice())
 }
