@@ -43,7 +43,7 @@ lands_if true b bs is h more =
     let size : lead is_blank (b ∷ bs) ≡ suc (lead is_blank bs) = rw is (omega arith) in
     let l = more (omega (arith, size, h)) in
     let onward : solid_part (b ∷ bs) ≡ solid_part bs = ap (λ (k : ℕ). drop k (b ∷ bs)) size in
-    record { first = l.first; others = l.others; is = ◌∙◌ {b = solid_part bs} onward l.is; no_blank = l.no_blank }
+    record { first = l.first; others = l.others; is = ◌∙◌ {b = solid_part bs} {c = l.first ∷ l.others} onward l.is; no_blank = l.no_blank }
 lands_if false b bs is h more =
     let none : lead is_blank (b ∷ bs) ≡ 0 = rw is refl in
     record { first = b; others = bs; is = ap (λ (k : ℕ). drop k (b ∷ bs)) none; no_blank = is }

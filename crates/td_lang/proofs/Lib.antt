@@ -2,6 +2,7 @@ pub mod Ahead
 pub mod Answered
 pub mod Back
 pub mod Begun
+pub mod Both
 pub mod Complete
 pub mod Decided
 pub mod Derived

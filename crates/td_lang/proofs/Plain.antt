@@ -1,5 +1,5 @@
 -- A plain tree is printed in tokens that have a spelling, and only such a tree is read from them.
-use Rattle.std.proofs.Common.{ℤ, pos, negsuc, suc, ◌≡◌, ℕ, ◌^◌, Bool, true, false, ◌&&◌, nat_lt, if◌then◌else◌, List, [], ◌∷◌, ◌++◌, sym, ap, subst, ◌∙◌, refl}
+use Rattle.std.proofs.Common.{ℤ, pos, negsuc, suc, ◌≡◌, ℕ, ◌^◌, Bool, true, false, ◌&&◌, nat_lt, if◌then◌else◌, List, [], ◌∷◌, ◌++◌, sym, ap, subst, ◌∙◌}
 use Rattle.std.proofs.lemmas.Bool.{ltb-true}
 use Rattle.td_cdr.specs.Names.{identifier}
 use Rattle.td_lang.specs.declared.expr.Op.{Op}
@@ -13,15 +13,8 @@ use Rattle.td_lang.specs.Levels.{level, left, right}
 use Rattle.td_lang.specs.Grammar.{Phrase, Joined, Within, Denied, Enclosed, tokens}
 use Rattle.td_lang.specs.Lexing.{AllSpelled}
 use Rattle.td_lang.specs.Printing.{number_phrase, phrase_of, plain, plain_layer, plain_number, IsPlain}
+use Rattle.td_lang.proofs.Both.{and-left, and-right}
 use Rattle.td_lang.proofs.Printed.{of-Binary, of-Within, of-Not, of-Exist, of-Name, of-Number, of-Str, of-Truth}
-
-and-left : (a b : Bool) → (a && b) ≡ true → a ≡ true
-and-left true b e = refl
-and-left false b e = e
-
-and-right : (a b : Bool) → (a && b) ≡ true → b ≡ true
-and-right true b e = e
-and-right false b e = absurd cc
 
 pub spelled-append : (xs ys : List Token) → AllSpelled xs → AllSpelled ys → AllSpelled (xs ++ ys)
 spelled-append [] ys a b = b

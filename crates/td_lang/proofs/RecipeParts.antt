@@ -10,6 +10,7 @@ use Rattle.std.proofs.lemmas.List.Quantifiers.{position-Some}
 use Rattle.td_cdr.specs.Names.{identifier, is_letter, is_word}
 use Rattle.td_lang.specs.declared.expr.Part.{Part}
 use Rattle.td_lang.specs.declared.expr.Part.TheVariants as part
+use Rattle.td_lang.proofs.Both.{and-left, and-right}
 use Rattle.td_lang.specs.Recipes.{SpellsPart, Begins, SpellsParts, IsRefusedAt, part_in_front, escaped, replaced, property_part, named_part}
 
 -- ---- what stands in front is spelled
@@ -91,14 +92,6 @@ front-found (b ∷ more) p size e =
     ]
 
 -- ---- what is spelled stands in front
-
-and-right : (a b : Bool) → (a && b) ≡ true → b ≡ true
-and-right true b e = e
-and-right false b e = absurd cc
-
-and-left : (a b : Bool) → (a && b) ≡ true → a ≡ true
-and-left true b e = refl
-and-left false b e = e
 
 end-place : (name more : List ℕ) → list_all is_word name ≡ true → position_or_len is_end (name ++ 41 ∷ more) ≡ length name
 end-place [] more e = refl
