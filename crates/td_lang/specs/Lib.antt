@@ -5,6 +5,10 @@ pub mod Grammar
 pub mod Levels
 pub mod Lexing
 pub mod Machine
+pub mod Preferred
+pub mod Printed
+pub mod Printing
 pub mod Reading
+pub mod Recipes
 pub mod Spelling
 pub mod Tape

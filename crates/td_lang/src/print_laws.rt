@@ -1,0 +1,30 @@
+//! What holds of all that is printed, as functions that do nothing: each one's contract is the law.
+
+ghost use Rattle.std.specs.Prelude.{◌≡◌, ℕ, ◌≤◌, List, [], length, Ok};
+ghost use Rattle.td_lang.specs.declared.expr.Expr.{Expr};
+ghost use Rattle.td_lang.specs.declared.expr.Constraint.{Constraint};
+ghost use Rattle.td_lang.specs.declared.expr.Preference.{Preference};
+ghost use Rattle.td_lang.specs.Asked.{constraint_of};
+ghost use Rattle.td_lang.specs.Grammar.{Phrase, Fits, Shallow, tree};
+ghost use Rattle.td_lang.specs.Preferred.{preference_of};
+ghost use Rattle.td_lang.specs.Printed.{printed_constraint, printed_preference, ConstraintCanBeRead, PreferenceCanBeRead};
+ghost use Rattle.td_lang.specs.Printing.{phrase_of, IsTight};
+
+/// What is printed is read as the same tree, where it is short, its names are identifiers, its numbers
+/// have a size below 2^63, and few enough parentheses are open. Each tree that was read is such a tree.
+pub fn printed_is_read()
+    ensures constraint { (c : Constraint) → ConstraintCanBeRead c → length (printed_constraint c) ≤ 4096 → constraint_of (printed_constraint c) ≡ Ok c }
+    ensures preference { (p : Preference) → PreferenceCanBeRead p → length (printed_preference p) ≤ 4096 → preference_of (printed_preference p) ≡ Ok p }
+    ensures read_constraint { (text : List ℕ) (c : Constraint) → constraint_of text ≡ Ok c → ConstraintCanBeRead c }
+    ensures read_preference { (text : List ℕ) (p : Preference) → preference_of text ≡ Ok p → PreferenceCanBeRead p }
+{}
+
+/// The phrase that is printed is in the grammar and has the tree. It is the only such phrase of which no
+/// pair of parentheses could be left out, and no phrase of the tree has fewer of them open at once.
+pub fn printed_has_least()
+    ensures fits { (e : Expr) → Fits 1 (phrase_of e 1) }
+    ensures same { (e : Expr) → tree (phrase_of e 1) ≡ e }
+    ensures tight { (e : Expr) → IsTight 1 (phrase_of e 1) }
+    ensures only { (c : Phrase) → Fits 1 c → IsTight 1 c → c ≡ phrase_of (tree c) 1 }
+    ensures least { (c : Phrase) (most : ℕ) → Fits 1 c → Shallow most c → Shallow most (phrase_of (tree c) 1) }
+{}
