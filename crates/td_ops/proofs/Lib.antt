@@ -1,0 +1,5 @@
+pub mod Bodies
+pub mod Results
+pub mod Told
+pub mod Heard
+pub mod Named

@@ -6,6 +6,7 @@ mod answers;
 mod call;
 mod exceptions;
 mod fault;
+mod laws;
 mod operation;
 mod outcome;
 mod reading;
@@ -15,6 +16,9 @@ mod writing;
 pub use answers::read_outcome;
 pub use call::{Call, Change, Look};
 pub use fault::OpsFault;
+pub use laws::{
+    calls_are_read_back, calls_are_spelled, operations_are_named, outcomes_are_read_back,
+};
 pub use operation::{Operation, operation_named, operation_of};
 pub use outcome::{Answered, Outcome, Reply, SystemKind, UserException};
 pub use reading::read_call;
