@@ -1,9 +1,9 @@
 -- Parameters are read as they are spelled, and what is written for a call spells them.
-use Rattle.std.proofs.Common.{◌≡◌, ℕ, List, map, refl, ap, subst}
+use Rattle.std.proofs.Common.{◌≡◌, ℕ, List, map, refl, subst}
 use Rattle.td_value.specs.Grammar.{Grammar, number, text, pair, times}
 use Rattle.td_value.specs.Structures.{many, many_piece, prop_struct, prop_struct_piece, specified_types_piece}
 use Rattle.td_value.specs.Laws.{Joins, Spelled, ReadsBack}
-use Rattle.td_value.specs.Writing.{Piece, none, ◌then◌, number as a_number, text as a_text, row}
+use Rattle.td_value.specs.Writing.{Piece, ◌then◌, number as a_number, text as a_text, row}
 use Rattle.td_value.proofs.Joins.{number-joined, text-joined, pair-joins, chosen-joins, made-joins, nothing-joins, times-joins}
 use Rattle.td_value.proofs.Spelled.{number-spelled, text-spelled, pair-spelled, chosen-spelled, made-spelled, nothing-spelled, times-spelled, times-length}
 use Rattle.td_value.proofs.StructuresLawful.{prop_struct-joins, prop_struct-spelled, specified_types-joins, specified_types-spelled}

@@ -3,9 +3,9 @@ use Rattle.std.proofs.Common.{◌≡◌, ℕ, ◌+◌, ◌-◌, ◌^◌, ◌<◌
 use Rattle.td_cdr.specs.Place.{At}
 use Rattle.td_cdr.specs.Text.{HasNoNul}
 use Rattle.td_cdr.specs.Reading.{after}
-use Rattle.td_value.specs.Grammar.{Grammar, number, text, pair}
-use Rattle.td_value.specs.Laws.{Joins, Spelled}
-use Rattle.td_value.specs.Writing.{Piece, ◌then◌, number as a_number, text as a_text}
+use Rattle.td_value.specs.Grammar.{number, text, pair}
+use Rattle.td_value.specs.Laws.{Spelled}
+use Rattle.td_value.specs.Writing.{◌then◌, number as a_number, text as a_text}
 use Rattle.td_value.proofs.Spelled.{number-spelled, text-spelled, pair-spelled, made-spelled}
 use Rattle.td_ops.specs.declared.call.Call.{Call}
 use Rattle.td_ops.specs.declared.operation.Operation.{Operation}
@@ -15,12 +15,11 @@ use Rattle.td_ops.specs.declared.outcome.UserException.{UserException}
 use Rattle.td_ops.specs.declared.outcome.UserException.TheVariants as user
 use Rattle.td_ops.specs.declared.outcome.Outcome.{Outcome}
 use Rattle.td_ops.specs.declared.outcome.Outcome.TheVariants as outcome
-use Rattle.td_ops.specs.declared.outcome.Answered.{Answered}
 use Rattle.td_ops.specs.declared.outcome.Answered.TheVariants.{Done, User, System}
 use Rattle.td_ops.specs.Operations.{operation_in}
 use Rattle.td_ops.specs.Refusals.{told}
 use Rattle.td_ops.specs.Outcomes.{user_id, system_id, members_piece, reply_piece, outcome_piece, outcome_status}
-use Rattle.td_ops.specs.Answers.{AdmitsOutcome, answer_of, answered, outcome_read, result_of, telling}
+use Rattle.td_ops.specs.Answers.{AdmitsOutcome, answer_of, answered, outcome_read, telling}
 use Rattle.td_ops.proofs.Results.{answers-joined, results-spelled}
 
 user_id-clean : (e : UserException) → HasNoNul (user_id e)

@@ -1,5 +1,5 @@
 -- Each operation has its name.
-use Rattle.std.proofs.Common.{◌≡◌, ℕ, Some, refl, map}
+use Rattle.std.proofs.Common.{◌≡◌, Some, refl, map}
 use Rattle.std.specs.List.{IsDistinct}
 use Rattle.std.specs.Str.{bytes_eq}
 use Rattle.td_value.specs.declared.key.Kind.{Kind}

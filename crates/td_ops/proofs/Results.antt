@@ -1,19 +1,25 @@
 -- Results and exceptions are read as they are spelled, and what is written for one spells it.
-use Rattle.std.proofs.Common.{◌≡◌, ℕ, nat_eq, Bool, List, refl, ap, subst}
+use Rattle.std.proofs.Common.{◌≡◌, ℕ, ◌≤◌, nat_eq, Ok, refl, ap, subst}
+use Rattle.td_cdr.specs.Place.{At}
 use Rattle.std.specs.Int.{from_bool}
-use Rattle.td_value.specs.Grammar.{Grammar, number, text, pair}
-use Rattle.td_value.specs.Structures.{many, many_piece, incarnation_number_piece, type_struct_piece}
-use Rattle.td_value.specs.Laws.{Joins, Spelled, ReadsBack}
-use Rattle.td_value.specs.Writing.{Piece, none, ◌then◌, number as a_number, text as a_text}
+use Rattle.td_value.specs.Grammar.{text}
+use Rattle.td_value.specs.Structures.{many_piece, incarnation_number_piece, type_struct_piece}
+use Rattle.td_value.specs.Laws.{AreOctets, Joins, Spelled, ReadsBack}
+use Rattle.td_value.proofs.Admitted.{read-admitted}
+use Rattle.td_value.specs.Writing.{number as a_number, text as a_text}
 use Rattle.td_value.proofs.Joins.{number-joined, boolean-joined, text-joined, pair-joins, made-joins, nothing-joins, refused-joins, either-joins}
-use Rattle.td_value.proofs.Spelled.{number-spelled, boolean-spelled, text-spelled, pair-spelled, made-spelled, nothing-spelled}
+use Rattle.td_value.proofs.Spelled.{boolean-spelled, text-spelled, made-spelled, nothing-spelled}
 use Rattle.td_value.proofs.StructuresLawful.{incarnation_number-joins, incarnation_number-spelled, type_struct-joins, type_struct-spelled}
+use Rattle.td_ops.specs.declared.call.Call.{Call}
+use Rattle.td_ops.specs.declared.outcome.Answered.{Answered}
 use Rattle.td_ops.specs.declared.operation.Operation.{Operation}
 use Rattle.td_ops.specs.declared.operation.Operation.TheVariants.{AddType, RemoveType, ListTypes, DescribeType, FullyDescribeType, MaskType, UnmaskType, TypesIncarnation, IsA, NonExistent}
 use Rattle.td_ops.specs.declared.outcome.Reply.{Reply}
 use Rattle.td_ops.specs.declared.outcome.Reply.TheVariants as reply
 use Rattle.td_ops.specs.Outcomes.{reply_piece}
-use Rattle.td_ops.specs.Answers.{answer_of, result_of}
+use Rattle.td_ops.specs.Operations.{operation_in}
+use Rattle.td_ops.specs.Refusals.{told, Answers}
+use Rattle.td_ops.specs.Answers.{answer_of, outcome_read, result_of}
 use Rattle.td_ops.proofs.Bodies.{many-joins, many-spelled, reads_back}
 
 pub results-joined : (operation : Operation) → Joins (result_of operation)
@@ -52,3 +58,12 @@ results-spelled NonExistent r a = subst (Right NonExistent) a.1 (made-spelled _ 
 
 pub results-read_back : (operation : Operation) → ReadsBack (result_of operation) reply_piece
 results-read_back operation = reads_back (result_of operation) reply_piece (results-joined operation) (results-spelled operation)
+
+-- what was read of a reply is the answer
+pub outcome-answered : (c : Call) (status : ℕ) (old new : At) (x : Answered) → old.origin ≤ old.place → AreOctets old.rest
+    → (answer_of (operation_in c) status).reading old ≡ Ok (x, new) → Answers ((answer_of (operation_in c) status).admits) (outcome_read c status old) old new (Ok x)
+outcome-answered c status old new x h octets is = record {
+  gives = ap told is;
+  unchanged = tt;
+  admitted = read-admitted (answer_of (operation_in c) status) (answers-joined (operation_in c) status) old x new h octets is;
+}

@@ -1,17 +1,18 @@
 -- What a reading is to the caller.
-use Rattle.std.proofs.Common.{◌≡◌, ℕ, ◌-◌, ◌^◌, ◌<◌, ◌≤◌, List, ◌++◌, length, Option, Some, None, Result, Ok, Err, refl, ap, ◌∙◌}
+use Rattle.std.proofs.Common.{◌≡◌, ℕ, ◌-◌, ◌^◌, ◌<◌, ◌≤◌, List, ◌++◌, length, Option, Some, None, Ok, Err, refl, ap}
 use Rattle.td_cdr.specs.Place.{At}
 use Rattle.td_cdr.specs.Reading.{after}
 use Rattle.td_cdr.specs.Spelling.{Found}
 use Rattle.td_value.specs.declared.key.Kind.{Kind}
 use Rattle.td_value.specs.Grammar.{Read}
 use Rattle.td_ops.specs.declared.call.Call.{Call}
-use Rattle.td_ops.specs.declared.fault.OpsFault.{OpsFault}
 use Rattle.td_ops.specs.declared.operation.Operation.{Operation}
 use Rattle.td_ops.specs.Operations.{operation_named, operation_in, name_of}
-use Rattle.td_ops.specs.Refusals.{told}
+use Rattle.td_value.specs.Laws.{AreOctets}
+use Rattle.td_value.proofs.Admitted.{read-admitted}
+use Rattle.td_ops.specs.Refusals.{told, Answers}
 use Rattle.td_ops.specs.Calls.{AdmitsCall, Body, body_of, call_piece, call_read, read_under}
-use Rattle.td_ops.proofs.Bodies.{admits-body, bodies-joined, bodies-read_back}
+use Rattle.td_ops.proofs.Bodies.{admits-body, admits-call, bodies-joined, bodies-read_back}
 
 pub told_ok : {X : Type 0} (r : Read X) (x : X × At) → told r ≡ Ok x → r ≡ Ok x
 told_ok (Ok y) x e = cc
@@ -37,3 +38,12 @@ pub call-back : (kind : Kind) (c : Call) (a : At) (rest : List ℕ) → operatio
     → call_read kind (name_of (operation_in c)) a ≡ Ok (c, after (length (call_piece c a.order (a.place - a.origin))) a)
 call-back kind c a rest named ok h short e =
     rw named (ap told ((bodies-read_back (operation_in c)).back c a rest (admits-body c ok) h short e))
+
+-- what was read under an operation is the answer
+pub call-answered : (kind : Kind) (name : List ℕ) (old new : At) (operation : Operation) (c : Call) → operation_named kind name ≡ Some operation → old.origin ≤ old.place → AreOctets old.rest
+    → (body_of operation).reading old ≡ Ok (c, new) → Answers AdmitsCall (call_read kind name old) old new (Ok c)
+call-answered kind name old new operation c named h octets is = record {
+  gives = rw named (ap told is);
+  unchanged = tt;
+  admitted = admits-call operation c (read-admitted (body_of operation) (bodies-joined operation) old c new h octets is);
+}

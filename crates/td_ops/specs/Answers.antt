@@ -1,6 +1,6 @@
 -- What a client is told by a reply of a status (CORBA, chapter on General Inter-ORB Protocol, "Reply Header"
 -- and "Reply Body").
-use Rattle.std.specs.Prelude.{◌≡◌, ℕ, nat_eq, List, Result}
+use Rattle.std.specs.Prelude.{ℕ, nat_eq, Result}
 use Rattle.td_cdr.specs.Place.{At}
 use Rattle.td_value.specs.Grammar.{Grammar, number, boolean, text, pair, made, nothing, refused, either}
 use Rattle.td_value.specs.declared.fault.ValueFault.TheVariants.{BadValue}

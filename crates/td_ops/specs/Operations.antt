@@ -1,16 +1,14 @@
 -- The operations of a trader's objects and their names in a request (OMG's Trading Object Service, module
 -- CosTradingRepos, interface ServiceTypeRepository; CORBA, chapter "ORB Interface", Object Interface
 -- Operations, whose names in a request stand in the chapter on General Inter-ORB Protocol, "Request Header").
-use Rattle.std.specs.Prelude.{ℕ, Option, List, [], ◌∷◌, ◌++◌, codes}
+use Rattle.std.specs.Prelude.{ℕ, Option, List, [], ◌∷◌, codes}
 use Rattle.std.specs.Str.{bytes_eq}
 use Rattle.std.specs.Map.{lookup}
 use Rattle.td_value.specs.declared.key.Kind.{Kind}
 use Rattle.td_value.specs.declared.key.Kind.TheVariants.{Types}
 use Rattle.td_ops.specs.declared.call.Call.{Call}
 use Rattle.td_ops.specs.declared.call.Call.TheVariants as call
-use Rattle.td_ops.specs.declared.call.Change.{Change}
 use Rattle.td_ops.specs.declared.call.Change.TheVariants as change
-use Rattle.td_ops.specs.declared.call.Look.{Look}
 use Rattle.td_ops.specs.declared.call.Look.TheVariants as look
 use Rattle.td_ops.specs.declared.operation.Operation.{Operation}
 use Rattle.td_ops.specs.declared.operation.Operation.TheVariants.{AddType, RemoveType, ListTypes, DescribeType, FullyDescribeType, MaskType, UnmaskType, TypesIncarnation, IsA, NonExistent}

@@ -3,10 +3,8 @@
 -- Exceptions"; OMG's Trading Object Service, modules CosTrading and CosTradingRepos).
 use Rattle.std.specs.Prelude.{ℕ, Bool, true, false, List, codes}
 use Rattle.std.specs.Int.{from_bool}
-use Rattle.td_value.specs.Grammar.{number, text}
-use Rattle.td_value.specs.Structures.{many_piece, prop_struct, prop_struct_piece, incarnation_number_piece, type_struct_piece}
+use Rattle.td_value.specs.Structures.{many_piece, prop_struct_piece, incarnation_number_piece, type_struct_piece}
 use Rattle.td_value.specs.Writing.{Piece, none, ◌then◌, number as a_number, text as a_text}
-use Rattle.td_ops.specs.declared.operation.Operation.{Operation}
 use Rattle.td_ops.specs.declared.outcome.SystemKind.{SystemKind}
 use Rattle.td_ops.specs.declared.outcome.SystemKind.TheVariants as system
 use Rattle.td_ops.specs.declared.outcome.Reply.{Reply}

@@ -1,6 +1,5 @@
 -- What a fault of the bytes is to the caller (CORBA, chapter "Standard Exceptions": MARSHAL and NO_IMPLEMENT).
-use Rattle.std.specs.Prelude.{◌≡◌, ℕ, Result, Ok, Err, OnErr, IfOk}
-use Rattle.td_cdr.specs.declared.fault.CdrFault.{CdrFault}
+use Rattle.std.specs.Prelude.{◌≡◌, Result, Ok, Err, OnErr, IfOk}
 use Rattle.td_cdr.specs.declared.fault.CdrFault.TheVariants as cdr
 use Rattle.td_cdr.specs.Place.{At}
 use Rattle.td_value.specs.declared.fault.ValueFault.{ValueFault}

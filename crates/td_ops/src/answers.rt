@@ -12,9 +12,7 @@ use crate::operation::{Operation, operation_in};
 use crate::outcome::{Answered, Reply};
 use std::alloc::Global;
 use td_cdr::Reader;
-use td_value::{
-    ValueFault, incarnation_number_at, see_octets, text_at, texts_at, type_struct_at,
-};
+use td_value::{ValueFault, incarnation_number_at, see_octets, text_at, texts_at, type_struct_at};
 
 /// What a reply of this status to a call tells (CORBA, chapter on General Inter-ORB Protocol, "Reply
 /// Body"): by status 0 the call's result, by 1 the id of a user exception, whose members stay unread,

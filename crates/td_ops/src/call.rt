@@ -39,15 +39,9 @@ pub enum Change {
 /// A call that changes nothing.
 #[derive(Drop)]
 pub enum Look {
-    ListTypes {
-        which: SpecifiedServiceTypes,
-    },
-    DescribeType {
-        name: Text,
-    },
-    FullyDescribeType {
-        name: Text,
-    },
+    ListTypes { which: SpecifiedServiceTypes },
+    DescribeType { name: Text },
+    FullyDescribeType { name: Text },
     /// The attribute `incarnation`.
     TypesIncarnation,
 }

@@ -15,8 +15,10 @@ fn user_id(exception: &UserException) -> &'static [u8]
     ensures { result.now ≡ user_id exception.now }
 {
     match exception {
-        UserException::IllegalServiceType { .. } => b"IDL:omg.org/CosTrading/IllegalServiceType:1.0",
-        UserException::UnknownServiceType { .. } => b"IDL:omg.org/CosTrading/UnknownServiceType:1.0",
+        UserException::IllegalServiceType { .. } =>
+            b"IDL:omg.org/CosTrading/IllegalServiceType:1.0",
+        UserException::UnknownServiceType { .. } =>
+            b"IDL:omg.org/CosTrading/UnknownServiceType:1.0",
         UserException::IllegalPropertyName { .. } => {
             b"IDL:omg.org/CosTrading/IllegalPropertyName:1.0"
         }

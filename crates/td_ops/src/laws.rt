@@ -41,11 +41,9 @@ pub fn calls_are_spelled()
 /// object that has the operation, in either order and at any place, whatever follows.
 pub fn calls_are_read_back()
     ensures spelled { (operation : Operation) → ReadsBack (body_of operation) call_piece }
-    ensures back {
-        (kind : Kind) (c : Call) (a : At) (rest : List ℕ) → operation_named kind (name_of (operation_in c)) ≡ Some (operation_in c) → AdmitsCall c → a.origin ≤ a.place
+    ensures back { (kind : Kind) (c : Call) (a : At) (rest : List ℕ) → operation_named kind (name_of (operation_in c)) ≡ Some (operation_in c) → AdmitsCall c → a.origin ≤ a.place
         → length (call_piece c a.order (a.place - a.origin)) < 2 ^ 32 → a.rest ≡ call_piece c a.order (a.place - a.origin) ++ rest
-        → call_read kind (name_of (operation_in c)) a ≡ Ok (c, after (length (call_piece c a.order (a.place - a.origin))) a)
-    }
+        → call_read kind (name_of (operation_in c)) a ≡ Ok (c, after (length (call_piece c a.order (a.place - a.origin))) a) }
 {}
 
 /// A reply's body is read as it is spelled, whatever follows, and only so. What is written for an
@@ -54,9 +52,7 @@ pub fn calls_are_read_back()
 pub fn outcomes_are_read_back()
     ensures joins { (operation : Operation) (status : ℕ) → Joins (answer_of operation status) }
     ensures results { (operation : Operation) → ReadsBack (result_of operation) reply_piece }
-    ensures back {
-        (c : Call) (o : Outcome) (a : At) (rest : List ℕ) → AdmitsOutcome (operation_in c) o → a.origin ≤ a.place
+    ensures back { (c : Call) (o : Outcome) (a : At) (rest : List ℕ) → AdmitsOutcome (operation_in c) o → a.origin ≤ a.place
         → length (outcome_piece o a.order (a.place - a.origin)) < 2 ^ 32 → a.rest ≡ outcome_piece o a.order (a.place - a.origin) ++ rest
-        → outcome_read c (outcome_status o) a ≡ Ok (answered o, after (length (telling o a.order (a.place - a.origin))) a)
-    }
+        → outcome_read c (outcome_status o) a ≡ Ok (answered o, after (length (telling o a.order (a.place - a.origin))) a) }
 {}

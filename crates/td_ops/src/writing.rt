@@ -34,16 +34,16 @@ fn put_call(alloc: Global, w: &mut Writer, call: &Call) -> Result<(), Memory>
     ensures { Puts (call_piece call.now) w.old w.new result }
 {
     match call {
-        Call::Change(Change::AddType {
-            name,
-            if_name,
-            props,
-            super_types,
-        }) => put_new_type(alloc, w, name, if_name, props, super_types),
         Call::Change(
-            Change::RemoveType { name }
-            | Change::MaskType { name }
-            | Change::UnmaskType { name },
+            Change::AddType {
+                name,
+                if_name,
+                props,
+                super_types,
+            },
+        ) => put_new_type(alloc, w, name, if_name, props, super_types),
+        Call::Change(
+            Change::RemoveType { name } | Change::MaskType { name } | Change::UnmaskType { name },
         )
         | Call::Look(Look::DescribeType { name } | Look::FullyDescribeType { name })
         | Call::IsA(name) => put_text(w, name),
