@@ -3,3 +3,4 @@ pub mod Results
 pub mod Told
 pub mod Heard
 pub mod Named
+pub mod Members

@@ -5,6 +5,10 @@ use Rattle.td_cdr.specs.Reading.{after}
 use Rattle.td_cdr.specs.Spelling.{Found}
 use Rattle.td_value.specs.declared.key.Kind.{Kind}
 use Rattle.td_value.specs.Grammar.{Read}
+use Rattle.std.specs.Prelude.{◌↔◌}
+use Rattle.td_cdr.specs.declared.fault.CdrFault.TheVariants as cdr
+use Rattle.td_value.specs.declared.fault.ValueFault.TheVariants as value
+use Rattle.td_ops.specs.declared.fault.OpsFault.TheVariants.{BadOperation}
 use Rattle.td_ops.specs.declared.call.Call.{Call}
 use Rattle.td_ops.specs.declared.operation.Operation.{Operation}
 use Rattle.td_ops.specs.Operations.{operation_named, operation_in, name_of}
@@ -47,3 +51,24 @@ call-answered kind name old new operation c named h octets is = record {
   unchanged = tt;
   admitted = admits-call operation c (read-admitted (body_of operation) (bodies-joined operation) old c new h octets is);
 }
+
+never_unknown : {X : Type 0} (r : Read X) → told r ≡ Err BadOperation → ⊥
+never_unknown (Ok x) e = absurd cc
+never_unknown (Err (value.Cdr (cdr.Short place))) e = absurd cc
+never_unknown (Err (value.Cdr (cdr.BadBoolean place))) e = absurd cc
+never_unknown (Err (value.Cdr (cdr.BadString place))) e = absurd cc
+never_unknown (Err (value.Cdr (cdr.TooLong place))) e = absurd cc
+never_unknown (Err (value.Cdr cdr.Memory)) e = absurd cc
+never_unknown (Err (value.BadKind place)) e = absurd cc
+never_unknown (Err (value.BadValue place)) e = absurd cc
+never_unknown (Err (value.Unsupported kind)) e = absurd cc
+never_unknown (Err (value.Depth place)) e = absurd cc
+never_unknown (Err (value.Indirection place)) e = absurd cc
+never_unknown (Err value.Memory) e = absurd cc
+
+under_unknown : (o : Option Operation) (a : At) → (read_under o a ≡ Err BadOperation) ↔ (o ≡ None)
+under_unknown (Some operation) a = (λ e. absurd (never_unknown ((body_of operation).reading a) e), λ e. absurd cc)
+under_unknown None a = (λ e. refl, λ e. refl)
+
+pub call-unknown : (kind : Kind) (name : List ℕ) (a : At) → (call_read kind name a ≡ Err BadOperation) ↔ (operation_named kind name ≡ None)
+call-unknown kind name a = under_unknown (operation_named kind name) a

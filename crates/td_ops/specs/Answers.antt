@@ -59,6 +59,20 @@ abbrev pub telling : Outcome → Piece
 telling (outcome.User e) = a_text (user_id e)
 telling o = outcome_piece o
 
+-- the members of the exceptions of a kind
+abbrev pub members_of : UserException → Grammar UserException
+members_of (user.IllegalServiceType _) = made (λ service_type. user.IllegalServiceType service_type) text
+members_of (user.UnknownServiceType _) = made (λ service_type. user.UnknownServiceType service_type) text
+members_of (user.IllegalPropertyName _) = made (λ name. user.IllegalPropertyName name) text
+members_of (user.DuplicatePropertyName _) = made (λ name. user.DuplicatePropertyName name) text
+members_of (user.ServiceTypeExists _) = made (λ name. user.ServiceTypeExists name) text
+members_of (user.ReposInterfaceTypeMismatch _ _ _ _) = made (λ p. user.ReposInterfaceTypeMismatch p.0 p.1.0 p.1.1.0 p.1.1.1) (pair text λ _. (pair text λ _. (pair text λ _. text)))
+members_of (user.HasSubTypes _ _) = made (λ p. user.HasSubTypes p.0 p.1) (pair text λ _. text)
+members_of (user.AlreadyMasked _) = made (λ name. user.AlreadyMasked name) text
+members_of (user.NotMasked _) = made (λ name. user.NotMasked name) text
+members_of (user.ValueTypeRedefinition _ _ _ _) = made (λ p. user.ValueTypeRedefinition p.0 p.1.0 p.1.1.0 p.1.1.1) (pair text λ _. (pair prop_struct λ _. (pair text λ _. prop_struct)))
+members_of (user.DuplicateServiceTypeName _) = made (λ name. user.DuplicateServiceTypeName name) text
+
 -- the exceptions that can be written
 abbrev pub AdmitsException : UserException → Type 0
 AdmitsException (user.IllegalServiceType service_type) = text.admits service_type

@@ -1,6 +1,6 @@
 use Rattle.td_ops.specs.Operations.{operation_in}
 use Rattle.td_ops.proofs.Bodies.{admits-body, admits-call, bodies-joined, called}
-use Rattle.td_ops.proofs.Told.{call-found, call-only}
+use Rattle.td_ops.proofs.Told.{call-found, call-only, call-unknown}
 use Rattle.td_ops.proofs.laws.calls_are_spelled.Goals as goal
 
 pub returns-clause-joins : goal.returns-clause-joins
@@ -17,3 +17,6 @@ returns-clause-admits c = λ x. (admits-body x, admits-call (operation_in x) x)
 
 pub returns-clause-called : goal.returns-clause-called
 returns-clause-called c = called
+
+pub returns-clause-unknown : goal.returns-clause-unknown
+returns-clause-unknown c = call-unknown
