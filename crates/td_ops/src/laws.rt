@@ -57,11 +57,9 @@ pub fn calls_are_read_back()
 pub fn outcomes_are_read_back()
     ensures joins { (operation : Operation) (status : ℕ) → Joins (answer_of operation status) }
     ensures members { (e : UserException) → Joins (members_of e) }
-    ensures members_back {
-        (e : UserException) (a : At) (rest : List ℕ) → AdmitsException e → a.origin ≤ a.place
+    ensures members_back { (e : UserException) (a : At) (rest : List ℕ) → AdmitsException e → a.origin ≤ a.place
         → length (members_piece e a.order (a.place - a.origin)) < 2 ^ 32 → a.rest ≡ members_piece e a.order (a.place - a.origin) ++ rest
-        → (members_of e).reading a ≡ Ok (e, after (length (members_piece e a.order (a.place - a.origin))) a)
-    }
+        → (members_of e).reading a ≡ Ok (e, after (length (members_piece e a.order (a.place - a.origin))) a) }
     ensures results { (operation : Operation) → ReadsBack (result_of operation) reply_piece }
     ensures back { (c : Call) (o : Outcome) (a : At) (rest : List ℕ) → AdmitsOutcome (operation_in c) o → a.origin ≤ a.place
         → length (outcome_piece o a.order (a.place - a.origin)) < 2 ^ 32 → a.rest ≡ outcome_piece o a.order (a.place - a.origin) ++ rest

@@ -24,3 +24,8 @@ pub use outcome::{Answered, Outcome, Reply, SystemKind, UserException};
 pub use reading::read_call;
 pub use replies::{status_of, write_outcome};
 pub use writing::write_call;
+
+#[cfg(test)]
+mod reply_tests;
+#[cfg(test)]
+mod tests;
