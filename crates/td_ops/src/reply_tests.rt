@@ -21,25 +21,74 @@ fn cost(alloc: Global, mode: PropertyMode) -> Result<PropStruct, Fail> {
     })
 }
 
-/// What a client is told by the bytes that are written for an outcome of a call.
+/// These bytes are written for an outcome.
+fn written(
+    rt: &impl Abort,
+    alloc: Global,
+    outcome: &Outcome,
+    bytes: &[u8],
+    order: Order,
+) -> Result<(), Fail> {
+    let mut writer = Writer::new(alloc, order);
+    write_outcome(alloc, &mut writer, outcome)?;
+    assert!(rt; writer.bytes() == bytes);
+    Ok(())
+}
+
+/// What a reply of this status to a call tells.
 fn told(
     rt: &impl Abort,
     alloc: Global,
     call: &Call,
-    outcome: &Outcome,
+    status: u32,
     bytes: &[u8],
     order: Order,
 ) -> Result<Answered, Fail> {
     assert!(rt; bytes.len() < 1000);
-    let mut writer = Writer::new(alloc, order);
-    write_outcome(alloc, &mut writer, &outcome.copy(alloc)?)?;
-    assert!(rt; writer.bytes() == bytes);
     let mut reader = Reader::new(bytes, 0, order);
-    let answer = read_outcome(alloc, call, status_of(outcome), &mut reader)?;
-    Ok(answer.copy(alloc)?)
+    Ok(read_outcome(alloc, call, status, &mut reader)?)
 }
 
-/// A user exception is told by its id, in either order.
+fn is_user(answer: &Answered, id: &[u8]) -> bool {
+    match answer {
+        Answered::User(told) => told.as_slice() == id,
+        _ => false,
+    }
+}
+
+fn is_system(answer: &Answered, id: &[u8], minor: u32, completion: u32) -> bool {
+    match answer {
+        Answered::System {
+            id: told,
+            minor: code,
+            completion: done,
+        } => told.as_slice() == id && *code == minor && *done == completion,
+        _ => false,
+    }
+}
+
+/// A user exception is told by its id.
+fn raised_in(
+    rt: &impl Abort,
+    alloc: Global,
+    outcome: &Outcome,
+    id: &[u8],
+    bytes: &[u8],
+    order: Order,
+) -> Result<(), Fail> {
+    written(rt, alloc, outcome, bytes, order)?;
+    let answer = told(
+        rt,
+        alloc,
+        &Call::NonExistent,
+        status_of(outcome),
+        bytes,
+        order,
+    )?;
+    assert!(rt; is_user(&answer, id));
+    Ok(())
+}
+
 fn raised(
     rt: &impl Abort,
     alloc: Global,
@@ -49,15 +98,9 @@ fn raised(
     little: &[u8],
 ) -> Result<(), Fail> {
     let outcome = Outcome::User(exception);
-    assert_eq!(rt; status_of(&outcome), 1);
-    for (bytes, order) in [(big, Order::Big), (little, Order::Little)] {
-        let Answered::User(told) = told(rt, alloc, &Call::NonExistent, &outcome, bytes, order)?
-        else {
-            return Err("a user exception".into());
-        };
-        assert!(rt; told.as_slice() == id);
-    }
-    Ok(())
+    let copy = outcome.copy(alloc)?;
+    raised_in(rt, alloc, &outcome, id, big, Order::Big)?;
+    raised_in(rt, alloc, &copy, id, little, Order::Little)
 }
 
 #[test]
@@ -189,34 +232,31 @@ fn exceptions_of_types(rt: HostRuntime) -> Result<(), Fail> {
     Ok(())
 }
 
-/// A system exception is told as it is, in either order.
+/// A system exception is told as it is.
 fn raised_by_system(
     rt: &impl Abort,
     alloc: Global,
     kind: SystemKind,
     id: &[u8],
-    big: &[u8],
-    little: &[u8],
+    bytes: &[u8],
+    order: Order,
 ) -> Result<(), Fail> {
     let outcome = Outcome::System {
-        kind: kind.copy(alloc)?,
+        kind,
         minor: 80,
         completion: 1,
     };
-    assert_eq!(rt; status_of(&outcome), 2);
-    for (bytes, order) in [(big, Order::Big), (little, Order::Little)] {
-        let Answered::System {
-            id: told,
-            minor,
-            completion,
-        } = told(rt, alloc, &Call::NonExistent, &outcome, bytes, order)?
-        else {
-            return Err("a system exception".into());
-        };
-        assert!(rt; told.as_slice() == id);
-        assert_eq!(rt; minor, 80);
-        assert_eq!(rt; completion, 1);
-    }
+    written(rt, alloc, &outcome, bytes, order)?;
+    let answer = told(
+        rt,
+        alloc,
+        &Call::NonExistent,
+        status_of(&outcome),
+        bytes,
+        order,
+    )?;
+    let copy = answer.copy(alloc)?;
+    assert!(rt; is_system(&copy, id, 80, 1));
     Ok(())
 }
 
@@ -261,31 +301,33 @@ fn system_exceptions(rt: HostRuntime) -> Result<(), Fail> {
             b" \x00\x00\x00IDL:omg.org/CORBA/NO_MEMORY:1.0\x00P\x00\x00\x00\x01\x00\x00\x00".as_slice(),
         ),
     ] {
-        raised_by_system(&rt, alloc, kind, id, big, little)?;
+        raised_by_system(&rt, alloc, kind, id, big, Order::Big)?;
+        raised_by_system(&rt, alloc, kind, id, little, Order::Little)?;
     }
     Ok(())
 }
 
-/// The result of a call is told as it is, in either order.
+fn result_in(answer: Answered) -> Result<Outcome, Fail> {
+    match answer {
+        Answered::Done(reply) => Ok(Outcome::Done(reply)),
+        _ => Err("a result".into()),
+    }
+}
+
+/// The result of a call is told as it is.
 fn done(
     rt: &impl Abort,
     alloc: Global,
-    call: Call,
-    reply: Reply,
-    big: &[u8],
-    little: &[u8],
+    operation: Operation,
+    outcome: &Outcome,
+    bytes: &[u8],
+    order: Order,
 ) -> Result<(), Fail> {
-    let outcome = Outcome::Done(reply);
-    assert_eq!(rt; status_of(&outcome), 0);
-    for (bytes, order) in [(big, Order::Big), (little, Order::Little)] {
-        let Answered::Done(reply) = told(rt, alloc, &call, &outcome, bytes, order)? else {
-            return Err("a result".into());
-        };
-        let mut writer = Writer::new(alloc, order);
-        write_outcome(alloc, &mut writer, &Outcome::Done(reply))?;
-        assert!(rt; writer.bytes() == bytes);
-    }
-    Ok(())
+    written(rt, alloc, outcome, bytes, order)?;
+    let call = named(alloc, operation)?;
+    let answer = told(rt, alloc, &call, status_of(outcome), bytes, order)?;
+    let again = result_in(answer)?;
+    written(rt, alloc, &again, bytes, order)
 }
 
 fn named(alloc: Global, operation: Operation) -> Result<Call, Fail> {
@@ -326,69 +368,92 @@ fn described(alloc: Global) -> Result<TypeStruct, Fail> {
 }
 
 #[test]
-fn results(rt: HostRuntime) -> Result<(), Fail> {
+fn empty_results(rt: HostRuntime) -> Result<(), Fail> {
     let alloc = rt.alloc();
+    let outcome = Outcome::Done(Reply::Nothing);
     for operation in [
         Operation::RemoveType,
         Operation::MaskType,
         Operation::UnmaskType,
     ] {
-        done(
-            &rt,
-            alloc,
-            named(alloc, operation)?,
-            Reply::Nothing,
-            b"",
-            b"",
-        )?;
+        done(&rt, alloc, operation, &outcome, b"", Order::Big)?;
     }
+    Ok(())
+}
+
+#[test]
+fn truths(rt: HostRuntime) -> Result<(), Fail> {
+    let alloc = rt.alloc();
+    let yes = Outcome::Done(Reply::Truth(true));
+    let no = Outcome::Done(Reply::Truth(false));
+    for operation in [Operation::IsA, Operation::NonExistent] {
+        done(&rt, alloc, operation, &yes, b"\x01", Order::Big)?;
+        done(&rt, alloc, operation, &no, b"\x00", Order::Little)?;
+    }
+    Ok(())
+}
+
+/// The result of a call is told as it is, in either order.
+fn done_both(
+    rt: &impl Abort,
+    alloc: Global,
+    operation: Operation,
+    reply: Reply,
+    big: &[u8],
+    little: &[u8],
+) -> Result<(), Fail> {
+    let outcome = Outcome::Done(reply);
+    done(rt, alloc, operation, &outcome, big, Order::Big)?;
+    done(rt, alloc, operation, &outcome, little, Order::Little)
+}
+
+#[test]
+fn incarnations(rt: HostRuntime) -> Result<(), Fail> {
+    let alloc = rt.alloc();
     for operation in [Operation::AddType, Operation::TypesIncarnation] {
-        let incarnation = IncarnationNumber { high: 1, low: 2 };
-        done(
+        done_both(
             &rt,
             alloc,
-            named(alloc, operation)?,
-            Reply::Incarnation(incarnation),
+            operation,
+            Reply::Incarnation(IncarnationNumber { high: 1, low: 2 }),
             b"\x00\x00\x00\x01\x00\x00\x00\x02",
             b"\x01\x00\x00\x00\x02\x00\x00\x00",
         )?;
     }
+    Ok(())
+}
+
+#[test]
+fn descriptions(rt: HostRuntime) -> Result<(), Fail> {
+    let alloc = rt.alloc();
     for operation in [Operation::DescribeType, Operation::FullyDescribeType] {
-        done(
+        done_both(
             &rt,
             alloc,
-            named(alloc, operation)?,
+            operation,
             Reply::Typed(described(alloc)?),
             b"\x00\x00\x00\x0aIDL:P:1.0\x00\x00\x00\x00\x00\x00\x01\x00\x00\x00\x05Cost\x00\x00\x00\x00\x00\x00\x00\x05\x00\x00\x00\x01\x00\x00\x00\x01\x00\x00\x00\x07Device\x00\x01\x00\x00\x00\x00\x00\x00\x00\x09",
             b"\x0a\x00\x00\x00IDL:P:1.0\x00\x00\x00\x01\x00\x00\x00\x05\x00\x00\x00Cost\x00\x00\x00\x00\x05\x00\x00\x00\x01\x00\x00\x00\x01\x00\x00\x00\x07\x00\x00\x00Device\x00\x01\x00\x00\x00\x00\x09\x00\x00\x00",
         )?;
     }
-    for operation in [Operation::IsA, Operation::NonExistent] {
-        done(
-            &rt,
-            alloc,
-            named(alloc, operation)?,
-            Reply::Truth(true),
-            b"\x01",
-            b"\x01",
-        )?;
-        done(
-            &rt,
-            alloc,
-            named(alloc, operation)?,
-            Reply::Truth(false),
-            b"\x00",
-            b"\x00",
-        )?;
-    }
+    Ok(())
+}
+
+fn two_names(alloc: Global) -> Result<List<Text>, Fail> {
     let mut names = List::new(alloc);
     names.push(text(alloc, b"Device")?)?;
     names.push(text(alloc, b"Printer")?)?;
-    done(
+    Ok(names)
+}
+
+#[test]
+fn names(rt: HostRuntime) -> Result<(), Fail> {
+    let alloc = rt.alloc();
+    done_both(
         &rt,
         alloc,
-        named(alloc, Operation::ListTypes)?,
-        Reply::Names(names),
+        Operation::ListTypes,
+        Reply::Names(two_names(alloc)?),
         b"\x00\x00\x00\x02\x00\x00\x00\x07Device\x00\x00\x00\x00\x00\x08Printer\x00",
         b"\x02\x00\x00\x00\x07\x00\x00\x00Device\x00\x00\x08\x00\x00\x00Printer\x00",
     )
@@ -480,35 +545,33 @@ fn reply_faults(rt: HostRuntime) -> Result<(), Fail> {
     Ok(())
 }
 
-/// A client is told of any exception by its id, and of any numbers.
+/// A client is told of any user exception by its id.
 #[test]
-fn other_exceptions(rt: HostRuntime) -> Result<(), Fail> {
+fn other_users(rt: HostRuntime) -> Result<(), Fail> {
     let alloc = rt.alloc();
     let mut reader = Reader::new(
         b"\xee\xee\xee\xee\xee\x00\x00\x00\x00\x00\x00\x0aIDL:x:1.0\x00\x00\x00\x00\x00\x00\x07unread\x00",
         5,
         Order::Big,
     );
-    let Answered::User(id) = read_outcome(alloc, &Call::NonExistent, 1, &mut reader)? else {
-        return Err("a user exception".into());
-    };
-    assert!(rt; id.as_slice() == b"IDL:x:1.0".as_slice());
+    let answer = read_outcome(alloc, &Call::NonExistent, 1, &mut reader)?;
+    assert!(rt; is_user(&answer, b"IDL:x:1.0"));
     assert_eq!(rt; reader.place(), 22);
-    let mut reader = Reader::new(
+    Ok(())
+}
+
+/// A client is told of any system exception, with any numbers.
+#[test]
+fn other_systems(rt: HostRuntime) -> Result<(), Fail> {
+    let alloc = rt.alloc();
+    let answer = told(
+        &rt,
+        alloc,
+        &Call::NonExistent,
+        2,
         b"\x0a\x00\x00\x00IDL:y:1.0\x00\x00\x00\xff\xff\xff\xff\x07\x00\x00\x00",
-        0,
         Order::Little,
-    );
-    let Answered::System {
-        id,
-        minor,
-        completion,
-    } = read_outcome(alloc, &Call::NonExistent, 2, &mut reader)?
-    else {
-        return Err("a system exception".into());
-    };
-    assert!(rt; id.as_slice() == b"IDL:y:1.0".as_slice());
-    assert_eq!(rt; minor, 4294967295);
-    assert_eq!(rt; completion, 7);
+    )?;
+    assert!(rt; is_system(&answer, b"IDL:y:1.0", 4294967295, 7));
     Ok(())
 }
