@@ -1,0 +1,5 @@
+pub mod Operations
+pub mod Refusals
+pub mod Calls
+pub mod Outcomes
+pub mod Answers
