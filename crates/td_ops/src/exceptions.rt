@@ -72,6 +72,8 @@ pub(crate) fn put_system(
 ) -> Result<(), Memory>
     ensures puts { Puts (a_text (system_id kind) then a_number 4 minor then a_number 4 completion) w.old w.new result }
     ensures fits { length w.old.bytes + length ((a_text (system_id kind) then a_number 4 minor then a_number 4 completion) w.old.order (length w.old.bytes)) ≤ w.old.room → IsOk result }
+    ensures room { w.old.room ≤ w.new.room }
+    ensures small { length w.old.bytes + 100 ≤ w.old.room → IsOk result }
 {
     w.string(system_id(kind))?;
     put_two(w, minor, completion)
@@ -81,6 +83,8 @@ pub(crate) fn put_system(
 pub(crate) fn put_two(w: &mut Writer, first: u32, second: u32) -> Result<(), Memory>
     ensures puts { Puts (a_number 4 first then a_number 4 second) w.old w.new result }
     ensures fits { length w.old.bytes + length ((a_number 4 first then a_number 4 second) w.old.order (length w.old.bytes)) ≤ w.old.room → IsOk result }
+    ensures room { w.old.room ≤ w.new.room }
+    ensures small { length w.old.bytes + 14 ≤ w.old.room → IsOk result }
 {
     w.u32(first)?;
     w.u32(second)

@@ -31,11 +31,14 @@ pub fn status_of(outcome: &Outcome) -> u32
 /// # Errors
 ///
 /// `Memory` for want of memory or of room; the writer is then unchanged. An empty result is never
-/// refused, and a truth value, an incarnation or a system exception only for want of the writer's room.
+/// refused, and a truth value, an incarnation or a system exception only for want of the writer's room,
+/// which doesn't grow less then; 100 bytes always suffice for these.
 pub fn write_outcome(alloc: Global, w: &mut Writer, outcome: &Outcome) -> Result<(), Memory>
     ensures appends { Appends (outcome_piece outcome.now) w.old w.new result }
     ensures empty { outcome.now ≡ Done Nothing → IsOk result }
     ensures fits { IsTrue (is_short outcome.now) → length w.old.bytes + length (outcome_piece outcome.now w.old.order (length w.old.bytes)) ≤ w.old.room → IsOk result }
+    ensures room { IsTrue (is_short outcome.now) → w.old.room ≤ w.new.room }
+    ensures small { IsTrue (is_short outcome.now) → length w.old.bytes + 100 ≤ w.old.room → IsOk result }
 {
     let held = w.len();
     match put_outcome(alloc, w, outcome) {
@@ -52,6 +55,8 @@ fn put_outcome(alloc: Global, w: &mut Writer, outcome: &Outcome) -> Result<(), M
     ensures puts { Puts (outcome_piece outcome.now) w.old w.new result }
     ensures empty { outcome.now ≡ Done Nothing → IsOk result }
     ensures fits { IsTrue (is_short outcome.now) → length w.old.bytes + length (outcome_piece outcome.now w.old.order (length w.old.bytes)) ≤ w.old.room → IsOk result }
+    ensures room { IsTrue (is_short outcome.now) → w.old.room ≤ w.new.room }
+    ensures small { IsTrue (is_short outcome.now) → length w.old.bytes + 100 ≤ w.old.room → IsOk result }
 {
     match outcome {
         Outcome::Done(reply) => put_reply(alloc, w, reply),
@@ -69,6 +74,8 @@ fn put_reply(alloc: Global, w: &mut Writer, reply: &Reply) -> Result<(), Memory>
     ensures puts { Puts (reply_piece reply.now) w.old w.new result }
     ensures empty { reply.now ≡ Nothing → IsOk result }
     ensures fits { IsTrue (is_short (Done reply.now)) → length w.old.bytes + length (reply_piece reply.now w.old.order (length w.old.bytes)) ≤ w.old.room → IsOk result }
+    ensures room { IsTrue (is_short (Done reply.now)) → w.old.room ≤ w.new.room }
+    ensures small { IsTrue (is_short (Done reply.now)) → length w.old.bytes + 100 ≤ w.old.room → IsOk result }
 {
     match reply {
         Reply::Nothing => Ok(()),
