@@ -1,3 +1,5 @@
+-- Trading Object Service, "Exceptions" of the Lookup interface: IllegalConstraint is a text that isn't in the grammar. Which fault it has, and where,
+-- is this profile's.
 -- What a reader answers, in the words of the grammar: the tree of the whole, or the first fault in reading order.
 use Rattle.std.specs.Prelude.{◌≡◌, ℕ, ◌+◌, ◌-◌, nat_lt, if◌then◌else◌, List, [], ◌∷◌, ◌++◌, ◌⊎◌, Result, Ok, Err}
 use Rattle.td_lang.specs.declared.expr.Expr.{Expr}

@@ -1,3 +1,5 @@
+-- Trading Object Service, appendix "OMG Constraint Language BNF", as the reader of this crate goes through it; what it finds is told by the grammar in
+-- `Asked`.
 -- Reading token by token: what was begun, the last on top, and what may come next.
 use Rattle.std.specs.Prelude.{◌<◌, ◌^◌, pos, neg_ℤ, ◌≡◌, Bool, true, false, ℕ, ◌+◌, ◌-◌, nat_lt, if◌then◌else◌, List, [], ◌∷◌, Result, Ok, Err}
 use Rattle.td_lang.specs.declared.expr.Op.{Op}

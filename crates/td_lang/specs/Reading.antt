@@ -1,3 +1,4 @@
+-- Trading Object Service, appendix "OMG Constraint Language BNF", as the reader of this crate goes through it.
 -- Reading a list of tokens, one after another.
 use Rattle.std.specs.Prelude.{List, [], ◌∷◌, Result, Ok, Err}
 use Rattle.td_lang.specs.declared.expr.Expr.{Expr}

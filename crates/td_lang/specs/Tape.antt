@@ -1,3 +1,4 @@
+-- Trading Object Service, appendix "OMG Constraint Language BNF", "Lexical Tokens".
 -- A text's tokens with their places, and how it is read.
 use Rattle.std.specs.Prelude.{◌≡◌, ℕ, zero, suc, ◌+◌, ◌-◌, nat_lt, if◌then◌else◌, List, [], ◌∷◌, length, Result, Ok, Err}
 use Rattle.td_lang.specs.declared.expr.Expr.{Expr}

@@ -17,6 +17,10 @@ pub const LONGEST: usize = 4096;
 ///
 /// Trading Object Service, appendix "OMG Constraint Language BNF".
 ///
+/// Reading doesn't recurse. Dropping and copying a tree go as deep as the tree is high: a text of 4,096
+/// bytes has at most 2,048 operands, and so gives at most some 2,100 levels of a few hundred bytes
+/// each, far less than a thread's stack.
+///
 /// # Errors
 ///
 /// `TooLong` above 4,096 bytes. Otherwise the first fault in reading order: `Float` at a number with a

@@ -1,8 +1,7 @@
 //! Reading token by token: an operator-precedence machine with a stack of its own.
 //!
-//! Nothing here recurses. The stack has at most some seven frames for each open parenthesis. What a
-//! tree's height bounds is dropping and copying: a text of 4,096 bytes gives a tree of at most some
-//! 2,100 levels, and a level takes a frame of a few hundred bytes, which the default stack holds.
+//! Nothing here recurses. The machine's stack has at most eight frames for each of the 64 parentheses
+//! that may be open, and seven more.
 
 ghost use Rattle.std.specs.Prelude.{◌≡◌, ◌+◌, ◌<◌, ◌≤◌, length, reverse, Ok, IfOk};
 ghost use Rattle.td_lang.specs.Machine.{IsSmall, settled, waits, takes_not, step_of, stand, end_of, Gives, refusal, operand, done};
