@@ -1,6 +1,6 @@
 -- Trading Object Service, appendix "OMG Constraint Language BNF", "Lexical Tokens".
 -- A text's tokens with their places, and how it is read.
-use Rattle.std.specs.Prelude.{◌≡◌, ℕ, zero, suc, ◌+◌, ◌-◌, nat_lt, if◌then◌else◌, List, [], ◌∷◌, length, Result, Ok, Err}
+use Rattle.std.specs.Prelude.{◌≡◌, ℕ, zero, suc, ◌+◌, ◌-◌, if◌then◌else◌, List, [], ◌∷◌, Result, Ok, Err}
 use Rattle.td_lang.specs.declared.expr.Expr.{Expr}
 use Rattle.td_lang.specs.declared.token.Token.{Token}
 use Rattle.td_lang.specs.declared.machine.Stop.{Stop}
@@ -8,7 +8,6 @@ use Rattle.td_lang.specs.declared.machine.Stop.TheVariants as stop
 use Rattle.td_lang.specs.declared.fault.LangFault.{LangFault}
 use Rattle.td_lang.specs.declared.fault.LangFault.TheVariants as fault
 use Rattle.td_lang.specs.Machine.{Stand, step, end_of}
-use Rattle.td_lang.specs.Reading.{start}
 use Rattle.td_lang.specs.Lexing.{is_blank, token_at, Taken}
 
 -- the tokens, each with its place, up to the end of the text or to the first bytes that are no token
@@ -43,9 +42,6 @@ abbrev pub read_tape : Stand → Tape → Result Expr LangFault
 read_tape s (Over place) = placed place (end_of s.stack s.state)
 read_tape s (Broken f) = Err f
 read_tape s (Spot place t rest) = placed place (step s t) >>= λ next. read_tape next rest
-
-abbrev pub read_text : List ℕ → Result Expr LangFault
-read_text text = if nat_lt 4096 (length text) then Err fault.TooLong else read_tape start (tape 0 0 text)
 
 -- Where one turn of the reader leads: the rest is read from there, or it is the fault.
 abbrev pub Turns : {X : Type 0} → (X → Result Expr LangFault) → Result X LangFault → Result Expr LangFault → Type 0
