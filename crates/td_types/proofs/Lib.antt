@@ -1,1 +1,3 @@
 pub mod Start
+pub mod Rest
+pub mod Found

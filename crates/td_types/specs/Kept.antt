@@ -3,12 +3,18 @@
 use Rattle.std.specs.Prelude.{◌≡◌, ℕ, List, map}
 use Rattle.std.specs.List.{AllByRecursion}
 use Rattle.td_types.specs.declared.entry.Entry.{Entry}
+use Rattle.td_value.specs.declared.structures.TypeStruct.{TypeStruct}
 use Rattle.td_types.specs.Conforming.{ancestors}
+use Rattle.td_types.specs.Descriptions.{description}
 use Rattle.td_types.specs.Properties.{full_properties}
 use Rattle.td_types.specs.Repository.{Repository, Declared, ServiceType, IsRepository}
 
 abbrev pub kept : Entry → ServiceType
 kept e = record { name = e.name; if_name = e.if_name; props = e.props; supers = e.supers; masked = e.masked; incarnation = e.incarnation }
+
+-- as the type is described in full, by what is kept
+abbrev pub kept_description : Entry → TypeStruct
+kept_description e = record (description (kept e)) { props = e.full; super_types = e.ancestors }
 
 -- the repository of these entries
 abbrev pub repository : List Entry → Declared → ℕ → Repository

@@ -7,3 +7,4 @@ pub mod Kept
 pub mod Modes
 pub mod Properties
 pub mod Repository
+pub mod Sought
