@@ -2,7 +2,9 @@
 #![tactic(auto)]
 
 mod fault;
+mod laws;
 mod reply;
 
 pub use fault::{RepoFault, TypesFault};
+pub use laws::interfaces_conform;
 pub use reply::TypesReply;
