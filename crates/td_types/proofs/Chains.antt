@@ -1,12 +1,12 @@
 -- Chains of declared bases: one exists exactly where one exists that is no longer than the list of
 -- declarations.
-use Rattle.std.proofs.Common.{◌≡◌, ℕ, zero, suc, ◌+◌, ◌≤◌, ◌<◌, Bool, true, false, ◌&&◌, ◌||◌, not, cond, ◌⊎◌, inl, inr, List, [], ◌∷◌, ◌++◌, length, refl, sym, ap, subst, ◌∙◌, arith}
+use Rattle.std.proofs.Common.{◌≡◌, ℕ, zero, suc, ◌≤◌, ◌<◌, Bool, true, ◌&&◌, ◌||◌, cond, ◌⊎◌, inl, inr, List, [], ◌∷◌, length, refl, sym, ap, subst, ◌∙◌, arith}
 use Rattle.std.specs.Prelude.{nat_eq}
 use Rattle.std.proofs.lemmas.List.{nil_from_length}
 use Rattle.std.specs.List.{list_any}
 use Rattle.std.specs.Str.{bytes_eq}
 use Rattle.std.proofs.lemmas.Slice.Eq.{bytes_eq-Decides}
-use Rattle.std.proofs.lemmas.Bool.{false≢true, both_ways, eqb-true, cases_Bool, or_cases, or_left, or_right, and_parts, and_from, cond-true, cond-false}
+use Rattle.std.proofs.lemmas.Bool.{false≢true, both_ways, eqb-true, cases_Bool, or_cases, or_left, or_right, and_parts, and_from}
 use Rattle.td_types.specs.Repository.{Declared, is_among}
 use Rattle.td_types.specs.Interfaces.{some_base, is_base, IsChain, LeadsTo, InterfaceConforms, leads_within, interface_conforms}
 
@@ -146,6 +146,11 @@ pub within-reflexive : (steps : ℕ) (declared : Declared) (id : List ℕ) → l
 unfolding leads_within
 within-reflexive zero declared id = bytes-same id id refl
 within-reflexive (suc steps) declared id = or_left (bytes_eq id id) (some_base declared id (λ next. leads_within steps declared next id)) (bytes-same id id refl)
+
+-- an interface leads to itself
+pub within-equal : (declared : Declared) (first last : List ℕ) → bytes_eq first last ≡ true → leads_within (length declared) declared first last ≡ true
+within-equal declared first last e =
+    subst (λ (id : List ℕ). leads_within (length declared) declared first id ≡ true) (same-bytes first last e) (within-reflexive (length declared) declared first)
 
 -- more declarations lead as far
 within-mono : (steps : ℕ) (few many : Declared) → ((id base : List ℕ) → is_base few id base ≡ true → is_base many id base ≡ true) → (first last : List ℕ) → leads_within steps few first last ≡ true → leads_within steps many first last ≡ true

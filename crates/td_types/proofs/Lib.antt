@@ -1,1 +1,4 @@
 mod Chains
+mod Placing
+mod Tables
+mod Walks

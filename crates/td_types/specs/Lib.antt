@@ -3,6 +3,8 @@ pub mod Calls
 pub mod Conforming
 pub mod Descriptions
 pub mod Interfaces
+pub mod Marking
 pub mod Modes
 pub mod Properties
+pub mod Reaching
 pub mod Repository

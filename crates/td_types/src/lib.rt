@@ -2,9 +2,15 @@
 #![tactic(auto)]
 
 mod fault;
+mod interfaces;
 mod laws;
+mod places;
+mod reaching;
 mod reply;
 
 pub use fault::{RepoFault, TypesFault};
 pub use laws::interfaces_conform;
 pub use reply::TypesReply;
+
+#[cfg(test)]
+mod interface_tests;
