@@ -23,8 +23,8 @@ IsChain declared first (next ∷ ids) last = IsTrue (is_base declared first next
 abbrev pub LeadsTo : Declared → List ℕ → List ℕ → Type 0
 LeadsTo declared first last = (ids : List (List ℕ)) × IsChain declared first ids last
 
--- an interface conforms to another: either is empty, or declared bases lead there, in no step where
--- they are equal
+-- An interface conforms to another where either is empty, or declared bases lead from the one to the
+-- other; where they are equal, the list of that one id does.
 abbrev pub InterfaceConforms : Declared → List ℕ → List ℕ → Type 0
 InterfaceConforms declared sub base = ((sub ≡ []) ⊎ (base ≡ [])) ⊎ LeadsTo declared sub base
 
