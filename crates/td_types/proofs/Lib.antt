@@ -1,4 +1,5 @@
 mod Chains
 mod Placing
+pub mod Start
 mod Tables
 mod Walks

@@ -3,6 +3,7 @@ pub mod Calls
 pub mod Conforming
 pub mod Descriptions
 pub mod Interfaces
+pub mod Kept
 pub mod Marking
 pub mod Modes
 pub mod Properties

@@ -1,16 +1,19 @@
 //! The repository of service types (OMG's Trading Object Service, module CosTradingRepos).
 #![tactic(auto)]
 
+mod entry;
 mod fault;
 mod interfaces;
 mod laws;
 mod places;
 mod reaching;
 mod reply;
+mod types;
 
 pub use fault::{RepoFault, TypesFault};
 pub use laws::interfaces_conform;
 pub use reply::TypesReply;
+pub use types::Types;
 
 #[cfg(test)]
 mod interface_tests;
