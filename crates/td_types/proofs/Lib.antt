@@ -1,3 +1,7 @@
-pub mod Start
-pub mod Rest
+mod Chains
+mod Placing
+mod Tables
+mod Walks
 pub mod Found
+pub mod Rest
+pub mod Start

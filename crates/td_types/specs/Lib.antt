@@ -4,7 +4,9 @@ pub mod Conforming
 pub mod Descriptions
 pub mod Interfaces
 pub mod Kept
+pub mod Marking
 pub mod Modes
 pub mod Properties
+pub mod Reaching
 pub mod Repository
 pub mod Sought

@@ -6,10 +6,17 @@ mod describing;
 mod entry;
 mod fault;
 mod interfaces;
+mod laws;
+mod places;
+mod reaching;
 mod reply;
 mod sought;
 mod types;
 
 pub use fault::{RepoFault, TypesFault};
+pub use laws::interfaces_conform;
 pub use reply::TypesReply;
 pub use types::Types;
+
+#[cfg(test)]
+mod interface_tests;
