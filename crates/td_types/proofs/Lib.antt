@@ -1,7 +1,12 @@
 mod Chains
+pub mod Masks
+pub mod Others
 mod Placing
+pub mod Subtypes
 mod Tables
 mod Walks
 pub mod Found
+pub mod Refusing
+pub mod Removed
 pub mod Rest
 pub mod Start

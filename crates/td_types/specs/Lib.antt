@@ -8,5 +8,6 @@ pub mod Marking
 pub mod Modes
 pub mod Properties
 pub mod Reaching
+pub mod Removing
 pub mod Repository
 pub mod Sought
