@@ -5,3 +5,5 @@ mod Walks
 pub mod Found
 pub mod Rest
 pub mod Start
+pub mod Sets
+pub mod Named

@@ -3,10 +3,12 @@ pub mod Calls
 pub mod Conforming
 pub mod Descriptions
 pub mod Interfaces
+pub mod Judged
 pub mod Kept
 pub mod Marking
 pub mod Modes
 pub mod Properties
 pub mod Reaching
 pub mod Repository
+pub mod Seen
 pub mod Sought

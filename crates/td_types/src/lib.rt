@@ -7,9 +7,11 @@ mod entry;
 mod fault;
 mod interfaces;
 mod laws;
+mod naming;
 mod places;
 mod reaching;
 mod reply;
+mod seen;
 mod sought;
 mod types;
 
