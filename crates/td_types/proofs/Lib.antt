@@ -7,3 +7,5 @@ pub mod Rest
 pub mod Start
 pub mod Sets
 pub mod Named
+pub mod Equal
+pub mod Supers
