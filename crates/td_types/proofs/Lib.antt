@@ -10,3 +10,7 @@ pub mod Refusing
 pub mod Removed
 pub mod Rest
 pub mod Start
+pub mod Sets
+pub mod Named
+pub mod Equal
+pub mod Supers

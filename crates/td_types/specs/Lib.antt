@@ -3,6 +3,7 @@ pub mod Calls
 pub mod Conforming
 pub mod Descriptions
 pub mod Interfaces
+pub mod Judged
 pub mod Kept
 pub mod Marking
 pub mod Modes
@@ -10,4 +11,5 @@ pub mod Properties
 pub mod Reaching
 pub mod Removing
 pub mod Repository
+pub mod Seen
 pub mod Sought

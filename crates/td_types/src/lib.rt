@@ -1,6 +1,7 @@
 //! The repository of service types (OMG's Trading Object Service, module CosTradingRepos).
 #![tactic(auto)]
 
+mod bases;
 mod described;
 mod describing;
 mod entry;
@@ -8,10 +9,12 @@ mod fault;
 mod interfaces;
 mod laws;
 mod listing;
+mod naming;
 mod places;
 mod reaching;
 mod removing;
 mod reply;
+mod seen;
 mod sought;
 mod types;
 
