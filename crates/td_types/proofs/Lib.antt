@@ -14,3 +14,5 @@ pub mod Sets
 pub mod Named
 pub mod Equal
 pub mod Supers
+pub mod Outcomes
+pub mod Rising

@@ -5,6 +5,7 @@ pub mod Descriptions
 pub mod Interfaces
 pub mod Judged
 pub mod Kept
+pub mod Laws
 pub mod Marking
 pub mod Modes
 pub mod Properties
