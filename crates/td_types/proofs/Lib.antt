@@ -16,3 +16,4 @@ pub mod Equal
 pub mod Supers
 pub mod Outcomes
 pub mod Rising
+pub mod Stronger

@@ -1,8 +1,10 @@
 -- What holds of every repository that calls can make (OMG's Trading Object Service, "Service Type Repository").
-use Rattle.std.specs.Prelude.{◌≡◌, ℕ, ◌<◌, ◌≤◌, Bool, false, IsTrue, List, [], ◌∷◌}
-use Rattle.std.specs.List.{AllByRecursion}
+use Rattle.std.specs.Prelude.{◌≡◌, ℕ, ◌<◌, ◌≤◌, Bool, false, ◌&&◌, IsTrue, List, [], ◌∷◌}
+use Rattle.std.specs.List.{list_any, AllByRecursion}
+use Rattle.td_value.specs.declared.structures.PropStruct.{PropStruct}
 use Rattle.td_types.specs.Conforming.{ancestors, conforms}
-use Rattle.td_types.specs.Properties.{full_properties}
+use Rattle.td_types.specs.Modes.{is_at_least}
+use Rattle.td_types.specs.Properties.{is_called, full_properties}
 use Rattle.td_types.specs.Repository.{Repository, ServiceType, IsRepository, has_type}
 use Rattle.td_types.specs.declared.reply.TypesReply.{TypesReply}
 use Rattle.td_types.specs.declared.reply.TypesReply.TheVariants as reply
@@ -43,3 +45,11 @@ pub record IsOldestSubType (r : Repository) (name : List ℕ) (sub : ServiceType
   pub conforming : IsTrue (conforms r.types sub.name name)
   pub other : sub.name ≡ name → ⊥
   pub oldest : AllByRecursion (λ t. (t.name ≡ name → ⊥) → IsTrue (conforms r.types t.name name) → sub.incarnation ≤ t.incarnation) r.types
+
+-- a property of the other's name that demands at least what the other does
+abbrev pub is_as_strong : PropStruct → PropStruct → Bool
+is_as_strong p q = is_called p.name q && is_at_least q.mode p.mode
+
+-- for each of the lower properties there is one of its name that demands at least as much
+abbrev pub AreAsStrong : (props lower : List PropStruct) → Type 0
+AreAsStrong props lower = AllByRecursion (λ p. IsTrue (list_any (is_as_strong p) props)) lower

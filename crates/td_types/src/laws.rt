@@ -6,8 +6,9 @@ ghost use Rattle.td_value.specs.declared.structures.PropStruct.{PropStruct};
 ghost use Rattle.td_types.specs.Calls.{add_type, remove_type, mask_type, unmask_type, list_types, is_listed, sub_type};
 ghost use Rattle.td_types.specs.Conforming.{conforms};
 ghost use Rattle.td_types.specs.Interfaces.{LeadsTo, InterfaceConforms, interface_conforms};
-ghost use Rattle.td_types.specs.Laws.{Rises, Removes, KeepsAllButMasks, IsNewest, IsOldestSubType};
-ghost use Rattle.td_types.specs.Repository.{Declared, Repository, ServiceType, IsRepository, has_type};
+ghost use Rattle.td_types.specs.Laws.{Rises, Removes, KeepsAllButMasks, IsNewest, IsOldestSubType, AreAsStrong};
+ghost use Rattle.td_types.specs.Properties.{full_properties};
+ghost use Rattle.td_types.specs.Repository.{Declared, Repository, ServiceType, IsRepository, has_type, is_among};
 ghost use Rattle.td_types.specs.declared.reply.TypesReply.{TypesReply};
 
 /// The test of conforming interfaces is the relation: declared bases lead from the one to the other,
@@ -49,4 +50,10 @@ pub fn incarnations_are_new()
 /// Types are listed by rising incarnation.
 pub fn listing_rises()
     ensures { (r : Repository) (since : Option ℕ) → IsRepository r → Rises 0 (map (λ t. t.incarnation) (filter (is_listed since) r.types)) }
+{}
+
+/// Each full property of a supertype is among a new type's full properties, with a mode that is at
+/// least the supertype's.
+pub fn supertypes_modes_hold()
+    ensures { (r after : Repository) (name if_name : List ℕ) (props : List PropStruct) (supers : List (List ℕ)) (told : TypesReply) → add_type r name if_name props supers ≡ Ok (told, after) → (super : List ℕ) → IsTrue (is_among super supers) → AreAsStrong (full_properties after.types name) (full_properties r.types super) }
 {}

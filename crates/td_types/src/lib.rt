@@ -21,7 +21,7 @@ mod types;
 pub use fault::{RepoFault, TypesFault};
 pub use laws::{
     incarnations_are_new, interfaces_conform, listing_rises, masks_change_nothing_else,
-    removing_leaves_the_others, the_oldest_sub_type_is_named, types_conform,
+    removing_leaves_the_others, supertypes_modes_hold, the_oldest_sub_type_is_named, types_conform,
 };
 pub use reply::TypesReply;
 pub use types::Types;
