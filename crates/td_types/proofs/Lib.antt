@@ -9,3 +9,5 @@ pub mod Sets
 pub mod Named
 pub mod Equal
 pub mod Supers
+pub mod Redefined
+pub mod Gathered
