@@ -43,9 +43,14 @@ or_assoc false b c = refl
 
 pub join_assoc : (a b c : PropertyMode) → join (join a b) c ≡ join a (join b c)
 join_assoc a b c =
-    rw (mandatory_of (is_mandatory a || is_mandatory b) (is_readonly a || is_readonly b), readonly_of (is_mandatory a || is_mandatory b) (is_readonly a || is_readonly b),
-      mandatory_of (is_mandatory b || is_mandatory c) (is_readonly b || is_readonly c), readonly_of (is_mandatory b || is_mandatory c) (is_readonly b || is_readonly c),
-      or_assoc (is_mandatory a) (is_mandatory b) (is_mandatory c), or_assoc (is_readonly a) (is_readonly b) (is_readonly c)) refl
+    rw (
+      mandatory_of (is_mandatory a || is_mandatory b) (is_readonly a || is_readonly b),
+      readonly_of (is_mandatory a || is_mandatory b) (is_readonly a || is_readonly b),
+      mandatory_of (is_mandatory b || is_mandatory c) (is_readonly b || is_readonly c),
+      readonly_of (is_mandatory b || is_mandatory c) (is_readonly b || is_readonly c),
+      or_assoc (is_mandatory a) (is_mandatory b) (is_mandatory c),
+      or_assoc (is_readonly a) (is_readonly b) (is_readonly c),
+    ) refl
 
 pub join_first : (a : PropertyMode) → join Normal a ≡ a
 join_first Normal = refl
@@ -88,7 +93,7 @@ pub modes_on : (bases : List (Bor Entry)) (i : ℕ) (b : Bor Entry) (name : List
     join m (joined_mode (inherited (entries_of (drop i bases))) name) ≡ total → join (join m (joined_mode b.now.full name)) (joined_mode (inherited (entries_of (drop (i + 1) bases))) name) ≡ total
 modes_on bases i b name m total lt is h =
     let one : join m (joined_mode (inherited (entries_of (drop i bases))) name) ≡ join (join m (joined_mode b.now.full name)) (joined_mode (inherited (entries_of (drop (i + 1) bases))) name) =
-      rw (rest bases i b lt is, joined-append b.now.full (inherited (entries_of (drop (i + 1) bases))) name) (sym (join_assoc m (joined_mode b.now.full name) (joined_mode (inherited (entries_of (drop (i + 1) bases))) name))) in
+    rw (rest bases i b lt is, joined-append b.now.full (inherited (entries_of (drop (i + 1) bases))) name) (sym (join_assoc m (joined_mode b.now.full name) (joined_mode (inherited (entries_of (drop (i + 1) bases))) name))) in
     sym one ∙ h
 
 -- ---- newcomers
@@ -100,7 +105,7 @@ pub newcomers_same : (a b ps : List PropStruct) → ((name : List ℕ) → has_p
 newcomers_same a b [] h = refl
 newcomers_same a b (p ∷ ps) h =
     cond_both (has_property a p.name) (has_property b p.name) (newcomers a ps) (p ∷ newcomers (p ∷ a) ps) (newcomers b ps) (p ∷ newcomers (p ∷ b) ps) (h p.name) (newcomers_same a b ps h)
-      (ap (λ (qs : List PropStruct). p ∷ qs) (newcomers_same (p ∷ a) (p ∷ b) ps (λ name. ap (λ (x : Bool). is_called name p || x) (h name))))
+    (ap (λ (qs : List PropStruct). p ∷ qs) (newcomers_same (p ∷ a) (p ∷ b) ps (λ name. ap (λ (x : Bool). is_called name p || x) (h name))))
 
 turned : (a b : Bool) → (a || (b || false)) ≡ (b || a)
 turned true true = refl
@@ -158,5 +163,30 @@ pub bases_on : (bases : List (Bor Entry)) (i : ℕ) (b : Bor Entry) (met new las
     once met (names_above (entries_of (drop i bases))) ≡ total → once last (names_above (entries_of (drop (i + 1) bases))) ≡ total
 bases_on bases i b met new last total lt is e k h =
     let one : once met (names_above (entries_of (drop i bases))) ≡ once (once (add_once met b.now.name) b.now.ancestors) (names_above (entries_of (drop (i + 1) bases))) =
-      rw (rest bases i b lt is) (once-append (add_once met b.now.name) b.now.ancestors (names_above (entries_of (drop (i + 1) bases)))) in
+    rw (rest bases i b lt is) (once-append (add_once met b.now.name) b.now.ancestors (names_above (entries_of (drop (i + 1) bases)))) in
     rw (k, e) (sym one ∙ h)
+
+-- ---- supertype by supertype
+
+abbrev failed : TypesFault → Result (Unit {0}) TypesFault
+failed t = Err t
+
+pub fails : (inh old new further later was now far rest : List PropStruct) (t : TypesFault) → extended inh old further ≡ extended inh was far → IsMoreBy inh old new further later (failed t) → IsMoreBy inh was now far rest (failed t)
+fails inh old new further later was now far rest (User f) e h = absurd h
+fails inh old new further later was now far rest Full e h = rw (← e) h
+fails inh old new further later was now far rest Memory e h = tt
+
+abbrev refused : TypesFault → Result (List PropStruct) TypesFault
+refused t = Err t
+
+pub fails_all : (inh old new further later total : List PropStruct) (t : TypesFault) → extended inh old further ≡ total → IsMoreBy inh old new further later (failed t) → IsMore total (refused t)
+fails_all inh old new further later total (User f) e h = absurd h
+fails_all inh old new further later total Full e h = rw (← e) h
+fails_all inh old new further later total Memory e h = tt
+
+pub one_of : (inh own props later : List PropStruct) (i : ℕ) (p : PropStruct) → i < length props → p ≡ get_or props i p → extended inh own (p ∷ (drop (i + 1) props ++ later)) ≡ extended inh own (drop i props ++ later)
+one_of inh own props later i p lt is = rw (rest props i p lt is) refl
+
+pub base_of : (inh own : List PropStruct) (bases : List (Bor Entry)) (i : ℕ) (b : Bor Entry) → i < length bases → b ≡ get_or bases i b →
+    extended inh own (b.now.full ++ inherited (entries_of (drop (i + 1) bases))) ≡ extended inh own (inherited (entries_of (drop i bases)))
+base_of inh own bases i b lt is = rw (rest bases i b lt is) refl

@@ -66,7 +66,7 @@ pub put_there : (old new : Firsts) (key : Bor (List ℕ)) (name : List ℕ) (v :
 put_there old new key name v same h updated other =
     let q : Bor (List ℕ) = record key { now = other } in
     let found : lookup (λ k. bytes_eq other k.now) new.entries ≡ cond (bytes_eq name other) (Some v) (lookup (λ k. bytes_eq other k.now) old.entries) =
-      sym (same_find q new.entries) ∙ (updated q ∙ (rw (is_eq-slice_cmp key.now other, same, same_find q old.entries) refl)) in
+    sym (same_find q new.entries) ∙ (updated q ∙ (rw (is_eq-slice_cmp key.now other, same, same_find q old.entries) refl)) in
     ap (option_map stated) found ∙ put_when (bytes_eq name other) (lookup (λ k. bytes_eq other k.now) old.entries) v (λ e. ap (λ (n : List ℕ). first_at old n) (sym (bytes_same name other e)) ∙ sym h)
 
 pub follows : (old new : Firsts) (earlier : List Definition) (d : Definition) → AreFirsts old earlier →
@@ -104,7 +104,7 @@ pub goes_on : (earlier : List Definition) (type : List ℕ) (props : List PropSt
     redefinition (earlier ++ definitions type false (take (i + 1) props)) (definitions type false (drop (i + 1) props)) ≡ total
 goes_on earlier type props i p total lt is so_far h =
     let one : redefinition (earlier ++ definitions type false (take i props)) (definitions type false (drop i props))
-        ≡ redefinition ((earlier ++ definitions type false (take i props)) ++ record { type = type; property = p; own = false } ∷ []) (definitions type false (drop (i + 1) props)) = rw (rest props i p lt is, h) refl in
+    ≡ redefinition ((earlier ++ definitions type false (take i props)) ++ record { type = type; property = p; own = false } ∷ []) (definitions type false (drop (i + 1) props)) = rw (rest props i p lt is, h) refl in
     let two : (earlier ++ definitions type false (take i props)) ++ record { type = type; property = p; own = false } ∷ [] ≡ earlier ++ definitions type false (take (i + 1) props) = append_assoc earlier (definitions type false (take i props)) (record { type = type; property = p; own = false } ∷ []) ∙ ap (λ (ds : List Definition). earlier ++ ds) (sym (one_more type false props i p lt is)) in
     ap (λ (ds : List Definition). redefinition ds (definitions type false (drop (i + 1) props))) (sym two) ∙ (sym one ∙ so_far)
 
@@ -133,7 +133,7 @@ pub redefinition-append : (earlier xs ys : List Definition) → redefinition ear
 redefinition-append earlier [] ys = rw (append-nil earlier) refl
 redefinition-append earlier (x ∷ xs) ys =
     rw (redefinition-append (earlier ++ x ∷ []) xs ys, append_assoc earlier (x ∷ []) xs)
-      (sym (or_else_assoc (conflict (earlier_of earlier x.property.name) x) (redefinition (earlier ++ x ∷ []) xs) (redefinition (earlier ++ x ∷ xs) ys)))
+    (sym (or_else_assoc (conflict (earlier_of earlier x.property.name) x) (redefinition (earlier ++ x ∷ []) xs) (redefinition (earlier ++ x ∷ xs) ys)))
 
 flat_map-append : {A B : Type 0} (f : A → List B) (xs ys : List A) → flat_map f (xs ++ ys) ≡ flat_map f xs ++ flat_map f ys
 flat_map-append f [] ys = refl
@@ -151,7 +151,7 @@ pub base_stops : (own : List Definition) (bases : List (Bor Entry)) (i : ℕ) (b
     redefinition (own ++ inherited_from (entries_of (take i bases))) (definitions b.now.name false b.now.full) ≡ Some f → total ≡ Some f
 base_stops own bases i b f total lt is so_far h =
     let one : redefinition (own ++ inherited_from (entries_of (take i bases))) (inherited_from (entries_of (drop i bases))) ≡ Some f =
-      rw (rest bases i b lt is, redefinition-append (own ++ inherited_from (entries_of (take i bases))) (definitions b.now.name false b.now.full) (inherited_from (entries_of (drop (i + 1) bases))), h) refl in
+    rw (rest bases i b lt is, redefinition-append (own ++ inherited_from (entries_of (take i bases))) (definitions b.now.name false b.now.full) (inherited_from (entries_of (drop (i + 1) bases))), h) refl in
     sym so_far ∙ one
 
 pub base_goes_on : (own : List Definition) (bases : List (Bor Entry)) (i : ℕ) (b : Bor Entry) (total : Option RepoFault) → i < length bases → b ≡ get_or bases i b →
@@ -160,8 +160,8 @@ pub base_goes_on : (own : List Definition) (bases : List (Bor Entry)) (i : ℕ) 
     redefinition (own ++ inherited_from (entries_of (take (i + 1) bases))) (inherited_from (entries_of (drop (i + 1) bases))) ≡ total
 base_goes_on own bases i b total lt is so_far h =
     let one : redefinition (own ++ inherited_from (entries_of (take i bases))) (inherited_from (entries_of (drop i bases)))
-        ≡ redefinition ((own ++ inherited_from (entries_of (take i bases))) ++ definitions b.now.name false b.now.full) (inherited_from (entries_of (drop (i + 1) bases))) =
-      rw (rest bases i b lt is, redefinition-append (own ++ inherited_from (entries_of (take i bases))) (definitions b.now.name false b.now.full) (inherited_from (entries_of (drop (i + 1) bases))), h) refl in
+    ≡ redefinition ((own ++ inherited_from (entries_of (take i bases))) ++ definitions b.now.name false b.now.full) (inherited_from (entries_of (drop (i + 1) bases))) =
+    rw (rest bases i b lt is, redefinition-append (own ++ inherited_from (entries_of (take i bases))) (definitions b.now.name false b.now.full) (inherited_from (entries_of (drop (i + 1) bases))), h) refl in
     let two : (own ++ inherited_from (entries_of (take i bases))) ++ definitions b.now.name false b.now.full ≡ own ++ inherited_from (entries_of (take (i + 1) bases)) = append_assoc own (inherited_from (entries_of (take i bases))) (definitions b.now.name false b.now.full) ∙ ap (λ (ds : List Definition). own ++ ds) (sym (base_more bases i b lt is)) in
     ap (λ (ds : List Definition). redefinition ds (inherited_from (entries_of (drop (i + 1) bases)))) (sym two) ∙ (sym one ∙ so_far)
 

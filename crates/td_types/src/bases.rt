@@ -31,9 +31,9 @@ pub(crate) fn bases_of<'a>(
     for base_name in supers {
         let base = sought(alloc, entries, base_name)?;
         if !see(&mut seen, base_name.as_slice())? {
-            return Err(TypesFault::User(RepoFault::DuplicateServiceTypeName(
-                base_name.copy(alloc)?,
-            )));
+            return Err(TypesFault::User(RepoFault::DuplicateServiceTypeName(base_name.copy(
+                alloc,
+            )?)));
         }
         if !interfaces.conforms(if_name.as_slice(), base.if_name.as_slice()) {
             return Err(TypesFault::User(mismatch(alloc, base_name, base, name, if_name)?));

@@ -1,6 +1,6 @@
 //! What a new type has by its supertypes.
 
-ghost use Rattle.std.specs.Prelude.{◌≡◌, ◌<◌, ◌≤◌, ℕ, List, [], ◌∷◌, ◌++◌, length, map, flat_map, IfOk, OnOk, MatchResult};
+ghost use Rattle.std.specs.Prelude.{◌≡◌, ◌<◌, ◌≤◌, ℕ, List as Row, [], ◌∷◌, ◌++◌, length, map, flat_map, IfOk, OnOk, MatchResult};
 ghost use Rattle.td_types.specs.Adding.{most_properties};
 ghost use Rattle.td_types.specs.Conforming.{once, add_once};
 ghost use Rattle.td_types.specs.Inheriting.{extended, IsMore, IsMoreBy};
@@ -52,7 +52,7 @@ fn extend(
     base: &Entry,
 ) -> Result<(), TypesFault>
     requires { length full.old ≤ most_properties }
-    ensures { (later : List a_property) → IsMoreBy (inherited (map (λ b. b.now) bases.now)) full.old full.new (base.now.full ++ later) later result }
+    ensures { (later : Row a_property) → IsMoreBy (inherited (map (λ b. b.now) bases.now)) full.old full.new (base.now.full ++ later) later result }
 {
     for property in base.full.as_slice() {
         extend_by_one(alloc, full, bases, property)?;
@@ -68,7 +68,7 @@ fn extend_by_one(
     property: &PropStruct,
 ) -> Result<(), TypesFault>
     requires { length full.old ≤ most_properties }
-    ensures { (later : List a_property) → IsMoreBy (inherited (map (λ b. b.now) bases.now)) full.old full.new (property.now ∷ later) later result }
+    ensures { (later : Row a_property) → IsMoreBy (inherited (map (λ b. b.now) bases.now)) full.old full.new (property.now ∷ later) later result }
 {
     if has_property(full.as_slice(), property.name.as_slice()) {
         return Ok(());
@@ -81,7 +81,11 @@ fn extend_by_one(
 }
 
 /// The property with the mode that all supertypes together demand.
-fn strengthened(alloc: Global, bases: &[&Entry], property: &PropStruct) -> Result<PropStruct, Memory>
+fn strengthened(
+    alloc: Global,
+    bases: &[&Entry],
+    property: &PropStruct,
+) -> Result<PropStruct, Memory>
     ensures { IfOk result (λ p. p ≡ strengthened (inherited (map (λ b. b.now) bases.now)) property.now) }
 {
     Ok(PropStruct {

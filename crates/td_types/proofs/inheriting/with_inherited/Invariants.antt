@@ -11,5 +11,5 @@ invariant-loop-base l =
     record {
       few : length l.full ≤ most_properties;
       so_far : extended (inherited (map (λ (b : Bor Entry). b.now) l.bases)) l.full (inherited (map (λ (b : Bor Entry). b.now) (drop l.base-index l.bases)))
-        ≡ with_inherited l.props (inherited (map (λ (b : Bor Entry). b.now) l.bases));
+          ≡ with_inherited l.props (inherited (map (λ (b : Bor Entry). b.now) l.bases));
     }
