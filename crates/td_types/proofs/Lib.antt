@@ -17,3 +17,5 @@ pub mod Supers
 pub mod Outcomes
 pub mod Rising
 pub mod Stronger
+pub mod Redefined
+pub mod Gathered

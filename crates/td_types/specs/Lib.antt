@@ -2,6 +2,8 @@ pub mod Adding
 pub mod Calls
 pub mod Conforming
 pub mod Descriptions
+pub mod Firsts
+pub mod Inheriting
 pub mod Interfaces
 pub mod Judged
 pub mod Kept
