@@ -5,7 +5,6 @@ ghost use Rattle.td_types.specs.declared.fault.TypesFault.TheVariants.{Memory as
 
 use td_cdr::{Memory, Text};
 use td_value::PropStruct;
-use thiserror::Error;
 
 /// An exception of the type repository, with its members (interface
 /// CosTradingRepos::ServiceTypeRepository, and the exceptions of CosTrading that it raises).
@@ -38,7 +37,10 @@ pub enum RepoFault {
         definition_2: PropStruct,
     },
     /// The type has a subtype.
-    HasSubTypes { the_type: Text, sub_type: Text },
+    HasSubTypes {
+        the_type: Text,
+        sub_type: Text,
+    },
     /// The type is masked.
     AlreadyMasked(Text),
     /// The type isn't masked.
@@ -46,15 +48,12 @@ pub enum RepoFault {
 }
 
 /// Why a call of the repository is refused.
-#[derive(Error, Drop)]
+#[derive(Drop)]
 pub enum TypesFault {
-    #[error("the repository raises an exception")]
     User(RepoFault),
     /// A limit on types would be passed.
-    #[error("a limit on service types is reached")]
     Full,
     /// Want of memory.
-    #[error("there is no memory left")]
     Memory,
 }
 

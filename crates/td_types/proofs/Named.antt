@@ -1,0 +1,23 @@
+-- Names of types and of properties.
+use Rattle.std.proofs.Common.{◌≡◌, ℕ, ◌+◌, ◌<◌, Bool, true, false, ◌||◌, not, cond, List, [], ◌∷◌, ◌++◌, length, drop, take, get_or, map, reverse, refl, sym, ap, ◌∙◌, Option, None, Some}
+use Rattle.std.specs.List.{list_any}
+use Rattle.std.specs.Option.{is_some}
+use Rattle.std.specs.Str.{bytes_eq}
+use Rattle.td_types.specs.Kept.{kept}
+use Rattle.td_types.specs.Repository.{has_type, is_among}
+use Rattle.td_types.specs.Sought.{entry_named}
+use Rattle.td_types.specs.declared.entry.Entry.{Entry}
+
+found_or : (e : Entry) (b : Bool) (found : Option Entry) (any : Bool) → any ≡ is_some found → (b || any) ≡ is_some (cond b (Some e) found)
+found_or e true found any h = refl
+found_or e false found any h = h
+
+pub is_found : (es : List Entry) (name : List ℕ) → has_type (map kept es) name ≡ is_some (entry_named es name)
+is_found [] name = refl
+is_found (e ∷ es) name = found_or e (bytes_eq e.name name) (entry_named es name) _ (is_found es name)
+
+pub no_type : (es : List Entry) (name : List ℕ) → is_some (entry_named es name) ≡ false → has_type (map kept es) name ≡ false
+no_type es name h = is_found es name ∙ h
+
+pub some_type : (es : List Entry) (name : List ℕ) → is_some (entry_named es name) ≡ true → has_type (map kept es) name ≡ true
+some_type es name h = is_found es name ∙ h

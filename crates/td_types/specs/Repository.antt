@@ -1,0 +1,63 @@
+-- The repository of service types as a plain value (OMG's Trading Object Service, "Service Type Repository").
+use Rattle.std.specs.Prelude.{ℕ, ◌<◌, ◌≤◌, ◌%◌, ◌/◌, ◌^◌, Bool, IsTrue, IsFalse, List, [], ◌∷◌, reverse, find, All, Option}
+use Rattle.std.specs.List.{list_any}
+use Rattle.std.specs.Str.{bytes_eq}
+use Rattle.td_value.specs.declared.structures.PropStruct.{PropStruct}
+use Rattle.td_value.specs.declared.structures.IncarnationNumber.{IncarnationNumber}
+
+-- a service type as it was added, masked or not, with the number that it got then
+pub record ServiceType : Type 0 where
+  pub name : List ℕ
+  pub if_name : List ℕ
+  pub props : List PropStruct
+  pub supers : List (List ℕ)
+  pub masked : Bool
+  pub incarnation : ℕ
+
+-- interfaces by their ids, each with its declared bases
+abbrev pub Declared : Type 0
+Declared = List (List ℕ × List (List ℕ))
+
+-- the types in the order of adding, the declared interfaces, and the last incarnation given, 0 before the first
+pub record Repository : Type 0 where
+  pub types : List ServiceType
+  pub interfaces : Declared
+  pub last : ℕ
+
+-- ---- names
+
+abbrev pub is_named : List ℕ → ServiceType → Bool
+is_named name t = bytes_eq t.name name
+
+-- the type of a name
+abbrev pub type_named : List ServiceType → List ℕ → Option ServiceType
+type_named types name = find (is_named name) types
+
+abbrev pub has_type : List ServiceType → List ℕ → Bool
+has_type types name = list_any (is_named name) types
+
+-- a name is among these
+abbrev pub is_among : List ℕ → List (List ℕ) → Bool
+is_among name names = list_any (bytes_eq name) names
+
+-- ---- incarnations
+
+-- a number as the two halves of an IncarnationNumber
+abbrev pub halves : ℕ → IncarnationNumber
+halves n = record { high = n / 2 ^ 32; low = n % 2 ^ 32 }
+
+-- ---- repositories that calls can make
+
+-- the greatest incarnation of types that are listed from the youngest on
+abbrev pub top : List ServiceType → ℕ
+top [] = 0
+top (t ∷ older) = t.incarnation
+
+-- Listed from the youngest on, each type has a name and an incarnation of its own, and its supertypes are older.
+pub data Founded : List ServiceType → Type 0 where
+  none : Founded []
+  more : (t : ServiceType) (older : List ServiceType) → IsFalse (has_type older t.name) → All (λ s. IsTrue (has_type older s)) t.supers → top older < t.incarnation → Founded older → Founded (t ∷ older)
+
+pub record IsRepository (r : Repository) : Type 0 where
+  pub founded : Founded (reverse r.types)
+  pub counted : top (reverse r.types) ≤ r.last

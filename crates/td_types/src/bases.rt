@@ -1,0 +1,62 @@
+//! The supertypes of a new type.
+
+ghost use Rattle.std.specs.Prelude.{◌≡◌, ℕ, [], map, IfOk};
+ghost use Rattle.td_types.specs.Adding.{supers_fault};
+ghost use Rattle.td_types.specs.Judged.{Judges, AreBases};
+ghost use Rattle.td_types.specs.Kept.{repository};
+ghost use Rattle.td_types.specs.declared.fault.RepoFault.TheVariants as fault;
+
+use crate::entry::Entry;
+use crate::fault::{RepoFault, TypesFault};
+use crate::interfaces::Interfaces;
+use crate::seen::{nothing_seen, see};
+use crate::sought::sought;
+use std::alloc::Global;
+use td_cdr::{List, Memory, Text, Twin};
+
+/// The entries of the supertypes. Refuses the first that no type has, that stands before, or to whose
+/// interface the new type's doesn't conform.
+pub(crate) fn bases_of<'a>(
+    alloc: Global,
+    interfaces: &Interfaces,
+    entries: &'a [Entry],
+    name: &Text,
+    if_name: &Text,
+    supers: &[Text],
+) -> Result<List<&'a Entry>, TypesFault>
+    ensures { Judges (supers_fault (repository entries.now interfaces.now 0) name.now if_name.now [] supers.now) (λ bases. AreBases entries.now supers.now (map (λ b. b.now) bases)) result }
+{
+    let mut bases = List::new(alloc);
+    let mut seen = nothing_seen(alloc);
+    for base_name in supers {
+        let base = sought(alloc, entries, base_name)?;
+        if !see(&mut seen, base_name.as_slice())? {
+            return Err(TypesFault::User(RepoFault::DuplicateServiceTypeName(base_name.copy(
+                alloc,
+            )?)));
+        }
+        if !interfaces.conforms(if_name.as_slice(), base.if_name.as_slice()) {
+            return Err(TypesFault::User(mismatch(alloc, base_name, base, name, if_name)?));
+        }
+        bases.push(base)?;
+    }
+    Ok(bases)
+}
+
+/// The new type's interface doesn't conform to that of this supertype.
+fn mismatch(
+    alloc: Global,
+    base_name: &Text,
+    base: &Entry,
+    name: &Text,
+    if_name: &Text,
+) -> Result<RepoFault, Memory>
+    ensures { IfOk result (λ f. f ≡ fault.InterfaceTypeMismatch base_name.now base.now.if_name name.now if_name.now) }
+{
+    Ok(RepoFault::InterfaceTypeMismatch {
+        base_service: base_name.copy(alloc)?,
+        base_if: base.if_name.copy(alloc)?,
+        derived_service: name.copy(alloc)?,
+        derived_if: if_name.copy(alloc)?,
+    })
+}

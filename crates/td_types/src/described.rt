@@ -1,0 +1,55 @@
+//! A type as the repository describes it.
+
+ghost use Rattle.std.specs.Prelude.{◌≡◌, IfOk};
+ghost use Rattle.td_types.specs.Descriptions.{description};
+ghost use Rattle.td_types.specs.Kept.{kept, kept_description};
+ghost use Rattle.td_types.specs.Repository.{halves};
+
+use crate::entry::Entry;
+use std::alloc::Global;
+use td_cdr::{Memory, Twin};
+use td_value::{IncarnationNumber, TypeStruct};
+
+/// A number as the two halves of an IncarnationNumber.
+pub(crate) fn halves(number: u64) -> IncarnationNumber
+    ensures { result ≡ halves number }
+{
+    IncarnationNumber {
+        high: (number / 4294967296) as u32,
+        low: (number % 4294967296) as u32,
+    }
+}
+
+/// The type with its own properties and the supertypes that it lists.
+///
+/// # Errors
+///
+/// `Memory` for want of memory alone.
+pub(crate) fn description(alloc: Global, entry: &Entry) -> Result<TypeStruct, Memory>
+    ensures { IfOk result (λ d. d ≡ description (kept entry.now)) }
+{
+    Ok(TypeStruct {
+        if_name: entry.if_name.copy(alloc)?,
+        props: entry.props.copy(alloc)?,
+        super_types: entry.supers.copy(alloc)?,
+        masked: entry.masked,
+        incarnation: halves(entry.incarnation),
+    })
+}
+
+/// The type with all its properties and all its supertypes.
+///
+/// # Errors
+///
+/// `Memory` for want of memory alone.
+pub(crate) fn kept_description(alloc: Global, entry: &Entry) -> Result<TypeStruct, Memory>
+    ensures { IfOk result (λ d. d ≡ kept_description entry.now) }
+{
+    Ok(TypeStruct {
+        if_name: entry.if_name.copy(alloc)?,
+        props: entry.full.copy(alloc)?,
+        super_types: entry.ancestors.copy(alloc)?,
+        masked: entry.masked,
+        incarnation: halves(entry.incarnation),
+    })
+}

@@ -1,0 +1,142 @@
+//! Properties that are defined again.
+
+ghost use Rattle.std.specs.Prelude.{◌≡◌, ◌&&◌, ◌||◌, not, ℕ, List, [], ◌∷◌, ◌++◌, true, false, Some, None, map, cond, IfOk, OnOk};
+ghost use Rattle.std.specs.Option.{option_map, option_or};
+ghost use Rattle.std.specs.Str.{bytes_eq};
+ghost use Rattle.td_types.specs.Adding.{Definition, definitions, conflict, earlier_of, redefinition, agree};
+ghost use Rattle.td_types.specs.Firsts.{stated, first_at, AreFirsts};
+ghost use Rattle.td_types.specs.Judged.{Judges, inherited_from};
+ghost use Rattle.td_types.specs.Modes.{is_at_least};
+ghost use Rattle.td_types.specs.declared.fault.RepoFault.TheVariants as fault;
+
+use crate::entry::Entry;
+use crate::fault::{RepoFault, TypesFault};
+use crate::modes::is_at_least;
+use std::alloc::Global;
+use std::collections::BTreeMap;
+use td_cdr::{Memory, Text, Twin};
+use td_value::{PropStruct, same_type};
+
+/// A property's definition, the type that gives it, and whether that is the new type.
+#[derive(Clone, Copy)]
+pub(crate) struct Given<'a> {
+    type_name: &'a Text,
+    property: &'a PropStruct,
+    own: bool,
+}
+
+/// The first of the new type's and its supertypes' definitions, in order, that conflicts with the
+/// first of its name is refused.
+pub(crate) fn check_redefinitions(
+    alloc: Global,
+    name: &Text,
+    props: &[PropStruct],
+    bases: &[&Entry],
+) -> Result<(), TypesFault>
+    ensures { Judges (redefinition (definitions name.now true props.now) (inherited_from (map (λ b. b.now) bases.now))) (λ _. Unit {0}) result }
+{
+    let mut firsts = own_definitions(alloc, name, props)?;
+    for base in bases {
+        check_base(alloc, &mut firsts, base)?;
+    }
+    Ok(())
+}
+
+/// The new type's own definitions.
+fn own_definitions<'a>(
+    alloc: Global,
+    name: &'a Text,
+    props: &'a [PropStruct],
+) -> Result<BTreeMap<&'a [u8], Given<'a>>, Memory>
+    ensures { IfOk result (λ firsts. AreFirsts firsts (definitions name.now true props.now)) }
+{
+    let mut firsts = BTreeMap::new(alloc);
+    for property in props {
+        let given = Given {
+            type_name: name,
+            property,
+            own: true,
+        };
+        let _earlier = first(&mut firsts, given)?;
+    }
+    Ok(firsts)
+}
+
+/// A supertype's definitions, after earlier ones.
+fn check_base<'a>(
+    alloc: Global,
+    firsts: &mut BTreeMap<&'a [u8], Given<'a>>,
+    base: &'a Entry,
+) -> Result<(), TypesFault>
+    ensures { (earlier : List Definition) → AreFirsts firsts.old earlier → Judges (redefinition earlier (definitions base.now.name false base.now.full)) (λ _. AreFirsts firsts.new (earlier ++ definitions base.now.name false base.now.full)) result }
+{
+    for property in base.full.as_slice() {
+        let given = Given {
+            type_name: &base.name,
+            property,
+            own: false,
+        };
+        check_definition(alloc, firsts, given)?;
+    }
+    Ok(())
+}
+
+/// One definition, after earlier ones.
+fn check_definition<'a>(
+    alloc: Global,
+    firsts: &mut BTreeMap<&'a [u8], Given<'a>>,
+    given: Given<'a>,
+) -> Result<(), TypesFault>
+    ensures { (earlier : List Definition) → AreFirsts firsts.old earlier → Judges (conflict (earlier_of earlier given.entry.property.now.name) (stated given.entry)) (λ _. AreFirsts firsts.new (earlier ++ stated given.entry ∷ [])) result }
+{
+    match first(firsts, given)? {
+        None => Ok(()),
+        Some(earlier) => check_agreement(alloc, earlier, given),
+    }
+}
+
+/// Refuses a definition that doesn't agree with the first of its name.
+fn check_agreement(alloc: Global, earlier: Given<'_>, given: Given<'_>) -> Result<(), TypesFault>
+    ensures { Judges (conflict (Some (stated earlier.entry)) (stated given.entry)) (λ _. Unit {0}) result }
+{
+    if agree(earlier, given.property) {
+        Ok(())
+    } else {
+        Err(TypesFault::User(RepoFault::ValueTypeRedefinition {
+            type_1: earlier.type_name.copy(alloc)?,
+            definition_1: earlier.property.copy(alloc)?,
+            type_2: given.type_name.copy(alloc)?,
+            definition_2: given.property.copy(alloc)?,
+        }))
+    }
+}
+
+/// Whether a property agrees with the first definition of its name.
+fn agree(earlier: Given<'_>, property: &PropStruct) -> bool
+    ensures { result ≡ agree (stated earlier.entry) property.now }
+{
+    same_type(&earlier.property.value_type, &property.value_type)
+        && (!earlier.own || is_at_least(earlier.property.mode, property.mode))
+}
+
+/// The first definition of the name, if there is one; otherwise this becomes the first.
+///
+/// # Errors
+///
+/// `Memory` for want of memory alone.
+fn first<'a>(
+    firsts: &mut BTreeMap<&'a [u8], Given<'a>>,
+    given: Given<'a>,
+) -> Result<Option<Given<'a>>, Memory>
+    ensures earlier { IfOk result (λ e. option_map stated e ≡ first_at firsts.old given.entry.property.now.name) }
+    ensures kept { OnOk result ((name : List ℕ) → first_at firsts.new name ≡ option_or (first_at firsts.old name) (cond (bytes_eq given.entry.property.now.name name) (Some (stated given.entry)) None)) }
+{
+    let name = given.property.name.as_slice();
+    match firsts.get(name) {
+        Some(earlier) => Ok(Some(*earlier)),
+        None => {
+            firsts.insert(name, given)?;
+            Ok(None)
+        }
+    }
+}
