@@ -69,27 +69,28 @@ all_behind P xs (y ∷ ys) zs e h = all_behind P (ys ++ zs) ys zs refl (All-rest
 -- ---- what stands in front of what is left
 
 -- nothing, or a message that is to be answered
-abbrev Stands : FirstStore → List ℕ → Type 0
-Stands store s = (s ≡ []) ⊎ ((m : List ℕ) × Front message_limit s m × IsAnswered store m)
+abbrev Stands : List ℕ → Type 0
+Stands s = (s ≡ []) ⊎ ((m : List ℕ) × Front message_limit s m × IsAnswered m)
 
-stands : (store : FirstStore) (s : List ℕ) (more : List (List ℕ)) → Fronts message_limit s more [] → All (IsAnswered store) more → Stands store s
-stands store s [] f all = inl f
-stands store s (m ∷ more) f all = inr (m, f.0, All-head (IsAnswered store) m more all)
+stands : (s : List ℕ) (more : List (List ℕ)) → Fronts message_limit s more [] → All IsAnswered more → Stands s
+stands s [] f all = inl f
+stands s (m ∷ more) f all = inr (m, f.0, All-head IsAnswered m more all)
 
 -- so a message in front is answered
-meets_answer : (store : FirstStore) (rest later : List ℕ) (step : Step) → Meets store rest step → Stands store (rest ++ later) → (reply : List ℕ) × (step ≡ answers reply)
+meets_answer : (store : FirstStore) (rest later : List ℕ) (step : Step) → Meets store rest step → Stands (rest ++ later) → (reply : List ℕ) × (after : FirstStore) × (step ≡ answers reply after)
 meets_answer store rest later step meets there =
     let fed = fronts_fed message_limit rest later (meets.message ∷ []) (drop (length meets.message) rest) (meets.front, refl) in
     elim there [
       | inl e ↦ absurd (no_front message_limit (rest ++ later) meets.message e fed.0)
       | inr other ↦
           let same = same_front message_limit (rest ++ later) meets.message other.0 fed.0 other.1 in
-          (other.2.0, sym meets.has_step ∙ ap (step_of store) same ∙ other.2.1)
+          let answered = other.2 store in
+          (answered.0, answered.1, sym meets.has_step ∙ ap (step_of store) same ∙ answered.2)
     ]
 
 -- and there is no bad header
-no_fault : (store : FirstStore) (rest later : List ℕ) (fault : FrameFault) → first_at message_limit rest ≡ Err fault → Stands store (rest ++ later) → ⊥
-no_fault store rest later fault bad there =
+no_fault : (rest later : List ℕ) (fault : FrameFault) → first_at message_limit rest ≡ Err fault → Stands (rest ++ later) → ⊥
+no_fault rest later fault bad there =
     let stays = bad-append message_limit rest later fault bad in
     let long = (subst (Judged message_limit (rest ++ later)) (bad_header message_limit (rest ++ later) fault stays) (judged message_limit (rest ++ later))).0 in
     elim there [
@@ -98,8 +99,8 @@ no_fault store rest later fault bad there =
     ]
 
 -- and the messages that came are whole
-no_cut : (store : FirstStore) (rest : List ℕ) → 0 < length rest → first_at message_limit rest ≡ Ok None → Stands store rest → ⊥
-no_cut store rest some none there =
+no_cut : (rest : List ℕ) → 0 < length rest → first_at message_limit rest ≡ Ok None → Stands rest → ⊥
+no_cut rest some none there =
     elim there [
       | inl e ↦ (let empty : length rest ≡ 0 = ap (length {A = ℕ}) e in omega (arith, empty, some))
       | inr other ↦ (let front = other.1 in cc (none, front.size))
@@ -141,31 +142,31 @@ requests_are (t ∷ turns) =
 abbrev Ends : End → List ℕ → Type 0
 Ends end s = ((end ≡ Closed) × (s ≡ [])) ⊎ (end ≡ Memory)
 
-abbrev answer_is : List ℕ → Step
-answer_is reply = answers reply
+abbrev answer_is : List ℕ → FirstStore → Step
+answer_is reply after = answers reply after
 
-closes_none : (reply : List ℕ) → closes ≡ answer_is reply → ⊥
-closes_none reply e = cc
+closes_none : (reply : List ℕ) (after : FirstStore) → closes ≡ answer_is reply after → ⊥
+closes_none reply after e = cc
 
-breaks_none : (cause : Cause) (reply : List ℕ) → breaks cause ≡ answer_is reply → ⊥
-breaks_none cause reply e = cc
+breaks_none : (cause : Cause) (reply : List ℕ) (after : FirstStore) → breaks cause ≡ answer_is reply after → ⊥
+breaks_none cause reply after e = cc
 
 ends_so : (store : FirstStore) (end : End) (before after : Outside) (count asked : ℕ) (rest later : List ℕ) → HasReason store end before after count asked rest
-    → after.left ≡ Some later → Stands store (rest ++ later) → asked < request_limit → count < bytes_limit → NoneFailed before after → Ends end (rest ++ later)
+    → after.left ≡ Some later → Stands (rest ++ later) → asked < request_limit → count < bytes_limit → NoneFailed before after → Ends end (rest ++ later)
 ends_so store Closed before after count asked rest later reason left there few short unhurt =
     elim reason.1 [
       | inl ended ↦ inl (refl, ap (λ (x : List ℕ). rest ++ x) (at_end after.left later left ended.2) ∙ append-nil rest ∙ ended.1)
-      | inr meets ↦ (let a = meets_answer store rest later closes meets there in absurd (closes_none a.0 a.1))
+      | inr meets ↦ (let a = meets_answer store rest later closes meets there in absurd (closes_none a.0 a.1 a.2))
     ]
 ends_so store (Broken place cause) before after count asked rest later reason left there few short unhurt =
     elim reason.2 [
-      | inl bad ↦ absurd (no_fault store rest later bad.0 bad.2 there)
-      | inr meets ↦ (let a = meets_answer store rest later (breaks cause) meets there in absurd (breaks_none cause a.0 a.1))
+      | inl bad ↦ absurd (no_fault rest later bad.0 bad.2 there)
+      | inr meets ↦ (let a = meets_answer store rest later (breaks cause) meets there in absurd (breaks_none cause a.0 a.1 a.2))
     ]
 ends_so store (Truncated place) before after count asked rest later reason left there few short unhurt =
     let inside = reason.2 in
     let whole : rest ++ later ≡ rest = ap (λ (x : List ℕ). rest ++ x) (at_end after.left later left inside.ended) ∙ append-nil rest in
-    absurd (no_cut store rest inside.began inside.not_whole (subst (Stands store) whole there))
+    absurd (no_cut rest inside.began inside.not_whole (subst Stands whole there))
 ends_so store ReadFault before after count asked rest later reason left there few short unhurt = absurd (unhurt.reads reason.1.rose)
 ends_so store WriteFault before after count asked rest later reason left there few short unhurt = absurd (unhurt.writes reason)
 ends_so store Long before after count asked rest later reason left there few short unhurt =
@@ -180,21 +181,21 @@ ends_so store Memory before after count asked rest later reason left there few s
 given_all : (before after : Outside) (output given : List ℕ) (end : End) → end ≡ Closed → Gives end before after output given → given ≡ output
 given_all before after output given end e gives = subst (λ (x : End). Gives x before after output given) e gives
 
-pub complete : (store : FirstStore) (end : End) (before after : Outside) (stream : List ℕ) (messages : List (List ℕ)) → Serves store end before after → before.left ≡ Some stream
-    → IsServable store stream messages → NoneFailed before after → IsComplete store end before after messages
-complete store end before after stream messages f left servable unhurt =
+pub complete : (store later : FirstStore) (end : End) (before after : Outside) (stream : List ℕ) (messages : List (List ℕ)) → Serves store later end before after → before.left ≡ Some stream
+    → IsServable stream messages → NoneFailed before after → IsComplete store later end before after messages
+complete store later end before after stream messages f left servable unhurt =
     let runs = f.runs in
     let source = came before.left after.left stream f.taken left runs.took in
     let asked = fronts_fed message_limit f.taken source.later (messages_of f.turns) f.rest runs.cut in
     let served : Fronts message_limit stream (messages_of f.turns) (f.rest ++ source.later) = subst (λ (x : List ℕ). Fronts message_limit x (messages_of f.turns) (f.rest ++ source.later)) (sym source.parts) asked in
     let all : Fronts message_limit stream messages [] = subst (λ (x : List ℕ). Fronts message_limit x messages []) (sym servable.joined) (fronts_of message_limit messages servable.whole) in
     let l = left_of message_limit stream messages (messages_of f.turns) (f.rest ++ source.later) all served in
-    let there = stands store (f.rest ++ source.later) l.more l.fronts (all_behind (IsAnswered store) messages (messages_of f.turns) l.more l.are servable.answered) in
+    let there = stands (f.rest ++ source.later) l.more l.fronts (all_behind IsAnswered messages (messages_of f.turns) l.more l.are servable.answered) in
     let counted : count_by is_request messages ≡ count_by is_request (messages_of f.turns) + count_by is_request l.more =
     ap (count_by is_request) l.are ∙ sum_by-append (λ (m : List ℕ). cond (is_request m) 1 0) (messages_of f.turns) l.more in
     let few : 0 + requests f.turns < request_limit = omega (arith, counted, requests_are f.turns, servable.few) in
     let short : 0 + length f.taken < bytes_limit = omega (arith, ap (length {A = ℕ}) source.parts, length-append f.taken source.later, servable.short) in
-    elim (ends_so store end before after (0 + length f.taken) (0 + requests f.turns) f.rest source.later f.reason source.left_is there few short unhurt) [
+    elim (ends_so later end before after (0 + length f.taken) (0 + requests f.turns) f.rest source.later f.reason source.left_is there few short unhurt) [
       | inl closed ↦
           let none = none_left message_limit (f.rest ++ source.later) l.more l.fronts closed.1 in
           let each : messages ≡ messages_of f.turns = l.are ∙ ap (λ (x : List (List ℕ)). messages_of f.turns ++ x) none ∙ append-nil (messages_of f.turns) in

@@ -20,15 +20,23 @@ use Rattle.td_session.specs.Steps.{Turn, IsTurn, message_limit, is_request, mess
 use Rattle.td_session.specs.Sessions.{requests, Runs, HasReason, BreaksAt, Gives, Finishes, bytes_limit, request_limit}
 use Rattle.td_session.specs.Turns.{Answers, Fails}
 use Rattle.td_session.specs.Ends.{EndsInput, EndsAtBad, Breaks}
-use Rattle.td_session.specs.Progress.{Stand, GoesOn}
+use Rattle.td_session.specs.Progress.{Stand, GoesOn, Turns}
+
+-- ---- a store that is left as it was
+
+pub finishes_left : (store later : FirstStore) (end : End) (o p : Outside) (held : List ℕ) (count asked : ℕ) → later ≡ store → Finishes store store end o p held count asked → Finishes store later end o p held count asked
+finishes_left store later end o p held count asked e f = subst (λ (x : FirstStore). Finishes store x end o p held count asked) (sym e) f
+
+pub turns_left : (store later : FirstStore) (o p : Outside) (old new : Stand) (result : Option End) → later ≡ store → Turns store store o p old new result → Turns store later o p old new result
+turns_left store later o p old new result e t = subst (λ (x : FirstStore). Turns store x o p old new result) (sym e) t
 
 -- ---- no message is served
 
 -- nothing happened but that bytes were given
 pub idle : (store : FirstStore) (o p : Outside) (held given : List ℕ) → Consumes o.left p.left [] → Appends o.written p.written given → o.reads ≤ p.reads → o.writes ≤ p.writes
-    → Runs store o p held [] [] held given
+    → Runs store store o p held [] [] held given
 idle store o p held given took gave r w = record {
-  answered = λ k d h. absurd (omega arith);
+  answered = refl;
   took = took;
   cut = append-nil held;
   gave = gave;
@@ -37,8 +45,8 @@ idle store o p held given took gave r w = record {
 }
 
 -- an end at which no message is served and no byte taken
-pub stops : (store : FirstStore) (end : End) (o p : Outside) (held given : List ℕ) (count asked : ℕ) → Runs store o p held [] [] held given → count ≤ bytes_limit → asked ≤ request_limit
-    → HasReason store end o p count asked held → Gives end o p [] given → Finishes store end o p held count asked
+pub stops : (store : FirstStore) (end : End) (o p : Outside) (held given : List ℕ) (count asked : ℕ) → Runs store store o p held [] [] held given → count ≤ bytes_limit → asked ≤ request_limit
+    → HasReason store end o p count asked held → Gives end o p [] given → Finishes store store end o p held count asked
 stops store end o p held given count asked runs bytes few reason gives =
     let count-is : count + 0 ≡ count = omega arith in
     let asked-is : asked + 0 ≡ asked = omega arith in
@@ -56,9 +64,9 @@ stops store end o p held given count asked runs bytes few reason gives =
 
 -- bytes were taken
 pub took : (store : FirstStore) (o p : Outside) (held bytes : List ℕ) → Consumes o.left p.left bytes → Appends o.written p.written [] → o.reads ≤ p.reads → o.writes ≤ p.writes
-    → Runs store o p held [] bytes (held ++ bytes) []
+    → Runs store store o p held [] bytes (held ++ bytes) []
 took store o p held bytes consumed gave r w = record {
-  answered = λ k d h. absurd (omega arith);
+  answered = refl;
   took = consumed;
   cut = refl;
   gave = gave;
@@ -66,8 +74,8 @@ took store o p held bytes consumed gave r w = record {
   writes = w;
 }
 
-pub came : (store : FirstStore) (o p : Outside) (old new : Stand) (bytes : List ℕ) → Runs store o p old.stream.rest [] bytes (old.stream.rest ++ bytes) []
-    → new.stream.rest ≡ old.stream.rest ++ bytes → new.taken ≡ old.taken + length bytes → new.requests ≡ old.requests → 0 < length bytes → new.taken ≤ bytes_limit → GoesOn store o p old new
+pub came : (store : FirstStore) (o p : Outside) (old new : Stand) (bytes : List ℕ) → Runs store store o p old.stream.rest [] bytes (old.stream.rest ++ bytes) []
+    → new.stream.rest ≡ old.stream.rest ++ bytes → new.taken ≡ old.taken + length bytes → new.requests ≡ old.requests → 0 < length bytes → new.taken ≤ bytes_limit → GoesOn store store o p old new
 came store o p old new bytes runs rest-is taken-is asked-is some within = record {
   turns = [];
   taken = bytes;
@@ -77,8 +85,8 @@ came store o p old new bytes runs rest-is taken-is asked-is some within = record
   less = omega (arith, ap (length {A = ℕ}) rest-is, length-append old.stream.rest bytes);
 }
 
-pub no_memory : (store : FirstStore) (o p : Outside) (held bytes : List ℕ) (count asked : ℕ) → Runs store o p held [] bytes (held ++ bytes) [] → count + length bytes ≤ bytes_limit → asked ≤ request_limit
-    → Finishes store Memory o p held count asked
+pub no_memory : (store : FirstStore) (o p : Outside) (held bytes : List ℕ) (count asked : ℕ) → Runs store store o p held [] bytes (held ++ bytes) [] → count + length bytes ≤ bytes_limit → asked ≤ request_limit
+    → Finishes store store Memory o p held count asked
 no_memory store o p held bytes count asked runs within few =
     let asked-is : asked + 0 ≡ asked = omega arith in
     record {
@@ -130,13 +138,10 @@ one_or_none false = omega arith
 one_at_most : (t : Turn) → requests (t ∷ []) ≤ 1
 one_at_most t = rw (one_asked t (is_request t.message) refl) (one_or_none (is_request t.message))
 
-one_turn : (store : FirstStore) (t : Turn) → IsTurn store t → All (IsTurn store) (t ∷ [])
-one_turn store t h = λ k d lt. let e : k ≡ 0 = omega arith in rw e h
-
-pub served : (store : FirstStore) (o p : Outside) (held given : List ℕ) (t : Turn) → IsTurn store t → Front message_limit held t.message → Consumes o.left p.left []
-    → Appends o.written p.written given → o.reads ≤ p.reads → o.writes ≤ p.writes → Runs store o p held (t ∷ []) [] (drop (length t.message) held) given
-served store o p held given t is-turn front took gave r w = record {
-  answered = one_turn store t is-turn;
+pub served : (store later : FirstStore) (o p : Outside) (held given : List ℕ) (t : Turn) → IsTurn store t → t.after ≡ later → Front message_limit held t.message → Consumes o.left p.left []
+    → Appends o.written p.written given → o.reads ≤ p.reads → o.writes ≤ p.writes → Runs store later o p held (t ∷ []) [] (drop (length t.message) held) given
+served store later o p held given t is-turn left front took gave r w = record {
+  answered = (is-turn, sym left);
   took = took;
   cut = rw append-nil (front, refl);
   gave = gave;
@@ -144,8 +149,8 @@ served store o p held given t is-turn front took gave r w = record {
   writes = w;
 }
 
-pub ends_input : (store : FirstStore) (end : End) (o p : Outside) (s : Stream) (count asked : ℕ) → Runs store o p s.rest [] [] s.rest [] → EndsInput s end → first_at message_limit s.rest ≡ Ok None → IsAtEnd p.left
-    → s.start + length s.rest ≡ count → count < bytes_limit → asked < request_limit → Finishes store end o p s.rest count asked
+pub ends_input : (store : FirstStore) (end : End) (o p : Outside) (s : Stream) (count asked : ℕ) → Runs store store o p s.rest [] [] s.rest [] → EndsInput s end → first_at message_limit s.rest ≡ Ok None → IsAtEnd p.left
+    → s.start + length s.rest ≡ count → count < bytes_limit → asked < request_limit → Finishes store store end o p s.rest count asked
 ends_input store end o p s count asked runs e not_whole ended counted bytes few =
     let both = input_ended store end o p s count asked e not_whole ended counted bytes few in
     stops store end o p s.rest [] count asked runs (omega arith) (omega arith) both.0 both.1
@@ -153,7 +158,7 @@ ends_input store end o p s count asked runs e not_whole ended counted bytes few 
 -- ---- the arms of a turn
 
 pub breaks_off : (store : FirstStore) (cause : Cause) (o p : Outside) (s : Stream) (count asked : ℕ) → Consumes o.left p.left [] → o.reads ≤ p.reads → Breaks o.written p.written o.writes p.writes
-    → s.start + length s.rest ≡ count → count ≤ bytes_limit → asked < request_limit → BreaksAt store count s.rest cause → Finishes store (Broken s.start cause) o p s.rest count asked
+    → s.start + length s.rest ≡ count → count ≤ bytes_limit → asked < request_limit → BreaksAt store count s.rest cause → Finishes store store (Broken s.start cause) o p s.rest count asked
 breaks_off store cause o p s count asked took r b counted bytes few at =
     stops store (Broken s.start cause) o p s.rest (take b.sent message_error) count asked (idle store o p s.rest (take b.sent message_error) took b.gave r b.later) bytes (omega arith)
     (few, counted, at) (record { sent = b.sent; is = refl; whole = b.whole })
@@ -169,12 +174,12 @@ Breaks-after w0 w1 w2 f0 f1 f2 gave le b = record {
 
 pub ends_at_bad : (store : FirstStore) (end : End) (fault : FrameFault) (o p : Outside) (w : Option (List ℕ)) (f : ℕ) (s : Stream) (count asked : ℕ) → Consumes o.left p.left [] → o.reads ≤ p.reads
     → Appends o.written w [] → o.writes ≤ f → EndsAtBad s.start count fault end w p.written f p.writes → first_at message_limit s.rest ≡ Err fault
-    → s.start + length s.rest ≡ count → count ≤ bytes_limit → asked < request_limit → Finishes store end o p s.rest count asked
+    → s.start + length s.rest ≡ count → count ≤ bytes_limit → asked < request_limit → Finishes store store end o p s.rest count asked
 ends_at_bad store Long fault o p w f s count asked took r gave le e bad counted bytes few =
     stops store Long o p s.rest [] count asked (idle store o p s.rest [] took (Appends-trans o.written w p.written [] [] gave e.1) r (let l = e.2 in omega arith)) bytes (omega arith)
     (inr (e.0, bad_whole s.rest fault bad)) refl
 ends_at_bad store (Broken place cause) fault o p w f s count asked took r gave le e bad counted bytes few =
-    subst (λ (n : ℕ). Finishes store (Broken n cause) o p s.rest count asked) (sym e.1)
+    subst (λ (n : ℕ). Finishes store store (Broken n cause) o p s.rest count asked) (sym e.1)
     (breaks_off store cause o p s count asked took r (Breaks-after o.written w p.written o.writes f p.writes gave le e.3) counted bytes few (inl (fault, (let ne = e.0 in omega arith), bad, e.2)))
 ends_at_bad store Closed fault o p w f s count asked took r gave le e bad counted bytes few = absurd e
 ends_at_bad store (Truncated place) fault o p w f s count asked took r gave le e bad counted bytes few = absurd e
@@ -182,25 +187,25 @@ ends_at_bad store ReadFault fault o p w f s count asked took r gave le e bad cou
 ends_at_bad store WriteFault fault o p w f s count asked took r gave le e bad counted bytes few = absurd e
 ends_at_bad store Memory fault o p w f s count asked took r gave le e bad counted bytes few = absurd e
 
-pub sends_none : (store : FirstStore) (o p : Outside) (held : List ℕ) (count asked : ℕ) → Consumes o.left p.left [] → o.reads ≤ p.reads → o.writes ≤ p.writes → Fails store held o.written p.written o.writes p.writes
-    → count ≤ bytes_limit → asked < request_limit → Finishes store WriteFault o p held count asked
-sends_none store o p held count asked took r w f bytes few =
+pub sends_none : (store later : FirstStore) (o p : Outside) (held : List ℕ) (count asked : ℕ) → Consumes o.left p.left [] → o.reads ≤ p.reads → o.writes ≤ p.writes → Fails store later held o.written p.written o.writes p.writes
+    → count ≤ bytes_limit → asked < request_limit → Finishes store later WriteFault o p held count asked
+sends_none store later o p held count asked took r w f bytes few =
     let count-is : count + 0 ≡ count = omega arith in
     record {
       turns = f.turn ∷ [];
       taken = [];
       rest = drop (length f.turn.message) held;
       given = take f.sent f.turn.reply;
-      runs = served store o p held (take f.sent f.turn.reply) f.turn f.is_turn f.front took f.gave r w;
+      runs = served store later o p held (take f.sent f.turn.reply) f.turn f.is_turn f.left f.front took f.gave r w;
       bytes = rw count-is bytes;
       few = omega (arith, one_at_most f.turn);
       reason = f.rose;
       gives = record { unsent = drop f.sent f.turn.reply; is = take-append-drop f.sent f.turn.reply ∙ sym (append-nil f.turn.reply) };
     }
 
-pub answers : (store : FirstStore) (o p : Outside) (old new : Stand) (request : Bool) → Consumes o.left p.left [] → o.reads ≤ p.reads → o.writes ≤ p.writes → Answers store old.stream.rest request o.written p.written
-    → old.stream.limit ≡ message_limit → new.stream ≡ dropped old.stream (first_at old.stream.limit old.stream.rest) → new.taken ≡ old.taken → new.requests ≡ old.requests + cond request 1 0 → GoesOn store o p old new
-answers store o p old new request took r w a limited framer-is taken-is asked-is =
+pub answers : (store later : FirstStore) (o p : Outside) (old new : Stand) (request : Bool) → Consumes o.left p.left [] → o.reads ≤ p.reads → o.writes ≤ p.writes → Answers store later old.stream.rest request o.written p.written
+    → old.stream.limit ≡ message_limit → new.stream ≡ dropped old.stream (first_at old.stream.limit old.stream.rest) → new.taken ≡ old.taken → new.requests ≡ old.requests + cond request 1 0 → GoesOn store later o p old new
+answers store later o p old new request took r w a limited framer-is taken-is asked-is =
     let size : first_at old.stream.limit old.stream.rest ≡ Ok (Some (length a.turn.message)) = subst (λ (n : ℕ). first_at n old.stream.rest ≡ Ok (Some (length a.turn.message))) (sym limited) a.front.size in
     let rest-is : new.stream.rest ≡ drop (length a.turn.message) old.stream.rest = ap (λ (s : Stream). s.rest) framer-is ∙ ap (λ r. (dropped old.stream r).rest) size in
     let there = whole message_limit old.stream.rest (length a.turn.message) a.front.size in
@@ -208,14 +213,14 @@ answers store o p old new request took r w a limited framer-is taken-is asked-is
     record {
       turns = a.turn ∷ [];
       taken = [];
-      runs = rw (rest-is, reply-is) (served store o p old.stream.rest a.turn.reply a.turn a.is_turn a.front took a.gave r w);
+      runs = rw (rest-is, reply-is) (served store later o p old.stream.rest a.turn.reply a.turn a.is_turn a.left a.front took a.gave r w);
       bytes = omega (arith, taken-is);
       asked = asked-is ∙ ap (λ (n : ℕ). old.requests + n) (sym (one_asked a.turn request a.asked));
       less = omega (arith, ap (length {A = ℕ}) rest-is, length-drop (length a.turn.message) old.stream.rest, there.size, there.within);
     }
 
-pub ends_as : (store : FirstStore) (end other : End) (o p : Outside) (held : List ℕ) (count asked : ℕ) → end ≡ other → Finishes store other o p held count asked → Finishes store end o p held count asked
-ends_as store end other o p held count asked e f = rw e f
+pub ends_as : (store later : FirstStore) (end other : End) (o p : Outside) (held : List ℕ) (count asked : ℕ) → end ≡ other → Finishes store later other o p held count asked → Finishes store later end o p held count asked
+ends_as store later end other o p held count asked e f = rw e f
 
 pub byte_of : (b : Bool) → bool_byte b ≡ cond b 1 0
 byte_of true = refl

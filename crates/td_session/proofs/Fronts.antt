@@ -1,5 +1,5 @@
 -- What the message in front of a stream tells.
-use Rattle.std.proofs.Common.{◌≡◌, ℕ, List, Option, sym, subst, arith}
+use Rattle.std.proofs.Common.{◌≡◌, ℕ, List, Option, refl, sym, subst, arith}
 use Rattle.td_giop.specs.declared.raw.Raw.{Raw}
 use Rattle.td_giop.specs.Stream.{Stream}
 use Rattle.td_giop.specs.Cut.{Front}
@@ -27,23 +27,25 @@ in_front : (s : Stream) (m : Raw) → s.limit ≡ 16777216 → IsRaw s m → Fro
 in_front s m limited raw = subst (λ (n : ℕ). Front n s.rest m.bytes.now) limited (raw_front s m raw)
 
 -- what became of the message in front is what was found there
-pub finds : (store : FirstStore) (s : Stream) (m : Raw) (result : Fronted) (w0 w1 : Option (List ℕ)) (f0 f1 : ℕ) → s.limit ≡ 16777216 → IsRaw s m
-    → Responds store m.bytes.now result w0 w1 f0 f1 → Finds store result s.rest w0 w1 f0 f1
-finds store s m Nothing w0 w1 f0 f1 limited raw r = absurd r
-finds store s m (Bad fault) w0 w1 f0 f1 limited raw r = absurd r
-finds store s m Closes w0 w1 f0 f1 limited raw r = (record { message = m.bytes.now; front = in_front s m limited raw; has_step = r.0 }, r.1)
-finds store s m (Breaks cause) w0 w1 f0 f1 limited raw r = (record { message = m.bytes.now; front = in_front s m limited raw; has_step = r.0 }, r.1)
-finds store s m (Answered request) w0 w1 f0 f1 limited raw r = record {
-  turn = record { message = m.bytes.now; reply = r.0 };
+pub finds : (store later : FirstStore) (s : Stream) (m : Raw) (result : Fronted) (w0 w1 : Option (List ℕ)) (f0 f1 : ℕ) → s.limit ≡ 16777216 → IsRaw s m
+    → Responds store later m.bytes.now result w0 w1 f0 f1 → Finds store later result s.rest w0 w1 f0 f1
+finds store later s m Nothing w0 w1 f0 f1 limited raw r = absurd r
+finds store later s m (Bad fault) w0 w1 f0 f1 limited raw r = absurd r
+finds store later s m Closes w0 w1 f0 f1 limited raw r = (record { message = m.bytes.now; front = in_front s m limited raw; has_step = r.0 }, r.1, r.2)
+finds store later s m (Breaks cause) w0 w1 f0 f1 limited raw r = (record { message = m.bytes.now; front = in_front s m limited raw; has_step = r.0 }, r.1, r.2)
+finds store later s m (Answered request) w0 w1 f0 f1 limited raw r = record {
+  turn = record { message = m.bytes.now; reply = r.0; after = later };
   front = in_front s m limited raw;
   is_turn = r.1;
+  left = refl;
   asked = r.2;
   gave = r.3;
 }
-finds store s m Unsent w0 w1 f0 f1 limited raw r = record {
-  turn = record { message = m.bytes.now; reply = r.0 };
+finds store later s m Unsent w0 w1 f0 f1 limited raw r = record {
+  turn = record { message = m.bytes.now; reply = r.0; after = later };
   front = in_front s m limited raw;
   is_turn = r.1;
+  left = refl;
   sent = r.2.0;
   gave = r.2.1;
   rose = r.3;

@@ -4,7 +4,6 @@ use Rattle.std.proofs.KnownBytes.{Appends-nil, Appends-trans, Consumes-nil, Cons
 use Rattle.std.proofs.lemmas.List.{map-append}
 use Rattle.td_giop.proofs.Cuts.{fronts_fed}
 use Rattle.std.proofs.lemmas.List.Concat.{flat_map-append}
-use Rattle.std.proofs.lemmas.List.Elements.{All-append}
 use Rattle.std.proofs.lemmas.List.Sums.{sum_by-append}
 use Rattle.td_out.specs.Causes.{Rose}
 use Rattle.td_out.proofs.Steps.{Rose-later}
@@ -13,7 +12,7 @@ use Rattle.td_session.specs.declared.end.End.{End}
 use Rattle.td_session.specs.declared.end.End.TheVariants.{Closed, Broken, Truncated, ReadFault, WriteFault, Long, Memory}
 use Rattle.td_session.specs.declared.store.FirstStore.{FirstStore}
 use Rattle.td_session.specs.Outside.{Outside, outside}
-use Rattle.td_session.specs.Steps.{Turn, IsTurn, message_limit}
+use Rattle.td_session.specs.Steps.{Turn, Served, message_limit}
 use Rattle.td_session.specs.Progress.{Stand, GoesOn}
 use Rattle.td_session.specs.Sessions.{output, messages_of, requests, Runs, HasReason, Gives, Finishes}
 
@@ -29,10 +28,15 @@ module _ (limit : ℕ) where
 pub requests-append : (ts us : List Turn) → requests (ts ++ us) ≡ requests ts + requests us
 requests-append ts us = sum_by-append _ ts us
 
-pub Runs-then : (store : FirstStore) (o p q : Outside) (held mid rest : List ℕ) (ts us : List Turn) (xs ys gs hs : List ℕ)
-    → Runs store o p held ts xs mid gs → Runs store p q mid us ys rest hs → Runs store o q held (ts ++ us) (xs ++ ys) rest (gs ++ hs)
-Runs-then store o p q held mid rest ts us xs ys gs hs r s = record {
-  answered = All-append (IsTurn store) ts us r.answered s.answered;
+-- served, and then served from the store that was left
+pub Served-then : (store mid later : FirstStore) (ts us : List Turn) → Served store ts mid → Served mid us later → Served store (ts ++ us) later
+Served-then store mid later [] us s t = subst (λ (x : FirstStore). Served x us later) s t
+Served-then store mid later (t ∷ ts) us s u = (s.0, Served-then t.after mid later ts us s.1 u)
+
+pub Runs-then : (store between later : FirstStore) (o p q : Outside) (held mid rest : List ℕ) (ts us : List Turn) (xs ys gs hs : List ℕ)
+    → Runs store between o p held ts xs mid gs → Runs between later p q mid us ys rest hs → Runs store later o q held (ts ++ us) (xs ++ ys) rest (gs ++ hs)
+Runs-then store between later o p q held mid rest ts us xs ys gs hs r s = record {
+  answered = Served-then store between later ts us r.answered s.answered;
   took = Consumes-trans _ _ _ xs ys r.took s.took;
   cut = let messages : messages_of (ts ++ us) ≡ messages_of ts ++ messages_of us = map-append _ ts us in
       rw (messages, ← append_assoc) (Fronts-then message_limit _ _ _ _ rest (fronts_fed message_limit _ ys _ mid r.cut) s.cut);
@@ -70,9 +74,9 @@ Gives-behind Long o p q front output given w h = ap (λ (x : List ℕ). front ++
 Gives-behind Memory o p q front output given w h = ap (λ (x : List ℕ). front ++ x) h
 
 -- a run, and then a session from where it stands, is a session
-pub finishes : (store : FirstStore) (end : End) (o p q : Outside) (held mid : List ℕ) (ts : List Turn) (xs : List ℕ) (count asked : ℕ)
-    → Runs store o p held ts xs mid (output ts) → Finishes store end p q mid (count + length xs) (asked + requests ts) → Finishes store end o q held count asked
-finishes store end o p q held mid ts xs count asked r f =
+pub finishes : (store between later : FirstStore) (end : End) (o p q : Outside) (held mid : List ℕ) (ts : List Turn) (xs : List ℕ) (count asked : ℕ)
+    → Runs store between o p held ts xs mid (output ts) → Finishes between later end p q mid (count + length xs) (asked + requests ts) → Finishes store later end o q held count asked
+finishes store between later end o p q held mid ts xs count asked r f =
     let bytes-are : count + length (xs ++ f.taken) ≡ (count + length xs) + length f.taken = omega (arith, length-append xs f.taken) in
     let few-are : asked + requests (ts ++ f.turns) ≡ (asked + requests ts) + requests f.turns = omega (arith, requests-append ts f.turns) in
     record {
@@ -80,55 +84,55 @@ finishes store end o p q held mid ts xs count asked r f =
       taken = xs ++ f.taken;
       rest = f.rest;
       given = output ts ++ f.given;
-      runs = Runs-then store o p q held mid f.rest ts f.turns xs f.taken (output ts) f.given r f.runs;
+      runs = Runs-then store between later o p q held mid f.rest ts f.turns xs f.taken (output ts) f.given r f.runs;
       bytes = rw bytes-are f.bytes;
       few = rw few-are f.few;
-      reason = rw (bytes-are, few-are) (HasReason-before store end o p q _ _ f.rest r.reads r.writes f.reason);
+      reason = rw (bytes-are, few-are) (HasReason-before later end o p q _ _ f.rest r.reads r.writes f.reason);
       gives = rw flat_map-append (Gives-behind end o p q (output ts) (output f.turns) f.given r.writes f.gives);
     }
 
 -- ---- from the beginning
 
 -- what was done since the beginning, and where it stands now
-pub record Sofar (store : FirstStore) (before now : Outside) (s : Stand) : Type 0 where
+pub record Sofar (store later : FirstStore) (before now : Outside) (s : Stand) : Type 0 where
   pub turns : List Turn
   pub taken : List ℕ
-  pub runs : Runs store before now [] turns taken s.stream.rest (output turns)
+  pub runs : Runs store later before now [] turns taken s.stream.rest (output turns)
   pub bytes : s.taken ≡ length taken
   pub asked : s.requests ≡ requests turns
 
-pub begins : (store : FirstStore) (l w : Option (List ℕ)) (r f : ℕ) (s : Stand) → s.stream.rest ≡ [] → s.taken ≡ 0 → s.requests ≡ 0 → Sofar store (outside l r w f) (outside l r w f) s
+pub begins : (store : FirstStore) (l w : Option (List ℕ)) (r f : ℕ) (s : Stand) → s.stream.rest ≡ [] → s.taken ≡ 0 → s.requests ≡ 0 → Sofar store store (outside l r w f) (outside l r w f) s
 begins store l w r f s rest-is taken-is asked-is = record {
   turns = [];
   taken = [];
-  runs = record { answered = λ k d h. absurd (omega arith); took = Consumes-nil l; cut = sym rest-is; gave = Appends-nil w; reads = omega arith; writes = omega arith };
+  runs = record { answered = refl; took = Consumes-nil l; cut = sym rest-is; gave = Appends-nil w; reads = omega arith; writes = omega arith };
   bytes = taken-is;
   asked = asked-is;
 }
 
-pub goes_on : (store : FirstStore) (before now next : Outside) (old new : Stand) → Sofar store before now old → GoesOn store now next old new → Sofar store before next new
-goes_on store before now next old new s g = record {
+pub goes_on : (store between later : FirstStore) (before now next : Outside) (old new : Stand) → Sofar store between before now old → GoesOn between later now next old new → Sofar store later before next new
+goes_on store between later before now next old new s g = record {
   turns = s.turns ++ g.turns;
   taken = s.taken ++ g.taken;
-  runs = rw flat_map-append (Runs-then store before now next [] old.stream.rest new.stream.rest s.turns g.turns s.taken g.taken (output s.turns) (output g.turns) s.runs g.runs);
+  runs = rw flat_map-append (Runs-then store between later before now next [] old.stream.rest new.stream.rest s.turns g.turns s.taken g.taken (output s.turns) (output g.turns) s.runs g.runs);
   bytes = omega (arith, s.bytes, g.bytes, length-append s.taken g.taken);
   asked = omega (arith, s.asked, g.asked, requests-append s.turns g.turns);
 }
 
-pub ends : (store : FirstStore) (end : End) (before now next : Outside) (s : Stand) → Sofar store before now s → Finishes store end now next s.stream.rest s.taken s.requests → Finishes store end before next [] 0 0
-ends store end before now next s sofar f =
+pub ends : (store between later : FirstStore) (end : End) (before now next : Outside) (s : Stand) → Sofar store between before now s → Finishes between later end now next s.stream.rest s.taken s.requests → Finishes store later end before next [] 0 0
+ends store between later end before now next s sofar f =
     let bytes-are : 0 + length sofar.taken ≡ s.taken = omega (arith, sofar.bytes) in
     let asked-are : 0 + requests sofar.turns ≡ s.requests = omega (arith, sofar.asked) in
-    finishes store end before now next [] s.stream.rest sofar.turns sofar.taken 0 0 sofar.runs (rw (bytes-are, asked-are) f)
+    finishes store between later end before now next [] s.stream.rest sofar.turns sofar.taken 0 0 sofar.runs (rw (bytes-are, asked-are) f)
 
 -- a session for which there is no memory
-pub no_session : (store : FirstStore) (l w : Option (List ℕ)) (r f : ℕ) → Finishes store Memory (outside l r w f) (outside l r w f) [] 0 0
+pub no_session : (store : FirstStore) (l w : Option (List ℕ)) (r f : ℕ) → Finishes store store Memory (outside l r w f) (outside l r w f) [] 0 0
 no_session store l w r f = record {
   turns = [];
   taken = [];
   rest = [];
   given = [];
-  runs = record { answered = λ k d h. absurd (omega arith); took = Consumes-nil l; cut = refl; gave = Appends-nil w; reads = omega arith; writes = omega arith };
+  runs = record { answered = refl; took = Consumes-nil l; cut = refl; gave = Appends-nil w; reads = omega arith; writes = omega arith };
   bytes = omega arith;
   few = omega arith;
   reason = tt;

@@ -4,15 +4,19 @@ use Rattle.std.specs.List.{list_any, starts_with}
 use Rattle.std.specs.Str.{bytes_eq}
 use Rattle.td_cdr.specs.declared.order.Order.{Order}
 use Rattle.td_cdr.specs.Place.{At}
+use Rattle.td_value.specs.declared.key.Kind.TheVariants as kind
 use Rattle.td_giop.specs.Heads.{Request}
 use Rattle.td_giop.specs.Written.{reply_start, locate_reply_written, sealed}
-use Rattle.td_session.specs.declared.replies.SystemKind.{SystemKind}
-use Rattle.td_session.specs.declared.replies.SystemKind.TheVariants.{NoImplement, ObjectNotExist, NoMemory}
+use Rattle.td_ops.specs.declared.outcome.Outcome.{Outcome}
+use Rattle.td_ops.specs.declared.outcome.SystemKind.TheVariants.{NoImplement, ObjectNotExist, NoMemory}
+use Rattle.td_ops.specs.Calls.{call_read}
+use Rattle.td_ops.specs.Outcomes.{outcome_status, outcome_piece}
 use Rattle.td_session.specs.declared.store.FirstOffer.{FirstOffer}
 use Rattle.td_session.specs.declared.store.FirstStore.{FirstStore}
-use Rattle.td_session.specs.Parts.{Part}
+use Rattle.td_session.specs.Parts.{Part, piece}
 use Rattle.td_session.specs.Queries.{plain_query}
-use Rattle.td_session.specs.Replies.{exception, found, offers_of}
+use Rattle.td_session.specs.Replies.{found, offers_of}
+use Rattle.td_session.specs.TypeCalls.{Performed, types_performed, system}
 
 -- ---- objects
 
@@ -33,23 +37,43 @@ is_live trader key = starts_with nat_eq key trader && is_object (drop (length tr
 unfoldable pub is_lookup : List ℕ → List ℕ → Bool
 is_lookup trader key = names trader (codes "/L") key
 
+-- a key names the type repository
+unfoldable pub is_types : List ℕ → List ℕ → Bool
+is_types trader key = names trader (codes "/T") key
+
 -- ---- answers
 
--- what a Request comes to: a system exception, or offers that are found
+-- what a Request comes to: an outcome and the store behind it, or offers that are found
 pub data Answer : Type 0 where
-  refuses : SystemKind → Answer
+  comes : Outcome → FirstStore → Answer
   finds : List FirstOffer → Answer
 
-abbrev pub answer_to : FirstStore → Option (List ℕ) → Answer
-answer_to store None = refuses NoImplement
-answer_to store (Some service_type) = finds (offers_of service_type store.offers)
+-- the store behind an answer
+abbrev pub behind_answer : FirstStore → Answer → FirstStore
+behind_answer store (comes outcome after) = after
+behind_answer store (finds offers) = store
 
--- first the key is looked at, then whether it is a query of the Lookup, then its parameters
+abbrev pub query_answer : FirstStore → Option (List ℕ) → Answer
+query_answer store None = comes (system NoImplement 0) store
+query_answer store (Some service_type) = finds (offers_of service_type store)
+
+abbrev pub with_performed : FirstStore → Performed → Answer
+with_performed store p = comes p.outcome (record store { types = p.types })
+
+-- a Request with the key of a live object
+abbrev pub live_answer : FirstStore → Request → At → Answer
+live_answer store head body =
+    if is_types store.trader head.key then with_performed store (types_performed store.types (call_read kind.Types head.operation body))
+    else if is_lookup store.trader head.key && bytes_eq head.operation (codes "query") then query_answer store (plain_query store body)
+    else comes (system NoImplement 0) store
+
+-- first the key is looked at, then the operation, then its parameters
 unfoldable pub answer_of : FirstStore → Request → At → Answer
-answer_of store head body =
-    if not (is_live store.trader head.key) then refuses ObjectNotExist
-    else if is_lookup store.trader head.key && bytes_eq head.operation (codes "query") then answer_to store (plain_query store body)
-    else refuses NoImplement
+answer_of store head body = if is_live store.trader head.key then live_answer store head body else comes (system ObjectNotExist 0) store
+
+-- the store behind a Request
+unfoldable pub store_after : FirstStore → Request → At → FirstStore
+store_after store head body = behind_answer store (answer_of store head body)
 
 -- ---- replies
 
@@ -57,18 +81,26 @@ answer_of store head body =
 abbrev pub reply : Order → ℕ → ℕ → Part → List ℕ
 reply order id status body = sealed order (body order (reply_start order id status))
 
--- the Reply for an answer: status 2 for a system exception, 0 for a result
+abbrev pub outcome_reply : Order → ℕ → Outcome → List ℕ
+outcome_reply order id outcome = reply order id (outcome_status outcome) (piece (outcome_piece outcome))
+
+-- the Reply for an answer
 abbrev pub reply_with : Order → ℕ → Answer → List ℕ
-reply_with order id (refuses kind) = reply order id 2 (exception kind)
+reply_with order id (comes outcome after) = outcome_reply order id outcome
 reply_with order id (finds offers) = reply order id 0 (found offers)
 
 -- a Request that expects no reply gets no bytes
 unfoldable pub request_reply : FirstStore → Order → Request → At → List ℕ
 request_reply store order head body = if head.answered then reply_with order head.id (answer_of store head body) else []
 
--- a Request's reply, or where one is expected NO_MEMORY
-abbrev pub IsReplied : FirstStore → Order → Request → At → List ℕ → Type 0
-IsReplied store order head body bytes = (request_reply store order head body ≡ bytes) ⊎ ((head.answered ≡ true) × (bytes ≡ reply order head.id 2 (exception NoMemory)))
+-- the answer where memory is wanted: NO_MEMORY, or no bytes where no reply is expected
+unfoldable pub unserved : Order → Request → List ℕ
+unserved order head = if head.answered then outcome_reply order head.id (system NoMemory 0) else []
+
+-- A Request was performed and its reply stands there, or memory was wanted and nothing changed.
+abbrev pub IsReplied : (store after : FirstStore) → Order → Request → At → List ℕ → Type 0
+IsReplied store after order head body bytes =
+    ((request_reply store order head body ≡ bytes) × (store_after store head body ≡ after)) ⊎ ((bytes ≡ unserved order head) × (after ≡ store))
 
 -- the LocateReply: OBJECT_HERE for a live key, else UNKNOWN_OBJECT
 unfoldable pub locate_reply : FirstStore → Order → ℕ → List ℕ → List ℕ

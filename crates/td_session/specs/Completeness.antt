@@ -9,17 +9,17 @@ use Rattle.td_session.specs.declared.end.End.TheVariants.{Closed, Memory}
 use Rattle.td_session.specs.declared.store.FirstStore.{FirstStore}
 use Rattle.td_session.specs.Outside.{Outside}
 use Rattle.td_session.specs.Sessions.{output, messages_of, bytes_limit, request_limit}
-use Rattle.td_session.specs.Steps.{answers, step_of, Turn, IsTurn, message_limit, is_request}
+use Rattle.td_session.specs.Steps.{answers, step_of, Turn, Served, message_limit, is_request}
 
--- the message is to be answered, maybe with no bytes
-abbrev pub IsAnswered : FirstStore → List ℕ → Type 0
-IsAnswered store message = (reply : List ℕ) × (step_of store message ≡ answers reply)
+-- the message is to be answered, maybe with no bytes, whatever the store
+abbrev pub IsAnswered : List ℕ → Type 0
+IsAnswered message = (store : FirstStore) → (reply : List ℕ) × (after : FirstStore) × (step_of store message ≡ answers reply after)
 
 -- the stream is these whole messages, each of them to be answered, and fewer than a session's limits
-pub record IsServable (store : FirstStore) (stream : List ℕ) (messages : List (List ℕ)) : Type 0 where
+pub record IsServable (stream : List ℕ) (messages : List (List ℕ)) : Type 0 where
   pub whole : All (IsMessage message_limit) messages
   pub joined : stream ≡ concat messages
-  pub answered : All (IsAnswered store) messages
+  pub answered : All IsAnswered messages
   pub few : count_by is_request messages < request_limit
   pub short : length stream < bytes_limit
 
@@ -28,13 +28,13 @@ pub record NoneFailed (before after : Outside) : Type 0 where
   pub reads : Rose before.reads after.reads → ⊥
   pub writes : Rose before.writes after.writes → ⊥
 
--- the messages were all served in order, and their answers were given
-pub record ServesAll (store : FirstStore) (before after : Outside) (messages : List (List ℕ)) : Type 0 where
+-- the messages were all served in order, each at the store that the one before has left, and their answers were given
+pub record ServesAll (store later : FirstStore) (before after : Outside) (messages : List (List ℕ)) : Type 0 where
   pub turns : List Turn
-  pub answered : All (IsTurn store) turns
+  pub answered : Served store turns later
   pub all : messages_of turns ≡ messages
   pub gave : Appends before.written after.written (output turns)
 
 -- the session was closed when it had served all messages, or it ended for want of memory
-abbrev pub IsComplete : FirstStore → End → Outside → Outside → List (List ℕ) → Type 0
-IsComplete store end before after messages = ((end ≡ Closed) × ServesAll store before after messages) ⊎ (end ≡ Memory)
+abbrev pub IsComplete : FirstStore → FirstStore → End → Outside → Outside → List (List ℕ) → Type 0
+IsComplete store later end before after messages = ((end ≡ Closed) × ServesAll store later before after messages) ⊎ (end ≡ Memory)

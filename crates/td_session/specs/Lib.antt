@@ -10,6 +10,8 @@ pub mod Progress
 pub mod Queries
 pub mod QueryBodies
 pub mod Replies
+pub mod Rooms
 pub mod Sessions
 pub mod Steps
 pub mod Turns
+pub mod TypeCalls

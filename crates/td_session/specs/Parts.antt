@@ -3,6 +3,7 @@
 use Rattle.std.specs.Prelude.{◌≡◌, ℕ, ◌≤◌, List, [], ◌∷◌, ◌++◌, length, Result, OnOk}
 use Rattle.td_cdr.specs.declared.order.Order.{Order}
 use Rattle.td_cdr.specs.Writing.{Draft, written_number, written_octets}
+use Rattle.td_value.specs.Writing.{Piece}
 
 -- the bytes with the part, of the bytes before it
 abbrev pub Part : Type 0
@@ -36,6 +37,10 @@ each part (x ∷ xs) order bytes = each part xs order (part x order bytes)
 -- a sequence: its count, and then its elements
 abbrev pub sequence : {X : Type 0} → (X → Part) → List X → Part
 sequence part xs = ulong (length xs) ▸ each part xs
+
+-- what is written from a place on, as a part
+abbrev pub piece : Piece → Part
+piece p order bytes = bytes ++ p order (length bytes)
 
 -- A part was appended, or the writer gave up for want of memory with some of it written. The order stays, and
 -- neither the room nor what is held grows less.

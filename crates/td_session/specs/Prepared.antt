@@ -15,8 +15,8 @@ pub record IsMessage (m : Raw) : Type 0 where
   pub least : 12 ≤ length m.bytes.now
   pub most : length m.bytes.now < 2 ^ 32
 
--- a message's answer stands in the reply, or the message closes the session, or it can't be served
-abbrev pub Prepares : FirstStore → List ℕ → Prepared → List ℕ → Type 0
-Prepares store message (Answer request) reply = IsTurn store (record { message = message; reply = reply }) × (is_request message ≡ request)
-Prepares store message Close reply = step_of store message ≡ closes
-Prepares store message (Break cause) reply = step_of store message ≡ breaks cause
+-- a message is performed and its answer stands in the reply, or the message closes the session, or it can't be served
+abbrev pub Prepares : FirstStore → FirstStore → List ℕ → Prepared → List ℕ → Type 0
+Prepares store later message (Answer request) reply = IsTurn store (record { message = message; reply = reply; after = later }) × (is_request message ≡ request)
+Prepares store later message Close reply = (step_of store message ≡ closes) × (later ≡ store)
+Prepares store later message (Break cause) reply = (step_of store message ≡ breaks cause) × (later ≡ store)

@@ -21,15 +21,15 @@ abbrev pub work : Stand → ℕ
 work s = 2 * (bytes_limit - s.taken) + length s.stream.rest
 
 -- the session goes on
-pub record GoesOn (store : FirstStore) (before after : Outside) (old new : Stand) : Type 0 where
+pub record GoesOn (store later : FirstStore) (before after : Outside) (old new : Stand) : Type 0 where
   pub turns : List Turn
   pub taken : List ℕ
-  pub runs : Runs store before after old.stream.rest turns taken new.stream.rest (output turns)
+  pub runs : Runs store later before after old.stream.rest turns taken new.stream.rest (output turns)
   pub bytes : new.taken ≡ old.taken + length taken
   pub asked : new.requests ≡ old.requests + requests turns
   pub less : work new < work old
 
 -- the session goes on, or comes to its end
-abbrev pub Turns : FirstStore → Outside → Outside → Stand → Stand → Option End → Type 0
-Turns store before after old new None = GoesOn store before after old new
-Turns store before after old new (Some end) = Finishes store end before after old.stream.rest old.taken old.requests
+abbrev pub Turns : FirstStore → FirstStore → Outside → Outside → Stand → Stand → Option End → Type 0
+Turns store later before after old new None = GoesOn store later before after old new
+Turns store later before after old new (Some end) = Finishes store later end before after old.stream.rest old.taken old.requests

@@ -1,11 +1,10 @@
 -- The plain query (chapter "Trading Object Service", Lookup): a service type with neither constraint nor
 -- preference, policies or desired properties.
-use Rattle.std.specs.Prelude.{ℕ, ◌&&◌, Bool, nat_eq, nat_le, min, if◌then◌else◌, List, length, Option, Some, None, Result, Ok, Err}
-use Rattle.std.specs.List.{list_any}
-use Rattle.std.specs.Str.{bytes_eq}
+use Rattle.std.specs.Prelude.{ℕ, ◌&&◌, Bool, nat_eq, nat_le, min, if◌then◌else◌, List, length, is_some, Option, Some, None, Result, Ok, Err}
 use Rattle.td_cdr.specs.declared.fault.CdrFault.{CdrFault}
 use Rattle.td_cdr.specs.Place.{At}
 use Rattle.td_cdr.specs.Reading.{◌>>=◌, number_at, string_at}
+use Rattle.td_types.specs.Repository.{incarnation_of}
 use Rattle.td_session.specs.declared.store.FirstStore.{FirstStore}
 use Rattle.td_session.specs.Replies.{offers_of}
 
@@ -38,13 +37,9 @@ max_list = 100
 abbrev pub asks_nothing_more : Query → Bool
 asks_nothing_more q = nat_eq (length q.constraint) 0 && (nat_eq (length q.preference) 0 && (nat_eq q.policies 0 && nat_eq q.desired 0))
 
--- a service type is among these
-abbrev pub has_type : List ℕ → List (List ℕ) → Bool
-has_type service_type types = list_any (λ known. bytes_eq known service_type) types
-
 -- the service type is one of the store's, and its offers are no more than may be given
 abbrev pub is_served : FirstStore → Query → Bool
-is_served store q = has_type q.service_type store.types && nat_le (length (offers_of q.service_type store.offers)) (min q.how_many max_list)
+is_served store q = is_some (incarnation_of store.types.types q.service_type) && nat_le (length (offers_of q.service_type store)) (min q.how_many max_list)
 
 abbrev pub plain_of : FirstStore → Result (Query × At) CdrFault → Option (List ℕ)
 plain_of store (Ok q) = if asks_nothing_more q.0 && is_served store q.0 then Some q.0.service_type else None

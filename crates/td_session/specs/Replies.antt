@@ -1,22 +1,12 @@
 -- The replies of a session (chapters "General Inter-ORB Protocol", Reply message, and "Trading Object
 -- Service", Lookup).
-use Rattle.std.specs.Prelude.{ℕ, Bool, List, [], filter, codes}
+use Rattle.std.specs.Prelude.{ℕ, nat_eq, Bool, ◌&&◌, List, [], filter, Option, Some, None}
 use Rattle.std.specs.Str.{bytes_eq}
 use Rattle.td_cdr.specs.declared.order.Order.TheVariants.{Big}
-use Rattle.td_session.specs.declared.replies.SystemKind.{SystemKind}
-use Rattle.td_session.specs.declared.replies.SystemKind.TheVariants.{NoImplement, ObjectNotExist, NoMemory}
+use Rattle.td_types.specs.Repository.{incarnation_of}
 use Rattle.td_session.specs.declared.store.FirstOffer.{FirstOffer}
+use Rattle.td_session.specs.declared.store.FirstStore.{FirstStore}
 use Rattle.td_session.specs.Parts.{Part, ◌▸◌, number, ulong, octets, text, sequence}
-
--- the repository id of a system exception (chapter "Standard Exceptions")
-abbrev pub id_of : SystemKind → List ℕ
-id_of NoImplement = codes "IDL:omg.org/CORBA/NO_IMPLEMENT:1.0"
-id_of ObjectNotExist = codes "IDL:omg.org/CORBA/OBJECT_NOT_EXIST:1.0"
-id_of NoMemory = codes "IDL:omg.org/CORBA/NO_MEMORY:1.0"
-
--- a system exception: its id, minor code 0, and completion NO
-abbrev pub exception : SystemKind → Part
-exception kind = text (id_of kind) ▸ ulong 0 ▸ ulong 1
 
 -- the order octet and the version of an IIOP 1.0 profile in big order
 abbrev pub version : Part
@@ -46,9 +36,14 @@ nil = text [] ▸ ulong 0
 abbrev pub found : List FirstOffer → Part
 found offers = sequence offer_part offers ▸ nil ▸ ulong 0
 
--- the offers of a service type, in the order of the file
-abbrev pub is_of : List ℕ → FirstOffer → Bool
-is_of service_type offer = bytes_eq offer.service_type service_type
+-- an offer belongs to the type of this name and this incarnation
+abbrev pub is_of : List ℕ → ℕ → FirstOffer → Bool
+is_of service_type incarnation offer = bytes_eq offer.service_type service_type && nat_eq offer.incarnation incarnation
 
-abbrev pub offers_of : List ℕ → List FirstOffer → List FirstOffer
-offers_of service_type offers = filter (is_of service_type) offers
+-- the offers of a service type as it is now, in the order of the file
+abbrev pub offers_with : List ℕ → Option ℕ → List FirstOffer → List FirstOffer
+offers_with service_type None offers = []
+offers_with service_type (Some incarnation) offers = filter (is_of service_type incarnation) offers
+
+abbrev pub offers_of : List ℕ → FirstStore → List FirstOffer
+offers_of service_type store = offers_with service_type (incarnation_of store.types.types service_type) store.offers

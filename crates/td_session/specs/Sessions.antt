@@ -11,7 +11,7 @@ use Rattle.td_session.specs.declared.end.End.{End}
 use Rattle.td_session.specs.declared.end.End.TheVariants.{Closed, Broken, Truncated, ReadFault, WriteFault, Long, Memory}
 use Rattle.td_session.specs.declared.store.FirstStore.{FirstStore}
 use Rattle.td_session.specs.Outside.{Outside}
-use Rattle.td_session.specs.Steps.{Step, closes, breaks, step_of, Turn, IsTurn, message_limit, is_request, cause_of, message_error}
+use Rattle.td_session.specs.Steps.{Step, closes, breaks, step_of, Turn, Served, message_limit, is_request, cause_of, message_error}
 
 -- how many bytes a session takes, and how many Requests it serves, at most
 abbrev pub bytes_limit : ℕ
@@ -31,9 +31,10 @@ abbrev pub requests : List Turn → ℕ
 requests turns = count_by (λ t. is_request t.message) turns
 
 -- Behind bytes that were taken before, more were taken. In front of them all stand the messages that were
--- served, one after the other, each answered as its turn says, and the rest behind them. These bytes were given.
-pub record Runs (store : FirstStore) (before after : Outside) (held : List ℕ) (turns : List Turn) (taken rest given : List ℕ) : Type 0 where
-  pub answered : All (IsTurn store) turns
+-- served, one after the other, each answered as its turn says, and the rest behind them. The later store is what they
+-- left. These bytes were given.
+pub record Runs (store later : FirstStore) (before after : Outside) (held : List ℕ) (turns : List Turn) (taken rest given : List ℕ) : Type 0 where
+  pub answered : Served store turns later
   pub took : Consumes before.left after.left taken
   pub cut : Fronts message_limit (held ++ taken) (messages_of turns) rest
   pub gave : Appends before.written after.written given
@@ -105,8 +106,9 @@ Gives ReadFault before after output given = given ≡ output
 Gives Long before after output given = given ≡ output
 Gives Memory before after output given = given ≡ output
 
--- A session goes on to its end from where these bytes are held, so many were taken and so many Requests served.
-pub record Finishes (store : FirstStore) (end : End) (before after : Outside) (held : List ℕ) (count requests_before : ℕ) : Type 0 where
+-- A session goes on to its end from where these bytes are held, so many were taken and so many Requests served; the
+-- later store is what it leaves.
+pub record Finishes (store later : FirstStore) (end : End) (before after : Outside) (held : List ℕ) (count requests_before : ℕ) : Type 0 where
   -- each served message with its answer, in order
   pub turns : List Turn
   -- the bytes that are taken
@@ -115,12 +117,12 @@ pub record Finishes (store : FirstStore) (end : End) (before after : Outside) (h
   pub rest : List ℕ
   -- the bytes that are written
   pub given : List ℕ
-  pub runs : Runs store before after held turns taken rest given
+  pub runs : Runs store later before after held turns taken rest given
   pub bytes : count + length taken ≤ bytes_limit
   pub few : requests_before + requests turns ≤ request_limit
-  pub reason : HasReason store end before after (count + length taken) (requests_before + requests turns) rest
+  pub reason : HasReason later end before after (count + length taken) (requests_before + requests turns) rest
   pub gives : Gives end before after (output turns) given
 
 -- A session, whole.
-abbrev pub Serves : FirstStore → End → Outside → Outside → Type 0
-Serves store end before after = Finishes store end before after [] 0 0
+abbrev pub Serves : FirstStore → FirstStore → End → Outside → Outside → Type 0
+Serves store later end before after = Finishes store later end before after [] 0 0

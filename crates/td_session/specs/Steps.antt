@@ -11,10 +11,8 @@ use Rattle.td_giop.specs.Header.{order_told}
 use Rattle.td_giop.specs.Heads.{Request, request_at, locate_at, cancel_at, behind_header}
 use Rattle.td_session.specs.declared.end.Cause.{Cause}
 use Rattle.td_session.specs.declared.end.Cause.TheVariants.{BadMagic, BadVersion, BadType, TooLarge, NotForServer, Header}
-use Rattle.td_session.specs.declared.replies.SystemKind.TheVariants.{NoMemory}
 use Rattle.td_session.specs.declared.store.FirstStore.{FirstStore}
-use Rattle.td_session.specs.Answers.{reply, request_reply, locate_reply}
-use Rattle.td_session.specs.Replies.{exception}
+use Rattle.td_session.specs.Answers.{request_reply, store_after, unserved, locate_reply}
 
 -- how many bytes may follow a header: 16 MiB
 abbrev pub message_limit : ℕ
@@ -38,9 +36,10 @@ behind message = behind_header (order_of message) message
 
 -- ---- steps
 
--- what a message asks for: it is answered with bytes, maybe none; it closes the session; or the session breaks off
+-- what a message asks for: it is answered with bytes, maybe none, and the store is then this; it closes the session; or
+-- the session breaks off
 pub data Step : Type 0 where
-  answers : List ℕ → Step
+  answers : List ℕ → FirstStore → Step
   closes : Step
   breaks : Cause → Step
 
@@ -53,24 +52,24 @@ broken_head (cdr.TooLong place) = Header place
 broken_head cdr.Memory = Header 0
 
 abbrev pub request_step : FirstStore → Order → Result (Request × At) CdrFault → Step
-request_step store order (Ok head) = answers (request_reply store order head.0 head.1)
+request_step store order (Ok head) = answers (request_reply store order head.0 head.1) (store_after store head.0 head.1)
 request_step store order (Err fault) = breaks (broken_head fault)
 
 abbrev pub locate_step : FirstStore → Order → Result (ℕ × List ℕ) CdrFault → Step
-locate_step store order (Ok head) = answers (locate_reply store order head.0 head.1)
+locate_step store order (Ok head) = answers (locate_reply store order head.0 head.1) store
 locate_step store order (Err fault) = breaks (broken_head fault)
 
 -- a CancelRequest is ignored
-abbrev pub cancel_step : Result ℕ CdrFault → Step
-cancel_step (Ok id) = answers []
-cancel_step (Err fault) = breaks (broken_head fault)
+abbrev pub cancel_step : FirstStore → Result ℕ CdrFault → Step
+cancel_step store (Ok id) = answers [] store
+cancel_step store (Err fault) = breaks (broken_head fault)
 
 -- Request, LocateRequest and CancelRequest are served; CloseConnection and MessageError close the session; Reply
 -- and LocateReply are for clients
 unfoldable pub step_of : FirstStore → List ℕ → Step
 step_of store message =
     if nat_eq (kind_of message) 0 then request_step store (order_of message) (request_at (behind message))
-    else if nat_eq (kind_of message) 2 then cancel_step (cancel_at (behind message))
+    else if nat_eq (kind_of message) 2 then cancel_step store (cancel_at (behind message))
     else if nat_eq (kind_of message) 3 then locate_step store (order_of message) (locate_at (behind message))
     else if nat_eq (kind_of message) 1 then breaks NotForServer
     else if nat_eq (kind_of message) 4 then breaks NotForServer
@@ -90,20 +89,26 @@ message_error = 71 ∷ 73 ∷ 79 ∷ 80 ∷ 1 ∷ 0 ∷ 0 ∷ 6 ∷ 0 ∷ 0 ∷ 
 
 -- ---- turns
 
--- a served message with what it was answered with
+-- a served message with what it was answered with, and the store behind it
 pub record Turn : Type 0 where
   pub message : List ℕ
   pub reply : List ℕ
+  pub after : FirstStore
 
--- a Request that expects a reply and was answered with NO_MEMORY
-pub record WantsMemory (t : Turn) : Type 0 where
+-- A Request for which memory was wanted: it is answered with NO_MEMORY where it expects a reply, and changes nothing.
+pub record WantsMemory (store : FirstStore) (t : Turn) : Type 0 where
   pub head : Request
   pub body : At
   pub asked : kind_of t.message ≡ 0
   pub read : request_at (behind t.message) ≡ Ok (head, body)
-  pub expected : head.answered ≡ true
-  pub is : t.reply ≡ reply (order_of t.message) head.id 2 (exception NoMemory)
+  pub is : t.reply ≡ unserved (order_of t.message) head
+  pub kept : t.after ≡ store
 
--- a message is answered as it asks, or with NO_MEMORY
+-- a message is served as it asks of the store, or memory was wanted
 abbrev pub IsTurn : FirstStore → Turn → Type 0
-IsTurn store t = (step_of store t.message ≡ answers t.reply) ⊎ WantsMemory t
+IsTurn store t = (step_of store t.message ≡ answers t.reply t.after) ⊎ WantsMemory store t
+
+-- each message is served at the store that the one before has left
+abbrev pub Served : FirstStore → List Turn → FirstStore → Type 0
+Served store [] after = after ≡ store
+Served store (t ∷ ts) after = IsTurn store t × Served t.after ts after

@@ -1,50 +1,84 @@
 //! What a Request and a LocateRequest are answered with.
 
-ghost use Rattle.std.specs.Prelude.{◌≡◌, ◌≤◌, ◌<◌, length, OnOk, IsOk, MatchResult, Ok, Err};
+ghost use Rattle.std.specs.Prelude.{◌≡◌, ◌⊎◌, ◌≤◌, ◌<◌, true, IsTrue, [], length, OnOk, IsOk, IfOk, MatchResult, Ok, Err};
 ghost use Rattle.td_giop.specs.Heads.{Request, request_at, locate_at, behind_header};
 ghost use Rattle.td_giop.specs.Written.{sealed, reply_start};
-ghost use Rattle.td_session.specs.Answers.{is_live, is_lookup, is_object, answer_of, reply, reply_with, request_reply, locate_reply, IsReplied};
-ghost use Rattle.td_session.specs.declared.replies.SystemKind.TheVariants.{NoMemory};
-ghost use Rattle.td_session.specs.Asked.{IsAsked, asked_of};
+ghost use Rattle.td_ops.specs.declared.outcome.SystemKind.TheVariants.{NoMemory};
+ghost use Rattle.td_session.specs.Answers.{is_live, is_lookup, is_types, is_object, names, answer_of, live_answer, query_answer, reply, reply_with, outcome_reply, request_reply, unserved, locate_reply, IsReplied};
+ghost use Rattle.td_ops.specs.Outcomes.{is_short};
+ghost use Rattle.td_session.specs.Asked.{IsAnswer, IsPerformed, IsFew, IsWritten, IsSent, told_reply, is_sure, asked_of};
+ghost use Rattle.td_session.specs.Rooms.{reply_in};
 ghost use Rattle.td_session.specs.Parts.{Puts};
-ghost use Rattle.td_session.specs.Replies.{exception, found, offers_of};
+ghost use Rattle.td_session.specs.Queries.{plain_query};
+ghost use Rattle.td_session.specs.Replies.{found, offers_of};
+ghost use Rattle.td_session.specs.TypeCalls.{system};
 
 use crate::query::asked_type;
-use crate::replies::{SystemKind, put_exception, put_found};
+use crate::replies::put_found;
 use crate::room::Room;
-use crate::store::{FirstOffer, FirstStore};
+use crate::store::FirstStore;
+use crate::types::{answer_types, system};
+use std::alloc::Global;
 use td_cdr::{Memory, Order, Writer};
 use td_giop::{RequestHead, seal, start_reply, write_locate_reply};
+use td_ops::{Outcome, Reply, SystemKind, status_of, write_outcome};
 
 /// The reply status of a result.
 const NO_EXCEPTION: u32 = 0;
 
-/// The reply status of a system exception.
-const SYSTEM_EXCEPTION: u32 = 2;
-
 /// What a Request comes to.
-#[derive(Clone, Copy)]
-enum Asked<'a> {
-    Refused(SystemKind),
+#[derive(Drop)]
+enum Answer<'a> {
+    Outcome(Outcome),
     /// The offers of this service type.
     Offers(&'a [u8]),
 }
 
-/// What a Request comes to: first the key is looked at, then whether it is a query of the Lookup,
-/// then its parameters.
+/// Performs a Request: first the key is looked at, then the operation, then its parameters.
+///
+/// # Errors
+///
+/// `Memory` for want of memory alone; the store is then unchanged.
 #[tactic(auto, unfolding(crate::specs::Answers::answer_of))]
-fn what_is_asked<'a>(store: &FirstStore, head: &RequestHead<'a>) -> Asked<'a>
-    ensures { IsAsked store.now (answer_of store.now (asked_of head.now) head.now.body) result }
+fn perform_request<'a>(
+    alloc: Global,
+    store: &mut FirstStore,
+    head: &RequestHead<'a>,
+) -> Result<Answer<'a>, Memory>
+    ensures { IsPerformed store.old store.new (answer_of store.old (asked_of head.now) head.now.body) result }
 {
-    if !is_live(&store.trader, head.key) {
-        return Asked::Refused(SystemKind::ObjectNotExist);
+    if is_live(&store.trader, head.key) {
+        perform_live(alloc, store, head)
+    } else {
+        Ok(Answer::Outcome(system(SystemKind::ObjectNotExist, 0)))
     }
-    if !(is_lookup(&store.trader, head.key) && head.operation == b"query".as_slice()) {
-        return Asked::Refused(SystemKind::NoImplement);
+}
+
+/// Performs a Request with the key of a live object.
+fn perform_live<'a>(
+    alloc: Global,
+    store: &mut FirstStore,
+    head: &RequestHead<'a>,
+) -> Result<Answer<'a>, Memory>
+    ensures { IsPerformed store.old store.new (live_answer store.old (asked_of head.now) head.now.body) result }
+{
+    if is_types(&store.trader, head.key) {
+        let outcome = answer_types(alloc, &mut store.types, head.operation, &head.body)?;
+        Ok(Answer::Outcome(outcome))
+    } else if is_lookup(&store.trader, head.key) && head.operation == b"query".as_slice() {
+        Ok(answer_query(store, head))
+    } else {
+        Ok(Answer::Outcome(system(SystemKind::NoImplement, 0)))
     }
+}
+
+/// The answer to a query.
+fn answer_query<'a>(store: &FirstStore, head: &RequestHead<'a>) -> Answer<'a>
+    ensures { IsAnswer store.now store.now (query_answer store.now (plain_query store.now head.now.body)) result }
+{
     match asked_type(store, &head.body) {
-        None => Asked::Refused(SystemKind::NoImplement),
-        Some(service_type) => Asked::Offers(service_type),
+        None => Answer::Outcome(system(SystemKind::NoImplement, 0)),
+        Some(service_type) => Answer::Offers(service_type),
     }
 }
 
@@ -68,62 +102,166 @@ fn is_object(object: &[u8]) -> bool
         || object == b"/T".as_slice()
 }
 
+/// Whether a key is the trader's name and then this.
+fn names(trader: &[u8], object: &[u8], key: &[u8]) -> bool
+    ensures { result ≡ names trader.now object.now key.now }
+{
+    key.starts_with(trader) && &key[trader.len()..] == object
+}
+
 /// Whether a key names the trader's Lookup.
 #[tactic(auto, unfolding(crate::specs::Answers::is_lookup))]
 fn is_lookup(trader: &[u8], key: &[u8]) -> bool
     ensures { result ≡ is_lookup trader.now key.now }
 {
-    key.starts_with(trader) && &key[trader.len()..] == b"/L".as_slice()
+    names(trader, b"/L", key)
 }
 
-/// Answers a Request. The reply stands in the room then; it has no bytes where none is expected.
-#[tactic(auto, unfolding(crate::specs::Answers::request_reply))]
-pub(crate) fn answer_request(store: &FirstStore, room: &mut Room, order: Order, head: &RequestHead)
-    ensures { IsReplied store.now order (asked_of head.now) head.now.body room.new.reply.bytes }
+/// Whether a key names the trader's type repository.
+#[tactic(auto, unfolding(crate::specs::Answers::is_types))]
+fn is_types(trader: &[u8], key: &[u8]) -> bool
+    ensures { result ≡ is_types trader.now key.now }
 {
-    if !head.answered {
-        room.reply.restart(order);
-        return;
+    names(trader, b"/T", key)
+}
+
+/// Performs a Request. The reply stands in the room then; it has no bytes where none is expected.
+pub(crate) fn answer_request(
+    alloc: Global,
+    store: &mut FirstStore,
+    room: &mut Room,
+    order: Order,
+    head: &RequestHead,
+)
+    ensures { IsReplied store.old store.new order (asked_of head.now) head.now.body (reply_in room.new) }
+{
+    match perform_request(alloc, store, head) {
+        Ok(answer) => reply_to(alloc, store, room, order, head, &answer),
+        Err(_) => refuse_memory(alloc, room, order, head),
     }
-    match write_answer(store, &mut room.reply, &mut room.profile, order, head) {
+}
+
+/// Leaves the reply to a Request in the room, or what stands for it where memory is wanted.
+fn reply_to(
+    alloc: Global,
+    store: &FirstStore,
+    room: &mut Room,
+    order: Order,
+    head: &RequestHead,
+    answer: &Answer,
+)
+    requires { IsFew store.now answer.now }
+    ensures { IsWritten store.now order (asked_of head.now) answer.now (reply_in room.new) }
+{
+    if head.answered {
+        reply_expected(alloc, store, room, order, head, answer);
+    } else {
+        leave_empty(room, order);
+    }
+}
+
+/// Leaves no bytes in the room.
+pub(crate) fn leave_empty(room: &mut Room, order: Order)
+    ensures { reply_in room.new ≡ [] }
+{
+    room.is_long = false;
+    room.short.restart(order);
+}
+
+/// Leaves the reply to a Request in the room, or NO_MEMORY.
+fn reply_expected(
+    alloc: Global,
+    store: &FirstStore,
+    room: &mut Room,
+    order: Order,
+    head: &RequestHead,
+    answer: &Answer,
+)
+    requires few { IsFew store.now answer.now }
+    requires expected { head.now.answered ≡ true }
+    ensures { IsSent store.now order head.now.id answer.now (reply_in room.new) }
+{
+    match write_answer(alloc, store, room, order, head.id, answer) {
         Ok(()) => {}
-        Err(_) => refuse_memory(&mut room.reply, order, head.id),
+        Err(_) => write_no_memory(alloc, room, order, head.id),
     }
 }
 
 /// Writes the reply to a Request.
 fn write_answer(
+    alloc: Global,
     store: &FirstStore,
-    writer: &mut Writer,
-    profile: &mut Writer,
+    room: &mut Room,
     order: Order,
-    head: &RequestHead,
+    id: u32,
+    answer: &Answer,
 ) -> Result<(), Memory>
-    ensures ok { OnOk result (writer.new.bytes ≡ reply_with order head.now.id (answer_of store.now (asked_of head.now) head.now.body)) }
-    ensures room { writer.old.room ≤ writer.new.room }
+    requires { IsFew store.now answer.now }
+    ensures ok { OnOk result (reply_in room.new ≡ told_reply store.now order id answer.now) }
+    ensures sure { IsTrue (is_sure answer.now) → IsOk result }
 {
-    match what_is_asked(store, head) {
-        Asked::Refused(kind) => write_exception(writer, order, head.id, kind),
-        Asked::Offers(service_type) => {
-            write_found(writer, profile, order, head.id, &store.offers, service_type)
+    match answer {
+        Answer::Outcome(outcome) => write_outcome_reply(alloc, room, order, id, outcome),
+        Answer::Offers(service_type) => {
+            room.is_long = true;
+            write_found(
+                &mut room.long,
+                &mut room.profile,
+                order,
+                id,
+                store,
+                service_type,
+            )
         }
     }
 }
 
-/// Writes the reply of a system exception.
-fn write_exception(
+/// Writes the reply for an outcome; for a short one there is always room.
+fn write_outcome_reply(
+    alloc: Global,
+    room: &mut Room,
+    order: Order,
+    id: u32,
+    outcome: &Outcome,
+) -> Result<(), Memory>
+    ensures ok { OnOk result (reply_in room.new ≡ outcome_reply order id outcome.now) }
+    ensures sure { IsTrue (is_short outcome.now) → IsOk result }
+{
+    if is_short(outcome) {
+        room.is_long = false;
+        write_reply(alloc, &mut room.short, order, id, outcome)
+    } else {
+        room.is_long = true;
+        write_reply(alloc, &mut room.long, order, id, outcome)
+    }
+}
+
+/// Whether the reply for an outcome fits in the reserved bytes.
+fn is_short(outcome: &Outcome) -> bool
+    ensures { result ≡ is_short outcome.now }
+{
+    match outcome {
+        Outcome::Done(Reply::Nothing | Reply::Truth(_) | Reply::Incarnation(_)) => true,
+        Outcome::Done(Reply::Names(_) | Reply::Typed(_)) | Outcome::User(_) => false,
+        Outcome::System { .. } => true,
+    }
+}
+
+/// Writes the reply for an outcome.
+fn write_reply(
+    alloc: Global,
     writer: &mut Writer,
     order: Order,
     id: u32,
-    kind: SystemKind,
+    outcome: &Outcome,
 ) -> Result<(), Memory>
-    ensures ok { OnOk result (writer.new.bytes ≡ reply order id 2 (exception kind)) }
-    ensures room { writer.old.room ≤ writer.new.room }
-    ensures fits { 512 ≤ writer.old.room → IsOk result }
+    ensures ok { OnOk result (writer.new.bytes ≡ outcome_reply order id outcome.now) }
+    ensures room { IsTrue (is_short outcome.now) → writer.old.room ≤ writer.new.room }
+    ensures fits { IsTrue (is_short outcome.now) → 512 ≤ writer.old.room → IsOk result }
 {
     writer.restart(order);
-    start_reply(writer, id, SYSTEM_EXCEPTION)?;
-    put_exception(writer, kind)?;
+    start_reply(writer, id, status_of(outcome))?;
+    write_outcome(alloc, writer, outcome)?;
     seal(writer);
     Ok(())
 }
@@ -134,38 +272,51 @@ fn write_found(
     profile: &mut Writer,
     order: Order,
     id: u32,
-    offers: &[FirstOffer],
+    store: &FirstStore,
     service_type: &[u8],
 ) -> Result<(), Memory>
-    requires few { length (offers_of service_type.now offers.now) ≤ 100 }
-    ensures ok { OnOk result (writer.new.bytes ≡ reply order id 0 (found (offers_of service_type.now offers.now))) }
+    requires few { length (offers_of service_type.now store.now) ≤ 100 }
+    ensures ok { OnOk result (writer.new.bytes ≡ reply order id 0 (found (offers_of service_type.now store.now))) }
     ensures room { writer.old.room ≤ writer.new.room }
 {
     writer.restart(order);
     start_reply(writer, id, NO_EXCEPTION)?;
-    put_found(writer, profile, offers, service_type)?;
+    put_found(writer, profile, store, service_type)?;
     seal(writer);
     Ok(())
 }
 
-/// Writes a NO_MEMORY reply, for which there is always room.
-fn refuse_memory(writer: &mut Writer, order: Order, id: u32)
-    requires { 512 ≤ writer.old.room }
-    ensures bytes { writer.new.bytes ≡ reply order id 2 (exception NoMemory) }
-    ensures room { writer.old.room ≤ writer.new.room }
+/// Leaves in the room what stands for a reply where memory is wanted: NO_MEMORY, or no bytes where no
+/// reply is expected.
+#[tactic(auto, unfolding(crate::specs::Answers::unserved))]
+fn refuse_memory(alloc: Global, room: &mut Room, order: Order, head: &RequestHead)
+    ensures { reply_in room.new ≡ unserved order (asked_of head.now) }
 {
-    write_exception(writer, order, id, SystemKind::NoMemory).unwrap()
+    if head.answered {
+        write_no_memory(alloc, room, order, head.id);
+    } else {
+        leave_empty(room, order);
+    }
+}
+
+/// Writes a NO_MEMORY reply, for which there is always room.
+fn write_no_memory(alloc: Global, room: &mut Room, order: Order, id: u32)
+    ensures { reply_in room.new ≡ outcome_reply order id (system NoMemory 0) }
+{
+    write_outcome_reply(alloc, room, order, id, &system(SystemKind::NoMemory, 0)).unwrap()
+}
+
+/// Leaves a LocateReply in the room, for which there is always room.
+pub(crate) fn answer_locate(store: &FirstStore, room: &mut Room, order: Order, id: u32, key: &[u8])
+    ensures { reply_in room.new ≡ locate_reply store.now order id key.now }
+{
+    room.is_long = false;
+    write_location(store, &mut room.short, order, id, key);
 }
 
 /// Writes a LocateReply, for which there is always room.
 #[tactic(auto, unfolding(crate::specs::Answers::locate_reply))]
-pub(crate) fn answer_locate(
-    store: &FirstStore,
-    writer: &mut Writer,
-    order: Order,
-    id: u32,
-    key: &[u8],
-)
+fn write_location(store: &FirstStore, writer: &mut Writer, order: Order, id: u32, key: &[u8])
     requires { 512 ≤ writer.old.room }
     ensures bytes { writer.new.bytes ≡ locate_reply store.now order id key.now }
     ensures room { writer.old.room ≤ writer.new.room }

@@ -3,14 +3,16 @@
 ghost use Rattle.std.specs.Prelude.{◌≡◌, ◌≤◌};
 ghost use Rattle.td_session.specs.declared.store.FirstStore.{FirstStore as Stored};
 ghost use Rattle.td_session.specs.Steps.{broken_head};
+ghost use Rattle.td_session.specs.Rooms.{reply_in};
 ghost use Rattle.td_session.specs.Prepared.{IsMessage, Prepares};
 ghost use Rattle.td_session.specs.Turns.{Finds, Responds};
 
-use crate::answer::{answer_locate, answer_request};
+use crate::answer::{answer_locate, answer_request, leave_empty};
 use crate::end::Cause;
 use crate::piece::write_all;
 use crate::room::Room;
 use crate::store::FirstStore;
+use std::alloc::Global;
 use td_cdr::CdrFault;
 use td_giop::{FrameFault, Framer, Raw, read_cancel, read_locate, read_request};
 use td_out::Sink;
@@ -54,33 +56,40 @@ pub(crate) enum Prepared {
 
 /// Serves the message in front of the stream, which stays there.
 pub(crate) fn serve_front<K: Sink>(
-    store: &FirstStore,
+    alloc: Global,
+    store: &mut FirstStore,
     room: &mut Room,
     framer: &mut Framer,
     sink: &mut K,
 ) -> Front
     requires { framer.old.limit ≡ 16777216 }
-    ensures finds { Finds store.now result framer.old.rest (K.written sink.old) (K.written sink.new) (K.faults sink.old) (K.faults sink.new) }
+    ensures finds { Finds store.old store.new result framer.old.rest (K.written sink.old) (K.written sink.new) (K.faults sink.old) (K.faults sink.new) }
     ensures later { K.faults sink.old ≤ K.faults sink.new }
     ensures framer { framer.new ≡ framer.old }
 {
     match framer.next_message() {
         Err(fault) => Front::Bad(fault),
         Ok(None) => Front::Nothing,
-        Ok(Some(message)) => respond(store, room, &message, sink),
+        Ok(Some(message)) => respond(alloc, store, room, &message, sink),
     }
 }
 
 /// Answers a message.
-fn respond<K: Sink>(store: &FirstStore, room: &mut Room, message: &Raw<'_>, sink: &mut K) -> Front
+fn respond<K: Sink>(
+    alloc: Global,
+    store: &mut FirstStore,
+    room: &mut Room,
+    message: &Raw<'_>,
+    sink: &mut K,
+) -> Front
     requires { IsMessage message.now }
-    ensures responds { Responds store.now message.now.bytes.now result (K.written sink.old) (K.written sink.new) (K.faults sink.old) (K.faults sink.new) }
+    ensures responds { Responds store.old store.new message.now.bytes.now result (K.written sink.old) (K.written sink.new) (K.faults sink.old) (K.faults sink.new) }
     ensures later { K.faults sink.old ≤ K.faults sink.new }
 {
-    match prepare(store, room, message) {
+    match prepare(alloc, store, room, message) {
         Prepared::Close => Front::Closes,
         Prepared::Break(cause) => Front::Breaks(cause),
-        Prepared::Answer { request } => match write_all(sink, room.reply.bytes()) {
+        Prepared::Answer { request } => match write_all(sink, room.reply()) {
             Ok(()) => Front::Answered { request },
             Err(_) => Front::Unsent,
         },
@@ -89,12 +98,17 @@ fn respond<K: Sink>(store: &FirstStore, room: &mut Room, message: &Raw<'_>, sink
 
 /// What a message asks for, with its answer in the room.
 #[tactic(auto, unfolding(crate::specs::Steps::step_of))]
-fn prepare(store: &FirstStore, room: &mut Room, message: &Raw<'_>) -> Prepared
+fn prepare(
+    alloc: Global,
+    store: &mut FirstStore,
+    room: &mut Room,
+    message: &Raw<'_>,
+) -> Prepared
     requires { IsMessage message.now }
-    ensures { Prepares store.now message.now.bytes.now result room.new.reply.bytes }
+    ensures { Prepares store.old store.new message.now.bytes.now result (reply_in room.new) }
 {
     match message.kind {
-        REQUEST => prepare_request(store, room, message),
+        REQUEST => prepare_request(alloc, store, room, message),
         CANCEL_REQUEST => prepare_cancel(room, message),
         LOCATE_REQUEST => prepare_locate(store, room, message),
         REPLY | LOCATE_REPLY => Prepared::Break(Cause::NotForServer),
@@ -104,15 +118,20 @@ fn prepare(store: &FirstStore, room: &mut Room, message: &Raw<'_>) -> Prepared
 
 /// Prepares the answer to a Request.
 #[tactic(auto, unfolding(crate::specs::Steps::step_of))]
-fn prepare_request(store: &FirstStore, room: &mut Room, message: &Raw<'_>) -> Prepared
+fn prepare_request(
+    alloc: Global,
+    store: &mut FirstStore,
+    room: &mut Room,
+    message: &Raw<'_>,
+) -> Prepared
     requires whole { IsMessage message.now }
     requires kind { message.now.kind ≡ 0 }
-    ensures { Prepares store.now message.now.bytes.now result room.new.reply.bytes }
+    ensures { Prepares store.old store.new message.now.bytes.now result (reply_in room.new) }
 {
     match read_request(message) {
         Err(fault) => Prepared::Break(broken_head(fault)),
         Ok(head) => {
-            answer_request(store, room, message.order, &head);
+            answer_request(alloc, store, room, message.order, &head);
             Prepared::Answer { request: true }
         }
     }
@@ -123,12 +142,12 @@ fn prepare_request(store: &FirstStore, room: &mut Room, message: &Raw<'_>) -> Pr
 fn prepare_locate(store: &FirstStore, room: &mut Room, message: &Raw<'_>) -> Prepared
     requires whole { IsMessage message.now }
     requires kind { message.now.kind ≡ 3 }
-    ensures { Prepares store.now message.now.bytes.now result room.new.reply.bytes }
+    ensures { Prepares store.now store.now message.now.bytes.now result (reply_in room.new) }
 {
     match read_locate(message) {
         Err(fault) => Prepared::Break(broken_head(fault)),
         Ok((id, key)) => {
-            answer_locate(store, &mut room.reply, message.order, id, key);
+            answer_locate(store, room, message.order, id, key);
             Prepared::Answer { request: false }
         }
     }
@@ -139,12 +158,12 @@ fn prepare_locate(store: &FirstStore, room: &mut Room, message: &Raw<'_>) -> Pre
 fn prepare_cancel(room: &mut Room, message: &Raw<'_>) -> Prepared
     requires whole { IsMessage message.now }
     requires kind { message.now.kind ≡ 2 }
-    ensures { (store : Stored) → Prepares store message.now.bytes.now result room.new.reply.bytes }
+    ensures { (store : Stored) → Prepares store store message.now.bytes.now result (reply_in room.new) }
 {
     match read_cancel(message) {
         Err(fault) => Prepared::Break(broken_head(fault)),
         Ok(_) => {
-            room.reply.restart(message.order);
+            leave_empty(room, message.order);
             Prepared::Answer { request: false }
         }
     }

@@ -11,5 +11,5 @@ ghost use Rattle.td_session.specs.Completeness.{IsServable, NoneFailed, IsComple
 /// it nor the sink fails, the session serves them all in order and is closed, or it ends for want of
 /// memory.
 pub fn all_messages_are_served()
-    ensures { (store : FirstStore) (end : End) (before after : Outside) (stream : List ℕ) (messages : List (List ℕ)) → Serves store end before after → before.left ≡ Some stream → IsServable store stream messages → NoneFailed before after → IsComplete store end before after messages }
+    ensures { (store later : FirstStore) (end : End) (before after : Outside) (stream : List ℕ) (messages : List (List ℕ)) → Serves store later end before after → before.left ≡ Some stream → IsServable stream messages → NoneFailed before after → IsComplete store later end before after messages }
 {}

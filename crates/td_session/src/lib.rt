@@ -11,6 +11,7 @@ mod replies;
 mod room;
 mod session;
 mod store;
+mod types;
 
 pub use end::{Cause, End};
 pub use laws::all_messages_are_served;

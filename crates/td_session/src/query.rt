@@ -1,13 +1,13 @@
 //! The plain query: what its parameters ask for.
 
 ghost use Rattle.std.specs.Prelude.{◌≡◌, ◌≤◌, length, MatchOption, MatchResult, IfSome, None, Some, Ok, Err, ◌&&◌, IsTrue, true, false};
-ghost use Rattle.td_session.specs.Queries.{query_at, asks_nothing_more, is_served, plain_query, has_type};
+ghost use Rattle.td_session.specs.Queries.{query_at, asks_nothing_more, is_served, plain_query};
 ghost use Rattle.td_session.specs.QueryBodies.{told};
 ghost use Rattle.td_session.specs.Replies.{offers_of};
 
 use crate::replies::count_offers;
 use crate::store::FirstStore;
-use td_cdr::{CdrFault, Reader, Text};
+use td_cdr::{CdrFault, Reader};
 
 /// How many offers a reply has at most.
 const MAX_LIST: u32 = 100;
@@ -29,7 +29,7 @@ struct QueryBody<'a> {
 #[tactic(auto, unfolding(crate::specs::Queries::plain_query))]
 pub(crate) fn asked_type<'a>(store: &FirstStore, body: &Reader<'a>) -> Option<&'a [u8]>
     ensures value { MatchOption result (plain_query store.now body.now ≡ None) (λ t. plain_query store.now body.now ≡ Some t.now) }
-    ensures few { IfSome result (λ t. length (offers_of t.now store.now.offers) ≤ 100) }
+    ensures few { IfSome result (λ t. length (offers_of t.now store.now) ≤ 100) }
 {
     let mut reader = body.copied();
     match read_query(&mut reader) {
@@ -42,7 +42,7 @@ pub(crate) fn asked_type<'a>(store: &FirstStore, body: &Reader<'a>) -> Option<&'
 fn plain_type<'a>(store: &FirstStore, query: &QueryBody<'a>) -> Option<&'a [u8]>
     ensures value { MatchOption result (asks_nothing_more (told query.now) && is_served store.now (told query.now) ≡ false)
         (λ t. (asks_nothing_more (told query.now) && is_served store.now (told query.now) ≡ true) × (t.now ≡ query.now.service_type.now)) }
-    ensures few { IfSome result (λ t. length (offers_of t.now store.now.offers) ≤ 100) }
+    ensures few { IfSome result (λ t. length (offers_of t.now store.now) ≤ 100) }
 {
     if asks_nothing_more(query) && is_served(store, query) {
         Some(query.service_type)
@@ -64,17 +64,10 @@ fn asks_nothing_more(query: &QueryBody) -> bool
 /// Whether the service type is one of the store's, and its offers are no more than may be given.
 fn is_served(store: &FirstStore, query: &QueryBody) -> bool
     ensures value { result ≡ is_served store.now (told query.now) }
-    ensures few { IsTrue result → length (offers_of query.now.service_type.now store.now.offers) ≤ 100 }
+    ensures few { IsTrue result → length (offers_of query.now.service_type.now store.now) ≤ 100 }
 {
-    has_type(&store.types, query.service_type)
-        && count_offers(&store.offers, query.service_type) <= query.how_many.min(MAX_LIST) as usize
-}
-
-/// Whether a service type is among these.
-fn has_type(types: &[Text], service_type: &[u8]) -> bool
-    ensures { result ≡ has_type service_type.now types.now }
-{
-    types.iter().any(|known| known.as_slice() == service_type)
+    store.types.incarnation_of(query.service_type).is_some()
+        && count_offers(store, query.service_type) <= query.how_many.min(MAX_LIST) as usize
 }
 
 /// Reads a query's parameters.

@@ -1,40 +1,11 @@
 //! Replies: the bodies that a session writes.
 
-ghost use Rattle.std.specs.Prelude.{◌≡◌, ◌+◌, ◌≤◌, ◌<◌, [], length, OnOk, IsOk};
+ghost use Rattle.std.specs.Prelude.{◌≡◌, ◌≤◌, [], length, filter, OnOk};
 ghost use Rattle.td_session.specs.Parts.{Puts, each, sequence};
-ghost use Rattle.td_session.specs.Replies.{id_of, profile_part, offer_part, nil, found, exception, offers_of, profile, reference, version};
+ghost use Rattle.td_session.specs.Replies.{profile_part, offer_part, nil, found, is_of, offers_of, profile, reference, version};
 
-use crate::store::FirstOffer;
+use crate::store::{FirstOffer, FirstStore};
 use td_cdr::{Memory, Order, Writer};
-
-/// Why a Request was refused (chapter "Standard Exceptions").
-#[derive(Clone, Copy, Debug, PartialEq, Eq)]
-pub enum SystemKind {
-    NoImplement,
-    ObjectNotExist,
-    NoMemory,
-}
-
-/// The repository id of a system exception.
-fn repository_id(kind: SystemKind) -> &'static [u8]
-    ensures { result.now ≡ id_of kind }
-{
-    match kind {
-        SystemKind::NoImplement => b"IDL:omg.org/CORBA/NO_IMPLEMENT:1.0",
-        SystemKind::ObjectNotExist => b"IDL:omg.org/CORBA/OBJECT_NOT_EXIST:1.0",
-        SystemKind::NoMemory => b"IDL:omg.org/CORBA/NO_MEMORY:1.0",
-    }
-}
-
-/// The body of a system exception, with minor code 0 and completion NO.
-pub(crate) fn put_exception(reply: &mut Writer, kind: SystemKind) -> Result<(), Memory>
-    ensures puts { Puts (exception kind) reply.old reply.new result }
-    ensures fits { length reply.old.bytes ≤ 24 → 512 ≤ reply.old.room → IsOk result }
-{
-    reply.string(repository_id(kind))?;
-    reply.u32(0)?;
-    reply.u32(1)
-}
 
 /// The octets of an offer's IIOP 1.0 profile, in place of what the writer held.
 #[tactic(auto, unfolding(crate::specs::Replies::profile))]
@@ -83,45 +54,78 @@ fn put_reference(reply: &mut Writer, id: &[u8], profile: &[u8]) -> Result<(), Me
     reply.octets(profile)
 }
 
-/// The offers of a service type.
+/// Those of the offers that are of a service type and of this incarnation of it.
 fn put_offers(
     reply: &mut Writer,
     profile: &mut Writer,
     offers: &[FirstOffer],
     service_type: &[u8],
+    incarnation: u64,
 ) -> Result<(), Memory>
-    ensures { Puts (each offer_part (offers_of service_type.now offers.now)) reply.old reply.new result }
+    ensures { Puts (each offer_part (filter (is_of service_type.now incarnation) offers.now)) reply.old reply.new result }
 {
     for offer in offers {
-        if offer.service_type.as_slice() == service_type {
+        if is_of(service_type, incarnation, offer) {
             put_offer(reply, profile, offer)?;
         }
     }
     Ok(())
 }
 
-/// How many offers of a service type there are.
-pub(crate) fn count_offers(offers: &[FirstOffer], service_type: &[u8]) -> usize
-    ensures { result ≡ length (offers_of service_type.now offers.now) }
+/// Whether an offer is of a service type and of this incarnation of it.
+fn is_of(service_type: &[u8], incarnation: u64, offer: &FirstOffer) -> bool
+    ensures { result ≡ is_of service_type.now incarnation offer.now }
+{
+    offer.service_type.as_slice() == service_type && offer.incarnation == incarnation
+}
+
+/// How many of the offers are of a service type and of this incarnation of it.
+fn count_with(offers: &[FirstOffer], service_type: &[u8], incarnation: u64) -> usize
+    ensures { result ≡ length (filter (is_of service_type.now incarnation) offers.now) }
 {
     offers
         .iter()
-        .filter(|offer| offer.service_type.as_slice() == service_type)
+        .filter(|offer| offer.service_type.as_slice() == service_type && offer.incarnation == incarnation)
         .count()
+}
+
+/// How many offers of a service type there are.
+pub(crate) fn count_offers(store: &FirstStore, service_type: &[u8]) -> usize
+    ensures { result ≡ length (offers_of service_type.now store.now) }
+{
+    match store.types.incarnation_of(service_type) {
+        Some(incarnation) => count_with(&store.offers, service_type, incarnation),
+        None => 0,
+    }
+}
+
+/// The offers of a service type.
+fn put_offers_of(
+    reply: &mut Writer,
+    profile: &mut Writer,
+    store: &FirstStore,
+    service_type: &[u8],
+) -> Result<(), Memory>
+    ensures { Puts (each offer_part (offers_of service_type.now store.now)) reply.old reply.new result }
+{
+    match store.types.incarnation_of(service_type) {
+        Some(incarnation) => put_offers(reply, profile, &store.offers, service_type, incarnation),
+        None => Ok(()),
+    }
 }
 
 /// The result of a query: the offers of a service type, a nil iterator, and no limits.
 pub(crate) fn put_found(
     reply: &mut Writer,
     profile: &mut Writer,
-    offers: &[FirstOffer],
+    store: &FirstStore,
     service_type: &[u8],
 ) -> Result<(), Memory>
-    requires few { length (offers_of service_type.now offers.now) ≤ 100 }
-    ensures { Puts (found (offers_of service_type.now offers.now)) reply.old reply.new result }
+    requires few { length (offers_of service_type.now store.now) ≤ 100 }
+    ensures { Puts (found (offers_of service_type.now store.now)) reply.old reply.new result }
 {
-    reply.u32(count_offers(offers, service_type) as u32)?;
-    put_offers(reply, profile, offers, service_type)?;
+    reply.u32(count_offers(store, service_type) as u32)?;
+    put_offers_of(reply, profile, store, service_type)?;
     put_nil(reply)?;
     reply.u32(0)
 }

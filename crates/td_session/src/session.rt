@@ -66,17 +66,18 @@ impl Session {
     /// Serves the message in front, or takes a piece, or says how the session ends.
     fn turn<S: Source, K: Sink>(
         &mut self,
-        store: &FirstStore,
+        alloc: Global,
+        store: &mut FirstStore,
         room: &mut Room,
         source: &mut S,
         sink: &mut K,
     ) -> Option<End>
-        ensures { Turns store.now (outside (S.left source.old) (S.faults source.old) (K.written sink.old) (K.faults sink.old)) (outside (S.left source.new) (S.faults source.new) (K.written sink.new) (K.faults sink.new)) (stand self.old.framer self.old.taken self.old.requests) (stand self.new.framer self.new.taken self.new.requests) result }
+        ensures { Turns store.old store.new (outside (S.left source.old) (S.faults source.old) (K.written sink.old) (K.faults sink.old)) (outside (S.left source.new) (S.faults source.new) (K.written sink.new) (K.faults sink.new)) (stand self.old.framer self.old.taken self.old.requests) (stand self.new.framer self.new.taken self.new.requests) result }
     {
         if self.requests == REQUEST_LIMIT {
             return Some(End::Long);
         }
-        match serve_front(store, room, &mut self.framer, sink) {
+        match serve_front(alloc, store, room, &mut self.framer, sink) {
             Front::Nothing => self.take(source),
             Front::Bad(fault) => Some(self.end_at_bad_header(sink, fault)),
             Front::Closes => Some(End::Closed),
@@ -95,7 +96,7 @@ impl Session {
         requires served { first_at message_limit self.old.framer.rest ≡ Ok None }
         requires open { self.old.requests < 1000000 }
         ensures { (store : FirstStore) (w0 w1 : Option (List ℕ)) (f0 f1 : ℕ) → Appends w0 w1 [] → f0 ≤ f1
-            → Turns store (outside (S.left source.old) (S.faults source.old) w0 f0) (outside (S.left source.new) (S.faults source.new) w1 f1) (stand self.old.framer self.old.taken self.old.requests) (stand self.new.framer self.new.taken self.new.requests) result }
+            → Turns store store (outside (S.left source.old) (S.faults source.old) w0 f0) (outside (S.left source.new) (S.faults source.new) w1 f1) (stand self.old.framer self.old.taken self.old.requests) (stand self.new.framer self.new.taken self.new.requests) result }
     {
         if self.taken == BYTES_LIMIT {
             return Some(End::Long);
@@ -157,18 +158,18 @@ fn cause_of(fault: FrameFault) -> Cause
 /// Serves the messages of a source in order, and writes their replies to a sink, until the stream ends.
 pub fn serve_connection<S: Source, K: Sink>(
     alloc: Global,
-    store: &FirstStore,
+    store: &mut FirstStore,
     room: &mut Room,
     source: &mut S,
     sink: &mut K,
 ) -> End
-    ensures { Serves store.now result (outside (S.left source.old) (S.faults source.old) (K.written sink.old) (K.faults sink.old)) (outside (S.left source.new) (S.faults source.new) (K.written sink.new) (K.faults sink.new)) }
+    ensures { Serves store.old store.new result (outside (S.left source.old) (S.faults source.old) (K.written sink.old) (K.faults sink.old)) (outside (S.left source.new) (S.faults source.new) (K.written sink.new) (K.faults sink.new)) }
 {
     let Ok(mut session) = Session::new(alloc) else {
         return End::Memory;
     };
     loop {
-        match session.turn(store, room, source, sink) {
+        match session.turn(alloc, store, room, source, sink) {
             Some(end) => return end,
             None => {}
         }

@@ -2,6 +2,7 @@
 
 use std::alloc::Global;
 use td_cdr::{List, Memory, Octets, Text, Twin};
+use td_types::Types;
 
 /// Where a server is reached.
 #[derive(Debug, Drop)]
@@ -16,6 +17,8 @@ pub struct Address {
 pub struct FirstOffer {
     /// The name of the service type.
     pub service_type: Text,
+    /// Which type of that name it is: the incarnation that the type had when the offer was made.
+    pub incarnation: u64,
     /// The repository id of the object's interface.
     pub id: Text,
     /// The host and the port of the reference's IIOP profile.
@@ -26,14 +29,14 @@ pub struct FirstOffer {
 }
 
 /// One trader with the offers of the server's file, in the order of the file.
-#[derive(Debug, Drop)]
+#[derive(Drop)]
 pub struct FirstStore {
     /// Where the server is reached.
     pub home: Address,
     /// The trader's name.
     pub trader: Text,
-    /// The names of its service types.
-    pub types: List<Text>,
+    /// Its service types.
+    pub types: Types,
     pub offers: List<FirstOffer>,
 }
 

@@ -1,14 +1,17 @@
 //! Worked sessions: what is written, and how the session ends.
 
 mod messages;
+mod repository;
 
 use crate::{Address, Cause, End, FirstOffer, FirstStore, Room, serve_connection};
 use messages::*;
+use repository::*;
 use std::alloc::Global;
 use std::process::Abort;
 use std::test::Fail;
 use td_cdr::{List, Memory, Octets, Text};
 use td_out::{MemSink, MemSource};
+use td_types::{Types, TypesReply};
 
 /// How the bytes come, and which calls of the source and the sink fail.
 #[derive(Clone, Copy)]
@@ -53,6 +56,7 @@ fn home(alloc: Global) -> Result<Address, Memory> {
 fn printer(alloc: Global, key: &[u8]) -> Result<FirstOffer, Memory> {
     Ok(FirstOffer {
         service_type: Text::from_slice(alloc, b"Printer")?,
+        incarnation: 1,
         id: Text::from_slice(alloc, b"IDL:Printer:1.0")?,
         host: Text::from_slice(alloc, b"h")?,
         port: 9,
@@ -60,14 +64,23 @@ fn printer(alloc: Global, key: &[u8]) -> Result<FirstOffer, Memory> {
     })
 }
 
+/// The repository with the type Printer.
+fn printers(alloc: Global) -> Result<Types, Memory> {
+    let mut types = Types::new(alloc, List::new(alloc))?;
+    let name = Text::from_slice(alloc, b"Printer")?;
+    let if_name = Text::from_slice(alloc, b"IDL:Printer:1.0")?;
+    match types.add(name, if_name, List::new(alloc), List::new(alloc)) {
+        Ok(TypesReply::Added(1)) => Ok(types),
+        _ => Err(Memory),
+    }
+}
+
 /// Trader A with the type Printer and these offers.
 fn trader(alloc: Global, offers: List<FirstOffer>) -> Result<FirstStore, Memory> {
-    let mut types = List::new(alloc);
-    types.push(Text::from_slice(alloc, b"Printer")?)?;
     Ok(FirstStore {
         home: home(alloc)?,
         trader: Text::from_slice(alloc, b"A")?,
-        types,
+        types: printers(alloc)?,
         offers,
     })
 }
@@ -88,7 +101,12 @@ fn joined(alloc: Global, parts: [&'static [u8]; 2]) -> Result<Vec<u8>, Memory> {
 }
 
 /// Runs a session.
-fn run(alloc: Global, store: &FirstStore, outside: Outside, input: Vec<u8>) -> Result<Ran, Memory> {
+fn run(
+    alloc: Global,
+    store: &mut FirstStore,
+    outside: Outside,
+    input: Vec<u8>,
+) -> Result<Ran, Memory> {
     let mut room = Room::new(alloc, home(alloc)?)?;
     let mut source = MemSource::new(
         Octets::from_vec(input),
@@ -104,7 +122,7 @@ fn run(alloc: Global, store: &FirstStore, outside: Outside, input: Vec<u8>) -> R
 fn check(
     rt: &impl Abort,
     alloc: Global,
-    store: &FirstStore,
+    store: &mut FirstStore,
     outside: Outside,
     row: Row,
 ) -> Result<(), Fail> {
@@ -127,7 +145,7 @@ const fn closed(input: [&'static [u8]; 2], written: [&'static [u8]; 2]) -> Row {
 #[test]
 fn messages_are_answered(rt: HostRuntime) -> Result<(), Fail> {
     let alloc = rt.alloc();
-    let store = two_printers(alloc)?;
+    let mut store = two_printers(alloc)?;
     let rows = [
         closed([NONE, NONE], [NONE, NONE]),
         closed([QUERY, NONE], [FOUND, NONE]),
@@ -145,11 +163,11 @@ fn messages_are_answered(rt: HostRuntime) -> Result<(), Fail> {
         closed([MESSAGE_ERROR, QUERY], [NONE, NONE]),
     ];
     for row in rows {
-        check(&rt, alloc, &store, PLAIN, row)?;
+        check(&rt, alloc, &mut store, PLAIN, row)?;
     }
-    let without_offers = trader(alloc, List::new(alloc))?;
+    let mut without_offers = trader(alloc, List::new(alloc))?;
     let row = closed([QUERY, NONE], [FOUND_NONE, NONE]);
-    check(&rt, alloc, &without_offers, PLAIN, row)
+    check(&rt, alloc, &mut without_offers, PLAIN, row)
 }
 
 /// A session that is broken off with a MessageError.
@@ -164,7 +182,7 @@ const fn broken(input: [&'static [u8]; 2], reply: &'static [u8], place: u64, cau
 #[test]
 fn streams_break_off(rt: HostRuntime) -> Result<(), Fail> {
     let alloc = rt.alloc();
-    let store = two_printers(alloc)?;
+    let mut store = two_printers(alloc)?;
     let rows = [
         broken([TOO_LARGE, NONE], NONE, 0, Cause::TooLarge),
         broken(
@@ -188,7 +206,7 @@ fn streams_break_off(rt: HostRuntime) -> Result<(), Fail> {
         broken([CUT_CANCEL, NONE], NONE, 0, Cause::Header(12)),
     ];
     for row in rows {
-        check(&rt, alloc, &store, PLAIN, row)?;
+        check(&rt, alloc, &mut store, PLAIN, row)?;
     }
     Ok(())
 }
@@ -196,7 +214,7 @@ fn streams_break_off(rt: HostRuntime) -> Result<(), Fail> {
 #[test]
 fn streams_are_cut_and_calls_fail(rt: HostRuntime) -> Result<(), Fail> {
     let alloc = rt.alloc();
-    let store = two_printers(alloc)?;
+    let mut store = two_printers(alloc)?;
     let bytewise = Outside {
         pieces: &[1; 88],
         ..PLAIN
@@ -204,7 +222,7 @@ fn streams_are_cut_and_calls_fail(rt: HostRuntime) -> Result<(), Fail> {
     check(
         &rt,
         alloc,
-        &store,
+        &mut store,
         bytewise,
         closed([QUERY, NONE], [FOUND, NONE]),
     )?;
@@ -215,7 +233,7 @@ fn streams_are_cut_and_calls_fail(rt: HostRuntime) -> Result<(), Fail> {
     check(
         &rt,
         alloc,
-        &store,
+        &mut store,
         two_pieces,
         closed([QUERY, QUERY], [FOUND, FOUND]),
     )?;
@@ -246,7 +264,7 @@ fn streams_are_cut_and_calls_fail(rt: HostRuntime) -> Result<(), Fail> {
             written: [reply, NONE],
             end,
         };
-        check(&rt, alloc, &store, outside, row)?;
+        check(&rt, alloc, &mut store, outside, row)?;
     }
     Ok(())
 }
@@ -254,11 +272,27 @@ fn streams_are_cut_and_calls_fail(rt: HostRuntime) -> Result<(), Fail> {
 #[test]
 fn the_largest_message_is_answered(rt: HostRuntime) -> Result<(), Fail> {
     let alloc = rt.alloc();
-    let store = two_printers(alloc)?;
+    let mut store = two_printers(alloc)?;
     let mut input = joined(alloc, [b"GIOP\x01\0\0\0\x01\0\0\0", &QUERY[12..]])?;
     input.resize(16_777_228, 0)?;
-    let ran = run(alloc, &store, PLAIN, input)?;
+    let ran = run(alloc, &mut store, PLAIN, input)?;
     assert_eq!(rt; ran.sink.written(), FOUND);
     assert_eq!(rt; ran.end, End::Closed);
+    Ok(())
+}
+
+#[test]
+fn types_are_added_masked_and_removed(rt: HostRuntime) -> Result<(), Fail> {
+    let alloc = rt.alloc();
+    let rows = [
+        closed([MASKING, NONE], [MASKING_REPLIES, NONE]),
+        closed([INHERITING, NONE], [INHERITING_REPLIES, NONE]),
+        closed([REFUSED, NONE], [REFUSED_REPLIES, NONE]),
+        closed([UNANSWERED_ADD, NONE], [UNANSWERED_ADD_REPLIES, NONE]),
+    ];
+    for row in rows {
+        let mut store = two_printers(alloc)?;
+        check(&rt, alloc, &mut store, PLAIN, row)?;
+    }
     Ok(())
 }

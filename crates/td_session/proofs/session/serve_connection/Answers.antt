@@ -8,7 +8,7 @@ pub loop-end-init : goal.loop-end-init
 loop-end-init g c = begins _ _ _ _ _ _ c.in-Ok.ensures.0 c.in-Ok.ensures.1 c.in-Ok.ensures.2
 
 pub returns-in-Some : goal.returns-in-Some
-returns-in-Some g c = ends _ _ _ _ _ _ c.loop-end.invariant c.in-Some.ensures
+returns-in-Some g c = ends _ _ _ _ _ _ _ _ c.loop-end.invariant c.in-Some.ensures
 
 pub loop-end-preserved : goal.loop-end-preserved
-loop-end-preserved g c = goes_on _ _ _ _ _ _ c.loop-end.invariant c.in-None.ensures
+loop-end-preserved g c = goes_on _ _ _ _ _ _ _ _ c.loop-end.invariant c.in-None.ensures

@@ -6,7 +6,7 @@ use Rattle.td_session.proofs.session.serve_connection.Given as goal
 -- what was done since the session began
 abbrev pub invariant-loop-end : goal.invariant-loop-end
 invariant-loop-end g l =
-    Sofar l.store (outside (g.S.Source.left l.initial.source) (g.S.Source.faults l.initial.source) (g.K.Sink.written l.initial.sink) (g.K.Sink.faults l.initial.sink))
+    Sofar l.initial.store l.store (outside (g.S.Source.left l.initial.source) (g.S.Source.faults l.initial.source) (g.K.Sink.written l.initial.sink) (g.K.Sink.faults l.initial.sink))
     (outside (g.S.Source.left l.source) (g.S.Source.faults l.source) (g.K.Sink.written l.sink) (g.K.Sink.faults l.sink)) (stand l.session.framer l.session.taken l.session.requests)
 
 abbrev pub decreases-loop-end : goal.decreases-loop-end

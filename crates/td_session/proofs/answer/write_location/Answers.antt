@@ -1,7 +1,7 @@
 use Rattle.std.proofs.Common.{arith}
 use Rattle.td_giop.proofs.Lengths.{locate_reply_written_length}
 use Rattle.td_session.proofs.Fits.{written_whole, written_long}
-use Rattle.td_session.proofs.answer.answer_locate.Goals as goal
+use Rattle.td_session.proofs.answer.write_location.Goals as goal
 
 pub unwrap-requires : goal.unwrap-requires
 unwrap-requires c =
