@@ -1,21 +1,22 @@
 -- What the lines so far are, and how one more line changes it.
-use Rattle.std.proofs.Common.{◌≡◌, ℕ, suc, ◌<◌, ◌≤◌, ltb-true, nat_lt, nat_eq, Bool, true, false, not, ◌&&◌, is_some, List, [], ◌∷◌, ◌++◌, codes, length, length-append, append_assoc, append-nil, subst, ◌⊎◌, inl, inr, Option, Some, None, refl, sym, ap, ◌∙◌, arith, if◌then◌else◌}
-use Rattle.std.specs.List.{list_any}
+use Rattle.std.proofs.Common.{◌≡◌, ℕ, suc, ◌<◌, ◌≤◌, ltb-true, nat_lt, nat_eq, Bool, true, false, not, ◌&&◌, is_some, List, [], ◌∷◌, ◌++◌, codes, length, length-append, append_assoc, append-nil, subst, ◌⊎◌, inl, inr, Option, Some, None, Ok, Err, refl, sym, ap, ◌∙◌, arith, if◌then◌else◌}
 use Rattle.std.specs.Str.{bytes_eq}
 use Rattle.std.proofs.lemmas.Bool.{false≢true, eqb-true}
-use Rattle.td_cdr.specs.Names.{word_name, trader_name}
+use Rattle.td_cdr.specs.Names.{trader_name}
+use Rattle.td_types.specs.Calls.{Comes, add_type}
+use Rattle.td_types.specs.Repository.{Repository, type_named, incarnation_of}
+use Rattle.td_types.specs.declared.reply.TypesReply.{TypesReply}
 use Rattle.td_session.specs.declared.store.Address.{Address}
 use Rattle.td_session.specs.declared.store.FirstOffer.{FirstOffer}
 use Rattle.td_first.specs.declared.draft.Draft.{Draft}
-use Rattle.td_first.specs.declared.draft.Kind.{Kind}
-use Rattle.td_first.specs.Entries.{when, interface_of, is_named, is_kind, with_address, with_trader, with_kind, with_offer, with_words}
-use Rattle.td_first.specs.Form.{Each, HasKind, Lacks, Distinct, IsAddressLine, IsTraderLine, IsTypeLine, IsOfferLine}
+use Rattle.td_first.specs.Entries.{when, interface_of, has_interface, with_added, with_address, with_trader, with_type, with_offer, with_words}
+use Rattle.td_first.specs.Form.{Each, AreTypeLines, IsAddressLine, IsTraderLine, IsTypeLine, IsOfferLine}
 use Rattle.td_first.specs.Port.{port_of}
-use Rattle.td_first.specs.Reference.{offer_of}
-use Rattle.td_first.specs.Whole.{nothing_yet}
+use Rattle.td_first.specs.Reference.{◌>>=◌, offer_of}
+use Rattle.td_first.specs.Whole.{no_types, nothing_yet}
 use Rattle.td_first.specs.Words.{words}
 use Rattle.td_first.proofs.References.{None≢Some, some-same, bind-Some, reference-from_offer}
-use Rattle.td_first.proofs.TypeNames.{same-bytes, and-left, and-right, Lacks-from_test, Distinct-push, HasKind-from_test}
+use Rattle.td_first.proofs.TypeNames.{same-bytes, and-left, and-right, AreTypeLines-push, known-from_tests}
 
 when-Some : {A : Type 0} (holds : Bool) (x y : A) → when holds x ≡ Some y → (holds ≡ true) × (x ≡ y)
 when-Some true x y e = (refl, some-same x y e)
@@ -30,7 +31,7 @@ abbrev SaysTrader : Draft → List (List ℕ) → Draft → Type 0
 SaysTrader d ws next = (name : List ℕ) × (ws ≡ codes "trader" ∷ name ∷ []) × (with_trader d name ≡ Some next)
 
 abbrev SaysType : Draft → List (List ℕ) → Draft → Type 0
-SaysType d ws next = (name : List ℕ) × (interface : List ℕ) × (ws ≡ codes "type" ∷ name ∷ interface ∷ []) × (with_kind d name interface ≡ Some next)
+SaysType d ws next = (name : List ℕ) × (interface : List ℕ) × (ws ≡ codes "type" ∷ name ∷ interface ∷ []) × (with_type d name interface ≡ Some next)
 
 abbrev SaysOffer : Draft → List (List ℕ) → Draft → Type 0
 SaysOffer d ws next = (name : List ℕ) × (reference : List ℕ) × (ws ≡ codes "offer" ∷ name ∷ reference ∷ []) × (with_offer d name reference ≡ Some next)
@@ -46,11 +47,11 @@ says-offer : (d next : Draft) (first second third : List ℕ) (t : Bool) → byt
 says-offer d next first second third true e h = inr (inr (inr (second, third, ap (λ x. x ∷ second ∷ third ∷ []) (same-bytes first (codes "offer") e), h)))
 says-offer d next first second third false e h = absurd (None≢Some next h)
 
-says-type : (d next : Draft) (first second third : List ℕ) (t : Bool) → bytes_eq first (codes "type") ≡ t → (if t then with_kind d second third else (if bytes_eq first (codes "offer") then with_offer d second third else None)) ≡ Some next → Says d (first ∷ second ∷ third ∷ []) next
+says-type : (d next : Draft) (first second third : List ℕ) (t : Bool) → bytes_eq first (codes "type") ≡ t → (if t then with_type d second third else (if bytes_eq first (codes "offer") then with_offer d second third else None)) ≡ Some next → Says d (first ∷ second ∷ third ∷ []) next
 says-type d next first second third true e h = inr (inr (inl (second, third, ap (λ x. x ∷ second ∷ third ∷ []) (same-bytes first (codes "type") e), h)))
 says-type d next first second third false e h = says-offer d next first second third (bytes_eq first (codes "offer")) refl h
 
-says-address : (d next : Draft) (first second third : List ℕ) (t : Bool) → bytes_eq first (codes "address") ≡ t → (if t then with_address d second third else (if bytes_eq first (codes "type") then with_kind d second third else (if bytes_eq first (codes "offer") then with_offer d second third else None))) ≡ Some next → Says d (first ∷ second ∷ third ∷ []) next
+says-address : (d next : Draft) (first second third : List ℕ) (t : Bool) → bytes_eq first (codes "address") ≡ t → (if t then with_address d second third else (if bytes_eq first (codes "type") then with_type d second third else (if bytes_eq first (codes "offer") then with_offer d second third else None))) ≡ Some next → Says d (first ∷ second ∷ third ∷ []) next
 says-address d next first second third true e h = inl (second, third, ap (λ x. x ∷ second ∷ third ∷ []) (same-bytes first (codes "address") e), h)
 says-address d next first second third false e h = says-type d next first second third (bytes_eq first (codes "type")) refl h
 
@@ -68,7 +69,7 @@ pub record HasAddress (lines : List (List ℕ)) (d : Draft) : Type 0 where
   pub home : Address
   pub whole : lines ≡ line ∷ []
   pub said : IsAddressLine line home
-  pub means : d ≡ record { home = Some home; trader = None; kinds = []; offers = [] }
+  pub means : d ≡ record { home = Some home; trader = None; types = no_types; offers = [] }
 
 pub record HasTrader (lines : List (List ℕ)) (d : Draft) : Type 0 where
   pub home_line : List ℕ
@@ -82,9 +83,8 @@ pub record HasTrader (lines : List (List ℕ)) (d : Draft) : Type 0 where
   pub said_trader : IsTraderLine trader_line trader
   pub at_home : d.home ≡ Some home
   pub at_trader : d.trader ≡ Some trader
-  pub types : Each IsTypeLine type_lines d.kinds
-  pub offers : Each (IsOfferLine d.kinds) offer_lines d.offers
-  pub distinct : Distinct d.kinds
+  pub types : AreTypeLines no_types type_lines d.types
+  pub offers : Each (IsOfferLine d.types.types) offer_lines d.offers
   pub few : length d.offers ≤ 100
 
 abbrev pub Holds : List (List ℕ) → Draft → Type 0
@@ -117,8 +117,8 @@ false-from_not_true false e = refl
 abbrev address_made : Draft → List ℕ → ℕ → Draft
 address_made d host n = record d { home = Some (record { host = host; port = n }) }
 
-abbrev kind_made : Draft → List ℕ → List ℕ → Draft
-kind_made d name interface = record d { kinds = d.kinds ++ (record { name = name; interface = interface_of interface }) ∷ [] }
+abbrev types_made : Draft → Repository → Draft
+types_made d types = record d { types = types }
 
 abbrev offer_made : Draft → FirstOffer → Draft
 offer_made d offer = record d { offers = d.offers ++ offer ∷ [] }
@@ -140,35 +140,40 @@ trader-wants d next name made =
       placed.1,
     )
 
-type-wants : (d next : Draft) (name interface : List ℕ) → with_kind d name interface ≡ Some next → (is_some d.trader ≡ true) × (d.offers ≡ []) × (word_name name ≡ true) × Lacks name d.kinds × (kind_made d name interface ≡ next)
+guarded-Some : {A : Type 0} (holds : Bool) (o : Option A) (y : A) → (if holds then o else None) ≡ Some y → (holds ≡ true) × (o ≡ Some y)
+guarded-Some true o y e = (refl, e)
+guarded-Some false o y e = absurd (None≢Some y e)
+
+added-Some : (d next : Draft) (comes : Comes) → with_added d comes ≡ Some next → (reply : TypesReply) × (types : Repository) × (comes ≡ Ok (reply, types)) × (types_made d types ≡ next)
+added-Some d next (Ok added) e = (added.0, added.1, refl, some-same (types_made d added.1) next e)
+added-Some d next (Err refusal) e = absurd (None≢Some next e)
+
+type-wants : (d next : Draft) (name interface : List ℕ) → with_type d name interface ≡ Some next → (is_some d.trader ≡ true) × (d.offers ≡ []) × (reply : TypesReply) × (types : Repository) × (add_type d.types name (interface_of interface) [] [] ≡ Ok (reply, types)) × (types_made d types ≡ next)
 type-wants d next name interface made =
     let a = is_some d.trader in
     let b = nat_eq (length d.offers) 0 in
-    let w = word_name name in
-    let l = not (list_any (is_named name) d.kinds) in
-    let placed = when-Some (a && b && w && l) (kind_made d name interface) next made in
-    let three = and-left (a && b && w) l placed.0 in
-    let two = and-left (a && b) w three in (
-      and-left a b two,
-      nil-from_length d.offers (and-right a b two),
-      and-right (a && b) w three,
-      Lacks-from_test name d.kinds (false-from_not_true (list_any (is_named name) d.kinds) (and-right (a && b && w) l placed.0)),
-      placed.1,
-    )
+    let comes : Comes = add_type d.types name (interface_of interface) [] [] in
+    let placed = guarded-Some (a && b) (with_added d comes) next made in
+    let added = added-Some d next comes placed.1 in
+    (and-left a b placed.0, nil-from_length d.offers (and-right a b placed.0), added.0, added.1, added.2, added.3)
 
-offer-wants : (d next : Draft) (name reference : List ℕ) → with_offer d name reference ≡ Some next → (offer : FirstOffer) × (offer_of name reference ≡ Some offer) × (length d.offers < 100) × (list_any (is_kind name offer.id) d.kinds ≡ true) × (record d { offers = d.offers ++ offer ∷ [] } ≡ next)
+abbrev with_made : Draft → List ℕ → FirstOffer → Option Draft
+with_made d name offer = when (nat_lt (length d.offers) 100 && has_interface d.types.types name offer.id) (offer_made d offer)
+
+abbrev with_incarnation : Draft → List ℕ → List ℕ → ℕ → Option Draft
+with_incarnation d name reference incarnation = offer_of name incarnation reference >>= with_made d name
+
+offer-wants : (d next : Draft) (name reference : List ℕ) → with_offer d name reference ≡ Some next → (incarnation : ℕ) × (offer : FirstOffer) × (incarnation_of d.types.types name ≡ Some incarnation) × (offer_of name incarnation reference ≡ Some offer) × (length d.offers < 100) × (has_interface d.types.types name offer.id ≡ true) × (offer_made d offer ≡ next)
 offer-wants d next name reference made =
-    let found = bind-Some (offer_of name reference) (λ (o : FirstOffer). when (nat_lt (length d.offers) 100 && list_any (is_kind name o.id) d.kinds) (offer_made d o)) next made in
-    let placed = when-Some (nat_lt (length d.offers) 100 && list_any (is_kind name found.0.id) d.kinds) (offer_made d found.0) next found.2 in (
-      found.0,
-      found.1,
-      ltb-true (length d.offers) 100 (and-left (nat_lt (length d.offers) 100) (list_any (is_kind name found.0.id) d.kinds) placed.0),
-      and-right (nat_lt (length d.offers) 100) (list_any (is_kind name found.0.id) d.kinds) placed.0,
-      placed.1,
-    )
+    let known = bind-Some (incarnation_of d.types.types name) (with_incarnation d name reference) next made in
+    let found = bind-Some (offer_of name known.0 reference) (with_made d name) next known.2 in
+    let few = nat_lt (length d.offers) 100 in
+    let same = has_interface d.types.types name found.0.id in
+    let placed = when-Some (few && same) (offer_made d found.0) next found.2 in
+    (known.0, found.0, known.1, found.1, ltb-true (length d.offers) 100 (and-left few same placed.0), and-right few same placed.0, placed.1)
 
 abbrev address_draft : Address → Draft
-address_draft home = record { home = Some home; trader = None; kinds = []; offers = [] }
+address_draft home = record { home = Some home; trader = None; types = no_types; offers = [] }
 
 grow-nothing : (line : List ℕ) (next : Draft) → Says nothing_yet (words line) next → Holds (line ∷ []) next
 grow-nothing line next (inl h) =
@@ -176,13 +181,15 @@ grow-nothing line next (inl h) =
     inr (inl (record { line = line; home = record { host = h.0; port = w.0 }; whole = refl; said = record { port_word = h.1; said = h.2; port = w.1 }; means = sym w.3 }))
 grow-nothing line next (inr (inl h)) = absurd (false≢true (trader-wants nothing_yet next h.0 h.2).0)
 grow-nothing line next (inr (inr (inl h))) = absurd (false≢true (type-wants nothing_yet next h.0 h.1 h.3).0)
-grow-nothing line next (inr (inr (inr h))) = absurd (false≢true (offer-wants nothing_yet next h.0 h.1 h.3).3)
+grow-nothing line next (inr (inr (inr h))) =
+    let w = offer-wants nothing_yet next h.0 h.1 h.3 in
+    absurd (None≢Some w.0 w.2)
 
 grow-address : (lines : List (List ℕ)) (first line : List ℕ) (home : Address) (next : Draft) → lines ≡ first ∷ [] → IsAddressLine first home → Says (address_draft home) (words line) next → Holds (lines ++ line ∷ []) next
 grow-address lines first line home next whole said (inl h) = absurd (false≢true (sym (address-wants (address_draft home) next h.0 h.1 h.3).2))
 grow-address lines first line home next whole said (inr (inl h)) =
     let w = trader-wants (address_draft home) next h.0 h.2 in
-    let made : HasTrader (lines ++ line ∷ []) (record { home = Some home; trader = Some h.0; kinds = []; offers = [] }) = record {
+    let made : HasTrader (lines ++ line ∷ []) (record { home = Some home; trader = Some h.0; types = no_types; offers = [] }) = record {
       home_line = first;
       trader_line = line;
       type_lines = [];
@@ -194,14 +201,15 @@ grow-address lines first line home next whole said (inr (inl h)) =
       said_trader = record { said = h.1; named = w.2 };
       at_home = refl;
       at_trader = refl;
-      types = tt;
+      types = refl;
       offers = tt;
-      distinct = tt;
       few = omega arith;
     } in
     inr (inr (subst (λ (d : Draft). HasTrader (lines ++ line ∷ []) d) w.3 made))
 grow-address lines first line home next whole said (inr (inr (inl h))) = absurd (false≢true (type-wants (address_draft home) next h.0 h.1 h.3).0)
-grow-address lines first line home next whole said (inr (inr (inr h))) = absurd (false≢true (offer-wants (address_draft home) next h.0 h.1 h.3).3)
+grow-address lines first line home next whole said (inr (inr (inr h))) =
+    let w = offer-wants (address_draft home) next h.0 h.1 h.3 in
+    absurd (None≢Some w.0 w.2)
 
 whole-type : (lines types offers : List (List ℕ)) (home trader line : List ℕ) → lines ≡ home ∷ trader ∷ (types ++ offers) → offers ≡ [] → lines ++ line ∷ [] ≡ home ∷ trader ∷ ((types ++ line ∷ []) ++ [])
 whole-type lines types offers home trader line e none =
@@ -213,9 +221,8 @@ whole-offer lines types offers home trader line e = rw e (ap (λ x. home ∷ tra
 grow-type : (lines : List (List ℕ)) (line : List ℕ) (d next : Draft) → HasTrader lines d → SaysType d (words line) next → HasTrader (lines ++ line ∷ []) next
 grow-type lines line d next g h =
     let w = type-wants d next h.0 h.1 h.3 in
-    let none : g.offer_lines ≡ [] = Each-nil (IsOfferLine d.kinds) g.offer_lines d.offers w.1 g.offers in
-    let kind : Kind = record { name = h.0; interface = interface_of h.1 } in
-    let made : HasTrader (lines ++ line ∷ []) (kind_made d h.0 h.1) = record {
+    let none : g.offer_lines ≡ [] = Each-nil (IsOfferLine d.types.types) g.offer_lines d.offers w.1 g.offers in
+    let made : HasTrader (lines ++ line ∷ []) (types_made d w.3) = record {
       home_line = g.home_line;
       trader_line = g.trader_line;
       type_lines = g.type_lines ++ line ∷ [];
@@ -227,18 +234,18 @@ grow-type lines line d next g h =
       said_trader = g.said_trader;
       at_home = g.at_home;
       at_trader = g.at_trader;
-      types = Each-push IsTypeLine g.type_lines d.kinds line kind g.types (record { word = h.1; said = h.2; named = w.2; interface = refl });
-      offers = subst (λ (os : List FirstOffer). Each (IsOfferLine (d.kinds ++ kind ∷ [])) [] os) (sym w.1) tt;
-      distinct = Distinct-push d.kinds kind g.distinct w.3;
+      types = AreTypeLines-push no_types g.type_lines line d.types w.3 g.types (record { name = h.0; word = h.1; said = h.2; reply = w.2; added = w.4 });
+      offers = subst (λ (os : List FirstOffer). Each (IsOfferLine w.3.types) [] os) (sym w.1) tt;
       few = g.few;
     } in
-    subst (λ (x : Draft). HasTrader (lines ++ line ∷ []) x) w.4 made
+    subst (λ (x : Draft). HasTrader (lines ++ line ∷ []) x) w.5 made
 
 grow-offer : (lines : List (List ℕ)) (line : List ℕ) (d next : Draft) → HasTrader lines d → SaysOffer d (words line) next → HasTrader (lines ++ line ∷ []) next
 grow-offer lines line d next g h =
     let w = offer-wants d next h.0 h.1 h.3 in
-    let offer : FirstOffer = w.0 in
-    let said = reference-from_offer h.0 h.1 offer w.1 in
+    let offer : FirstOffer = w.1 in
+    let said = reference-from_offer h.0 w.0 h.1 offer w.3 in
+    let known = known-from_tests d.types.types h.0 offer.id w.0 w.2 w.5 in
     let made : HasTrader (lines ++ line ∷ []) (offer_made d offer) = record {
       home_line = g.home_line;
       trader_line = g.trader_line;
@@ -252,16 +259,18 @@ grow-offer lines line d next g h =
       at_home = g.at_home;
       at_trader = g.at_trader;
       types = g.types;
-      offers = Each-push (IsOfferLine d.kinds) g.offer_lines d.offers line offer g.offers (record {
+      offers = Each-push (IsOfferLine d.types.types) g.offer_lines d.offers line offer g.offers (record {
         word = h.1;
         said = h.2 ∙ ap (λ (x : List ℕ). codes "offer" ∷ x ∷ h.1 ∷ []) (sym said.0);
-        reference = said.1;
-        known = subst (λ (x : List ℕ). HasKind x offer.id d.kinds) (sym said.0) (HasKind-from_test h.0 offer.id d.kinds w.3);
+        reference = said.2;
+        type = known.0;
+        known = ap (λ (x : List ℕ). type_named d.types.types x) said.0 ∙ known.1;
+        interface = known.2;
+        incarnation = known.3 ∙ sym said.1;
       });
-      distinct = g.distinct;
-      few = omega (arith, length-append d.offers (offer ∷ []), w.2);
+      few = omega (arith, length-append d.offers (offer ∷ []), w.4);
     } in
-    subst (λ (x : Draft). HasTrader (lines ++ line ∷ []) x) w.4 made
+    subst (λ (x : Draft). HasTrader (lines ++ line ∷ []) x) w.6 made
 
 grow-trader : (lines : List (List ℕ)) (line : List ℕ) (d next : Draft) → HasTrader lines d → Says d (words line) next → Holds (lines ++ line ∷ []) next
 grow-trader lines line d next g (inl h) = absurd (false≢true (sym (address-wants d next h.0 h.1 h.3).2 ∙ ap (λ (o : Option Address). is_some o) g.at_home))

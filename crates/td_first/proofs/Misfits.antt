@@ -1,22 +1,26 @@
 -- A refused file, and the first line that doesn't fit.
-use Rattle.std.proofs.Common.{◌≡◌, ℕ, suc, ◌+◌, ◌<◌, ◌≤◌, List, [], ◌∷◌, ◌++◌, codes, length, take, subst, ◌⊎◌, inl, inr, Option, Some, None, Result, Ok, Err, refl, sym, ap, ◌∙◌, arith}
+use Rattle.std.proofs.Common.{◌≡◌, ℕ, suc, ◌+◌, ◌<◌, ◌≤◌, List, [], ◌∷◌, ◌++◌, codes, length, take, false, subst, ◌⊎◌, inl, inr, Option, Some, None, Result, Ok, Err, refl, sym, ap, ◌∙◌, arith}
 use Rattle.std.specs.Str.Lines.{lines}
 use Rattle.std.proofs.lemmas.List.{take_all}
+use Rattle.td_types.specs.Calls.{Comes, add_type}
+use Rattle.td_types.specs.Conforming.{ancestors}
+use Rattle.td_types.specs.Properties.{full_properties}
+use Rattle.td_types.specs.Repository.{Repository}
+use Rattle.td_types.specs.declared.reply.TypesReply.TheVariants as reply
 use Rattle.td_session.specs.declared.store.Address.{Address}
 use Rattle.td_session.specs.declared.store.FirstOffer.{FirstOffer}
 use Rattle.td_session.specs.declared.store.FirstStore.{FirstStore}
 use Rattle.td_first.specs.declared.draft.Draft.{Draft}
-use Rattle.td_first.specs.declared.draft.Kind.{Kind}
-use Rattle.td_first.specs.Entries.{with_line}
-use Rattle.td_first.specs.Form.{kept, Means, Begins, Each, IsOfferLine, IsFirstMisfit}
+use Rattle.td_first.specs.Entries.{with_added, with_line}
+use Rattle.td_first.specs.Form.{kept, Means, Begins, AreTypeLines, Each, IsOfferLine, IsFirstMisfit}
 use Rattle.td_first.specs.Port.{port_of}
 use Rattle.td_first.specs.Reference.{◌>>=◌}
-use Rattle.td_first.specs.Whole.{nothing_yet, store_of, or_line, rest_of_file}
+use Rattle.td_first.specs.Whole.{no_types, nothing_yet, store_of, or_line, rest_of_file}
 use Rattle.td_first.specs.Words.{words}
 use Rattle.td_first.proofs.Forms.{going, bind-same, bind-assoc, drafted-from_means}
 use Rattle.td_first.proofs.Growing.{Holds}
 use Rattle.td_first.proofs.References.{None≢Some, some-same}
-use Rattle.td_first.proofs.Wholes.{drafted, holds-all, means-from_drafted, made_store}
+use Rattle.td_first.proofs.Wholes.{drafted, holds-all, means-from_drafted, made_store, whole-store}
 
 pub drafted-append : (d : Draft) (front back : List (List ℕ)) → drafted d (front ++ back) ≡ (drafted d front >>= λ next. drafted next back)
 drafted-append d [] back = refl
@@ -65,41 +69,51 @@ stops n m d (line ∷ rest) e = stops-line n m d line rest (with_line d line) re
 abbrev Completes : Draft → Type 0
 Completes d = (more : List (List ℕ)) × (last : Draft) × (store : FirstStore) × (drafted d more ≡ Some last) × (store_of last ≡ Some store)
 
-abbrev a_kind : Kind
-a_kind = record { name = codes "A"; interface = [] }
+-- the repository that `type A -` makes of one without types
+abbrev a_type : Repository
+a_type = record { types = (record { name = codes "A"; if_name = []; props = []; supers = []; masked = false; incarnation = 1 }) ∷ []; interfaces = []; last = 1 }
+
+added-first : add_type no_types (codes "A") [] [] [] ≡ Ok (reply.Added 1, a_type)
+unfolding add_type full_properties ancestors
+added-first = refl
+
+drafted-type : (home : Address) (trader : List ℕ) → drafted (going home trader no_types []) (codes "type A -" ∷ []) ≡ Some (going home trader a_type [])
+unfolding with_line words
+drafted-type home trader = ap (λ (comes : Comes). with_added (going home trader no_types []) comes >>= λ next. drafted next []) added-first
 
 complete-nothing : Completes nothing_yet
 unfolding with_line words port_of
-complete-nothing = (
-  codes "address h 9" ∷ codes "trader A" ∷ codes "type A -" ∷ [],
-  going (record { host = codes "h"; port = 9 }) (codes "A") (a_kind ∷ []) [],
-  made_store (record { host = codes "h"; port = 9 }) (codes "A") (a_kind ∷ []) [],
-  refl,
-  refl,
-)
+complete-nothing =
+    let home : Address = record { host = codes "h"; port = 9 } in
+    (codes "address h 9" ∷ codes "trader A" ∷ codes "type A -" ∷ [], going home (codes "A") a_type [], made_store home (codes "A") a_type [], drafted-type home (codes "A"), refl)
 
-complete-address : (home : Address) → Completes (record { home = Some home; trader = None; kinds = []; offers = [] })
+complete-address : (home : Address) → Completes (record { home = Some home; trader = None; types = no_types; offers = [] })
 unfolding with_line words
-complete-address home = (codes "trader A" ∷ codes "type A -" ∷ [], going home (codes "A") (a_kind ∷ []) [], made_store home (codes "A") (a_kind ∷ []) [], refl, refl)
+complete-address home = (codes "trader A" ∷ codes "type A -" ∷ [], going home (codes "A") a_type [], made_store home (codes "A") a_type [], drafted-type home (codes "A"), refl)
 
-complete-trader : (home : Address) (trader : List ℕ) (kinds : List Kind) (offers : List FirstOffer) (offer_lines : List (List ℕ)) → Each (IsOfferLine kinds) offer_lines offers → Completes (going home trader kinds offers)
-unfolding with_line words
-complete-trader home trader [] [] [] h = (codes "type A -" ∷ [], going home trader (a_kind ∷ []) [], made_store home trader (a_kind ∷ []) [], refl, refl)
-complete-trader home trader [] [] (line ∷ offer_lines) h = absurd h
-complete-trader home trader [] (offer ∷ offers) [] h = absurd h
-complete-trader home trader [] (offer ∷ offers) (line ∷ offer_lines) h = absurd h.0.known
-complete-trader home trader (kind ∷ kinds) offers offer_lines h = ([], going home trader (kind ∷ kinds) offers, made_store home trader (kind ∷ kinds) offers, refl, refl)
+-- there are no offers without types
+complete-no_types : (home : Address) (trader : List ℕ) (offers : List FirstOffer) (offer_lines : List (List ℕ)) → Each (IsOfferLine []) offer_lines offers → Completes (going home trader no_types offers)
+complete-no_types home trader [] [] h = (codes "type A -" ∷ [], going home trader a_type [], made_store home trader a_type [], drafted-type home trader, refl)
+complete-no_types home trader [] (line ∷ offer_lines) h = absurd h
+complete-no_types home trader (offer ∷ offers) [] h = absurd h
+complete-no_types home trader (offer ∷ offers) (line ∷ offer_lines) h = absurd (None≢Some h.0.type h.0.known)
 
-abbrev draft_of : Option Address → Option (List ℕ) → List Kind → List FirstOffer → Draft
-draft_of home trader kinds offers = record { home = home; trader = trader; kinds = kinds; offers = offers }
+complete-trader : (home : Address) (trader : List ℕ) (types : Repository) (offers : List FirstOffer) (type_lines offer_lines : List (List ℕ)) → AreTypeLines no_types type_lines types → Each (IsOfferLine types.types) offer_lines offers → Completes (going home trader types offers)
+complete-trader home trader types offers [] offer_lines t h =
+    subst (λ (x : Repository). Completes (going home trader x offers)) (sym t) (complete-no_types home trader offers offer_lines (subst (λ (x : Repository). Each (IsOfferLine x.types) offer_lines offers) t h))
+complete-trader home trader types offers (line ∷ type_lines) offer_lines t h =
+    ([], going home trader types offers, made_store home trader types offers, refl, whole-store home trader types offers (line ∷ type_lines) (omega arith) t)
 
-going-same : (d : Draft) (home : Address) (trader : List ℕ) → d.home ≡ Some home → d.trader ≡ Some trader → going home trader d.kinds d.offers ≡ d
-going-same d home trader h t = ap (λ (x : Option Address). draft_of x (Some trader) d.kinds d.offers) (sym h) ∙ ap (λ (x : Option (List ℕ)). draft_of d.home x d.kinds d.offers) (sym t)
+abbrev draft_of : Option Address → Option (List ℕ) → Repository → List FirstOffer → Draft
+draft_of home trader types offers = record { home = home; trader = trader; types = types; offers = offers }
+
+going-same : (d : Draft) (home : Address) (trader : List ℕ) → d.home ≡ Some home → d.trader ≡ Some trader → going home trader d.types d.offers ≡ d
+going-same d home trader h t = ap (λ (x : Option Address). draft_of x (Some trader) d.types d.offers) (sym h) ∙ ap (λ (x : Option (List ℕ)). draft_of d.home x d.types d.offers) (sym t)
 
 completes : (lines : List (List ℕ)) (d : Draft) → Holds lines d → Completes d
 completes lines d (inl h) = subst (λ (x : Draft). Completes x) (sym h.1) complete-nothing
 completes lines d (inr (inl h)) = subst (λ (x : Draft). Completes x) (sym h.means) (complete-address h.home)
-completes lines d (inr (inr h)) = subst (λ (x : Draft). Completes x) (going-same d h.home h.trader h.at_home h.at_trader) (complete-trader h.home h.trader d.kinds d.offers h.offer_lines h.offers)
+completes lines d (inr (inr h)) = subst (λ (x : Draft). Completes x) (going-same d h.home h.trader h.at_home h.at_trader) (complete-trader h.home h.trader d.types d.offers h.type_lines h.offer_lines h.types h.offers)
 
 begins : (all : List (List ℕ)) (d : Draft) → drafted nothing_yet all ≡ Some d → Begins all
 begins all d e =

@@ -112,8 +112,8 @@ parts-steps : (word : List ℕ) → parts_of word ≡ (unmarked word >>= with_re
 unfolding parts_of
 parts-steps word = refl
 
-parts-at : (service_type word rest : List ℕ) (last before first : List ℕ × List ℕ) (port : ℕ) → unmarked word ≡ Some rest → cut_last rest ≡ Some last → cut_last last.0 ≡ Some before → cut_last before.0 ≡ Some first → port_of before.1 ≡ Some port → IsReference word (offer_with service_type (record { id = first.0; host = first.1; port = port; key = last.1 }))
-parts-at service_type word rest last before first port u l b f p =
+parts-at : (service_type : List ℕ) (incarnation : ℕ) (word rest : List ℕ) (last before first : List ℕ × List ℕ) (port : ℕ) → unmarked word ≡ Some rest → cut_last rest ≡ Some last → cut_last last.0 ≡ Some before → cut_last before.0 ≡ Some first → port_of before.1 ≡ Some port → IsReference word (offer_with service_type incarnation (record { id = first.0; host = first.1; port = port; key = last.1 }))
+parts-at service_type incarnation word rest last before first port u l b f p =
     let at_last = cut-Some rest last.0 last.1 l in
     let at_before = cut-Some last.0 before.0 before.1 b in
     let at_first = cut-Some before.0 first.0 first.1 f in
@@ -126,26 +126,26 @@ parts-at service_type word rest last before first port u l b f p =
       in_key = at_last.last;
     }
 
-parts-are : (service_type word rest : List ℕ) (last before first : List ℕ × List ℕ) (port : ℕ) (parts : Parts) → unmarked word ≡ Some rest → cut_last rest ≡ Some last → cut_last last.0 ≡ Some before → cut_last before.0 ≡ Some first → port_of before.1 ≡ Some port → Some (parts_made first.0 first.1 port last.1) ≡ Some parts → IsReference word (offer_with service_type parts)
-parts-are service_type word rest last before first port parts u l b f p same =
-    subst (λ (x : Parts). IsReference word (offer_with service_type x)) (some-same (parts_made first.0 first.1 port last.1) parts same) (parts-at service_type word rest last before first port u l b f p)
+parts-are : (service_type : List ℕ) (incarnation : ℕ) (word rest : List ℕ) (last before first : List ℕ × List ℕ) (port : ℕ) (parts : Parts) → unmarked word ≡ Some rest → cut_last rest ≡ Some last → cut_last last.0 ≡ Some before → cut_last before.0 ≡ Some first → port_of before.1 ≡ Some port → Some (parts_made first.0 first.1 port last.1) ≡ Some parts → IsReference word (offer_with service_type incarnation parts)
+parts-are service_type incarnation word rest last before first port parts u l b f p same =
+    subst (λ (x : Parts). IsReference word (offer_with service_type incarnation x)) (some-same (parts_made first.0 first.1 port last.1) parts same) (parts-at service_type incarnation word rest last before first port u l b f p)
 
-reference-from_parts : (service_type word : List ℕ) (parts : Parts) → parts_of word ≡ Some parts → IsReference word (offer_with service_type parts)
-reference-from_parts service_type word parts e =
+reference-from_parts : (service_type : List ℕ) (incarnation : ℕ) (word : List ℕ) (parts : Parts) → parts_of word ≡ Some parts → IsReference word (offer_with service_type incarnation parts)
+reference-from_parts service_type incarnation word parts e =
     let rest = bind-Some (unmarked word) with_rest parts (sym (parts-steps word) ∙ e) in
     let last = bind-Some (cut_last rest.0) with_last parts rest.2 in
     let before = bind-Some (cut_last last.0.0) (with_before last.0) parts last.2 in
     let first = bind-Some (cut_last before.0.0) (with_first last.0 before.0) parts before.2 in
     let port = bind-Some (port_of before.0.1) (λ (port : ℕ). Some (parts_made first.0.0 first.0.1 port last.0.1)) parts first.2 in
-    parts-are service_type word rest.0 last.0 before.0 first.0 port.0 parts rest.1 last.1 before.1 first.1 port.1 port.2
+    parts-are service_type incarnation word rest.0 last.0 before.0 first.0 port.0 parts rest.1 last.1 before.1 first.1 port.1 port.2
 
-pub reference-from_offer : (service_type word : List ℕ) (offer : FirstOffer) → offer_of service_type word ≡ Some offer → (offer.service_type ≡ service_type) × IsReference word offer
-reference-from_offer service_type word offer e =
-    let parts = bind-Some (parts_of word) (λ (p : Parts). Some (offer_with service_type p)) offer e in
-    let same : offer_with service_type parts.0 ≡ offer = some-same (offer_with service_type parts.0) offer parts.2 in
-    (sym (ap (λ (o : FirstOffer). o.service_type) same), subst (λ (o : FirstOffer). IsReference word o) same (reference-from_parts service_type word parts.0 parts.1))
+pub reference-from_offer : (service_type : List ℕ) (incarnation : ℕ) (word : List ℕ) (offer : FirstOffer) → offer_of service_type incarnation word ≡ Some offer → (offer.service_type ≡ service_type) × (offer.incarnation ≡ incarnation) × IsReference word offer
+reference-from_offer service_type incarnation word offer e =
+    let parts = bind-Some (parts_of word) (λ (p : Parts). Some (offer_with service_type incarnation p)) offer e in
+    let same : offer_with service_type incarnation parts.0 ≡ offer = some-same (offer_with service_type incarnation parts.0) offer parts.2 in
+    (sym (ap (λ (o : FirstOffer). o.service_type) same), sym (ap (λ (o : FirstOffer). o.incarnation) same), subst (λ (o : FirstOffer). IsReference word o) same (reference-from_parts service_type incarnation word parts.0 parts.1))
 
-pub offer-from_reference : (word : List ℕ) (offer : FirstOffer) → IsReference word offer → offer_of offer.service_type word ≡ Some offer
+pub offer-from_reference : (word : List ℕ) (offer : FirstOffer) → IsReference word offer → offer_of offer.service_type offer.incarnation word ≡ Some offer
 unfolding parts_of
 offer-from_reference word offer h =
     let parted : word ≡ codes "ref:" ++ (((offer.id ++ 44 ∷ offer.host) ++ 44 ∷ h.port_word) ++ 44 ∷ offer.key) = h.whole ∙ simp append_assoc in

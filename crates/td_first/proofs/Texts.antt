@@ -1,18 +1,22 @@
 -- What an accepted file says has no NUL.
-use Rattle.std.proofs.Common.{◌≡◌, ℕ, zero, suc, nat_le, Bool, true, false, cond, not, List, [], ◌∷◌, ◌++◌, codes, length, map, Result, Ok, Err, IfOk, refl, sym, ◌∙◌, subst, arith}
+use Rattle.std.proofs.Common.{◌≡◌, ℕ, zero, suc, nat_le, Bool, true, false, cond, not, List, [], ◌∷◌, ◌++◌, codes, length, if◌then◌else◌, Result, Ok, Err, IfOk, refl, sym, ◌∙◌, subst, arith}
 use Rattle.std.specs.List.{All, list_all, filter, slice_split, onto_first}
+use Rattle.std.specs.Str.{bytes_eq}
 use Rattle.std.specs.Str.Lines.{lines}
+use Rattle.std.proofs.lemmas.List.Elements.{All-push}
 use Rattle.std.proofs.lemmas.List.Folds.{list_all-append}
+use Rattle.td_types.specs.Adding.{new_type, with_type}
+use Rattle.td_types.specs.Repository.{Repository, ServiceType}
 use Rattle.td_session.specs.declared.store.FirstOffer.{FirstOffer}
 use Rattle.td_session.specs.declared.store.FirstStore.{FirstStore}
-use Rattle.td_first.specs.declared.draft.Kind.{Kind}
 use Rattle.td_first.specs.declared.fault.FirstFault.{FirstFault}
-use Rattle.td_first.specs.Form.{kept, Means, IsFile, Each, IsReference, IsTypeLine, IsOfferLine}
+use Rattle.td_first.specs.Form.{kept, Means, IsFile, AreTypeLines, Each, IsReference, IsTypeLine, IsOfferLine}
+use Rattle.td_first.specs.Entries.{interface_of}
 use Rattle.td_first.specs.Line.{is_text_byte, is_plain, is_skipped}
-use Rattle.td_first.specs.Whole.{nothing_yet, file_of, Answers}
+use Rattle.td_first.specs.Whole.{no_types, nothing_yet, file_of, Answers}
 use Rattle.td_first.specs.Words.{is_blank, is_empty, words}
-use Rattle.td_first.specs.Written.{IsText, IsTextOffer, CanBeWritten}
-use Rattle.td_first.proofs.TypeNames.{and-left, and-right, and-both}
+use Rattle.td_first.specs.Written.{IsText, IsTextOffer, IsTextType, CanBeWritten}
+use Rattle.td_first.proofs.TypeNames.{and-left, and-right, and-both, added-is}
 use Rattle.td_first.proofs.Wholes.{drafted-from_store, means-from_drafted}
 
 abbrev AreTexts : List (List ℕ) → Type 0
@@ -79,12 +83,20 @@ All-cons P x xs one others (suc k) d h = others k d (omega arith)
 said-texts : (line : List ℕ) (ws : List (List ℕ)) → IsText line → words line ≡ ws → AreTexts ws
 said-texts line ws h e = subst (λ (x : List (List ℕ)). AreTexts x) e (words-texts line h)
 
-type-texts : (type_lines : List (List ℕ)) (kinds : List Kind) → Each IsTypeLine type_lines kinds → AreTexts type_lines → All IsText (map (λ kind. kind.name) kinds)
-type-texts [] [] h t = All-nil IsText
-type-texts [] (kind ∷ kinds) h t = absurd h
-type-texts (line ∷ type_lines) [] h t = absurd h
-type-texts (line ∷ type_lines) (kind ∷ kinds) h t =
-    All-cons IsText kind.name (map (λ kind. kind.name) kinds) (said-texts line (codes "type" ∷ kind.name ∷ h.0.word ∷ []) t.0 h.0.said).1.0 (type-texts type_lines kinds h.1 t.1)
+empty-or_text : (empty : Bool) (word : List ℕ) → IsText word → IsText (if empty then [] else word)
+empty-or_text true word h = refl
+empty-or_text false word h = h
+
+type-text : (types next : Repository) (line : List ℕ) → IsTypeLine types line next → IsText line → All IsTextType types.types → All IsTextType next.types
+type-text types next line h t before =
+    let said = said-texts line (codes "type" ∷ h.name ∷ h.word ∷ []) t h.said in
+    let type : ServiceType = new_type types h.name (interface_of h.word) [] [] in
+    let clean : IsTextType type = record { name = said.1.0; if_name = empty-or_text (bytes_eq h.word (codes "-")) h.word said.1.1.0; props = refl; supers = refl } in
+    subst (λ (r : Repository). All IsTextType r.types) (sym (added-is types h.name (interface_of h.word) h.reply next h.added)) (All-push IsTextType types.types type before clean)
+
+type-texts : (types last : Repository) (type_lines : List (List ℕ)) → AreTypeLines types type_lines last → AreTexts type_lines → All IsTextType types.types → All IsTextType last.types
+type-texts types last [] h t before = subst (λ (r : Repository). All IsTextType r.types) (sym h) before
+type-texts types last (line ∷ type_lines) h t before = type-texts h.0 last type_lines h.2 t.1 (type-text types h.0 line h.1 t.0 before)
 
 reference-texts : (word : List ℕ) (offer : FirstOffer) → IsReference word offer → IsText word → IsText offer.id × IsText offer.host
 reference-texts word offer h t =
@@ -93,14 +105,14 @@ reference-texts word offer h t =
     let later = back-text (44 ∷ []) (offer.host ++ 44 ∷ (h.port_word ++ 44 ∷ offer.key)) (back-text offer.id (44 ∷ (offer.host ++ 44 ∷ (h.port_word ++ 44 ∷ offer.key))) parts) in
     (front-text offer.id (44 ∷ (offer.host ++ 44 ∷ (h.port_word ++ 44 ∷ offer.key))) parts, front-text offer.host (44 ∷ (h.port_word ++ 44 ∷ offer.key)) later)
 
-offer-texts : (kinds : List Kind) (offer_lines : List (List ℕ)) (offers : List FirstOffer) → Each (IsOfferLine kinds) offer_lines offers → AreTexts offer_lines → All IsTextOffer offers
-offer-texts kinds [] [] h t = All-nil IsTextOffer
-offer-texts kinds [] (offer ∷ offers) h t = absurd h
-offer-texts kinds (line ∷ offer_lines) [] h t = absurd h
-offer-texts kinds (line ∷ offer_lines) (offer ∷ offers) h t =
+offer-texts : (types : List ServiceType) (offer_lines : List (List ℕ)) (offers : List FirstOffer) → Each (IsOfferLine types) offer_lines offers → AreTexts offer_lines → All IsTextOffer offers
+offer-texts types [] [] h t = All-nil IsTextOffer
+offer-texts types [] (offer ∷ offers) h t = absurd h
+offer-texts types (line ∷ offer_lines) [] h t = absurd h
+offer-texts types (line ∷ offer_lines) (offer ∷ offers) h t =
     let said = said-texts line (codes "offer" ∷ offer.service_type ∷ h.0.word ∷ []) t.0 h.0.said in
     let parts = reference-texts h.0.word offer h.0.reference said.1.1.0 in
-    All-cons IsTextOffer offer offers (record { service_type = said.1.0; id = parts.0; host = parts.1 }) (offer-texts kinds offer_lines offers h.1 t.1)
+    All-cons IsTextOffer offer offers (record { service_type = said.1.0; id = parts.0; host = parts.1 }) (offer-texts types offer_lines offers h.1 t.1)
 
 written-from_file : (all : List (List ℕ)) (store : FirstStore) → IsFile all store → AreTexts all → CanBeWritten store
 written-from_file all store h t =
@@ -108,8 +120,8 @@ written-from_file all store h t =
     record {
       home = (said-texts h.home_line (codes "address" ∷ store.home.host ∷ h.home.port_word ∷ []) texts.0 h.home.said).1.0;
       trader = (said-texts h.trader_line (codes "trader" ∷ store.trader ∷ []) texts.1.0 h.trader.said).1.0;
-      types = subst (λ (x : List (List ℕ)). All IsText x) (sym h.names) (type-texts h.type_lines h.kinds h.types (texts-front h.type_lines h.offer_lines texts.1.1));
-      offers = offer-texts h.kinds h.offer_lines store.offers h.offers (texts-back h.type_lines h.offer_lines texts.1.1);
+      types = type-texts no_types store.types h.type_lines h.types (texts-front h.type_lines h.offer_lines texts.1.1) (All-nil IsTextType);
+      offers = offer-texts store.types.types h.offer_lines store.offers h.offers (texts-back h.type_lines h.offer_lines texts.1.1);
     }
 
 written-from_means : (all : List (List ℕ)) (store : FirstStore) → Means all store → CanBeWritten store

@@ -1,22 +1,23 @@
--- Tests on the types of a file, and what they mean.
-use Rattle.std.proofs.Common.{◌≡◌, ℕ, Bool, true, false, ◌&&◌, ◌||◌, ◌⊎◌, inl, inr, List, [], ◌∷◌, ◌++◌, refl, sym, ◌∙◌}
-use Rattle.std.specs.List.{list_any}
+-- Tests on bytes and types, what they mean, and what a repository is behind an added type.
+use Rattle.std.proofs.Common.{◌≡◌, ℕ, ◌+◌, Bool, true, false, ◌&&◌, ◌||◌, if◌then◌else◌, List, [], ◌∷◌, ◌++◌, length, Option, Some, None, Ok, Err, refl, sym, ap, ◌∙◌, subst, arith}
 use Rattle.std.specs.Str.{bytes_eq}
 use Rattle.std.proofs.lemmas.Slice.Eq.{bytes_eq-Decides}
 use Rattle.std.proofs.lemmas.Bool.{false≢true}
-use Rattle.td_first.specs.declared.draft.Kind.{Kind}
-use Rattle.td_first.specs.Entries.{is_named, is_kind}
-use Rattle.td_first.specs.Form.{Lacks, Distinct, HasKind}
+use Rattle.td_types.specs.Adding.{new_type, with_type, passes_limit}
+use Rattle.td_types.specs.Calls.{Comes, unless, add_fault, add_type}
+use Rattle.td_types.specs.Repository.{Repository, ServiceType, type_named, incarnation_in, incarnation_of}
+use Rattle.td_types.specs.declared.fault.RepoFault.{RepoFault}
+use Rattle.td_types.specs.declared.fault.TypesFault.TheVariants.{Full}
+use Rattle.td_types.specs.declared.reply.TypesReply.{TypesReply}
+use Rattle.td_types.specs.declared.reply.TypesReply.TheVariants as reply
+use Rattle.td_first.specs.Entries.{interface_of, of_interface, has_interface}
+use Rattle.td_first.specs.Form.{IsTypeLine, AreTypeLines}
 
 pub bytes-same : (a b : List ℕ) → a ≡ b → bytes_eq a b ≡ true
 bytes-same a b e = (bytes_eq-Decides a b).1 e
 
 pub same-bytes : (a b : List ℕ) → bytes_eq a b ≡ true → a ≡ b
 same-bytes a b e = (bytes_eq-Decides a b).0 e
-
-false-from_not : (b : Bool) → (b ≡ true → ⊥) → b ≡ false
-false-from_not false h = refl
-false-from_not true h = absurd (h refl)
 
 -- ---- or
 
@@ -31,17 +32,6 @@ or-false_right true b e = absurd (false≢true (sym e))
 pub or-both_false : (a b : Bool) → a ≡ false → b ≡ false → (a || b) ≡ false
 or-both_false a b e f = rw (e, f) refl
 
-or-case : (a b : Bool) → (a || b) ≡ true → (a ≡ true) ⊎ (b ≡ true)
-or-case true b e = inl refl
-or-case false b e = inr e
-
-or-left : (a b : Bool) → a ≡ true → (a || b) ≡ true
-or-left a b e = rw e refl
-
-or-right : (a b : Bool) → b ≡ true → (a || b) ≡ true
-or-right true b e = refl
-or-right false b e = e
-
 pub and-left : (a b : Bool) → (a && b) ≡ true → a ≡ true
 and-left true b e = refl
 and-left false b e = e
@@ -53,52 +43,51 @@ and-right false b e = absurd (false≢true e)
 pub and-both : (a b : Bool) → a ≡ true → b ≡ true → (a && b) ≡ true
 and-both a b e f = rw (e, f) refl
 
--- ---- the names of types
+-- ---- added types
 
-pub Lacks-from_test : (name : List ℕ) (kinds : List Kind) → list_any (is_named name) kinds ≡ false → Lacks name kinds
-Lacks-from_test name [] e = tt
-Lacks-from_test name (kind ∷ kinds) e = (
-  λ same. false≢true (sym (or-false_left (is_named name kind) (list_any (is_named name) kinds) e) ∙ bytes-same kind.name name same),
-  Lacks-from_test name kinds (or-false_right (is_named name kind) (list_any (is_named name) kinds) e),
-)
+unless-Ok : (cause : Option RepoFault) (comes : Comes) (x : TypesReply × Repository) → unless cause comes ≡ Ok x → comes ≡ Ok x
+unless-Ok None comes x e = e
+unless-Ok (Some fault) comes x e = cc
 
-pub test-from_Lacks : (name : List ℕ) (kinds : List Kind) → Lacks name kinds → list_any (is_named name) kinds ≡ false
-test-from_Lacks name [] h = refl
-test-from_Lacks name (kind ∷ kinds) h =
-    or-both_false (is_named name kind) (list_any (is_named name) kinds) (false-from_not (is_named name kind) (λ e. h.0 (same-bytes kind.name name e))) (test-from_Lacks name kinds h.1)
+abbrev limited : Bool → TypesReply × Repository → Comes
+limited passes x = if passes then Err Full else Ok x
 
-Lacks-push : (name : List ℕ) (kinds : List Kind) (kind : Kind) → Lacks name kinds → (kind.name ≡ name → ⊥) → Lacks name (kinds ++ kind ∷ [])
-Lacks-push name [] kind h other = (other, tt)
-Lacks-push name (first ∷ kinds) kind h other = (h.0, Lacks-push name kinds kind h.1 other)
+limited-Ok : (passes : Bool) (x y : TypesReply × Repository) → limited passes x ≡ Ok y → x ≡ y
+limited-Ok true x y e = cc
+limited-Ok false x y e = cc
 
-pub Distinct-push : (kinds : List Kind) (kind : Kind) → Distinct kinds → Lacks kind.name kinds → Distinct (kinds ++ kind ∷ [])
-Distinct-push [] kind h new = (tt, tt)
-Distinct-push (first ∷ kinds) kind h new =
-    (Lacks-push first.name kinds kind h.0 (λ e. new.0 (sym e)), Distinct-push kinds kind h.1 new.1)
+-- a type that is added stands at the end
+pub added-is : (r : Repository) (name if_name : List ℕ) (answer : TypesReply) (next : Repository) → add_type r name if_name [] [] ≡ Ok (answer, next) → next ≡ with_type r (new_type r name if_name [] [])
+unfolding add_type
+added-is r name if_name answer next e =
+    let t : ServiceType = new_type r name if_name [] [] in
+    let x : TypesReply × Repository = (reply.Added t.incarnation, with_type r t) in
+    let passes = passes_limit (with_type r t) t in
+    sym (ap (λ (p : TypesReply × Repository). p.1) (limited-Ok passes x (answer, next) (unless-Ok (add_fault r name if_name [] []) (limited passes x) (answer, next) e)))
 
-lacks_at : (before : List Kind) (kind : Kind) (kinds : List Kind) (name : List ℕ) → Lacks name (before ++ kind ∷ kinds) → kind.name ≡ name → ⊥
-lacks_at [] kind kinds name h = h.0
-lacks_at (first ∷ before) kind kinds name h = lacks_at before kind kinds name h.1
+-- one type line more
+pub AreTypeLines-push : (first : Repository) (lines : List (List ℕ)) (line : List ℕ) (last next : Repository) → AreTypeLines first lines last → IsTypeLine last line next → AreTypeLines first (lines ++ line ∷ []) next
+AreTypeLines-push first [] line last next h one = (next, subst (λ (x : Repository). IsTypeLine x line next) h one, refl)
+AreTypeLines-push first (other ∷ lines) line last next h one = (h.0, h.1, AreTypeLines-push h.0 lines line last next h.2 one)
 
--- one that stands behind others lacks their names
-pub Lacks-behind : (before : List Kind) (kind : Kind) (kinds : List Kind) → Distinct (before ++ kind ∷ kinds) → Lacks kind.name before
-Lacks-behind [] kind kinds h = tt
-Lacks-behind (first ∷ before) kind kinds h = ((λ e. lacks_at before kind kinds first.name h.0 (sym e)), Lacks-behind before kind kinds h.1)
+-- each type line adds one
+pub counted : (first last : Repository) (lines : List (List ℕ)) → AreTypeLines first lines last → last.last ≡ first.last + length lines
+counted first last [] h = omega (arith, ap (λ (x : Repository). x.last) h)
+counted first last (line ∷ lines) h =
+    let one : h.0.last ≡ first.last + 1 = ap (λ (x : Repository). x.last) (added-is first h.1.name (interface_of h.1.word) h.1.reply h.0 h.1.added) in
+    omega (arith, one, counted h.0 last lines h.2)
 
 -- ---- the types of offers
 
-pub HasKind-from_test : (name interface : List ℕ) (kinds : List Kind) → list_any (is_kind name interface) kinds ≡ true → HasKind name interface kinds
-HasKind-from_test name interface [] e = absurd (false≢true e)
-HasKind-from_test name interface (kind ∷ kinds) e =
-    elim (or-case (is_kind name interface kind) (list_any (is_kind name interface) kinds) e) [
-      | inl here ↦ inl (same-bytes kind.name name (and-left (bytes_eq kind.name name) (bytes_eq kind.interface interface) here), same-bytes kind.interface interface (and-right (bytes_eq kind.name name) (bytes_eq kind.interface interface) here))
-      | inr there ↦ inr (HasKind-from_test name interface kinds there)
-    ]
+known-found : (types : List ServiceType) (name interface : List ℕ) (n : ℕ) (found : Option ServiceType) → type_named types name ≡ found → incarnation_in found ≡ Some n → of_interface interface found ≡ true → (type : ServiceType) × (type_named types name ≡ Some type) × (type.if_name ≡ interface) × (type.incarnation ≡ n)
+known-found types name interface n None f i h = cc
+known-found types name interface n (Some type) f i h = (type, f, same-bytes type.if_name interface h, cc)
 
-pub test-from_HasKind : (name interface : List ℕ) (kinds : List Kind) → HasKind name interface kinds → list_any (is_kind name interface) kinds ≡ true
-test-from_HasKind name interface [] h = absurd h
-test-from_HasKind name interface (kind ∷ kinds) h =
-    elim h [
-      | inl same ↦ or-left (is_kind name interface kind) (list_any (is_kind name interface) kinds) (and-both (bytes_eq kind.name name) (bytes_eq kind.interface interface) (bytes-same kind.name name same.0) (bytes-same kind.interface interface same.1))
-      | inr there ↦ or-right (is_kind name interface kind) (list_any (is_kind name interface) kinds) (test-from_HasKind name interface kinds there)
-    ]
+pub known-from_tests : (types : List ServiceType) (name interface : List ℕ) (n : ℕ) → incarnation_of types name ≡ Some n → has_interface types name interface ≡ true → (type : ServiceType) × (type_named types name ≡ Some type) × (type.if_name ≡ interface) × (type.incarnation ≡ n)
+known-from_tests types name interface n i h = known-found types name interface n (type_named types name) refl i h
+
+pub incarnation-from_known : (types : List ServiceType) (name : List ℕ) (type : ServiceType) (n : ℕ) → type_named types name ≡ Some type → type.incarnation ≡ n → incarnation_of types name ≡ Some n
+incarnation-from_known types name type n f i = ap incarnation_in f ∙ ap (λ (x : ℕ). Some x) i
+
+pub interface-from_known : (types : List ServiceType) (name interface : List ℕ) (type : ServiceType) → type_named types name ≡ Some type → type.if_name ≡ interface → has_interface types name interface ≡ true
+interface-from_known types name interface type f i = ap (λ (o : Option ServiceType). of_interface interface o) f ∙ bytes-same type.if_name interface i

@@ -1,21 +1,22 @@
 -- The lines of a file one after the other.
-use Rattle.std.proofs.Common.{◌≡◌, ℕ, ◌+◌, ◌≤◌, Bool, true, false, List, [], ◌∷◌, ◌++◌, length, map, append_assoc, append-nil, subst, ◌⊎◌, inl, inr, Option, Some, None, Result, Ok, refl, sym, ap, ◌∙◌, arith, if◌then◌else◌}
+use Rattle.std.proofs.Common.{◌≡◌, ℕ, ◌+◌, ◌<◌, ◌≤◌, nat_eq, eq-eqb, Bool, true, false, List, [], ◌∷◌, ◌++◌, length, append_assoc, append-nil, subst, ◌⊎◌, inl, inr, Option, Some, None, Result, Ok, refl, sym, ap, ◌∙◌, arith, if◌then◌else◌}
 use Rattle.std.specs.List.{list_all}
 use Rattle.std.specs.Str.Lines.{lines}
+use Rattle.std.proofs.lemmas.Bool.{false≢true, ne_eqb}
+use Rattle.td_types.specs.Repository.{Repository}
 use Rattle.td_session.specs.declared.store.Address.{Address}
 use Rattle.td_session.specs.declared.store.FirstOffer.{FirstOffer}
 use Rattle.td_session.specs.declared.store.FirstStore.{FirstStore}
 use Rattle.td_first.specs.declared.draft.Draft.{Draft}
-use Rattle.td_first.specs.declared.draft.Kind.{Kind}
 use Rattle.td_first.specs.Entries.{with_words, with_line}
-use Rattle.td_first.specs.Form.{kept, Means, IsFile, Each, Distinct, IsAddressLine, IsTraderLine, IsTypeLine, IsOfferLine}
+use Rattle.td_first.specs.Form.{kept, Means, IsFile, AreTypeLines, Each, IsAddressLine, IsTraderLine, IsTypeLine, IsOfferLine}
 use Rattle.td_first.specs.Line.{is_plain, is_skipped}
 use Rattle.td_first.specs.Reference.{◌>>=◌}
-use Rattle.td_first.specs.Whole.{nothing_yet, store_with, store_of, or_line, rest_of_file}
+use Rattle.td_first.specs.Whole.{no_types, nothing_yet, store_with, store_of, or_line, rest_of_file}
 use Rattle.td_first.specs.Words.{words}
 use Rattle.td_first.proofs.Growing.{Holds, HasTrader, grow}
 use Rattle.td_first.proofs.References.{None≢Some, some-same, bind-Some}
-use Rattle.td_first.proofs.TypeNames.{and-both}
+use Rattle.td_first.proofs.TypeNames.{and-both, counted}
 
 -- the draft after these lines
 abbrev pub drafted : Draft → List (List ℕ) → Option Draft
@@ -95,37 +96,49 @@ holds-all before (line ∷ rest) d last h e =
 
 -- ---- whole files
 
-abbrev pub made_store : Address → List ℕ → List Kind → List FirstOffer → FirstStore
-made_store home trader kinds offers = record { home = home; trader = trader; types = map (λ k. k.name) kinds; offers = offers }
+abbrev pub made_store : Address → List ℕ → Repository → List FirstOffer → FirstStore
+made_store home trader types offers = record { home = home; trader = trader; types = types; offers = offers }
 
-trader-file : (lines : List (List ℕ)) (d : Draft) (home : Address) (trader : List ℕ) (kinds : List Kind) (offers : List FirstOffer) (store : FirstStore) (g : HasTrader lines d) → g.home ≡ home → g.trader ≡ trader → d.kinds ≡ kinds → d.offers ≡ offers → store_with (Some home) (Some trader) kinds offers ≡ Some store → IsFile lines store
-trader-file lines d home trader [] offers store g h t k o e = absurd (None≢Some store e)
-trader-file lines d home trader (kind ∷ kinds) offers store g h t k o e =
-    let same : made_store home trader (kind ∷ kinds) offers ≡ store = some-same (made_store home trader (kind ∷ kinds) offers) store e in
-    let made : IsFile lines (made_store home trader (kind ∷ kinds) offers) = record {
+-- types make a file whole
+pub whole-store : (home : Address) (trader : List ℕ) (types : Repository) (offers : List FirstOffer) (type_lines : List (List ℕ)) → 0 < length type_lines → AreTypeLines no_types type_lines types → store_with (Some home) (Some trader) types offers ≡ Some (made_store home trader types offers)
+whole-store home trader types offers type_lines enough h =
+    let many = counted no_types types type_lines h in
+    let some : nat_eq types.last 0 ≡ false = ne_eqb types.last 0 (λ e. omega (arith, e, many, enough)) in
+    rw some refl
+
+stored-Some : {A : Type 0} (none : Bool) (x y : A) → (if none then None else Some x) ≡ Some y → (none ≡ false) × (x ≡ y)
+stored-Some true x y e = absurd (None≢Some y e)
+stored-Some false x y e = (refl, some-same x y e)
+
+enough-lines : (n : ℕ) (lines : List (List ℕ)) → n ≡ length lines → nat_eq n 0 ≡ false → 0 < length lines
+enough-lines n [] e h = absurd (false≢true (sym h ∙ eq-eqb n 0 e))
+enough-lines n (line ∷ lines) e h = omega arith
+
+trader-file : (lines : List (List ℕ)) (d : Draft) (store : FirstStore) (g : HasTrader lines d) → store_with (Some g.home) (Some g.trader) d.types d.offers ≡ Some store → IsFile lines store
+trader-file lines d store g e =
+    let stored = stored-Some (nat_eq d.types.last 0) (made_store g.home g.trader d.types d.offers) store e in
+    let many : d.types.last ≡ length g.type_lines = omega (arith, counted no_types d.types g.type_lines g.types) in
+    let made : IsFile lines (made_store g.home g.trader d.types d.offers) = record {
       home_line = g.home_line;
       trader_line = g.trader_line;
       type_lines = g.type_lines;
       offer_lines = g.offer_lines;
-      kinds = kind ∷ kinds;
       whole = g.whole;
-      home = subst (λ (x : Address). IsAddressLine g.home_line x) h g.said_home;
-      trader = subst (λ (x : List ℕ). IsTraderLine g.trader_line x) t g.said_trader;
-      types = subst (λ (x : List Kind). Each IsTypeLine g.type_lines x) k g.types;
-      offers = subst (λ (x : List Kind). Each (IsOfferLine x) g.offer_lines offers) k (subst (λ (x : List FirstOffer). Each (IsOfferLine d.kinds) g.offer_lines x) o g.offers);
-      names = refl;
-      enough = omega arith;
-      distinct = subst (λ (x : List Kind). Distinct x) k g.distinct;
-      few = subst (λ (x : List FirstOffer). length x ≤ 100) o g.few;
+      home = g.said_home;
+      trader = g.said_trader;
+      types = g.types;
+      offers = g.offers;
+      enough = enough-lines d.types.last g.type_lines many stored.0;
+      few = g.few;
     } in
-    subst (λ (x : FirstStore). IsFile lines x) same made
+    subst (λ (x : FirstStore). IsFile lines x) stored.1 made
 
 pub file-from_holds : (lines : List (List ℕ)) (d : Draft) (store : FirstStore) → Holds lines d → store_of d ≡ Some store → IsFile lines store
 file-from_holds lines d store (inl h) e = absurd (None≢Some store (ap (λ (x : Draft). store_of x) (sym h.1) ∙ e))
 file-from_holds lines d store (inr (inl h)) e = absurd (None≢Some store (ap (λ (x : Draft). store_of x) (sym h.means) ∙ e))
 file-from_holds lines d store (inr (inr h)) e =
-    trader-file lines d h.home h.trader d.kinds d.offers store h refl refl refl refl
-    (ap (λ (x : Option Address). store_with x (Some h.trader) d.kinds d.offers) (sym h.at_home) ∙ ap (λ (x : Option (List ℕ)). store_with d.home x d.kinds d.offers) (sym h.at_trader) ∙ e)
+    trader-file lines d store h
+    (ap (λ (x : Option Address). store_with x (Some h.trader) d.types d.offers) (sym h.at_home) ∙ ap (λ (x : Option (List ℕ)). store_with d.home x d.types d.offers) (sym h.at_trader) ∙ e)
 
 pub means-from_drafted : (all : List (List ℕ)) (last : Draft) (store : FirstStore) → drafted nothing_yet all ≡ Some last → store_of last ≡ Some store → Means all store
 means-from_drafted all last store e s =

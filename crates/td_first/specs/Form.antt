@@ -2,15 +2,17 @@
 use Rattle.std.specs.Prelude.{◌≡◌, ℕ, ◌+◌, ◌<◌, ◌≤◌, nat_eq, true, false, not, List, [], ◌∷◌, ◌++◌, codes, length, map, take, ◌⊎◌, Some, Ok, Err}
 use Rattle.std.specs.List.{filter, list_all, list_any}
 use Rattle.std.specs.Str.Lines.{lines}
-use Rattle.td_cdr.specs.Names.{word_name, trader_name}
+use Rattle.td_cdr.specs.Names.{trader_name}
+use Rattle.td_types.specs.Calls.{add_type}
+use Rattle.td_types.specs.Repository.{Repository, ServiceType, type_named}
+use Rattle.td_types.specs.declared.reply.TypesReply.{TypesReply}
 use Rattle.td_session.specs.declared.store.Address.{Address}
 use Rattle.td_session.specs.declared.store.FirstOffer.{FirstOffer}
 use Rattle.td_session.specs.declared.store.FirstStore.{FirstStore}
-use Rattle.td_first.specs.declared.draft.Kind.{Kind}
 use Rattle.td_first.specs.Entries.{interface_of}
 use Rattle.td_first.specs.Line.{is_plain, is_skipped}
 use Rattle.td_first.specs.Port.{port_of}
-use Rattle.td_first.specs.Whole.{file_of}
+use Rattle.td_first.specs.Whole.{no_types, file_of}
 use Rattle.td_first.specs.Words.{words}
 
 abbrev pub HasNoComma : List ℕ → Type 0
@@ -36,34 +38,28 @@ pub record IsTraderLine (line : List ℕ) (name : List ℕ) : Type 0 where
   pub said : words line ≡ codes "trader" ∷ name ∷ []
   pub named : trader_name name ≡ true
 
--- `type NAME IFID`
-pub record IsTypeLine (line : List ℕ) (kind : Kind) : Type 0 where
+-- `type NAME IFID`: a type that the repository takes, which becomes the next one
+pub record IsTypeLine (types : Repository) (line : List ℕ) (next : Repository) : Type 0 where
+  pub name : List ℕ
   pub word : List ℕ
-  pub said : words line ≡ codes "type" ∷ kind.name ∷ word ∷ []
-  pub named : word_name kind.name ≡ true
-  pub interface : kind.interface ≡ interface_of word
+  pub said : words line ≡ codes "type" ∷ name ∷ word ∷ []
+  pub reply : TypesReply
+  pub added : add_type types name (interface_of word) [] [] ≡ Ok (reply, next)
 
--- a type of this name and interface is among these
-abbrev pub HasKind : List ℕ → List ℕ → List Kind → Type 0
-HasKind name interface [] = ⊥
-HasKind name interface (kind ∷ kinds) = ((kind.name ≡ name) × (kind.interface ≡ interface)) ⊎ HasKind name interface kinds
+-- type lines one after the other, from the one repository to the other
+abbrev pub AreTypeLines : Repository → List (List ℕ) → Repository → Type 0
+AreTypeLines types [] last = last ≡ types
+AreTypeLines types (line ∷ lines) last = (next : Repository) × IsTypeLine types line next × AreTypeLines next lines last
 
--- `offer TYPE REF`, whose reference's id is the interface of its type
-pub record IsOfferLine (kinds : List Kind) (line : List ℕ) (offer : FirstOffer) : Type 0 where
+-- `offer TYPE REF`, whose reference's id is the interface of its type, which it has in its incarnation
+pub record IsOfferLine (types : List ServiceType) (line : List ℕ) (offer : FirstOffer) : Type 0 where
   pub word : List ℕ
   pub said : words line ≡ codes "offer" ∷ offer.service_type ∷ word ∷ []
   pub reference : IsReference word offer
-  pub known : HasKind offer.service_type offer.id kinds
-
--- no type has this name
-abbrev pub Lacks : List ℕ → List Kind → Type 0
-Lacks name [] = Unit {0}
-Lacks name (kind ∷ kinds) = (kind.name ≡ name → ⊥) × Lacks name kinds
-
--- no two types have one name
-abbrev pub Distinct : List Kind → Type 0
-Distinct [] = Unit {0}
-Distinct (kind ∷ kinds) = Lacks kind.name kinds × Distinct kinds
+  pub type : ServiceType
+  pub known : type_named types offer.service_type ≡ Some type
+  pub interface : type.if_name ≡ offer.id
+  pub incarnation : type.incarnation ≡ offer.incarnation
 
 -- these say those, one by one
 abbrev pub Each : {A B : Type 0} → (A → B → Type 0) → List A → List B → Type 0
@@ -78,15 +74,12 @@ pub record IsFile (kept : List (List ℕ)) (store : FirstStore) : Type 0 where
   pub trader_line : List ℕ
   pub type_lines : List (List ℕ)
   pub offer_lines : List (List ℕ)
-  pub kinds : List Kind
   pub whole : kept ≡ home_line ∷ trader_line ∷ (type_lines ++ offer_lines)
   pub home : IsAddressLine home_line store.home
   pub trader : IsTraderLine trader_line store.trader
-  pub types : Each IsTypeLine type_lines kinds
-  pub offers : Each (IsOfferLine kinds) offer_lines store.offers
-  pub names : store.types ≡ map (λ kind. kind.name) kinds
-  pub enough : 0 < length kinds
-  pub distinct : Distinct kinds
+  pub types : AreTypeLines no_types type_lines store.types
+  pub offers : Each (IsOfferLine store.types.types) offer_lines store.offers
+  pub enough : 0 < length type_lines
   pub few : length store.offers ≤ 100
 
 -- the lines that aren't skipped

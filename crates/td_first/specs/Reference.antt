@@ -39,12 +39,12 @@ parts_of word = do
   port ← port_of before.1
   Some (record { id = first.0; host = first.1; port = port; key = last.1 })
 
--- the offer of a service type whose object has this reference
-abbrev pub offer_with : List ℕ → Parts → FirstOffer
-offer_with service_type parts = record { service_type = service_type; id = parts.id; host = parts.host; port = parts.port; key = parts.key }
+-- the offer of a service type, as it is in this incarnation, whose object has this reference
+abbrev pub offer_with : List ℕ → ℕ → Parts → FirstOffer
+offer_with service_type incarnation parts = record { service_type = service_type; incarnation = incarnation; id = parts.id; host = parts.host; port = parts.port; key = parts.key }
 
-abbrev pub offer_of : List ℕ → List ℕ → Option FirstOffer
-offer_of service_type word = parts_of word >>= λ parts. Some (offer_with service_type parts)
+abbrev pub offer_of : List ℕ → ℕ → List ℕ → Option FirstOffer
+offer_of service_type incarnation word = parts_of word >>= λ parts. Some (offer_with service_type incarnation parts)
 
 abbrev pub Offers : Option FirstOffer → Result FirstOffer Misfit → Type 0
 Offers offer (Ok made) = offer ≡ Some made

@@ -1,6 +1,7 @@
 -- Stores that can be written: their texts have no NUL, so that a string can spell them.
-use Rattle.std.specs.Prelude.{◌≡◌, ℕ, true, List}
+use Rattle.std.specs.Prelude.{◌≡◌, ℕ, true, List, []}
 use Rattle.std.specs.List.{All, list_all}
+use Rattle.td_types.specs.Repository.{ServiceType}
 use Rattle.td_session.specs.declared.store.FirstOffer.{FirstOffer}
 use Rattle.td_session.specs.declared.store.FirstStore.{FirstStore}
 use Rattle.td_first.specs.Line.{is_text_byte}
@@ -14,8 +15,14 @@ pub record IsTextOffer (offer : FirstOffer) : Type 0 where
   pub id : IsText offer.id
   pub host : IsText offer.host
 
+pub record IsTextType (type : ServiceType) : Type 0 where
+  pub name : IsText type.name
+  pub if_name : IsText type.if_name
+  pub props : type.props ≡ []
+  pub supers : type.supers ≡ []
+
 pub record CanBeWritten (store : FirstStore) : Type 0 where
   pub home : IsText store.home.host
   pub trader : IsText store.trader
-  pub types : All IsText store.types
+  pub types : All IsTextType store.types.types
   pub offers : All IsTextOffer store.offers

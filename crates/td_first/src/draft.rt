@@ -1,8 +1,8 @@
 //! What the lines read so far say, and which line may follow them.
 
-ghost use Rattle.std.specs.Prelude.{◌≡◌, [], ◌∷◌, map, IfOk};
-ghost use Rattle.std.specs.List.{list_any};
-ghost use Rattle.td_first.specs.Entries.{with_address, with_trader, with_kind, with_offer, with_words, with_line, is_named, is_kind, interface_of, Takes};
+ghost use Rattle.std.specs.Prelude.{◌≡◌, [], ◌∷◌, IfOk};
+ghost use Rattle.td_types.specs.Calls.{add_type};
+ghost use Rattle.td_first.specs.Entries.{with_address, with_trader, with_type, with_added, with_offer, with_words, with_line, interface_of, has_interface, taken, Takes};
 ghost use Rattle.td_first.specs.Whole.{nothing_yet, store_of, or_line, Answers};
 
 use crate::fault::{FirstFault, Misfit};
@@ -11,36 +11,34 @@ use crate::port::port_of;
 use crate::reference::offer_of;
 use crate::words::next_word;
 use std::alloc::Global;
-use td_cdr::{List, Memory, Text, is_trader_name, is_word_name};
+use td_cdr::{List, Memory, Text, is_trader_name};
 use td_session::{Address, FirstOffer, FirstStore};
-
-/// A type of the file: a service type's name and the repository id of its interface.
-#[derive(Debug, Drop)]
-pub(crate) struct Kind {
-    pub(crate) name: Text,
-    pub(crate) interface: Text,
-}
+use td_types::{Types, TypesFault, TypesReply};
 
 /// What the lines so far say.
-#[derive(Debug, Drop)]
+#[derive(Drop)]
 pub(crate) struct Draft {
     pub(crate) home: Option<Address>,
     pub(crate) trader: Option<Text>,
-    pub(crate) kinds: List<Kind>,
+    pub(crate) types: Types,
     pub(crate) offers: List<FirstOffer>,
 }
 
 impl Draft {
     /// What no line says.
-    pub(crate) fn new(alloc: Global) -> Draft
-        ensures { result ≡ nothing_yet }
+    ///
+    /// # Errors
+    ///
+    /// `Memory` for want of memory alone.
+    pub(crate) fn new(alloc: Global) -> Result<Draft, Memory>
+        ensures { IfOk result (λ d. d ≡ nothing_yet) }
     {
-        Draft {
+        Ok(Draft {
             home: None,
             trader: None,
-            kinds: List::new(alloc),
+            types: Types::new(alloc, List::new(alloc))?,
             offers: List::new(alloc),
-        }
+        })
     }
 
     /// Adds what a line says.
@@ -95,7 +93,7 @@ impl Draft {
         if first == b"address".as_slice() {
             self.take_address(alloc, second, third)
         } else if first == b"type".as_slice() {
-            self.take_kind(alloc, second, third)
+            self.take_type(alloc, second, third)
         } else if first == b"offer".as_slice() {
             self.take_offer(alloc, second, third)
         } else {
@@ -127,73 +125,70 @@ impl Draft {
         Ok(())
     }
 
-    fn take_kind(&mut self, alloc: Global, name: &[u8], interface: &[u8]) -> Result<(), Misfit>
-        ensures { Takes (with_kind self.old name.now interface.now) self.new result }
+    fn take_type(&mut self, alloc: Global, name: &[u8], interface: &[u8]) -> Result<(), Misfit>
+        ensures { Takes (with_type self.old name.now interface.now) self.new result }
     {
-        if self.trader.is_none()
-            || self.offers.len() != 0
-            || !is_word_name(name)
-            || self.names(name)
-        {
+        if self.trader.is_none() || self.offers.len() != 0 {
             return Err(Misfit::Words);
         }
         let name = Text::from_slice(alloc, name)?;
         let interface = Text::from_slice(alloc, interface_of(interface))?;
-        self.kinds.push(Kind { name, interface })?;
-        Ok(())
+        self.add_type(alloc, name, interface)
+    }
+
+    fn add_type(&mut self, alloc: Global, name: Text, interface: Text) -> Result<(), Misfit>
+        ensures { Takes (with_added self.old (add_type self.old.types name interface [] [])) self.new result }
+    {
+        let added = self
+            .types
+            .add(name, interface, List::new(alloc), List::new(alloc));
+        taken(&added)
     }
 
     fn take_offer(&mut self, alloc: Global, name: &[u8], reference: &[u8]) -> Result<(), Misfit>
         ensures { Takes (with_offer self.old name.now reference.now) self.new result }
     {
-        let offer = offer_of(alloc, name, reference)?;
-        if self.offers.len() >= 100 || !self.knows(name, offer.id.as_slice()) {
+        let Some(incarnation) = self.types.incarnation_of(name) else {
+            return Err(Misfit::Words);
+        };
+        let offer = offer_of(alloc, name, incarnation, reference)?;
+        if self.offers.len() >= 100 || !self.has_interface(name, offer.id.as_slice()) {
             return Err(Misfit::Words);
         }
         self.offers.push(offer)?;
         Ok(())
     }
 
-    /// Whether a type has this name.
-    fn names(&self, name: &[u8]) -> bool
-        ensures { result ≡ list_any (is_named name.now) self.now.kinds }
-    {
-        self.kinds
-            .as_slice()
-            .iter()
-            .any(|kind| kind.name.as_slice() == name)
-    }
-
     /// Whether the type of this name has this interface.
-    fn knows(&self, name: &[u8], interface: &[u8]) -> bool
-        ensures { result ≡ list_any (is_kind name.now interface.now) self.now.kinds }
+    fn has_interface(&self, name: &[u8], interface: &[u8]) -> bool
+        ensures { result ≡ has_interface self.now.types.types name.now interface.now }
     {
-        self.kinds.as_slice().iter().any(|kind| kind.name.as_slice() == name
-            && kind.interface.as_slice() == interface)
+        match self.types.interface_of(name) {
+            Some(known) => known.as_slice() == interface,
+            None => false,
+        }
     }
 
     /// The store of a whole file.
     ///
     /// # Errors
     ///
-    /// `Line(number)` exactly where an address, a trader or a type is missing, and `Memory` for want
-    /// of memory.
-    pub(crate) fn into_store(self, alloc: Global, number: u32) -> Result<FirstStore, FirstFault>
+    /// `Line(number)` exactly where an address, a trader or a type is missing.
+    pub(crate) fn into_store(self, number: u32) -> Result<FirstStore, FirstFault>
         ensures { Answers (or_line number (store_of self) Ok) result }
     {
         let Draft {
             home,
             trader,
-            kinds,
+            types,
             offers,
         } = self;
         let (Some(home), Some(trader)) = (home, trader) else {
             return Err(FirstFault::Line(number));
         };
-        if kinds.is_empty() {
+        if types.incarnation() == 0 {
             return Err(FirstFault::Line(number));
         }
-        let types = names_of(alloc, kinds)?;
         Ok(FirstStore {
             home,
             trader,
@@ -203,16 +198,15 @@ impl Draft {
     }
 }
 
-/// The names of types, in order.
-fn names_of(alloc: Global, kinds: List<Kind>) -> Result<List<Text>, Memory>
-    ensures { IfOk result (λ names. names ≡ map (λ k. k.name) kinds) }
+/// What a line says whose type was added so.
+fn taken(added: &Result<TypesReply, TypesFault>) -> Result<(), Misfit>
+    ensures { result ≡ taken added.now }
 {
-    let names = kinds
-        .into_vec()
-        .into_iter()
-        .map(|kind| kind.name)
-        .collect(alloc)?;
-    Ok(List::from_vec(names))
+    match added {
+        Ok(_) => Ok(()),
+        Err(TypesFault::Memory) => Err(Misfit::Memory),
+        Err(_) => Err(Misfit::Words),
+    }
 }
 
 /// What a word says for an interface: `-` stands for the empty text.

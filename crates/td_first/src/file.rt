@@ -30,7 +30,7 @@ fn read_lines(alloc: Global, text: &[u8]) -> Result<FirstStore, FirstFault>
     requires { length text.now ≤ 67108864 }
     ensures { Answers (file_of text.now) result }
 {
-    let mut draft = Draft::new(alloc);
+    let mut draft = Draft::new(alloc)?;
     let mut rest = text;
     let mut number: u32 = 1;
     while !rest.is_empty() {
@@ -43,5 +43,5 @@ fn read_lines(alloc: Global, text: &[u8]) -> Result<FirstStore, FirstFault>
         rest = after;
         number += 1;
     }
-    draft.into_store(alloc, number)
+    draft.into_store(number)
 }

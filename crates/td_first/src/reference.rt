@@ -56,7 +56,7 @@ fn parts_of(word: &[u8]) -> Option<Parts<'_>>
     })
 }
 
-/// The offer of a service type whose object has this reference.
+/// The offer of a service type, as it is in this incarnation, whose object has this reference.
 ///
 /// # Errors
 ///
@@ -64,9 +64,10 @@ fn parts_of(word: &[u8]) -> Option<Parts<'_>>
 pub(crate) fn offer_of(
     alloc: Global,
     service_type: &[u8],
+    incarnation: u64,
     word: &[u8],
 ) -> Result<FirstOffer, Misfit>
-    ensures { Offers (offer_of service_type.now word.now) result }
+    ensures { Offers (offer_of service_type.now incarnation word.now) result }
 {
     let Some(parts) = parts_of(word) else {
         return Err(Misfit::Words);
@@ -77,6 +78,7 @@ pub(crate) fn offer_of(
     let key = Octets::from_slice(alloc, parts.key)?;
     Ok(FirstOffer {
         service_type,
+        incarnation,
         id,
         host,
         port: parts.port,

@@ -11,8 +11,12 @@ use td_cdr::Memory;
 const PRINTERS: &[u8] =
     b"address h 9\ntrader A\ntype Printer IDL:Printer:1.0\noffer Printer ref:IDL:Printer:1.0,h,9,p1\noffer Printer ref:IDL:Printer:1.0,h,9,p2\n";
 
+/// A file of two types, with an offer of the second and one of the first.
+const TWO_TYPES: &[u8] =
+    b"address h 9\ntrader A\ntype B -\ntype C x\noffer C ref:x,h,1,k\noffer B ref:,h,1,k\n";
+
 /// Files, with how many offers they have or the line at which they are refused.
-const FILES: [(&[u8], Result<usize, FirstFault>); 36] = [
+const FILES: [(&[u8], Result<usize, FirstFault>); 37] = [
     (PRINTERS, Ok(2)),
     (b"address h 9\ntrader A\ntype B -", Ok(0)),
     (b"address h 65535\r\ntrader A\r\ntype B -\r\n", Ok(0)),
@@ -55,6 +59,10 @@ const FILES: [(&[u8], Result<usize, FirstFault>); 36] = [
     (
         b"address h 9\ntrader A\ntype B -\ntype B -\n",
         Err(FirstFault::Line(4)),
+    ),
+    (
+        b"address h 9\ntrader A\ntype B x\ntype C -\ntype B y\n",
+        Err(FirstFault::Line(5)),
     ),
     (
         b"address h 9\ntrader A\ntype B -\noffer B ref:,h,1,k\ntype C -\n",
@@ -144,7 +152,7 @@ fn store(rt: HostRuntime) -> Result<(), Fail> {
     assert_eq!(rt; store.home.host.as_slice(), b"h".as_slice());
     assert_eq!(rt; store.home.port, 9);
     assert_eq!(rt; store.trader.as_slice(), b"A".as_slice());
-    assert_eq!(rt; store.types.len(), 1);
+    assert_eq!(rt; store.types.incarnation(), 1);
     for (offer, key) in store
         .offers
         .as_slice()
@@ -152,10 +160,21 @@ fn store(rt: HostRuntime) -> Result<(), Fail> {
         .zip([b"p1".as_slice(), b"p2".as_slice()])
     {
         assert_eq!(rt; offer.service_type.as_slice(), b"Printer".as_slice());
+        assert_eq!(rt; offer.incarnation, 1);
         assert_eq!(rt; offer.id.as_slice(), b"IDL:Printer:1.0".as_slice());
         assert_eq!(rt; offer.host.as_slice(), b"h".as_slice());
         assert_eq!(rt; offer.port, 9);
         assert_eq!(rt; offer.key.as_slice(), key);
+    }
+    Ok(())
+}
+
+#[test]
+fn incarnations(rt: HostRuntime) -> Result<(), Fail> {
+    let store = read_first(rt.alloc(), TWO_TYPES)?;
+    assert_eq!(rt; store.types.incarnation(), 2);
+    for (offer, incarnation) in store.offers.as_slice().iter().zip([2, 1]) {
+        assert_eq!(rt; offer.incarnation, incarnation);
     }
     Ok(())
 }
