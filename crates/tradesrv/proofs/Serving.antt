@@ -8,7 +8,7 @@ use Rattle.tradesrv.specs.declared.ended.Ended.TheVariants.{Usage, Missing, TooL
 use Rattle.tradesrv.specs.Runs.{ServesStore, ServesText}
 
 pub text-serves : (text : List ℕ) (store : FirstStore) (ended : Ended) (before after : Outside) → file_of text ≡ Ok store → ServesStore store ended before after → ServesText text ended before after
-text-serves text store (Served end) before after e h = (store, e, h)
+text-serves text store (Served end) before after e h = (store, h.0, e, h.1)
 text-serves text store Memory before after e h = h
 text-serves text store Usage before after e h = absurd h
 text-serves text store Missing before after e h = absurd h

@@ -14,7 +14,7 @@ use Rattle.tradesrv.specs.Status.{status_of}
 
 -- with the offers of a store a session is served, or none for want of memory
 abbrev pub ServesStore : FirstStore → Ended → Outside → Outside → Type 0
-ServesStore store (Served end) before after = Serves store end before after
+ServesStore store (Served end) before after = (later : FirstStore) × Serves store later end before after
 ServesStore store Memory before after = after ≡ before
 ServesStore store Usage before after = ⊥
 ServesStore store Missing before after = ⊥
@@ -23,7 +23,7 @@ ServesStore store (Refused number) before after = ⊥
 
 -- with the text of a file a session is served, or the file is refused
 abbrev pub ServesText : List ℕ → Ended → Outside → Outside → Type 0
-ServesText text (Served end) before after = (store : FirstStore) × (file_of text ≡ Ok store) × Serves store end before after
+ServesText text (Served end) before after = (store : FirstStore) × (later : FirstStore) × (file_of text ≡ Ok store) × Serves store later end before after
 ServesText text (Refused number) before after = (file_of text ≡ Err number) × (after ≡ before)
 ServesText text Memory before after = after ≡ before
 ServesText text Usage before after = ⊥

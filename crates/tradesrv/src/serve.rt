@@ -36,7 +36,7 @@ fn serve_text<S: Source, K: Sink>(alloc: Global, text: &[u8], source: &mut S, si
     ensures { ServesText text.now result (outside (S.left source.old) (S.faults source.old) (K.written sink.old) (K.faults sink.old)) (outside (S.left source.new) (S.faults source.new) (K.written sink.new) (K.faults sink.new)) }
 {
     match read_first(alloc, text) {
-        Ok(store) => serve_store(alloc, &store, source, sink),
+        Ok(store) => serve_store(alloc, store, source, sink),
         Err(FirstFault::Line(number)) => Ended::Refused(number),
         Err(FirstFault::Memory) => Ended::Memory,
     }
@@ -45,11 +45,11 @@ fn serve_text<S: Source, K: Sink>(alloc: Global, text: &[u8], source: &mut S, si
 /// Serves a session with the offers of this store.
 fn serve_store<S: Source, K: Sink>(
     alloc: Global,
-    store: &FirstStore,
+    mut store: FirstStore,
     source: &mut S,
     sink: &mut K,
 ) -> Ended
-    ensures { ServesStore store.now result (outside (S.left source.old) (S.faults source.old) (K.written sink.old) (K.faults sink.old)) (outside (S.left source.new) (S.faults source.new) (K.written sink.new) (K.faults sink.new)) }
+    ensures { ServesStore store result (outside (S.left source.old) (S.faults source.old) (K.written sink.old) (K.faults sink.old)) (outside (S.left source.new) (S.faults source.new) (K.written sink.new) (K.faults sink.new)) }
 {
     let Ok(home) = store.home.copy(alloc) else {
         return Ended::Memory;
@@ -57,5 +57,5 @@ fn serve_store<S: Source, K: Sink>(
     let Ok(mut room) = Room::new(alloc, home) else {
         return Ended::Memory;
     };
-    Ended::Served(serve_connection(alloc, store, &mut room, source, sink))
+    Ended::Served(serve_connection(alloc, &mut store, &mut room, source, sink))
 }
