@@ -1,21 +1,22 @@
 mod Chains
-pub mod Masks
-pub mod Others
 mod Placing
-pub mod Subtypes
 mod Tables
 mod Walks
+pub mod Equal
 pub mod Found
+pub mod Gathered
+pub mod Masks
+pub mod Named
+pub mod Names
+pub mod Others
+pub mod Outcomes
+pub mod Redefined
 pub mod Refusing
 pub mod Removed
 pub mod Rest
-pub mod Start
-pub mod Sets
-pub mod Named
-pub mod Equal
-pub mod Supers
-pub mod Outcomes
 pub mod Rising
+pub mod Sets
+pub mod Start
 pub mod Stronger
-pub mod Redefined
-pub mod Gathered
+pub mod Subtypes
+pub mod Supers

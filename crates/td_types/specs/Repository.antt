@@ -1,5 +1,5 @@
 -- The repository of service types as a plain value (OMG's Trading Object Service, "Service Type Repository").
-use Rattle.std.specs.Prelude.{ℕ, ◌<◌, ◌≤◌, ◌%◌, ◌/◌, ◌^◌, Bool, IsTrue, IsFalse, List, [], ◌∷◌, reverse, find, All, Option}
+use Rattle.std.specs.Prelude.{ℕ, ◌<◌, ◌≤◌, ◌%◌, ◌/◌, ◌^◌, Bool, IsTrue, IsFalse, List, [], ◌∷◌, reverse, find, All, Option, None, Some}
 use Rattle.std.specs.List.{list_any}
 use Rattle.std.specs.Str.{bytes_eq}
 use Rattle.td_value.specs.declared.structures.PropStruct.{PropStruct}
@@ -32,6 +32,14 @@ is_named name t = bytes_eq t.name name
 -- the type of a name
 abbrev pub type_named : List ServiceType → List ℕ → Option ServiceType
 type_named types name = find (is_named name) types
+
+-- the incarnation of the type of a name
+abbrev pub incarnation_in : Option ServiceType → Option ℕ
+incarnation_in None = None
+incarnation_in (Some t) = Some t.incarnation
+
+abbrev pub incarnation_of : List ServiceType → List ℕ → Option ℕ
+incarnation_of types name = incarnation_in (type_named types name)
 
 abbrev pub has_type : List ServiceType → List ℕ → Bool
 has_type types name = list_any (is_named name) types

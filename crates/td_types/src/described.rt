@@ -10,8 +10,8 @@ use std::alloc::Global;
 use td_cdr::{Memory, Twin};
 use td_value::{IncarnationNumber, TypeStruct};
 
-/// A number as the two halves of an IncarnationNumber.
-pub(crate) fn halves(number: u64) -> IncarnationNumber
+/// A number as the two halves of an IncarnationNumber. Takes no memory.
+pub fn halves(number: u64) -> IncarnationNumber
     ensures { result ≡ halves number }
 {
     IncarnationNumber {

@@ -11,6 +11,7 @@ mod interfaces;
 mod laws;
 mod listing;
 mod modes;
+mod named;
 mod naming;
 mod places;
 mod reaching;
@@ -21,6 +22,7 @@ mod seen;
 mod sought;
 mod types;
 
+pub use described::halves;
 pub use fault::{RepoFault, TypesFault};
 pub use laws::{
     incarnations_are_new, interfaces_conform, listing_rises, masks_change_nothing_else,
