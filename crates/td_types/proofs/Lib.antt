@@ -11,3 +11,4 @@ pub mod Equal
 pub mod Supers
 pub mod Redefined
 pub mod Gathered
+pub mod Adds

@@ -1,0 +1,2 @@
+use Rattle.td_types.proofs.Adds.{is_fresh}
+use Rattle.td_types.proofs.adding.judged.Goals as goal
