@@ -3,7 +3,7 @@ use Rattle.std.proofs.Common.{◌≡◌, ℕ, ◌+◌, ◌<◌, ◌≤◌, Bool,
 use Rattle.std.proofs.lemmas.List.{reverse-append, reverse-reverse, map-append, append-nil, length-map}
 use Rattle.std.proofs.lemmas.List.Elements.{All-nil, All-cons}
 use Rattle.std.proofs.lemmas.List.Folds.{list_any-append}
-use Rattle.std.proofs.lemmas.Bool.{lt-ltb}
+use Rattle.std.proofs.lemmas.Bool.{lt-ltb, le-ltb}
 use Rattle.std.specs.Bool.{IsTrue, IsFalse}
 use Rattle.std.specs.List.{list_any, All, AllByRecursion}
 use Rattle.std.specs.Option.{is_some}
@@ -15,12 +15,13 @@ use Rattle.td_value.specs.declared.structures.PropStruct.{PropStruct}
 use Rattle.td_types.proofs.Equal.{bytes_same, bytes_refl, bytes_eq-sym}
 use Rattle.td_types.proofs.Gathered.{once-append}
 use Rattle.td_types.proofs.Named.{is_found}
+use Rattle.td_types.specs.Inheriting.{IsMore}
 use Rattle.td_types.specs.Added.{entry_of, described_bytes, IsMeasured, IsPrepared}
 use Rattle.td_types.specs.Adding.{or_else, super_fault, supers_fault, name_fault, property_fault, redefinition, Definition, definitions, inherited_definitions, new_type, with_type, passes_limit, most_types, most_properties, most_bytes, last_incarnation}
 use Rattle.td_types.specs.Calls.{Comes, add_fault, add_type, refuse, unless, Answers}
 use Rattle.td_types.specs.Conforming.{walk, once, add_once, ancestors}
 use Rattle.td_types.specs.Descriptions.{full_description}
-use Rattle.td_types.specs.Judged.{AreKept, AreBases, inherited, inherited_from, names_above}
+use Rattle.td_types.specs.Judged.{Judges, AreKept, AreBases, inherited, inherited_from, names_above}
 use Rattle.td_types.specs.Kept.{kept, repository, IsKept, AreEntries, kept_description}
 use Rattle.td_types.specs.Properties.{full, full_properties, with_inherited}
 use Rattle.td_types.specs.Repository.{Repository, ServiceType, Declared, Founded, IsRepository, has_type, is_named, is_among, top}
@@ -163,7 +164,7 @@ above_are es all [] (b ∷ bs) met k h = absurd h
 above_are es all (s ∷ ss) [] met k h = absurd h
 above_are es all (s ∷ ss) (b ∷ bs) met k h =
     above_step met (flat_map (λ s. s ∷ walk (reverse (map kept all)) s) ss) (names_above bs) (walk (reverse (map kept all)) s) b.ancestors s b.name (name_of_found es s b h.0)
-      (walk_found (map kept all) s b (kept_found (IsKept (map kept all)) es s b k h.0) (name_of_found es s b h.0)) (λ m. above_are es all ss bs m k h.1)
+    (walk_found (map kept all) s b (kept_found (IsKept (map kept all)) es s b k h.0) (name_of_found es s b h.0)) (λ m. above_are es all ss bs m k h.1)
 
 -- ---- what the others keep
 
@@ -202,10 +203,10 @@ some_found : (es : List Entry) (s : List ℕ) (b : Entry) → entry_named es s �
 some_found es s b h = is_found es s ∙ ap (λ (o : Option Entry). is_some o) h
 
 supers_known : (es : List Entry) (supers : List (List ℕ)) (bs : List Entry) → AreBases es supers bs → All (λ s. IsTrue (has_type (reverse (map kept es)) s)) supers
-supers_known es [] [] h = All-nil _
+supers_known es [] [] h = All-nil (λ (s : List ℕ). IsTrue (has_type (reverse (map kept es)) s))
 supers_known es [] (b ∷ bs) h = absurd h
 supers_known es (s ∷ ss) [] h = absurd h
-supers_known es (s ∷ ss) (b ∷ bs) h = All-cons _ s ss (any_last (is_named s) (map kept es) ∙ some_found es s b h.0) (supers_known es ss bs h.1)
+supers_known es (s ∷ ss) (b ∷ bs) h = All-cons (λ (s : List ℕ). IsTrue (has_type (reverse (map kept es)) s)) s ss (any_last (is_named s) (map kept es) ∙ some_found es s b h.0) (supers_known es ss bs h.1)
 
 with_new : (es : List Entry) (e : Entry) → reverse (map kept (es ++ e ∷ [])) ≡ kept e ∷ reverse (map kept es)
 with_new es e = ap reverse (map-append kept es (e ∷ [])) ∙ youngest (map kept es) (kept e)
@@ -215,7 +216,7 @@ pub still_valid : (es : List Entry) (interfaces : Declared) (last : ℕ) (e : En
 still_valid es interfaces last e bs v fresh h inc =
     let counted : top (reverse (map kept es)) ≤ last = v.counted in
     let founded : Founded (kept e ∷ reverse (map kept es)) =
-      Founded.more (kept e) (reverse (map kept es)) (any_last (is_named e.name) (map kept es) ∙ fresh) (supers_known es e.supers bs h) (rw inc (omega (arith, counted))) v.founded in
+    Founded.more (kept e) (reverse (map kept es)) (any_last (is_named e.name) (map kept es) ∙ fresh) (supers_known es e.supers bs h) (rw inc (omega (arith, counted))) v.founded in
     record { founded = rw (with_new es e) founded; counted = rw (with_new es e) (omega arith) }
 
 -- ---- why it isn't added
@@ -228,7 +229,7 @@ supers_last es interfaces a b name if_name before (s ∷ ss) = ap (or_else (supe
 pub add_fault_last : (es : List Entry) (interfaces : Declared) (a b : ℕ) (name if_name : List ℕ) (props : List PropStruct) (ss : List (List ℕ)) → add_fault (repository es interfaces a) name if_name props ss ≡ add_fault (repository es interfaces b) name if_name props ss
 add_fault_last es interfaces a b name if_name props ss =
     ap (λ (o : Option RepoFault). or_else (name_fault (repository es interfaces b) name) (or_else (property_fault [] props) (or_else o (redefinition (definitions name true props) (inherited_definitions (repository es interfaces b) ss)))))
-      (supers_last es interfaces a b name if_name [] ss)
+    (supers_last es interfaces a b name if_name [] ss)
 
 pub fails_first : (a b c d : Option RepoFault) (f : RepoFault) → a ≡ Some f → or_else a (or_else b (or_else c d)) ≡ Some f
 fails_first a b c d f h = rw h refl
@@ -259,25 +260,25 @@ is_fresh es interfaces name if_name props ss h = name_free (word_name name) (has
 
 -- ---- limits
 
-limit_first : (a b c d : Bool) → a ≡ true → (a || b || c || d) ≡ true
+pub limit_first : (a b c d : Bool) → a ≡ true → (a || b || c || d) ≡ true
 limit_first a b c d h = rw h refl
 
-limit_second : (a b c d : Bool) → b ≡ true → (a || b || c || d) ≡ true
+pub limit_second : (a b c d : Bool) → b ≡ true → (a || b || c || d) ≡ true
 limit_second true b c d h = refl
 limit_second false b c d h = rw h refl
 
-limit_third : (a b c d : Bool) → c ≡ true → (a || b || c || d) ≡ true
+pub limit_third : (a b c d : Bool) → c ≡ true → (a || b || c || d) ≡ true
 limit_third true b c d h = refl
 limit_third false true c d h = refl
 limit_third false false c d h = rw h refl
 
-limit_fourth : (a b c d : Bool) → d ≡ true → (a || b || c || d) ≡ true
+pub limit_fourth : (a b c d : Bool) → d ≡ true → (a || b || c || d) ≡ true
 limit_fourth true b c d h = refl
 limit_fourth false true c d h = refl
 limit_fourth false false true d h = refl
 limit_fourth false false false d h = h
 
-limit_none : (a b c d : Bool) → a ≡ false → b ≡ false → c ≡ false → d ≡ false → (a || b || c || d) ≡ false
+pub limit_none : (a b c d : Bool) → a ≡ false → b ≡ false → c ≡ false → d ≡ false → (a || b || c || d) ≡ false
 limit_none a b c d p q r s = rw (p, q, r, s) refl
 
 -- ---- the answer

@@ -12,3 +12,4 @@ pub mod Supers
 pub mod Redefined
 pub mod Gathered
 pub mod Adds
+pub mod Prepares

@@ -2,7 +2,6 @@
 
 ghost use Rattle.std.specs.Prelude.{◌≡◌, ℕ, map, MatchResult};
 ghost use Rattle.td_types.specs.Added.{IsPrepared, IsMeasured};
-
 ghost use Rattle.td_types.specs.Calls.{Answers, add_type, add_fault};
 ghost use Rattle.td_types.specs.Judged.{Judges, AreKept, AreBases};
 ghost use Rattle.td_types.specs.Kept.{repository, AreEntries};
@@ -94,7 +93,10 @@ fn prepared(
         props.as_slice(),
         supers.as_slice(),
     )?;
-    if entries.len() >= MOST_TYPES || last >= LAST_INCARNATION {
+    if entries.len() >= MOST_TYPES {
+        return Err(TypesFault::Full);
+    }
+    if last >= LAST_INCARNATION {
         return Err(TypesFault::Full);
     }
     let full = with_inherited(alloc, &props, bases.as_slice())?;
