@@ -1,15 +1,13 @@
 -- An entry that is looked for, and what is done with its type.
-use Rattle.std.proofs.Common.{◌≡◌, ℕ, Bool, true, false, List, [], ◌∷◌, length, refl, sym, ap, ◌∙◌, Result, Ok, Err, Option, None, Some, map, cond, subst}
+use Rattle.std.proofs.Common.{◌≡◌, ℕ, Bool, true, false, List, [], ◌∷◌, refl, sym, ap, ◌∙◌, Ok, Err, Option, None, Some, map, cond, subst}
 use Rattle.std.specs.List.{AllByRecursion}
 use Rattle.std.specs.Option.{option_map}
 use Rattle.std.specs.Str.{bytes_eq}
 use Rattle.td_cdr.specs.Names.{word_name}
 use Rattle.td_value.specs.declared.structures.TypeStruct.{TypeStruct}
 use Rattle.td_types.specs.Calls.{Comes, refuse, known, act_on, Answers, describe_type, fully_describe_type}
-use Rattle.td_types.specs.Conforming.{ancestors}
 use Rattle.td_types.specs.Descriptions.{description, full_description}
 use Rattle.td_types.specs.Kept.{kept, repository, IsKept, AreEntries, kept_description}
-use Rattle.td_types.specs.Properties.{full_properties}
 use Rattle.td_types.specs.Repository.{Repository, Declared, ServiceType, type_named}
 use Rattle.td_types.specs.Sought.{entry_named, entry_or_unknown, sought, IsRefused}
 use Rattle.td_types.specs.declared.entry.Entry.{Entry}

@@ -8,10 +8,12 @@ pub mod Inheriting
 pub mod Interfaces
 pub mod Judged
 pub mod Kept
+pub mod Laws
 pub mod Marking
 pub mod Modes
 pub mod Properties
 pub mod Reaching
+pub mod Removing
 pub mod Repository
 pub mod Seen
 pub mod Sought

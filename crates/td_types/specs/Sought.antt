@@ -1,6 +1,6 @@
 -- An entry looked for by its name (interface CosTradingRepos::ServiceTypeRepository, on IllegalServiceType and
 -- UnknownServiceType).
-use Rattle.std.specs.Prelude.{◌≡◌, ℕ, Bool, if◌then◌else◌, List, find, Option, None, Some, Result, Ok, Err}
+use Rattle.std.specs.Prelude.{◌≡◌, ℕ, if◌then◌else◌, List, find, Option, None, Some, Result, Ok, Err, IsErr}
 use Rattle.std.specs.Str.{bytes_eq}
 use Rattle.td_cdr.specs.Names.{word_name}
 use Rattle.td_types.specs.declared.entry.Entry.{Entry}
@@ -20,8 +20,8 @@ entry_or_unknown (Some e) name = Ok e
 abbrev pub sought : List Entry → List ℕ → Result Entry RepoFault
 sought entries name = if word_name name then entry_or_unknown (entry_named entries name) name else Err (fault.IllegalServiceType name)
 
--- refused for this cause, or for want of memory
+-- refused for this cause, or for want of memory, which is wanted for a refusal alone
 abbrev pub IsRefused : {X : Type 0} → Result X RepoFault → TypesFault → Type 0
 IsRefused comes (User f) = comes ≡ Err f
 IsRefused comes Full = ⊥
-IsRefused comes Memory = Unit {0}
+IsRefused comes Memory = IsErr comes

@@ -10,18 +10,23 @@ mod fault;
 mod inheriting;
 mod interfaces;
 mod laws;
+mod listing;
 mod modes;
 mod naming;
 mod places;
 mod reaching;
 mod redefining;
+mod removing;
 mod reply;
 mod seen;
 mod sought;
 mod types;
 
 pub use fault::{RepoFault, TypesFault};
-pub use laws::interfaces_conform;
+pub use laws::{
+    incarnations_are_new, interfaces_conform, listing_rises, masks_change_nothing_else,
+    removing_leaves_the_others, supertypes_modes_hold, the_oldest_sub_type_is_named, types_conform,
+};
 pub use reply::TypesReply;
 pub use types::Types;
 

@@ -1,4 +1,4 @@
-use Rattle.std.proofs.Common.{◌≡◌, ℕ, length, drop}
+use Rattle.std.proofs.Common.{◌≡◌, drop}
 use Rattle.td_types.specs.Sought.{entry_named}
 use Rattle.td_types.proofs.sought.entry_named.Given as goal
 

@@ -1,0 +1,184 @@
+-- The repository with a type masked or not: everything but the mask stays.
+use Rattle.std.proofs.Common.{◌≡◌, ℕ, ◌+◌, ◌≤◌, ◌<◌, Bool, true, false, ◌||◌, cond, List, [], ◌∷◌, ◌++◌, length, get_or, set, take, drop, reverse, map, refl, sym, ap, subst, ◌∙◌, arith, Ok}
+use Rattle.std.specs.List.{flat_map, AllByRecursion}
+use Rattle.std.specs.Str.{bytes_eq}
+use Rattle.std.proofs.lemmas.List.{reverse-append, map-append, append-nil, append_assoc, drop_more, take_all, drop_all, set_at, get_or_at, map_more, length-map, length-take-le}
+use Rattle.td_types.specs.declared.entry.Entry.{Entry}
+use Rattle.td_types.specs.declared.fault.RepoFault.TheVariants as fault
+use Rattle.td_types.specs.declared.reply.TypesReply.TheVariants as reply
+use Rattle.td_types.specs.Calls.{Comes, refuse, set_mask, mask_type, unmask_type}
+use Rattle.td_types.specs.Conforming.{once, walk, ancestors, conforms}
+use Rattle.td_types.specs.Kept.{kept, repository, IsKept, AreEntries}
+use Rattle.td_types.specs.Properties.{full, full_properties}
+use Rattle.td_types.specs.Removing.{masked_entry, with_mask}
+use Rattle.td_types.specs.Repository.{Repository, ServiceType, Declared, is_named, has_type, top, Founded, IsRepository}
+use Rattle.td_types.specs.Sought.{sought}
+use Rattle.td_types.proofs.Found.{known_found}
+use Rattle.td_types.proofs.Others.{Descends, full-step, full-descends, walk-step, walk-descends}
+
+-- ---- types that differ in the mask alone
+
+abbrev pub masked_type : List ℕ → Bool → ServiceType → ServiceType
+masked_type name masked t = cond (is_named name t) (record t { masked = masked }) t
+
+-- all but the mask
+pub record IsAlike (a b : ServiceType) : Type 0 where
+  pub name : a.name ≡ b.name
+  pub props : a.props ≡ b.props
+  pub supers : a.supers ≡ b.supers
+  pub incarnation : a.incarnation ≡ b.incarnation
+
+alike-when : (b masked : Bool) (t : ServiceType) → IsAlike (cond b (record t { masked = masked }) t) t
+alike-when true masked t = record { name = refl; props = refl; supers = refl; incarnation = refl }
+alike-when false masked t = record { name = refl; props = refl; supers = refl; incarnation = refl }
+
+pub alike-masked : (name : List ℕ) (masked : Bool) (t : ServiceType) → IsAlike (masked_type name masked t) t
+alike-masked name masked t = alike-when (is_named name t) masked t
+
+pub map-reversed : {X Y : Type 0} (f : X → Y) (xs : List X) → map f (reverse xs) ≡ reverse (map f xs)
+map-reversed f [] = refl
+map-reversed f (x ∷ xs) =
+    ap (map f) (reverse-append (x ∷ []) xs) ∙ map-append f (reverse xs) (x ∷ []) ∙ ap (λ ys. ys ++ f x ∷ []) (map-reversed f xs) ∙ sym (reverse-append (f x ∷ []) (map f xs))
+
+module _ (change : ServiceType → ServiceType) (alike : (t : ServiceType) → IsAlike (change t) t) where
+  pub has-alike : (ts : List ServiceType) (name : List ℕ) → has_type (map change ts) name ≡ has_type ts name
+  has-alike [] name = refl
+  has-alike (t ∷ ts) name =
+      ap (λ (n : List ℕ). bytes_eq n name || has_type (map change ts) name) (alike t).name ∙ ap (λ (b : Bool). is_named name t || b) (has-alike ts name)
+
+  top-alike : (ts : List ServiceType) → top (map change ts) ≡ top ts
+  top-alike [] = refl
+  top-alike (t ∷ ts) = (alike t).incarnation
+
+  pub founded-alike : {ts : List ServiceType} → Founded ts → Founded (map change ts)
+  founded-alike Founded.none = Founded.none
+  founded-alike (Founded.more t older fresh supers higher f) =
+      Founded.more (change t) (map change older)
+      (has-alike older (change t).name ∙ (ap (has_type older) (alike t).name ∙ fresh))
+      (rw (alike t).supers (λ k d b. has-alike older (get_or t.supers k d) ∙ supers k d b))
+      (let i = (alike t).incarnation in let e = top-alike older in omega (arith, i, e, higher))
+      (founded-alike f)
+
+  pub descends-alike : {X : Type 0} (F : List ServiceType → List ℕ → List X) (step : ServiceType → (List ℕ → List X) → List X) → Descends F step → ((t : ServiceType) (f : List ℕ → List X) → step (change t) f ≡ step t f) → (ts : List ServiceType) (name : List ℕ) → F (map change ts) name ≡ F ts name
+  descends-alike F step d same [] name = refl
+  descends-alike F step d same (t ∷ older) name =
+      let rest = descends-alike F step d same older in
+      let here : step (change t) (F (map change older)) ≡ step t (F older) = same t (F (map change older)) ∙ d.agrees t (F (map change older)) (F older) (λ s a. rest s) in
+      let named : is_named name (change t) ≡ is_named name t = ap (λ (n : List ℕ). bytes_eq n name) (alike t).name in
+      d.finds (change t) (map change older) name ∙ rw (named, here, rest name) (sym (d.finds t older name))
+
+-- ---- what a type has from its supertypes
+
+module _ (types : List ServiceType) (name : List ℕ) (masked : Bool) where
+  pub full-masked : (n : List ℕ) → full_properties (map (masked_type name masked) types) n ≡ full_properties types n
+  unfolding full_properties
+  full-masked n =
+      ap (λ (ts : List ServiceType). full ts n) (sym (map-reversed (masked_type name masked) types))
+      ∙ descends-alike (masked_type name masked) (alike-masked name masked) full full-step full-descends (λ t f. rw ((alike-masked name masked t).props, (alike-masked name masked t).supers) refl) (reverse types) n
+
+  pub ancestors-masked : (n : List ℕ) → ancestors (map (masked_type name masked) types) n ≡ ancestors types n
+  unfolding ancestors
+  ancestors-masked n =
+      ap (once []) (ap (λ (ts : List ServiceType). walk ts n) (sym (map-reversed (masked_type name masked) types))
+      ∙ descends-alike (masked_type name masked) (alike-masked name masked) walk walk-step walk-descends (λ t f. ap (λ (supers : List (List ℕ)). flat_map (λ s. s ∷ f s) supers) (alike-masked name masked t).supers) (reverse types) n)
+
+  pub conforms-masked : (a b : List ℕ) → conforms (map (masked_type name masked) types) a b ≡ conforms types a b
+  conforms-masked a b = rw (has-alike (masked_type name masked) (alike-masked name masked) types a, ancestors-masked a) refl
+
+  still-kept_when : (e : Entry) (b : Bool) → IsKept types e → IsKept (map (masked_type name masked) types) (cond b (record e { masked = masked }) e)
+  still-kept_when e true k = record { ancestors = k.ancestors ∙ sym (ancestors-masked e.name); full = k.full ∙ sym (full-masked e.name) }
+  still-kept_when e false k = record { ancestors = k.ancestors ∙ sym (ancestors-masked e.name); full = k.full ∙ sym (full-masked e.name) }
+
+  still-kept : (es : List Entry) → AllByRecursion (IsKept types) es → AllByRecursion (IsKept (map (masked_type name masked) types)) (with_mask es name masked)
+  still-kept [] k = tt
+  still-kept (e ∷ es) k = (still-kept_when e (bytes_eq e.name name) k.0, still-kept es k.1)
+
+pub valid-masked : (r : Repository) (name : List ℕ) (masked : Bool) → IsRepository r → IsRepository (set_mask r name masked)
+valid-masked r name masked valid =
+    let change = masked_type name masked in
+    let alike = alike-masked name masked in
+    record {
+      founded = subst Founded (map-reversed change r.types) (founded-alike change alike valid.founded);
+      counted = let c = valid.counted in let e = top-alike change alike (reverse r.types) in subst (λ (ts : List ServiceType). top ts ≤ r.last) (map-reversed change r.types) (omega (arith, c, e));
+    }
+
+-- ---- their entries
+
+kept_when : (e : Entry) (b masked : Bool) → kept (cond b (record e { masked = masked }) e) ≡ cond b (record (kept e) { masked = masked }) (kept e)
+kept_when e true masked = refl
+kept_when e false masked = refl
+
+pub kept-masked : (es : List Entry) (name : List ℕ) (masked : Bool) → map kept (with_mask es name masked) ≡ map (masked_type name masked) (map kept es)
+kept-masked [] name masked = refl
+kept-masked (e ∷ es) name masked =
+    ap (λ (t : ServiceType). t ∷ map kept (with_mask es name masked)) (kept_when e (bytes_eq e.name name) masked)
+    ∙ ap (λ (ts : List ServiceType). masked_type name masked (kept e) ∷ ts) (kept-masked es name masked)
+
+repository-masked : (es : List Entry) (interfaces : Declared) (last : ℕ) (name : List ℕ) (masked : Bool) → repository (with_mask es name masked) interfaces last ≡ set_mask (repository es interfaces last) name masked
+repository-masked es interfaces last name masked = ap (λ (ts : List ServiceType). record { types = ts; interfaces = interfaces; last = last }) (kept-masked es name masked)
+
+pub entries-masked : (es : List Entry) (interfaces : Declared) (last : ℕ) (name : List ℕ) (masked : Bool) → AreEntries es interfaces last → AreEntries (with_mask es name masked) interfaces last
+entries-masked es interfaces last name masked are = record {
+  valid = subst IsRepository (sym (repository-masked es interfaces last name masked)) (valid-masked (repository es interfaces last) name masked are.valid);
+  kept = subst (λ (ts : List ServiceType). AllByRecursion (IsKept ts) (with_mask es name masked)) (sym (kept-masked es name masked)) (still-kept (map kept es) name masked es are.kept);
+}
+
+-- ---- what the calls come to
+
+mask_when : (r : Repository) (name : List ℕ) (b test : Bool) (x y : Comes) → b ≡ test → cond b x y ≡ cond test x y
+mask_when r name b test x y h = rw h refl
+
+module _ (es : List Entry) (interfaces : Declared) (last : ℕ) (name : List ℕ) (e : Entry) (found : sought es name ≡ Ok e) where
+  pub masked : e.masked ≡ false → mask_type (repository es interfaces last) name ≡ Ok (reply.Masked, repository (with_mask es name true) interfaces last)
+  unfolding mask_type
+  masked h =
+      let r = repository es interfaces last in
+      known_found es interfaces last name e (λ t. cond t.masked (refuse (fault.AlreadyMasked name)) (Ok (reply.Masked, set_mask r name true))) found
+      ∙ ap (λ (b : Bool). cond b (refuse (fault.AlreadyMasked name)) (Ok (reply.Masked, set_mask r name true))) h
+      ∙ ap (λ (after : Repository). Ok (reply.Masked, after)) (sym (repository-masked es interfaces last name true))
+
+  pub already_masked : e.masked ≡ true → mask_type (repository es interfaces last) name ≡ refuse (fault.AlreadyMasked name)
+  unfolding mask_type
+  already_masked h =
+      let r = repository es interfaces last in
+      known_found es interfaces last name e (λ t. cond t.masked (refuse (fault.AlreadyMasked name)) (Ok (reply.Masked, set_mask r name true))) found
+      ∙ ap (λ (b : Bool). cond b (refuse (fault.AlreadyMasked name)) (Ok (reply.Masked, set_mask r name true))) h
+
+  pub unmasked : e.masked ≡ true → unmask_type (repository es interfaces last) name ≡ Ok (reply.Unmasked, repository (with_mask es name false) interfaces last)
+  unfolding unmask_type
+  unmasked h =
+      let r = repository es interfaces last in
+      known_found es interfaces last name e (λ t. cond t.masked (Ok (reply.Unmasked, set_mask r name false)) (refuse (fault.NotMasked name))) found
+      ∙ ap (λ (b : Bool). cond b (Ok (reply.Unmasked, set_mask r name false)) (refuse (fault.NotMasked name))) h
+      ∙ ap (λ (after : Repository). Ok (reply.Unmasked, after)) (sym (repository-masked es interfaces last name false))
+
+  pub not_masked : e.masked ≡ false → unmask_type (repository es interfaces last) name ≡ refuse (fault.NotMasked name)
+  unfolding unmask_type
+  not_masked h =
+      let r = repository es interfaces last in
+      known_found es interfaces last name e (λ t. cond t.masked (Ok (reply.Unmasked, set_mask r name false)) (refuse (fault.NotMasked name))) found
+      ∙ ap (λ (b : Bool). cond b (Ok (reply.Unmasked, set_mask r name false)) (refuse (fault.NotMasked name))) h
+
+-- ---- a loop over the entries that sets the mask
+
+pub changed_more : (f : Entry → Entry) (old items : List Entry) (i : ℕ) (d new : Entry) → i < length old → items ≡ map f (take i old) ++ drop i old → new ≡ f (get_or items i d) → set items i new ≡ map f (take (i + 1) old) ++ drop (i + 1) old
+changed_more f old items i d new h inv n =
+    let front = map f (take i old) in
+    let y = get_or old i d in
+    let back = drop (i + 1) old in
+    let split : items ≡ front ++ y ∷ back = inv ∙ ap (λ (es : List Entry). front ++ es) (drop_more old i d h) in
+    let count : length front ≡ i = length-map (take i old) f ∙ length-take-le i old (omega (arith, h)) in
+    let read : get_or items i d ≡ y = ap (λ (es : List Entry). get_or es i d) split ∙ get_or_at front y back d i count in
+    ap (λ (es : List Entry). set es i new) split ∙ (set_at front y back new i count
+    ∙ (ap (λ (e : Entry). front ++ e ∷ back) (n ∙ ap f read)
+    ∙ (sym (append_assoc front (f y ∷ []) back)
+    ∙ ap (λ (es : List Entry). es ++ back) (sym (map_more f old i d h)))))
+
+pub changed_all : (f : Entry → Entry) (old items : List Entry) (i : ℕ) → length old ≤ i → items ≡ map f (take i old) ++ drop i old → items ≡ map f old
+changed_all f old items i h inv = inv ∙ rw (take_all i old h, drop_all i old h) (append-nil (map f old))
+
+pub masked-here : (name : List ℕ) (masked : Bool) (e : Entry) (known : List ℕ) (answer : Bool) → known ≡ e.name → answer ≡ bytes_eq known name → answer ≡ true → record e { masked = masked } ≡ masked_entry name masked e
+masked-here name masked e known answer k a t = let b : bytes_eq e.name name ≡ true = rw (← k, ← a) t in rw b refl
+
+pub masked-not : (name : List ℕ) (masked : Bool) (e : Entry) (known : List ℕ) (answer : Bool) → known ≡ e.name → answer ≡ bytes_eq known name → answer ≡ false → e ≡ masked_entry name masked e
+masked-not name masked e known answer k a t = let b : bytes_eq e.name name ≡ false = rw (← k, ← a) t in rw b refl

@@ -1,0 +1,8 @@
+use Rattle.td_types.proofs.Outcomes.{conforms-itself, conforms-on}
+use Rattle.td_types.proofs.laws.types_conform.Goals as goal
+
+pub returns-clause-reflexive : goal.returns-clause-reflexive
+returns-clause-reflexive c = conforms-itself
+
+pub returns-clause-transitive : goal.returns-clause-transitive
+returns-clause-transitive c = λ r a b d valid h k. conforms-on r.types a b d valid.founded h k
