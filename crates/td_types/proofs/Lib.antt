@@ -1,7 +1,5 @@
+pub mod Adds
 mod Chains
-mod Placing
-mod Tables
-mod Walks
 pub mod Equal
 pub mod Found
 pub mod Gathered
@@ -10,6 +8,8 @@ pub mod Named
 pub mod Names
 pub mod Others
 pub mod Outcomes
+mod Placing
+pub mod Prepares
 pub mod Redefined
 pub mod Refusing
 pub mod Removed
@@ -20,3 +20,5 @@ pub mod Start
 pub mod Stronger
 pub mod Subtypes
 pub mod Supers
+mod Tables
+mod Walks

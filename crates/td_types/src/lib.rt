@@ -1,6 +1,7 @@
 //! The repository of service types (OMG's Trading Object Service, module CosTradingRepos).
 #![tactic(auto)]
 
+mod adding;
 mod bases;
 mod described;
 mod describing;
