@@ -11,8 +11,8 @@ mod inheriting;
 mod interfaces;
 mod laws;
 mod listing;
+mod lookup;
 mod modes;
-mod named;
 mod naming;
 mod places;
 mod reaching;
@@ -34,3 +34,5 @@ pub use types::Types;
 
 #[cfg(test)]
 mod interface_tests;
+#[cfg(test)]
+mod removal_tests;
