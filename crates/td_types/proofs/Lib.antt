@@ -21,3 +21,4 @@ pub mod Redefined
 pub mod Gathered
 pub mod Adds
 pub mod Prepares
+pub mod Chained

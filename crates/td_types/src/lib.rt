@@ -3,6 +3,7 @@
 
 mod adding;
 mod bases;
+mod conforming;
 mod described;
 mod describing;
 mod entry;
