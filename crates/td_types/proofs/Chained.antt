@@ -51,7 +51,7 @@ find_turned : {ts : List ServiceType} → Founded ts → (a : List ℕ) → type
 find_turned Founded.none a = refl
 find_turned (Founded.more t older fresh supers higher f) a =
     let turned : type_named (reverse (t ∷ older)) a ≡ option_or (type_named (reverse older) a) (cond (is_named a t) (Some t) None) =
-      ap (λ (types : List ServiceType). type_named types a) (reverse-append (t ∷ []) older) ∙ find-append (is_named a) (reverse older) (t ∷ []) in
+    ap (λ (types : List ServiceType). type_named types a) (reverse-append (t ∷ []) older) ∙ find-append (is_named a) (reverse older) (t ∷ []) in
     turned ∙ (rw (find_turned f a) (joined_when (is_named a t) t (type_named older a) (λ e. not_there older a (subst (λ (n : List ℕ). has_type older n ≡ false) (bytes_same t.name a e) fresh))))
 
 -- ---- from a walk to a chain
@@ -124,7 +124,7 @@ super_conforms : (types : List ServiceType) (a c : List ℕ) → Founded (revers
 super_conforms types a c f s =
     let found : type_named (reverse types) a ≡ Some s.type = sym (find_turned f a) ∙ (ap (λ (ts : List ServiceType). type_named ts a) (reverse-reverse types) ∙ s.found) in
     and_from (has_type types a) (bytes_eq a c || is_among c (ancestors types a)) (named_has types a s.type s.found)
-      (or_right (bytes_eq a c) (is_among c (ancestors types a)) (ancestor-walked types a c ∙ walk_super f a c s.type found s.declared))
+    (or_right (bytes_eq a c) (is_among c (ancestors types a)) (ancestor-walked types a c ∙ walk_super f a c s.type found s.declared))
 
 leads_conform : (types : List ServiceType) (a : List ℕ) (cs : List (List ℕ)) (b : List ℕ) → Founded (reverse types) → Leads types a cs b → conforms types a b ≡ true
 leads_conform types a [] b f l = subst (λ (n : List ℕ). conforms types a n ≡ true) l.1 (conforms-itself types a l.0)

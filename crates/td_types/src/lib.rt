@@ -33,3 +33,5 @@ pub use types::Types;
 
 #[cfg(test)]
 mod interface_tests;
+#[cfg(test)]
+mod tests;
