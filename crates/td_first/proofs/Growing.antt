@@ -10,7 +10,7 @@ use Rattle.td_session.specs.declared.store.Address.{Address}
 use Rattle.td_session.specs.declared.store.FirstOffer.{FirstOffer}
 use Rattle.td_first.specs.declared.draft.Draft.{Draft}
 use Rattle.td_first.specs.Entries.{when, interface_of, has_interface, with_added, with_address, with_trader, with_type, with_offer, with_words}
-use Rattle.td_first.specs.Form.{Each, AreTypeLines, IsAddressLine, IsTraderLine, IsTypeLine, IsOfferLine}
+use Rattle.td_first.specs.Form.{Each, AreTypeLines, IsAddressLine, IsTraderLine, IsOfferLine}
 use Rattle.td_first.specs.Port.{port_of}
 use Rattle.td_first.specs.Reference.{◌>>=◌, offer_of}
 use Rattle.td_first.specs.Whole.{no_types, nothing_yet}

@@ -1,5 +1,5 @@
 -- The lines of a file one after the other.
-use Rattle.std.proofs.Common.{◌≡◌, ℕ, ◌+◌, ◌<◌, ◌≤◌, nat_eq, eq-eqb, Bool, true, false, List, [], ◌∷◌, ◌++◌, length, append_assoc, append-nil, subst, ◌⊎◌, inl, inr, Option, Some, None, Result, Ok, refl, sym, ap, ◌∙◌, arith, if◌then◌else◌}
+use Rattle.std.proofs.Common.{◌≡◌, ℕ, ◌+◌, ◌<◌, nat_eq, eq-eqb, Bool, true, false, List, [], ◌∷◌, ◌++◌, length, append_assoc, append-nil, subst, ◌⊎◌, inl, inr, Option, Some, None, Result, Ok, refl, sym, ap, ◌∙◌, arith, if◌then◌else◌}
 use Rattle.std.specs.List.{list_all}
 use Rattle.std.specs.Str.Lines.{lines}
 use Rattle.std.proofs.lemmas.Bool.{false≢true, ne_eqb}
@@ -9,7 +9,7 @@ use Rattle.td_session.specs.declared.store.FirstOffer.{FirstOffer}
 use Rattle.td_session.specs.declared.store.FirstStore.{FirstStore}
 use Rattle.td_first.specs.declared.draft.Draft.{Draft}
 use Rattle.td_first.specs.Entries.{with_words, with_line}
-use Rattle.td_first.specs.Form.{kept, Means, IsFile, AreTypeLines, Each, IsAddressLine, IsTraderLine, IsTypeLine, IsOfferLine}
+use Rattle.td_first.specs.Form.{kept, Means, IsFile, AreTypeLines}
 use Rattle.td_first.specs.Line.{is_plain, is_skipped}
 use Rattle.td_first.specs.Reference.{◌>>=◌}
 use Rattle.td_first.specs.Whole.{no_types, nothing_yet, store_with, store_of, or_line, rest_of_file}

@@ -1,5 +1,5 @@
 -- The form of a file, as a relation of its lines and the store that they mean.
-use Rattle.std.specs.Prelude.{◌≡◌, ℕ, ◌+◌, ◌<◌, ◌≤◌, nat_eq, true, false, not, List, [], ◌∷◌, ◌++◌, codes, length, map, take, ◌⊎◌, Some, Ok, Err}
+use Rattle.std.specs.Prelude.{◌≡◌, ℕ, ◌+◌, ◌<◌, ◌≤◌, nat_eq, true, false, not, List, [], ◌∷◌, ◌++◌, codes, length, take, ◌⊎◌, Some, Ok, Err}
 use Rattle.std.specs.List.{filter, list_all, list_any}
 use Rattle.std.specs.Str.Lines.{lines}
 use Rattle.td_cdr.specs.Names.{trader_name}

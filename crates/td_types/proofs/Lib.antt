@@ -1,4 +1,5 @@
 pub mod Adds
+pub mod Chained
 mod Chains
 pub mod Equal
 pub mod Found

@@ -148,12 +148,12 @@ newest r name if_name props supers told after valid h =
 pub conforms-itself : (types : List ServiceType) (a : List ℕ) → has_type types a ≡ true → conforms types a a ≡ true
 conforms-itself types a h = and_from (has_type types a) (bytes_eq a a || is_among a (ancestors types a)) h (or_left (bytes_eq a a) (is_among a (ancestors types a)) (bytes-same a a refl))
 
-walks-when : (b : Bool) (x : List ℕ) (xs ys : List (List ℕ)) → is_among x (cond b xs ys) ≡ true → (b ≡ false → is_among x ys ≡ true) × (b ≡ true → is_among x xs ≡ true)
+pub walks-when : (b : Bool) (x : List ℕ) (xs ys : List (List ℕ)) → is_among x (cond b xs ys) ≡ true → (b ≡ false → is_among x ys ≡ true) × (b ≡ true → is_among x xs ≡ true)
 walks-when true x xs ys h = ((λ e. absurd (false≢true (sym e))), (λ e. h))
 walks-when false x xs ys h = ((λ e. h), (λ e. absurd (false≢true e)))
 
 -- a name that is met on the way from some supertype
-met : (f : List ℕ → List (List ℕ)) (supers : List (List ℕ)) (x : List ℕ) → is_among x (flat_map (λ s. s ∷ f s) supers) ≡ true → (s : List ℕ) × (is_among s supers ≡ true) × (is_among x (s ∷ f s) ≡ true)
+pub met : (f : List ℕ → List (List ℕ)) (supers : List (List ℕ)) (x : List ℕ) → is_among x (flat_map (λ s. s ∷ f s) supers) ≡ true → (s : List ℕ) × (is_among s supers ≡ true) × (is_among x (s ∷ f s) ≡ true)
 met f [] x h = absurd (false≢true h)
 met f (s ∷ supers) x h =
     elim (or_cases (is_among x (s ∷ f s)) (is_among x (flat_map (λ s. s ∷ f s) supers)) (sym (list_any-append (bytes_eq x) (s ∷ f s) (flat_map (λ s. s ∷ f s) supers)) ∙ h)) [
@@ -161,7 +161,7 @@ met f (s ∷ supers) x h =
       | inr there ↦ let m = met f supers x there in (m.0, or_right (bytes_eq m.0 s) (is_among m.0 supers) m.1, m.2)
     ]
 
-met-from : (f : List ℕ → List (List ℕ)) (supers : List (List ℕ)) (x s : List ℕ) → is_among s supers ≡ true → is_among x (s ∷ f s) ≡ true → is_among x (flat_map (λ s. s ∷ f s) supers) ≡ true
+pub met-from : (f : List ℕ → List (List ℕ)) (supers : List (List ℕ)) (x s : List ℕ) → is_among s supers ≡ true → is_among x (s ∷ f s) ≡ true → is_among x (flat_map (λ s. s ∷ f s) supers) ≡ true
 met-from f [] x s a h = absurd (false≢true a)
 met-from f (first ∷ supers) x s a h =
     list_any-append (bytes_eq x) (first ∷ f first) (flat_map (λ s. s ∷ f s) supers)
@@ -170,7 +170,7 @@ met-from f (first ∷ supers) x s a h =
       | inr there ↦ or_right (is_among x (first ∷ f first)) (is_among x (flat_map (λ s. s ∷ f s) supers)) (met-from f supers x s there h)
     ]
 
-has-super : (older : List ServiceType) (supers : List (List ℕ)) → ((k : ℕ) (d : List ℕ) → k < length supers → has_type older (slice_index_or supers k d) ≡ true) → (s : List ℕ) → is_among s supers ≡ true → has_type older s ≡ true
+pub has-super : (older : List ServiceType) (supers : List (List ℕ)) → ((k : ℕ) (d : List ℕ) → k < length supers → has_type older (slice_index_or supers k d) ≡ true) → (s : List ℕ) → is_among s supers ≡ true → has_type older s ≡ true
 has-super older [] h s a = absurd (false≢true a)
 has-super older (first ∷ supers) h s a =
     elim (or_cases (bytes_eq s first) (is_among s supers) a) [

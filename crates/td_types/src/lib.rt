@@ -3,6 +3,7 @@
 
 mod adding;
 mod bases;
+mod conforming;
 mod described;
 mod describing;
 mod entry;
@@ -36,3 +37,5 @@ pub use types::Types;
 mod interface_tests;
 #[cfg(test)]
 mod removal_tests;
+#[cfg(test)]
+mod tests;
