@@ -7,11 +7,13 @@ use Rattle.td_ops.specs.Outcomes.{is_short}
 use Rattle.td_ops.specs.declared.outcome.Outcome.{Outcome}
 use Rattle.td_ops.specs.declared.outcome.Outcome.TheVariants.{Done}
 use Rattle.td_types.specs.Adding.{new_type, with_type, passes_limit}
-use Rattle.td_types.specs.Calls.{Comes, refuse, unless, known, act_on, add_fault, add_type, sub_type, remove_unless, remove_type, mask_type, unmask_type, set_mask}
+use Rattle.td_types.specs.Calls.{Comes, Answers, AnswersFreely, refuse, unless, known, act_on, add_fault, add_type, sub_type, remove_unless, remove_type, mask_type, unmask_type, set_mask}
 use Rattle.td_types.specs.Repository.{Repository, ServiceType, type_named}
 use Rattle.td_types.specs.declared.fault.RepoFault.{RepoFault}
 use Rattle.td_types.specs.declared.fault.RepoFault.TheVariants as fault
 use Rattle.td_types.specs.declared.fault.TypesFault.TheVariants.{User as Raises, Full, Memory}
+use Rattle.td_types.specs.declared.fault.TypesFault.{TypesFault}
+use Rattle.td_types.specs.declared.reply.TypesReply.{TypesReply}
 use Rattle.td_types.specs.declared.reply.TypesReply.TheVariants as types
 use Rattle.td_session.specs.TypeCalls.{Performed, Performs, Keeps, performs, performed, reply_of}
 
@@ -26,6 +28,13 @@ keeps_change (Err (Raises f)) old new (Ok o) short h = inl (sym (ap (λ (p : Per
 keeps_change (Err Full) old new (Ok o) short h = inl (sym (ap (λ (p : Performed). p.types) h))
 keeps_change (Err Memory) old new (Ok o) short h = inl (sym (ap (λ (p : Performed). p.types) h))
 keeps_change comes old new (Err e) short h = tt
+
+-- an answer that wants memory for a refusal alone is an answer
+pub freely : (comes : Comes) (old new : Repository) (result : Result TypesReply TypesFault) → AnswersFreely comes old new result → Answers comes old new result
+freely comes old new (Ok reply) h = h
+freely comes old new (Err (Raises f)) h = h
+freely comes old new (Err Full) h = absurd h
+freely comes old new (Err Memory) h = h.1
 
 unless_short : (f : Option RepoFault) (comes : Comes) → IsShortly comes → IsShortly (unless f comes)
 unless_short None comes h = h

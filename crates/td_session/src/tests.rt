@@ -288,6 +288,7 @@ fn types_are_added_masked_and_removed(rt: HostRuntime) -> Result<(), Fail> {
         closed([MASKING, NONE], [MASKING_REPLIES, NONE]),
         closed([INHERITING, NONE], [INHERITING_REPLIES, NONE]),
         closed([REFUSED, NONE], [REFUSED_REPLIES, NONE]),
+        closed([EXCEPTIONS, NONE], [EXCEPTIONS_REPLIES, NONE]),
         closed([UNANSWERED_ADD, NONE], [UNANSWERED_ADD_REPLIES, NONE]),
     ];
     for row in rows {

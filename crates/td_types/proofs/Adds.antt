@@ -1,35 +1,28 @@
 -- A type that is added: what it has by its supertypes, and what the others keep.
-use Rattle.std.proofs.Common.{◌≡◌, ℕ, ◌+◌, ◌<◌, ◌≤◌, Bool, true, false, ◌||◌, cond, not, List, [], ◌∷◌, ◌++◌, length, map, flat_map, reverse, refl, sym, ap, ◌∙◌, Option, None, Some, Result, Ok, Err, subst, append_assoc, arith, length-append, nat_lt}
-use Rattle.std.proofs.lemmas.List.{reverse-append, reverse-reverse, map-append, append-nil, length-map}
+use Rattle.std.proofs.Common.{◌≡◌, ℕ, ◌+◌, ◌≤◌, Bool, true, false, ◌||◌, cond, not, List, [], ◌∷◌, ◌++◌, map, flat_map, reverse, refl, sym, ap, ◌∙◌, Option, None, Some, Ok, Err, subst, arith}
+use Rattle.std.proofs.lemmas.List.{reverse-append, map-append}
 use Rattle.std.proofs.lemmas.List.Elements.{All-nil, All-cons}
 use Rattle.std.proofs.lemmas.List.Folds.{list_any-append}
-use Rattle.std.proofs.lemmas.Bool.{lt-ltb, le-ltb}
-use Rattle.std.specs.Bool.{IsTrue, IsFalse}
+use Rattle.std.specs.Bool.{IsTrue}
 use Rattle.std.specs.List.{list_any, All, AllByRecursion}
 use Rattle.std.specs.Option.{is_some}
 use Rattle.std.specs.Str.{bytes_eq}
 use Rattle.td_cdr.specs.Names.{word_name}
-use Rattle.td_cdr.specs.declared.order.Order.TheVariants.{Big}
-use Rattle.td_value.specs.Structures.{type_struct_piece}
 use Rattle.td_value.specs.declared.structures.PropStruct.{PropStruct}
 use Rattle.td_types.proofs.Equal.{bytes_same, bytes_refl, bytes_eq-sym}
 use Rattle.td_types.proofs.Gathered.{once-append}
 use Rattle.td_types.proofs.Named.{is_found}
-use Rattle.td_types.specs.Inheriting.{IsMore}
-use Rattle.td_types.specs.Added.{entry_of, described_bytes, IsMeasured, IsPrepared}
-use Rattle.td_types.specs.Adding.{or_else, super_fault, supers_fault, name_fault, property_fault, redefinition, Definition, definitions, inherited_definitions, new_type, with_type, passes_limit, most_types, most_properties, most_bytes, last_incarnation}
-use Rattle.td_types.specs.Calls.{Comes, add_fault, add_type, refuse, unless, Answers}
+use Rattle.td_types.specs.Adding.{or_else, super_fault, supers_fault, name_fault, property_fault, redefinition, definitions, inherited_definitions, new_type, with_type, passes_limit}
+use Rattle.td_types.specs.Calls.{add_fault, add_type, refuse}
 use Rattle.td_types.specs.Conforming.{walk, once, add_once, ancestors}
-use Rattle.td_types.specs.Descriptions.{full_description}
-use Rattle.td_types.specs.Judged.{Judges, AreKept, AreBases, inherited, inherited_from, names_above}
-use Rattle.td_types.specs.Kept.{kept, repository, IsKept, AreEntries, kept_description}
+use Rattle.td_types.specs.Judged.{AreBases, inherited, inherited_from, names_above}
+use Rattle.td_types.specs.Kept.{kept, repository, IsKept}
 use Rattle.td_types.specs.Properties.{full, full_properties, with_inherited}
 use Rattle.td_types.specs.Repository.{Repository, ServiceType, Declared, Founded, IsRepository, has_type, is_named, is_among, top}
 use Rattle.td_types.specs.Sought.{entry_named}
 use Rattle.td_types.specs.declared.entry.Entry.{Entry}
 use Rattle.td_types.specs.declared.fault.RepoFault.{RepoFault}
-use Rattle.td_types.specs.declared.fault.TypesFault.{TypesFault}
-use Rattle.td_types.specs.declared.fault.TypesFault.TheVariants.{User, Full, Memory}
+use Rattle.td_types.specs.declared.fault.TypesFault.TheVariants.{Full}
 use Rattle.td_types.specs.declared.reply.TypesReply.TheVariants as reply
 
 -- ---- the youngest type

@@ -1,9 +1,8 @@
 -- Conforming as it is computed, and the chain of declared supertypes.
-use Rattle.std.proofs.Common.{◌≡◌, ℕ, Bool, true, false, ◌||◌, ◌&&◌, cond, inl, inr, List, [], ◌∷◌, ◌++◌, map, find, flat_map, reverse, refl, sym, ap, ◌∙◌, Option, None, Some, subst}
+use Rattle.std.proofs.Common.{◌≡◌, ℕ, Bool, true, false, ◌||◌, cond, inl, inr, List, [], ◌∷◌, map, flat_map, reverse, refl, sym, ap, ◌∙◌, Option, None, Some, subst}
 use Rattle.std.proofs.lemmas.Bool.{false≢true, both_ways, cases_Bool, or_cases, or_left, or_right, and_parts, and_from, false_from_ne_true}
 use Rattle.std.proofs.lemmas.List.{reverse-append, reverse-reverse}
 use Rattle.std.proofs.lemmas.List.Folds.{find-append}
-use Rattle.std.specs.List.{AllByRecursion}
 use Rattle.std.specs.Option.{is_some, option_or}
 use Rattle.std.specs.Str.{bytes_eq}
 use Rattle.td_types.proofs.Adds.{kept_found, name_of_found}

@@ -1,5 +1,5 @@
 -- Equal bytes.
-use Rattle.std.proofs.Common.{◌≡◌, ℕ, Bool, true, List, refl, sym}
+use Rattle.std.proofs.Common.{◌≡◌, ℕ, true, List, refl, sym}
 use Rattle.std.proofs.lemmas.Slice.Eq.{bytes_eq-Decides}
 use Rattle.std.specs.Bool.{Decides, one_answer}
 use Rattle.std.specs.Str.{bytes_eq}

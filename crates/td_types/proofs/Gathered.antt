@@ -1,14 +1,12 @@
 -- What a type has by its supertypes, gathered in order.
-use Rattle.std.proofs.Common.{◌≡◌, ℕ, ◌+◌, ◌<◌, ◌≤◌, suc, Bool, true, false, ◌||◌, cond, List, [], ◌∷◌, ◌++◌, length, drop, take, get_or, map, flat_map, refl, sym, ap, ◌∙◌, subst, append_assoc, arith, length-append, Bor, not, Result, Ok, Err}
-use Rattle.std.proofs.lemmas.List.{append-nil, drop_all}
+use Rattle.std.proofs.Common.{◌≡◌, ℕ, ◌+◌, ◌<◌, ◌≤◌, Bool, true, false, ◌||◌, cond, List, [], ◌∷◌, ◌++◌, length, drop, get_or, map, refl, sym, ap, ◌∙◌, append_assoc, arith, length-append, Bor, Result, Err}
 use Rattle.std.proofs.lemmas.List.Folds.{list_any-append}
 use Rattle.std.specs.BTreeSet.{BTreeSet}
-use Rattle.std.specs.List.{list_any}
 use Rattle.std.specs.Str.{bytes_eq}
 use Rattle.td_value.specs.declared.enumerations.PropertyMode.{PropertyMode}
 use Rattle.td_value.specs.declared.enumerations.PropertyMode.TheVariants.{Normal, Readonly, Mandatory, MandatoryReadonly}
 use Rattle.td_value.specs.declared.structures.PropStruct.{PropStruct}
-use Rattle.td_types.proofs.Equal.{bytes_same, bytes_refl, bytes_eq-sym}
+use Rattle.td_types.proofs.Equal.{bytes_same, bytes_eq-sym}
 use Rattle.td_types.proofs.Redefined.{entries_of}
 use Rattle.td_types.proofs.Rest.{rest}
 use Rattle.td_types.specs.Adding.{most_properties}
@@ -16,7 +14,7 @@ use Rattle.td_types.specs.Conforming.{once, add_once}
 use Rattle.td_types.specs.Inheriting.{extended, IsMoreBy, IsMore}
 use Rattle.td_types.specs.Judged.{inherited, names_above}
 use Rattle.td_types.specs.Modes.{is_mandatory, is_readonly, mode_of, join}
-use Rattle.td_types.specs.Properties.{has_property, is_called, joined_mode, newcomers, strengthened, with_inherited}
+use Rattle.td_types.specs.Properties.{has_property, is_called, joined_mode, newcomers, strengthened}
 use Rattle.td_types.specs.Repository.{is_among}
 use Rattle.td_types.specs.Seen.{has_seen, HaveSeen}
 use Rattle.td_types.specs.declared.entry.Entry.{Entry}

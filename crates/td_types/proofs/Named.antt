@@ -1,10 +1,9 @@
 -- Names of types and of properties.
-use Rattle.std.proofs.Common.{◌≡◌, ℕ, ◌+◌, ◌<◌, Bool, true, false, ◌||◌, not, cond, List, [], ◌∷◌, ◌++◌, length, drop, take, get_or, map, reverse, refl, sym, ap, ◌∙◌, Option, None, Some}
-use Rattle.std.specs.List.{list_any}
+use Rattle.std.proofs.Common.{◌≡◌, ℕ, Bool, true, false, ◌||◌, cond, List, [], ◌∷◌, map, refl, ◌∙◌, Option, Some}
 use Rattle.std.specs.Option.{is_some}
 use Rattle.std.specs.Str.{bytes_eq}
 use Rattle.td_types.specs.Kept.{kept}
-use Rattle.td_types.specs.Repository.{has_type, is_among}
+use Rattle.td_types.specs.Repository.{has_type}
 use Rattle.td_types.specs.Sought.{entry_named}
 use Rattle.td_types.specs.declared.entry.Entry.{Entry}
 

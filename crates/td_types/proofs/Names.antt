@@ -1,5 +1,5 @@
 -- What a type of a given name is, by the entry of that name.
-use Rattle.std.proofs.Common.{◌≡◌, ℕ, List, map, Option, None, Some, sym, ap, ◌∙◌}
+use Rattle.std.proofs.Common.{◌≡◌, ℕ, List, map, Option, sym, ap, ◌∙◌}
 use Rattle.std.specs.Option.{option_map}
 use Rattle.td_types.specs.Kept.{kept}
 use Rattle.td_types.specs.Repository.{type_named, incarnation_in, incarnation_of}

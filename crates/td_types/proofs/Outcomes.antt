@@ -1,25 +1,25 @@
 -- What it means for a repository that a call was accepted.
-use Rattle.std.proofs.Common.{◌≡◌, ℕ, zero, suc, ◌+◌, ◌≤◌, ◌<◌, Bool, true, false, ◌&&◌, ◌||◌, not, cond, inl, inr, List, [], ◌∷◌, ◌++◌, reverse, map, length, refl, sym, ap, subst, ◌∙◌, arith, Option, None, Some, Result, Ok, Err}
-use Rattle.std.specs.List.{filter, find, flat_map, list_any, AllByRecursion}
+use Rattle.std.proofs.Common.{◌≡◌, ℕ, suc, ◌+◌, ◌<◌, Bool, true, false, ◌||◌, cond, inl, inr, List, [], ◌∷◌, reverse, length, refl, sym, ap, subst, ◌∙◌, arith, Option, None, Some, Ok, Err}
+use Rattle.std.specs.List.{flat_map}
 use Rattle.std.specs.Prelude.{slice_index_or}
 use Rattle.std.specs.Str.{bytes_eq}
-use Rattle.std.proofs.lemmas.Bool.{false≢true, both_ways, cases_Bool, or_cases, or_parts, or_left, or_right, and_parts, and_from, false_from_ne_true}
+use Rattle.std.proofs.lemmas.Bool.{false≢true, both_ways, cases_Bool, or_cases, or_left, or_right, and_parts, and_from, false_from_ne_true}
 use Rattle.std.proofs.lemmas.List.Folds.{list_any-append}
 use Rattle.td_cdr.specs.Names.{word_name}
 use Rattle.td_value.specs.declared.structures.PropStruct.{PropStruct}
 use Rattle.td_types.specs.declared.fault.RepoFault.{RepoFault}
 use Rattle.td_types.specs.declared.fault.RepoFault.TheVariants as fault
-use Rattle.td_types.specs.declared.fault.TypesFault.TheVariants.{User, Full}
+use Rattle.td_types.specs.declared.fault.TypesFault.TheVariants.{Full}
 use Rattle.td_types.specs.declared.reply.TypesReply.{TypesReply}
 use Rattle.td_types.specs.declared.reply.TypesReply.TheVariants as reply
 use Rattle.td_types.specs.Adding.{new_type, with_type, passes_limit}
 use Rattle.td_types.specs.Calls.{Comes, refuse, unless, known, act_on, add_fault, add_type, sub_type, remove_unless, remove_type, without, set_mask, mask_type, unmask_type}
-use Rattle.td_types.specs.Conforming.{Conforms, Leads, IsSuper, walk, ancestors, conforms}
-use Rattle.td_types.specs.Laws.{IsSameOf, Removes, KeepsAllButMasks, IsNewest}
+use Rattle.td_types.specs.Conforming.{walk, ancestors, conforms}
+use Rattle.td_types.specs.Laws.{Removes, KeepsAllButMasks, IsNewest}
 use Rattle.td_types.specs.Repository.{Repository, ServiceType, IsRepository, is_named, is_among, type_named, has_type, Founded}
 use Rattle.td_types.proofs.Chains.{same-bytes, bytes-same}
 use Rattle.td_types.proofs.Masks.{masked_type, alike-masked, has-alike, full-masked, ancestors-masked, conforms-masked, valid-masked}
-use Rattle.td_types.proofs.Others.{others, IsNoSuper, has-others, has-not_gone}
+use Rattle.td_types.proofs.Others.{has-others, has-not_gone}
 use Rattle.td_types.proofs.Removed.{full-without, ancestors-without, conforms-without, valid-without}
 use Rattle.td_types.proofs.Rising.{below-last}
 use Rattle.td_types.proofs.Subtypes.{no-subtypes, ancestor-walked}

@@ -1,5 +1,5 @@
 -- Definitions of properties in order, each against the first of its name.
-use Rattle.std.proofs.Common.{◌≡◌, ℕ, ◌+◌, ◌<◌, ◌≤◌, Bool, true, false, cond, List, [], ◌∷◌, ◌++◌, length, drop, take, get_or, map, flat_map, find, refl, sym, ap, ◌∙◌, Option, None, Some, Result, Ok, Err, subst, add-one, append_assoc, Bor}
+use Rattle.std.proofs.Common.{◌≡◌, ℕ, ◌+◌, ◌<◌, ◌≤◌, Bool, true, false, cond, List, [], ◌∷◌, ◌++◌, length, drop, take, get_or, map, flat_map, refl, sym, ap, ◌∙◌, Option, None, Some, Result, Ok, Err, subst, add-one, append_assoc, Bor}
 use Rattle.std.proofs.lemmas.List.{map-append, append-nil, drop_all, take_all}
 use Rattle.std.proofs.lemmas.List.Folds.{find-append}
 use Rattle.std.proofs.lemmas.Map.Text.{is_eq-slice_cmp}

@@ -1,13 +1,12 @@
 -- A type's full properties demand at least what its supertypes' do.
-use Rattle.std.proofs.Common.{◌≡◌, ℕ, Bool, true, false, ◌&&◌, ◌||◌, not, cond, inl, inr, List, [], ◌∷◌, ◌++◌, reverse, map, refl, sym, ap, subst, ◌∙◌, Option, None, Some, Result, Ok, Err}
-use Rattle.std.specs.List.{find, flat_map, list_any, AllByRecursion}
+use Rattle.std.proofs.Common.{◌≡◌, ℕ, Bool, true, false, ◌&&◌, ◌||◌, not, cond, inl, inr, List, [], ◌∷◌, ◌++◌, map, refl, sym, ap, subst, ◌∙◌, Option, None, Some, Ok}
+use Rattle.std.specs.List.{flat_map, list_any, AllByRecursion}
 use Rattle.std.specs.Str.{bytes_eq}
-use Rattle.std.proofs.lemmas.Bool.{false≢true, both_ways, cases_Bool, or_cases, or_parts, or_from, or_left, or_right, and_parts, and_from}
+use Rattle.std.proofs.lemmas.Bool.{false≢true, both_ways, cases_Bool, or_cases, or_from, or_left, or_right, and_parts, and_from}
 use Rattle.std.proofs.lemmas.List.{reverse-append, append_assoc, append-nil}
 use Rattle.std.proofs.lemmas.List.Folds.{list_any-append}
 use Rattle.td_value.specs.Same.{same}
 use Rattle.td_value.specs.declared.enumerations.PropertyMode.{PropertyMode}
-use Rattle.td_value.specs.declared.enumerations.PropertyMode.TheVariants.{Normal, Readonly, Mandatory, MandatoryReadonly}
 use Rattle.td_value.specs.declared.structures.PropStruct.{PropStruct}
 use Rattle.td_types.specs.declared.fault.RepoFault.{RepoFault}
 use Rattle.td_types.specs.declared.reply.TypesReply.{TypesReply}
@@ -16,7 +15,7 @@ use Rattle.td_types.specs.Calls.{add_fault, add_type}
 use Rattle.td_types.specs.Laws.{is_as_strong, AreAsStrong}
 use Rattle.td_types.specs.Modes.{is_mandatory, is_readonly, mode_of, is_at_least, join}
 use Rattle.td_types.specs.Properties.{is_called, has_property, joined_mode, newcomers, strengthened, with_inherited, full, full_properties}
-use Rattle.td_types.specs.Repository.{Repository, ServiceType, is_named, is_among}
+use Rattle.td_types.specs.Repository.{Repository, ServiceType, is_among}
 use Rattle.td_types.proofs.Chains.{same-bytes, bytes-same}
 use Rattle.td_types.proofs.Outcomes.{after_adding}
 

@@ -1,16 +1,15 @@
 -- The supertypes of a new type, one by one.
-use Rattle.std.proofs.Common.{◌≡◌, ℕ, ◌+◌, ◌<◌, Bool, true, false, cond, not, List, [], ◌∷◌, ◌++◌, length, drop, take, get_or, map, reverse, refl, sym, ap, ◌∙◌, Option, None, Some, Result, Ok, Err, subst, add-one, ◌||◌, Bor}
+use Rattle.std.proofs.Common.{◌≡◌, ℕ, ◌+◌, ◌<◌, Bool, true, false, cond, not, List, [], ◌∷◌, ◌++◌, length, drop, take, get_or, map, reverse, refl, sym, ap, ◌∙◌, Option, None, Some, Result, Ok, Err, add-one, ◌||◌, Bor}
 use Rattle.td_types.proofs.Equal.{bytes_eq-sym}
 use Rattle.std.proofs.lemmas.List.{reverse-append, map-append}
 use Rattle.std.proofs.Math.Seq.{take-suc}
 use Rattle.std.specs.BTreeSet.{BTreeSet}
 use Rattle.std.specs.Option.{option_map}
-use Rattle.std.specs.List.{list_any}
 use Rattle.std.specs.Str.{bytes_eq}
 use Rattle.td_cdr.specs.Names.{word_name}
 use Rattle.td_types.proofs.Found.{type_of_entry}
 use Rattle.td_types.proofs.Rest.{rest}
-use Rattle.td_types.specs.Adding.{base_fault, super_fault, supers_fault, or_else}
+use Rattle.td_types.specs.Adding.{base_fault, super_fault, supers_fault}
 use Rattle.td_types.specs.Interfaces.{interface_conforms}
 use Rattle.td_types.specs.Judged.{Judges, AreBases}
 use Rattle.td_types.specs.Kept.{kept, repository}

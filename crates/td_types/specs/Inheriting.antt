@@ -1,5 +1,5 @@
 -- Full properties as they are gathered, supertype by supertype.
-use Rattle.std.specs.Prelude.{◌≡◌, ◌<◌, ◌≤◌, ℕ, List, ◌++◌, length, map, Result, Ok, Err}
+use Rattle.std.specs.Prelude.{◌≡◌, ◌<◌, ◌≤◌, List, ◌++◌, length, map, Result, Ok, Err}
 use Rattle.td_value.specs.declared.structures.PropStruct.{PropStruct}
 use Rattle.td_types.specs.Adding.{most_properties}
 use Rattle.td_types.specs.Properties.{newcomers, strengthened}

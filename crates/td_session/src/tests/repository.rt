@@ -118,6 +118,44 @@ pub const REFUSED_REPLIES: &[u8] = b"\
     :1.0\0\0\0\0\0\0\0\0\0\x01GIOP\x01\0\0\x01\0\0\0@\0\0\0\0\0\0\0\x0a\0\0\0\x02\0\0\0'\
     IDL:omg.org/CORBA/OBJECT_NOT_EXIST:1.0\0\0\0\0\0\0\0\0\0\x01";
 
+/// Types that can't be added, a mask that isn't there, and a type that stands as before.
+pub const EXCEPTIONS: &[u8] = b"\
+    GIOP\x01\0\x01\0D\0\0\0\0\0\0\0\x01\0\0\0\x01\0\0\0\x03\0\0\0A/T\0\x09\0\0\0add_type\
+    \0\0\0\0\0\0\0\0\x08\0\0\0Printer\0\x01\0\0\0\0\0\0\0\0\0\0\0\0\0\0\0GIOP\x01\0\x01\
+    \0P\0\0\0\0\0\0\0\x02\0\0\0\x01\0\0\0\x03\0\0\0A/T\0\x09\0\0\0add_type\0\0\0\0\0\0\0\
+    \0\x02\0\0\0E\0\0\0\x01\0\0\0\0\0\0\0\x01\0\0\0\x02\0\0\09\0\0\0\x05\0\0\0\0\0\0\0\0\
+    \0\0\0GIOP\x01\0\x01\0h\0\0\0\0\0\0\0\x03\0\0\0\x01\0\0\0\x03\0\0\0A/T\0\x09\0\0\0ad\
+    d_type\0\0\0\0\0\0\0\0\x02\0\0\0E\0\0\0\x01\0\0\0\0\0\0\0\x02\0\0\0\x05\0\0\0Cost\0\
+    \0\0\0\x05\0\0\0\0\0\0\0\x05\0\0\0Cost\0\0\0\0\x03\0\0\0\0\0\0\0\0\0\0\0GIOP\x01\0\
+    \x01\0F\0\0\0\0\0\0\0\x04\0\0\0\x01\0\0\0\x03\0\0\0A/T\0\x09\0\0\0add_type\0\0\0\0\0\
+    \0\0\0\x02\0\0\0E\0\0\0\x01\0\0\0\0\0\0\0\0\0\0\0\x01\0\0\0\x02\0\0\0F\0GIOP\x01\0\
+    \x01\0X\0\0\0\0\0\0\0\x05\0\0\0\x01\0\0\0\x03\0\0\0A/T\0\x09\0\0\0add_type\0\0\0\0\0\
+    \0\0\0\x02\0\0\0E\0\0\0\x01\0\0\0\0\0\0\0\0\0\0\0\x02\0\0\0\x08\0\0\0Printer\0\x08\0\
+    \0\0Printer\0GIOP\x01\0\x01\0T\0\0\0\0\0\0\0\x06\0\0\0\x01\0\0\0\x03\0\0\0A/T\0\x09\
+    \0\0\0add_type\0\0\0\0\0\0\0\0\x02\0\0\0E\0\0\0\x0a\0\0\0IDL:E:1.0\0\0\0\0\0\0\0\x01\
+    \0\0\0\x08\0\0\0Printer\0GIOP\x01\0\x01\04\0\0\0\0\0\0\0\x07\0\0\0\x01\0\0\0\x03\0\0\
+    \0A/T\0\x0c\0\0\0unmask_type\0\0\0\0\0\x08\0\0\0Printer\0GIOP\x01\0\x01\08\0\0\0\0\0\
+    \0\0\x08\0\0\0\x01\0\0\0\x03\0\0\0A/T\0\x0e\0\0\0describe_type\0\0\0\0\0\0\0\x08\0\0\
+    \0Printer\0";
+
+/// Their replies.
+pub const EXCEPTIONS_REPLIES: &[u8] = b"\
+    GIOP\x01\0\x01\x01d\0\0\0\0\0\0\0\x01\0\0\0\x01\0\0\0H\0\0\0IDL:omg.org/CosTradingRe\
+    pos/ServiceTypeRepository/ServiceTypeExists:1.0\0\x08\0\0\0Printer\0GIOP\x01\0\x01\
+    \x01F\0\0\0\0\0\0\0\x02\0\0\0\x01\0\0\0/\0\0\0IDL:omg.org/CosTrading/IllegalProperty\
+    Name:1.0\0\0\x02\0\0\09\0GIOP\x01\0\x01\x01M\0\0\0\0\0\0\0\x03\0\0\0\x01\0\0\01\0\0\
+    \0IDL:omg.org/CosTrading/DuplicatePropertyName:1.0\0\0\0\0\x05\0\0\0Cost\0GIOP\x01\0\
+    \x01\x01F\0\0\0\0\0\0\0\x04\0\0\0\x01\0\0\0.\0\0\0IDL:omg.org/CosTrading/UnknownServ\
+    iceType:1.0\0\0\0\x02\0\0\0F\0GIOP\x01\0\x01\x01l\0\0\0\0\0\0\0\x05\0\0\0\x01\0\0\0O\
+    \0\0\0IDL:omg.org/CosTradingRepos/ServiceTypeRepository/DuplicateServiceTypeName:1.0\
+    \0\0\x08\0\0\0Printer\0GIOP\x01\0\x01\x01\x92\0\0\0\0\0\0\0\x06\0\0\0\x01\0\0\0L\0\0\
+    \0IDL:omg.org/CosTradingRepos/ServiceTypeRepository/InterfaceTypeMismatch:1.0\0\x08\
+    \0\0\0Printer\0\x10\0\0\0IDL:Printer:1.0\0\x02\0\0\0E\0\0\0\x0a\0\0\0IDL:E:1.0\0GIOP\
+    \x01\0\x01\x01\x5c\0\0\0\0\0\0\0\x07\0\0\0\x01\0\0\0@\0\0\0IDL:omg.org/CosTradingRep\
+    os/ServiceTypeRepository/NotMasked:1.0\0\x08\0\0\0Printer\0GIOP\x01\0\x01\x014\0\0\0\
+    \0\0\0\0\x08\0\0\0\0\0\0\0\x10\0\0\0IDL:Printer:1.0\0\0\0\0\0\0\0\0\0\0\0\0\0\0\0\0\
+    \0\x01\0\0\0";
+
 /// A type that is added without a reply, and then all types are asked for.
 pub const UNANSWERED_ADD: &[u8] = b"\
     GIOP\x01\0\0\0\0\0\0P\0\0\0\0\0\0\0\x01\0\0\0\0\0\0\0\x03A/T\0\0\0\0\x09add_type\0\0\

@@ -1,4 +1,4 @@
-use Rattle.std.proofs.Common.{◌≡◌, ◌∙◌, List, [], true, map, ap, sym, None, Option, Bor}
+use Rattle.std.proofs.Common.{◌∙◌, List, [], true, ap, sym, Bor}
 use Rattle.std.proofs.lemmas.Result.{err_from_is_err_and}
 use Rattle.td_types.proofs.Adds.{fails_fourth, fails_not, definitions_are}
 use Rattle.td_types.proofs.Redefined.{passes, entries_of}

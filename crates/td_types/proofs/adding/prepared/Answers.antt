@@ -1,9 +1,8 @@
-use Rattle.std.proofs.Common.{◌≡◌, ◌<◌, ◌≤◌, ◌∙◌, subst, List, length, map, sym, ap, arith, Bor}
+use Rattle.std.proofs.Common.{◌<◌, ◌≤◌, subst, List, length, arith, Bor}
 use Rattle.std.proofs.lemmas.Result.{err_from_is_err_and}
-use Rattle.td_value.specs.declared.structures.PropStruct.{PropStruct}
 use Rattle.td_types.proofs.Prepares.{Ready, failed, refused, many_types, last_given, many_properties, prepares}
 use Rattle.td_types.proofs.Redefined.{entries_of}
-use Rattle.td_types.specs.Adding.{most_types, last_incarnation}
+use Rattle.td_types.specs.Adding.{most_types}
 use Rattle.td_types.specs.Inheriting.{IsMore}
 use Rattle.td_types.specs.Judged.{AreBases, inherited}
 use Rattle.td_types.specs.Properties.{with_inherited}

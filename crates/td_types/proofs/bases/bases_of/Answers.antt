@@ -1,4 +1,4 @@
-use Rattle.std.proofs.Common.{◌≡◌, ℕ, not, false, true, refl, sym, ◌∙◌, ap, Some, List, Bor, map, reverse, take}
+use Rattle.std.proofs.Common.{◌≡◌, ℕ, not, false, true, sym, ◌∙◌, ap, List, Bor, map, reverse, take}
 use Rattle.std.proofs.lemmas.Result.{err_from_is_err_and}
 use Rattle.td_types.specs.Interfaces.{interface_conforms}
 use Rattle.td_types.specs.Judged.{AreBases}
@@ -7,7 +7,6 @@ use Rattle.td_types.specs.Repository.{is_among}
 use Rattle.td_types.specs.Seen.{has_seen}
 use Rattle.td_types.specs.Sought.{sought}
 use Rattle.td_types.specs.declared.entry.Entry.{Entry}
-use Rattle.td_types.specs.declared.fault.RepoFault.TheVariants as fault
 use Rattle.td_types.proofs.Found.{found_named}
 use Rattle.td_types.proofs.Supers.{refuses, stops, goes_on, sees, finds, super_refused, super_twice, super_mismatch, super_fine, met_before, met_first}
 use Rattle.td_types.proofs.bases.bases_of.Goals as goal

@@ -1,4 +1,4 @@
-use Rattle.std.proofs.Common.{◌≡◌, ℕ, List, [], drop, take, map, reverse, Bor}
+use Rattle.std.proofs.Common.{◌≡◌, [], drop, take, map, reverse, Bor}
 use Rattle.td_types.specs.Adding.{supers_fault}
 use Rattle.td_types.specs.Judged.{AreBases}
 use Rattle.td_types.specs.Kept.{repository}

@@ -1,5 +1,4 @@
-use Rattle.std.proofs.Common.{◌∙◌, sym, ap, List}
-use Rattle.td_types.specs.Repository.{is_among}
+use Rattle.std.proofs.Common.{sym}
 use Rattle.td_types.proofs.Chained.{no_entry, same_entry, other_entry}
 use Rattle.td_types.proofs.conforming.entry_conforms.Goals as goal
 

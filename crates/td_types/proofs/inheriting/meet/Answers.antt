@@ -1,4 +1,4 @@
-use Rattle.std.proofs.Common.{◌≡◌, ℕ, not, false, List, [], ◌∷◌, ◌++◌, ◌∙◌, ap, sym}
+use Rattle.std.proofs.Common.{◌≡◌, ℕ, not, false, List, [], ◌∷◌, ◌++◌, ◌∙◌, ap}
 use Rattle.td_types.specs.Repository.{is_among}
 use Rattle.td_types.specs.Seen.{has_seen}
 use Rattle.td_types.proofs.Gathered.{added_once, met_anew}

@@ -1,4 +1,4 @@
-use Rattle.std.proofs.Common.{◌≡◌, ℕ, List, [], drop, take, map, reverse}
+use Rattle.std.proofs.Common.{◌≡◌, [], drop, take, map, reverse}
 use Rattle.td_types.specs.Adding.{property_fault}
 use Rattle.td_types.specs.Seen.{HaveSeen}
 use Rattle.td_value.specs.declared.structures.PropStruct.{PropStruct}

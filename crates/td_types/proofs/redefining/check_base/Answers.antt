@@ -1,7 +1,7 @@
-use Rattle.std.proofs.Common.{◌≡◌, ◌∷◌, [], ◌++◌, List, Option, None, false, take, drop}
+use Rattle.std.proofs.Common.{◌∷◌, [], ◌++◌, false, take}
 use Rattle.std.proofs.lemmas.Result.{err_from_is_err_and}
-use Rattle.td_types.specs.Adding.{Definition, definitions, conflict, earlier_of, redefinition}
-use Rattle.td_types.specs.Firsts.{stated, AreFirsts}
+use Rattle.td_types.specs.Adding.{definitions, conflict, earlier_of, redefinition}
+use Rattle.td_types.specs.Firsts.{AreFirsts}
 use Rattle.td_types.proofs.Redefined.{passes, stops, goes_on, firsts_on, ends, firsts_end}
 use Rattle.td_types.proofs.redefining.check_base.Goals as goal
 

@@ -1,5 +1,4 @@
-use Rattle.std.proofs.Common.{◌≡◌, ◌∷◌, [], ◌++◌, List}
-use Rattle.td_types.specs.Adding.{Definition}
+use Rattle.std.proofs.Common.{◌∷◌, [], ◌++◌}
 use Rattle.td_types.specs.Firsts.{stated, AreFirsts}
 use Rattle.td_types.proofs.Redefined.{follows, none_before, one_before, judged_with}
 use Rattle.td_types.proofs.redefining.check_definition.Goals as goal

@@ -1,6 +1,6 @@
-use Rattle.std.proofs.Common.{◌≡◌, ◌∷◌, [], ◌++◌, List, true, false, take, drop}
+use Rattle.std.proofs.Common.{◌++◌, true, false, take}
 use Rattle.std.proofs.lemmas.Result.{err_from_is_err_and}
-use Rattle.td_types.specs.Adding.{Definition, definitions, redefinition}
+use Rattle.td_types.specs.Adding.{definitions, redefinition}
 use Rattle.td_types.specs.Firsts.{AreFirsts}
 use Rattle.td_types.specs.Judged.{inherited_from}
 use Rattle.td_types.proofs.Redefined.{passes, entries_of, base_stops, base_goes_on, base_firsts}

@@ -1,4 +1,4 @@
-use Rattle.std.proofs.Common.{◌≡◌, List, ◌++◌, true, take, drop, map, Bor}
+use Rattle.std.proofs.Common.{◌≡◌, ◌++◌, true, take, drop, map, Bor}
 use Rattle.td_types.specs.Adding.{definitions, redefinition}
 use Rattle.td_types.specs.Firsts.{AreFirsts}
 use Rattle.td_types.specs.Judged.{inherited_from}

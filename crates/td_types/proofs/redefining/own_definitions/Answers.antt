@@ -1,5 +1,5 @@
-use Rattle.std.proofs.Common.{◌++◌, List, true, take, ◌∷◌, [], sym, subst}
-use Rattle.td_types.specs.Adding.{Definition, definitions}
+use Rattle.std.proofs.Common.{List, true, sym, subst}
+use Rattle.td_types.specs.Adding.{Definition}
 use Rattle.td_types.specs.Firsts.{AreFirsts}
 use Rattle.td_types.proofs.Redefined.{follows, one_more}
 use Rattle.td_types.proofs.redefining.own_definitions.Goals as goal
