@@ -1,5 +1,5 @@
 -- What changes the repository has a short reply.
-use Rattle.std.proofs.Common.{◌≡◌, ◌⊎◌, ℕ, Bool, true, false, IsTrue, cond, List, Option, Some, None, Result, Ok, Err, refl, sym, ap, subst, ◌∙◌, inl, inr}
+use Rattle.std.proofs.Common.{ℕ, Bool, true, false, IsTrue, cond, List, Option, Some, None, Result, Ok, Err, refl, sym, ap, subst, inl, inr}
 use Rattle.td_cdr.specs.Names.{word_name}
 use Rattle.td_cdr.specs.declared.memory.Memory.{Memory as Wanting}
 use Rattle.td_value.specs.declared.structures.PropStruct.{PropStruct}
@@ -15,7 +15,7 @@ use Rattle.td_types.specs.declared.fault.TypesFault.TheVariants.{User as Raises,
 use Rattle.td_types.specs.declared.fault.TypesFault.{TypesFault}
 use Rattle.td_types.specs.declared.reply.TypesReply.{TypesReply}
 use Rattle.td_types.specs.declared.reply.TypesReply.TheVariants as types
-use Rattle.td_session.specs.TypeCalls.{Performed, Performs, Keeps, performs, performed, reply_of}
+use Rattle.td_session.specs.TypeCalls.{Performed, Performs, Keeps, performs, reply_of}
 
 -- what it comes to is refused, or has a short reply
 abbrev pub IsShortly : Comes → Type 0

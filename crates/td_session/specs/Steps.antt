@@ -1,5 +1,5 @@
 -- What a message asks of a session (chapter "General Inter-ORB Protocol", "GIOP Messages").
-use Rattle.std.specs.Prelude.{◌≡◌, ◌⊎◌, ℕ, Bool, true, nat_eq, if◌then◌else◌, List, [], ◌∷◌, Result, Ok, Err}
+use Rattle.std.specs.Prelude.{◌≡◌, ◌⊎◌, ℕ, Bool, nat_eq, if◌then◌else◌, List, [], ◌∷◌, Result, Ok, Err}
 use Rattle.std.specs.List.{slice_index}
 use Rattle.td_cdr.specs.declared.order.Order.{Order}
 use Rattle.td_cdr.specs.declared.fault.CdrFault.{CdrFault}

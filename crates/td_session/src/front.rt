@@ -98,12 +98,7 @@ fn respond<K: Sink>(
 
 /// What a message asks for, with its answer in the room.
 #[tactic(auto, unfolding(crate::specs::Steps::step_of))]
-fn prepare(
-    alloc: Global,
-    store: &mut FirstStore,
-    room: &mut Room,
-    message: &Raw<'_>,
-) -> Prepared
+fn prepare(alloc: Global, store: &mut FirstStore, room: &mut Room, message: &Raw<'_>) -> Prepared
     requires { IsMessage message.now }
     ensures { Prepares store.old store.new message.now.bytes.now result (reply_in room.new) }
 {

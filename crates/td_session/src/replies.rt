@@ -85,7 +85,8 @@ fn count_with(offers: &[FirstOffer], service_type: &[u8], incarnation: u64) -> u
 {
     offers
         .iter()
-        .filter(|offer| offer.service_type.as_slice() == service_type && offer.incarnation == incarnation)
+        .filter(|offer| offer.service_type.as_slice() == service_type
+            && offer.incarnation == incarnation)
         .count()
 }
 

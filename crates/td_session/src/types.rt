@@ -116,7 +116,9 @@ fn perform_look(types: &Types, look: &Look) -> Result<Outcome, Memory>
         Look::ListTypes { which } => outcome_of(types.list(since(which))),
         Look::DescribeType { name } => outcome_of(types.describe(name)),
         Look::FullyDescribeType { name } => outcome_of(types.fully_describe(name)),
-        Look::TypesIncarnation => Ok(Outcome::Done(Reply::Incarnation(halves(types.incarnation())))),
+        Look::TypesIncarnation => Ok(Outcome::Done(Reply::Incarnation(halves(
+            types.incarnation(),
+        )))),
     }
 }
 
