@@ -143,11 +143,16 @@ fn layers(rt: HostRuntime) -> Result<(), Fail> {
     let bottom = at_layer(alloc, b'Y', 0)?;
     assert!(rt; types.conforms(&top, &bottom));
     assert!(rt; !types.conforms(&bottom, &top));
-    match types.fully_describe(&top) {
-        Ok(TypesReply::Described(full)) => assert!(rt; full.super_types.len() == 118),
-        _ => assert!(rt; false),
-    }
+    assert!(rt; ancestors_told(&types.fully_describe(&top)) == 118);
     Ok(())
+}
+
+/// How many ancestors an answer describes.
+fn ancestors_told(answer: &Result<TypesReply, TypesFault>) -> usize {
+    match answer {
+        Ok(TypesReply::Described(full)) => full.super_types.len(),
+        _ => 0,
+    }
 }
 
 /// Two types, each above both of the layer below.
@@ -262,24 +267,24 @@ fn add(
         props,
         texts(alloc, supers)?,
     );
-    told(alloc, answer)
+    told(alloc, &answer)
 }
 
 fn described(alloc: Global, types: &Types, name: &str) -> Result<Vec<u8>, Memory> {
-    told(alloc, types.describe(&text(alloc, name)?))
+    told(alloc, &types.describe(&text(alloc, name)?))
 }
 
 fn fully_described(alloc: Global, types: &Types, name: &str) -> Result<Vec<u8>, Memory> {
-    told(alloc, types.fully_describe(&text(alloc, name)?))
+    told(alloc, &types.fully_describe(&text(alloc, name)?))
 }
 
 /// The answer in words.
-fn told(alloc: Global, answer: Result<TypesReply, TypesFault>) -> Result<Vec<u8>, Memory> {
+fn told(alloc: Global, answer: &Result<TypesReply, TypesFault>) -> Result<Vec<u8>, Memory> {
     match answer {
         Ok(TypesReply::Added(_)) => words(alloc, "Added", &[]),
-        Ok(TypesReply::Described(described)) => line(alloc, &described),
+        Ok(TypesReply::Described(described)) => line(alloc, described),
         Ok(_) => words(alloc, "other", &[]),
-        Err(TypesFault::User(fault)) => refusal(alloc, &fault),
+        Err(TypesFault::User(fault)) => refusal(alloc, fault),
         Err(TypesFault::Full) => words(alloc, "Full", &[]),
         Err(TypesFault::Memory) => Err(Memory),
     }
