@@ -11,7 +11,7 @@ use std::process::Abort;
 use std::test::Fail;
 use td_cdr::{List, Memory, Octets, Text};
 use td_out::{MemSink, MemSource};
-use td_types::{Types, TypesReply};
+use td_types::{Types, TypesFault, TypesReply};
 
 /// How the bytes come, and which calls of the source and the sink fail.
 #[derive(Clone, Copy)]
@@ -69,10 +69,16 @@ fn printers(alloc: Global) -> Result<Types, Memory> {
     let mut types = Types::new(alloc, List::new(alloc))?;
     let name = Text::from_slice(alloc, b"Printer")?;
     let if_name = Text::from_slice(alloc, b"IDL:Printer:1.0")?;
-    match types.add(name, if_name, List::new(alloc), List::new(alloc)) {
-        Ok(TypesReply::Added(1)) => Ok(types),
-        _ => Err(Memory),
+    let answer = types.add(name, if_name, List::new(alloc), List::new(alloc));
+    if is_added(&answer) {
+        Ok(types)
+    } else {
+        Err(Memory)
     }
+}
+
+fn is_added(answer: &Result<TypesReply, TypesFault>) -> bool {
+    matches!(answer, Ok(TypesReply::Added(1)))
 }
 
 /// Trader A with the type Printer and these offers.

@@ -67,7 +67,7 @@ fn removed_and_masked(rt: HostRuntime) -> Result<(), Fail> {
     let mut types = devices(alloc)?;
     for (act, name, said) in CALLS {
         let name = Text::from_slice(alloc, name)?;
-        assert!(rt; is_said(call(&mut types, act, &name), &name, said));
+        assert!(rt; is_said(&call(&mut types, act, &name), &name, said));
     }
     assert!(rt; lists(&types, None, "Device Printer Laser"));
     assert!(rt; types.incarnation() == 5);
@@ -111,9 +111,14 @@ fn devices(alloc: Global) -> Result<Types, Fail> {
 fn add(alloc: Global, types: &mut Types, name: &str, supers: &str) -> Result<Option<u64>, Memory> {
     let name = Text::from_slice(alloc, name.as_bytes())?;
     let supers = names(alloc, supers)?;
-    match types.add(name, Text::new(alloc), List::new(alloc), supers) {
-        Ok(TypesReply::Added(incarnation)) => Ok(Some(incarnation)),
-        _ => Ok(None),
+    let answer = types.add(name, Text::new(alloc), List::new(alloc), supers);
+    Ok(incarnation_told(&answer))
+}
+
+fn incarnation_told(answer: &Result<TypesReply, TypesFault>) -> Option<u64> {
+    match answer {
+        Ok(TypesReply::Added(incarnation)) => Some(*incarnation),
+        _ => None,
     }
 }
 
@@ -133,12 +138,12 @@ fn call(types: &mut Types, act: Act, name: &Text) -> Result<TypesReply, TypesFau
     }
 }
 
-fn is_said(answer: Result<TypesReply, TypesFault>, name: &Text, said: Said) -> bool {
+fn is_said(answer: &Result<TypesReply, TypesFault>, name: &Text, said: Said) -> bool {
     match answer {
         Ok(TypesReply::Removed) => matches!(said, Said::Removed),
         Ok(TypesReply::Masked) => matches!(said, Said::Masked),
         Ok(TypesReply::Unmasked) => matches!(said, Said::Unmasked),
-        Err(TypesFault::User(fault)) => is_refused(&fault, name.as_slice(), said),
+        Err(TypesFault::User(fault)) => is_refused(fault, name.as_slice(), said),
         _ => false,
     }
 }
@@ -165,7 +170,11 @@ fn is_refused(fault: &RepoFault, name: &[u8], said: Said) -> bool {
 
 /// Whether these words are the names that are listed.
 fn lists(types: &Types, since: Option<u64>, words: &str) -> bool {
-    match types.list(since) {
+    are_listed(&types.list(since), words)
+}
+
+fn are_listed(answer: &Result<TypesReply, TypesFault>, words: &str) -> bool {
+    match answer {
         Ok(TypesReply::Names(names)) => are_words(names.as_slice(), words),
         _ => false,
     }
