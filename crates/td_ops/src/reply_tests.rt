@@ -21,6 +21,16 @@ fn cost(alloc: Global, mode: PropertyMode) -> Result<PropStruct, Fail> {
     })
 }
 
+fn write_copy(alloc: Global, writer: &mut Writer, outcome: &Outcome) -> Result<(), Fail> {
+    let copy = outcome.copy(alloc)?;
+    write_outcome(alloc, writer, &copy)?;
+    Ok(())
+}
+
+fn copied(alloc: Global, answer: &Answered) -> Result<Answered, Fail> {
+    Ok(answer.copy(alloc)?)
+}
+
 /// These bytes are written for an outcome.
 fn written(
     rt: &impl Abort,
@@ -30,7 +40,7 @@ fn written(
     order: Order,
 ) -> Result<(), Fail> {
     let mut writer = Writer::new(alloc, order);
-    write_outcome(alloc, &mut writer, outcome)?;
+    write_copy(alloc, &mut writer, outcome)?;
     assert!(rt; writer.bytes() == bytes);
     Ok(())
 }
@@ -98,9 +108,8 @@ fn raised(
     little: &[u8],
 ) -> Result<(), Fail> {
     let outcome = Outcome::User(exception);
-    let copy = outcome.copy(alloc)?;
     raised_in(rt, alloc, &outcome, id, big, Order::Big)?;
-    raised_in(rt, alloc, &copy, id, little, Order::Little)
+    raised_in(rt, alloc, &outcome, id, little, Order::Little)
 }
 
 #[test]
@@ -236,28 +245,30 @@ fn exceptions_of_types(rt: HostRuntime) -> Result<(), Fail> {
 fn raised_by_system(
     rt: &impl Abort,
     alloc: Global,
-    kind: SystemKind,
+    outcome: &Outcome,
     id: &[u8],
     bytes: &[u8],
     order: Order,
 ) -> Result<(), Fail> {
-    let outcome = Outcome::System {
-        kind,
-        minor: 80,
-        completion: 1,
-    };
-    written(rt, alloc, &outcome, bytes, order)?;
+    written(rt, alloc, outcome, bytes, order)?;
     let answer = told(
         rt,
         alloc,
         &Call::NonExistent,
-        status_of(&outcome),
+        status_of(outcome),
         bytes,
         order,
     )?;
-    let copy = answer.copy(alloc)?;
-    assert!(rt; is_system(&copy, id, 80, 1));
+    assert!(rt; is_system(&answer, id, 80, 1));
     Ok(())
+}
+
+fn system_outcome(kind: SystemKind) -> Outcome {
+    Outcome::System {
+        kind,
+        minor: 80,
+        completion: 1,
+    }
 }
 
 #[test]
@@ -301,8 +312,9 @@ fn system_exceptions(rt: HostRuntime) -> Result<(), Fail> {
             b" \x00\x00\x00IDL:omg.org/CORBA/NO_MEMORY:1.0\x00P\x00\x00\x00\x01\x00\x00\x00".as_slice(),
         ),
     ] {
-        raised_by_system(&rt, alloc, kind, id, big, Order::Big)?;
-        raised_by_system(&rt, alloc, kind, id, little, Order::Little)?;
+        let outcome = system_outcome(kind);
+        raised_by_system(&rt, alloc, &outcome, id, big, Order::Big)?;
+        raised_by_system(&rt, alloc, &outcome, id, little, Order::Little)?;
     }
     Ok(())
 }
@@ -572,6 +584,7 @@ fn other_systems(rt: HostRuntime) -> Result<(), Fail> {
         b"\x0a\x00\x00\x00IDL:y:1.0\x00\x00\x00\xff\xff\xff\xff\x07\x00\x00\x00",
         Order::Little,
     )?;
-    assert!(rt; is_system(&answer, b"IDL:y:1.0", 4294967295, 7));
+    let copy = copied(alloc, &answer)?;
+    assert!(rt; is_system(&copy, b"IDL:y:1.0", 4294967295, 7));
     Ok(())
 }
