@@ -5,7 +5,7 @@ use std::alloc::Global;
 use std::process::Abort;
 use std::test::Fail;
 use td_cdr::{Order, Reader, Twin, Writer};
-use td_value::{Kind, PropertyMode, SpecifiedServiceTypes};
+use td_value::Kind;
 
 /// Reads a call of the type repository, with bytes behind its last parameter, and writes it again.
 fn spelled(
@@ -86,82 +86,6 @@ fn calls(rt: HostRuntime) -> Result<(), Fail> {
     ] {
         spelled(&rt, alloc, name, big, Order::Big)?;
         spelled(&rt, alloc, name, little, Order::Little)?;
-    }
-    Ok(())
-}
-
-#[test]
-fn parameters(rt: HostRuntime) -> Result<(), Fail> {
-    let alloc = rt.alloc();
-    let new = spelled(
-        &rt,
-        alloc,
-        b"add_type",
-        b"\x08\x00\x00\x00Printer\x00\x10\x00\x00\x00IDL:Printer:1.0\x00\x02\x00\x00\x00\x05\x00\x00\x00Cost\x00\x00\x00\x00\x05\x00\x00\x00\x02\x00\x00\x00\x05\x00\x00\x00Room\x00\x00\x00\x00\x12\x00\x00\x00\x07\x00\x00\x00\x03\x00\x00\x00\x01\x00\x00\x00\x07\x00\x00\x00Device\x00",
-        Order::Little,
-    )?;
-    let Call::Change(
-        Change::AddType {
-            name,
-            if_name,
-            props,
-            super_types,
-        },
-    ) = &new
-    else {
-        return Err("add_type".into());
-    };
-    assert!(rt; name.as_slice() == b"Printer".as_slice());
-    assert!(rt; if_name.as_slice() == b"IDL:Printer:1.0".as_slice());
-    assert_eq!(rt; props.len(), 2);
-    let room = props.get(1).ok_or("a property")?;
-    assert!(rt; room.name.as_slice() == b"Room".as_slice());
-    assert_eq!(rt; room.mode, PropertyMode::MandatoryReadonly);
-    assert!(rt; super_types.get(0).ok_or("a name")?.as_slice() == b"Device".as_slice());
-    let listed = spelled(
-        &rt,
-        alloc,
-        b"list_types",
-        b"\x00\x00\x00\x01\x00\x00\x00\x03\x00\x00\x00\x04",
-        Order::Big,
-    )?;
-    let Call::Look(
-        Look::ListTypes {
-            which: SpecifiedServiceTypes::Since(incarnation),
-        },
-    ) = &listed
-    else {
-        return Err("list_types".into());
-    };
-    assert_eq!(rt; incarnation.high, 3);
-    assert_eq!(rt; incarnation.low, 4);
-    Ok(())
-}
-
-/// An object has the call of no parameters by this name.
-fn is_gone(rt: &impl Abort, alloc: Global, kind: Kind, name: &[u8]) -> Result<(), Fail> {
-    let mut reader = Reader::new(b"\xff", 0, Order::Big);
-    let call = read_call(alloc, &kind, name, &mut reader)?;
-    assert_eq!(rt; reader.place(), 0);
-    assert!(rt; operation_of(&call) == "_non_existent");
-    Ok(())
-}
-
-#[test]
-fn objects(rt: HostRuntime) -> Result<(), Fail> {
-    let alloc = rt.alloc();
-    for kind in [
-        Kind::Lookup,
-        Kind::Register,
-        Kind::Link,
-        Kind::Proxy,
-        Kind::Admin,
-        Kind::Types,
-        Kind::Iterator(7),
-    ] {
-        is_gone(&rt, alloc, kind, b"_non_existent")?;
-        is_gone(&rt, alloc, kind, b"_not_existent")?;
-        assert_eq!(rt; operation_named(&kind, b"_is_a"), Some(Operation::IsA));
     }
     Ok(())
 }
