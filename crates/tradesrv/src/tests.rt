@@ -2,7 +2,12 @@
 
 ghost use Rattle.std.specs.Prelude.{◌≡◌};
 
+mod messages;
+mod repository;
+
 use crate::run::run;
+use messages::*;
+use repository::*;
 use std::alloc::Global;
 use std::process::Abort;
 use std::test::Fail;
@@ -174,4 +179,133 @@ fn faults(rt: HostRuntime) -> Result<(), Fail> {
             line: b"status 7\n",
         },
     )
+}
+
+/// A session over the printers: how the bytes come, the bytes that come and those that are to be written,
+/// each in two parts, and the status.
+#[derive(Clone, Copy)]
+struct Session<'a> {
+    pieces: &'a [usize],
+    input: [&'a [u8]; 2],
+    written: [&'a [u8]; 2],
+    status: u8,
+}
+
+/// The two parts one after the other.
+fn joined(alloc: Global, parts: [&[u8]; 2]) -> Result<Vec<u8>, Memory> {
+    let mut bytes = Vec::from_slice(alloc, parts[0])?;
+    bytes.extend_from_slice(parts[1])?;
+    Ok(bytes)
+}
+
+fn try_session(rt: &impl Abort, alloc: Global, session: &Session) -> Result<(), Fail> {
+    let words = words(alloc, &["pipe", "printers"])?;
+    let mut files = texts(alloc)?;
+    let mut source = MemSource::new(
+        Octets::from_vec(joined(alloc, session.input)?),
+        List::from_slice(alloc, session.pieces)?,
+        List::new(alloc),
+    );
+    let mut sink = MemSink::new(alloc, List::new(alloc));
+    let mut faults = MemSink::new(alloc, List::new(alloc));
+    let status = run(
+        alloc,
+        words.as_slice(),
+        &mut files,
+        &mut source,
+        &mut sink,
+        &mut faults,
+    );
+    let written = joined(alloc, session.written)?;
+    assert_eq!(rt; status, session.status);
+    assert!(rt; sink.written() == written.as_slice());
+    Ok(())
+}
+
+/// A session that is closed once all its bytes are taken.
+const fn closed<'a>(input: [&'a [u8]; 2], written: [&'a [u8]; 2]) -> Session<'a> {
+    Session {
+        pieces: &[],
+        input,
+        written,
+        status: 0,
+    }
+}
+
+#[test]
+fn messages_are_answered(rt: HostRuntime) -> Result<(), Fail> {
+    let sessions = [
+        closed([NOTHING, NOTHING], [NOTHING, NOTHING]),
+        closed([PLAIN_QUERY, PLAIN_QUERY], [FOUND, FOUND]),
+        closed([LITTLE_QUERY, PLAIN_QUERY], [LITTLE_FOUND, FOUND]),
+        closed([OTHER_KEY, PLAIN_QUERY], [OBJECT_NOT_EXIST, FOUND]),
+        closed(
+            [OTHER_BOTH, OTHER_OPERATION],
+            [OBJECT_NOT_EXIST, NO_IMPLEMENT],
+        ),
+        closed([UNANSWERED, PLAIN_QUERY], [NOTHING, FOUND]),
+        closed([LOCATE, LOCATE_OTHER], [HERE, UNKNOWN]),
+        closed([CANCEL, PLAIN_QUERY], [NOTHING, FOUND]),
+        closed([CLOSE_CONNECTION, PLAIN_QUERY], [NOTHING, NOTHING]),
+        closed([ERROR, PLAIN_QUERY], [NOTHING, NOTHING]),
+    ];
+    for session in sessions {
+        try_session(&rt, rt.alloc(), &session)?;
+    }
+    Ok(())
+}
+
+#[test]
+fn types_are_added_masked_and_removed(rt: HostRuntime) -> Result<(), Fail> {
+    let sessions = [
+        closed([MASKING, NOTHING], [MASKING_REPLIES, NOTHING]),
+        closed([INHERITING, NOTHING], [INHERITING_REPLIES, NOTHING]),
+        closed([REFUSED, NOTHING], [REFUSED_REPLIES, NOTHING]),
+        closed([EXCEPTIONS, NOTHING], [EXCEPTIONS_REPLIES, NOTHING]),
+        closed([UNANSWERED_ADD, NOTHING], [UNANSWERED_ADD_REPLIES, NOTHING]),
+    ];
+    for session in sessions {
+        try_session(&rt, rt.alloc(), &session)?;
+    }
+    Ok(())
+}
+
+/// A session that isn't closed.
+const fn ended<'a>(input: [&'a [u8]; 2], written: [&'a [u8]; 2], status: u8) -> Session<'a> {
+    Session {
+        pieces: &[],
+        input,
+        written,
+        status,
+    }
+}
+
+#[test]
+fn streams_break_off_and_are_cut(rt: HostRuntime) -> Result<(), Fail> {
+    let bytewise = Session {
+        pieces: &[1; 88],
+        ..closed([PLAIN_QUERY, NOTHING], [FOUND, NOTHING])
+    };
+    let two_pieces = Session {
+        pieces: &[100],
+        ..closed([PLAIN_QUERY, PLAIN_QUERY], [FOUND, FOUND])
+    };
+    let sessions = [
+        bytewise,
+        two_pieces,
+        ended([TOO_LARGE, NOTHING], [NOTHING, ERROR], 4),
+        ended([PLAIN_QUERY, b"GET / HTTP/1.0\r\n\r\n"], [FOUND, ERROR], 4),
+        ended([FOUND, NOTHING], [NOTHING, ERROR], 4),
+        ended([PLAIN_QUERY, HERE], [FOUND, ERROR], 4),
+        ended([CUT_ID, NOTHING], [NOTHING, ERROR], 4),
+        ended([BAD_BOOLEAN, NOTHING], [NOTHING, ERROR], 4),
+        ended([PLAIN_QUERY, CUT_KEY], [FOUND, ERROR], 4),
+        ended([CUT_CANCEL, NOTHING], [NOTHING, ERROR], 4),
+        ended([NOTHING, &PLAIN_QUERY[..8]], [NOTHING, NOTHING], 5),
+        ended([PLAIN_QUERY, &PLAIN_QUERY[..87]], [FOUND, NOTHING], 5),
+    ];
+    for session in sessions {
+        try_session(&rt, rt.alloc(), &session)?;
+    }
+    Ok(())
 }

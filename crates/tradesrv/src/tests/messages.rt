@@ -2,7 +2,7 @@
 
 /// A query of trader A's Lookup for Printer, with no constraint, no preference, no policies, no desired
 /// properties, and ten offers at most.
-pub const QUERY: &[u8] = b"GIOP\x01\0\0\0\0\0\0\x4c\
+pub const PLAIN_QUERY: &[u8] = b"GIOP\x01\0\0\0\0\0\0\x4c\
     \0\0\0\0\0\0\0\x01\
     \x01\0\0\0\0\0\0\x03\
     A/L\0\0\0\0\x06\
@@ -157,9 +157,9 @@ pub const CANCEL: &[u8] = b"GIOP\x01\0\0\x02\0\0\0\x04\0\0\0\x05";
 
 pub const CLOSE_CONNECTION: &[u8] = b"GIOP\x01\0\0\x05\0\0\0\0";
 
-pub const MESSAGE_ERROR: &[u8] = b"GIOP\x01\0\0\x06\0\0\0\0";
+pub const ERROR: &[u8] = b"GIOP\x01\0\0\x06\0\0\0\0";
 
-pub const NONE: &[u8] = b"";
+pub const NOTHING: &[u8] = b"";
 
 /// A header that tells a byte more than 16 MiB.
 pub const TOO_LARGE: &[u8] = b"GIOP\x01\0\0\0\x01\0\0\x01";
