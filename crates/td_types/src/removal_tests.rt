@@ -1,18 +1,16 @@
-//! Removing and masking where there are no types.
+//! Interfaces of a repository.
 
 use crate::types::Types;
 use std::process::Abort;
 use std::test::Fail;
-use td_cdr::{List, Text};
+use td_cdr::List;
 
 #[test]
-fn nothing_to_remove(rt: HostRuntime) -> Result<(), Fail> {
+fn interfaces_of_a_repository(rt: HostRuntime) -> Result<(), Fail> {
     let alloc = rt.alloc();
-    let mut types = Types::new(alloc, List::new(alloc))?;
-    let name = Text::from_slice(alloc, b"Printer")?;
-    assert!(rt; types.remove(&name).is_err());
-    assert!(rt; types.mask(&name).is_err());
-    assert!(rt; types.unmask(&name).is_err());
-    assert!(rt; types.list(None).is_ok());
+    let types = Types::new(alloc, List::new(alloc))?;
+    assert!(rt; types.interface_conforms(b"IDL:A:1.0", b""));
+    assert!(rt; types.interface_conforms(b"IDL:A:1.0", b"IDL:A:1.0"));
+    assert!(rt; !types.interface_conforms(b"IDL:A:1.0", b"IDL:B:1.0"));
     Ok(())
 }
