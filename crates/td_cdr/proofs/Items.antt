@@ -1,17 +1,18 @@
 -- The laws of every item, from those of its parts.
-use Rattle.std.proofs.Common.{◌≡◌, ℕ, ◌-◌, ◌≤◌, List, ◌++◌, length, Ok, Err, refl, sym, ap, ◌∙◌, arith}
+use Rattle.std.proofs.Common.{◌≡◌, ℕ, ◌-◌, ◌≤◌, List, ◌++◌, length, Result, Ok, Err, refl, sym, ap, subst, ◌∙◌, arith}
 use Rattle.std.specs.Int.{w16, w32, w64}
 use Rattle.td_cdr.specs.declared.order.Order.{Order}
 use Rattle.td_cdr.specs.declared.fault.CdrFault.{CdrFault}
 use Rattle.td_cdr.specs.declared.fault.CdrFault.TheVariants.{Memory}
 use Rattle.td_cdr.specs.Place.{At}
-use Rattle.td_cdr.specs.Reading.{after}
+use Rattle.td_cdr.specs.Reading.{after, ◌>>=◌, encapsulation_at, within}
+use Rattle.td_cdr.specs.Format.{as_fault, ◌>>=◌ as ◌then_read◌}
 use Rattle.td_cdr.specs.Spelling.{Joins}
 use Rattle.td_cdr.specs.Faults.{NumberFault, BooleanFault, OctetsFault, StringFault, WithinFault, ThenFault, within_at, Refuses}
-use Rattle.td_cdr.specs.Items.{Item, octet, ushort, ulong, ulonglong, short, long, longlong, boolean, string, octets, pair, encapsulated, ValueOf, Spells, reading, IsFaulty}
-use Rattle.td_cdr.proofs.Joined.{number-joins, octets-joins, within-joins, ok_is}
-use Rattle.td_cdr.proofs.Found.{signed-joins, boolean-joins, string-joins, then-joins}
-use Rattle.td_cdr.proofs.Refused.{number-refuses, signed-refuses, boolean-refuses, string-refuses, octets-refuses, then-refuses, within-refuses}
+use Rattle.td_cdr.specs.Items.{Item, octet, ushort, ulong, ulonglong, short, long, longlong, boolean, string, octets, pair, encapsulated, ValueOf, Spells, reading, read_then, IsFaulty}
+use Rattle.td_cdr.specs.Joined.{number-joins, octets-joins, within-joins, ok_is}
+use Rattle.td_cdr.specs.Found.{signed-joins, boolean-joins, string-joins, then-joins}
+use Rattle.td_cdr.specs.Refused.{number-refuses, signed-refuses, boolean-refuses, string-refuses, octets-refuses, pair-refuses, within-refuses, same-refuses, both_read, enclosed_read}
 
 pub item-joins : (item : Item) → Joins (Spells item) (reading item)
 item-joins octet = number-joins 1
@@ -27,6 +28,21 @@ item-joins octets = octets-joins
 item-joins (pair first second) = then-joins (Spells first) (λ _. Spells second) (reading first) (λ _. reading second) (item-joins first) (λ _. item-joins second)
 item-joins (encapsulated inner) = within-joins (Spells inner) (reading inner) (item-joins inner)
 
+-- an item's readings are those of the laws
+bind-same : {A B : Type 0} (r : Result A CdrFault) (f g : A → Result B CdrFault) → ((x : A) → f x ≡ g x) → (r then_read f) ≡ (r >>= g)
+bind-same (Ok x) f g same = same x
+bind-same (Err e) f g same = refl
+
+fault-same : {A B : Type 0} (r : Result A CdrFault) (f g : A → Result B CdrFault) → ((x : A) → f x ≡ g x) → (as_fault (λ (f : CdrFault). f) r then_read f) ≡ (r >>= g)
+fault-same (Ok x) f g same = same x
+fault-same (Err e) f g same = refl
+
+pair-same : {X Y : Type 0} (first : At → Result (X × At) CdrFault) (second : At → Result (Y × At) CdrFault) (a : At) → both_read first (λ _. second) a ≡ read_then first (λ _. second) a
+pair-same first second a = bind-same (first a) _ _ (λ x. bind-same (second x.1) _ _ (λ y. refl))
+
+within-same : {X : Type 0} (inner : At → Result (X × At) CdrFault) (a : At) → enclosed_read (λ f. f) inner a ≡ within inner a
+within-same inner a = fault-same (encapsulation_at a) _ _ (λ e. bind-same (inner e.0) _ _ (λ v. refl))
+
 pub item-refuses : (item : Item) → Refuses (IsFaulty item) (reading item)
 item-refuses octet = number-refuses 1
 item-refuses ushort = number-refuses 2
@@ -38,8 +54,12 @@ item-refuses longlong = signed-refuses w64 8
 item-refuses boolean = boolean-refuses
 item-refuses string = string-refuses
 item-refuses octets = octets-refuses
-item-refuses (pair first second) = then-refuses (Spells first) (IsFaulty first) (λ _. IsFaulty second) (reading first) (λ _. reading second) (item-joins first) (item-refuses first) (λ _. item-refuses second)
-item-refuses (encapsulated inner) = within-refuses (IsFaulty inner) (reading inner) (item-refuses inner)
+item-refuses (pair first second) =
+    same-refuses (IsFaulty (pair first second)) (both_read (reading first) (λ _. reading second)) (reading (pair first second)) (pair-same (reading first) (reading second))
+    (pair-refuses (Spells first) (IsFaulty first) (λ _. IsFaulty second) (reading first) (λ _. reading second) (item-joins first) (item-refuses first) (λ _. item-refuses second))
+item-refuses (encapsulated inner) =
+    same-refuses (IsFaulty (encapsulated inner)) (enclosed_read (λ f. f) (reading inner)) (reading (encapsulated inner)) (within-same (reading inner))
+    (within-refuses (λ f. f) (IsFaulty inner) (reading inner) (item-refuses inner))
 
 -- bytes that begin with a spelling of v are read as v at that place
 read-as : (item : Item) (order : Order) (place : ℕ) (v : ValueOf item) (b more bytes : List ℕ) → Spells item order place v b → bytes ≡ b ++ more
@@ -73,8 +93,8 @@ string-takes_none : (a : At) → StringFault a Memory → ⊥
 string-takes_none a (StringFault.octets o) = octets-takes_none a o
 string-takes_none a (StringFault.unclosed kept next found some not_closed fault) = cc fault
 
-within-takes_none : (inner : At → CdrFault → Type 0) → ((a : At) → inner a Memory → ⊥) → (a : At) → WithinFault inner a Memory → ⊥
-within-takes_none inner none a (WithinFault.octets o) = octets-takes_none a o
+within-takes_none : (inner : At → CdrFault → Type 0) → ((a : At) → inner a Memory → ⊥) → (a : At) → WithinFault (λ f. f) inner a Memory → ⊥
+within-takes_none inner none a (WithinFault.octets o) = octets-takes_none a (subst (λ (e : CdrFault). OctetsFault a e) (sym o.fault) o.holds)
 within-takes_none inner none a (WithinFault.empty next found fault) = cc fault
 within-takes_none inner none a (WithinFault.order flag body next found above fault) = cc fault
 within-takes_none inner none a (WithinFault.inside little flag body next found told d) = none (within_at a little body) d

@@ -45,20 +45,26 @@ order_place a = a.place + (padding 4 a + 4)
 abbrev pub within_at : At → Bool → List ℕ → At
 within_at a little body = record { rest = body; place = order_place a + 1; origin = order_place a; order = order_of little }
 
--- no octets, none in them, no order told, or what is inside is no value
-pub data WithinFault (inner : At → CdrFault → Type 0) (a : At) (f : CdrFault) : Type 0 where
-  octets : OctetsFault a f → WithinFault inner a f
-  empty : (next : At) → Found SpellsOctets a [] next → f ≡ Short (aligned 4 a) → WithinFault inner a f
-  order : (flag : ℕ) (body : List ℕ) (next : At) → Found SpellsOctets a (flag ∷ body) next → 1 < flag → f ≡ BadBoolean (order_place a) → WithinFault inner a f
-  inside : (little : Bool) (flag : ℕ) (body : List ℕ) (next : At) → Found SpellsOctets a (flag ∷ body) next → IsFlag little flag → inner (within_at a little body) f → WithinFault inner a f
+-- a fault of an inner layer, under the outer layer's name of it
+pub record OuterFault {E F : Type 0} (c : E → F) (inner : At → E → Type 0) (a : At) (f : F) : Type 0 where
+  pub cause : E
+  pub holds : inner a cause
+  pub fault : f ≡ c cause
+
+-- no octets, none in them, no order told, or what is inside is no value; c names a fault of the octets for the layer inside
+pub data WithinFault {F : Type 0} (c : CdrFault → F) (inner : At → F → Type 0) (a : At) (f : F) : Type 0 where
+  octets : OuterFault c OctetsFault a f → WithinFault c inner a f
+  empty : (next : At) → Found SpellsOctets a [] next → f ≡ c (Short (aligned 4 a)) → WithinFault c inner a f
+  order : (flag : ℕ) (body : List ℕ) (next : At) → Found SpellsOctets a (flag ∷ body) next → 1 < flag → f ≡ c (BadBoolean (order_place a)) → WithinFault c inner a f
+  inside : (little : Bool) (flag : ℕ) (body : List ℕ) (next : At) → Found SpellsOctets a (flag ∷ body) next → IsFlag little flag → inner (within_at a little body) f → WithinFault c inner a f
 
 -- the first item is no value, or it is one and the second, where the first ended, is none
-pub data ThenFault {X : Type 0} (spells : Order → ℕ → X → List ℕ → Type 0) (first : At → CdrFault → Type 0) (second : X → At → CdrFault → Type 0)
-    (a : At) (f : CdrFault) : Type 0 where
+pub data ThenFault {F X : Type 0} (spells : Order → ℕ → X → List ℕ → Type 0) (first : At → F → Type 0) (second : X → At → F → Type 0)
+    (a : At) (f : F) : Type 0 where
   first : first a f → ThenFault spells first second a f
   second : (v : X) (next : At) → Found spells a v next → second v next f → ThenFault spells first second a f
 
 -- a reading is refused with f exactly where f is the fault
-pub record Refuses {Y : Type 0} (faulty : At → CdrFault → Type 0) (reading : At → Result (Y × At) CdrFault) : Type 0 where
-  pub told : (a : At) (f : CdrFault) → a.origin ≤ a.place → reading a ≡ Err f → faulty a f
-  pub only : (a : At) (f : CdrFault) → a.origin ≤ a.place → faulty a f → reading a ≡ Err f
+pub record Refuses {F Y : Type 0} (faulty : At → F → Type 0) (reading : At → Result (Y × At) F) : Type 0 where
+  pub told : (a : At) (f : F) → a.origin ≤ a.place → reading a ≡ Err f → faulty a f
+  pub only : (a : At) (f : F) → a.origin ≤ a.place → faulty a f → reading a ≡ Err f

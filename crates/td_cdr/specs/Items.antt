@@ -79,4 +79,4 @@ IsFaulty boolean = BooleanFault
 IsFaulty string = StringFault
 IsFaulty octets = OctetsFault
 IsFaulty (pair first second) = ThenFault (Spells first) (IsFaulty first) (λ _. IsFaulty second)
-IsFaulty (encapsulated inner) = WithinFault (IsFaulty inner)
+IsFaulty (encapsulated inner) = WithinFault (λ f. f) (IsFaulty inner)

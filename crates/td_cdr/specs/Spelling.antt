@@ -3,7 +3,6 @@
 use Rattle.std.specs.Prelude.{◌≡◌, ℕ, ℤ, ◌+◌, ◌-◌, ◌≤◌, Bool, true, false, List, [], ◌∷◌, ◌++◌, length, drop, Result, Ok}
 use Rattle.std.specs.Int.{Width, cast_signed}
 use Rattle.td_cdr.specs.declared.order.Order.{Order}
-use Rattle.td_cdr.specs.declared.fault.CdrFault.{CdrFault}
 use Rattle.td_cdr.specs.Truth.{order_of}
 use Rattle.td_cdr.specs.Text.{HasNoNul}
 use Rattle.td_cdr.specs.Gap.{gap}
@@ -75,6 +74,6 @@ pub record Found {Y : Type 0} (spells : Order → ℕ → Y → List ℕ → Typ
   pub moved : next ≡ after (length bytes) a
 
 -- what is read is spelled so, and what is spelled so is read whatever follows
-pub record Joins {Y : Type 0} (spells : Order → ℕ → Y → List ℕ → Type 0) (reading : At → Result (Y × At) CdrFault) : Type 0 where
+pub record Joins {F Y : Type 0} (spells : Order → ℕ → Y → List ℕ → Type 0) (reading : At → Result (Y × At) F) : Type 0 where
   pub found : (a : At) (v : Y) (next : At) → a.origin ≤ a.place → reading a ≡ Ok (v, next) → Found spells a v next
   pub only : (a : At) (v : Y) (b rest : List ℕ) → a.origin ≤ a.place → spells a.order (a.place - a.origin) v b → a.rest ≡ b ++ rest → reading a ≡ Ok (v, after (length b) a)

@@ -7,23 +7,34 @@ mod fault;
 pub mod laws;
 mod list;
 mod memory;
+mod named;
 mod names;
+mod numbers;
 mod order;
 mod reader;
+mod row;
+mod sequence;
+mod spelled;
 mod text;
 mod twin;
+mod twins;
+mod value_fault;
+mod whole;
 mod writer;
 
 pub use boxed::Boxed;
 pub use fault::CdrFault;
 pub use list::{List, Octets};
 pub use memory::Memory;
+pub use named::{Named, find_named};
 pub use names::{is_identifier, is_trader_name, is_word_name};
 pub use order::Order;
 pub use reader::Reader;
+pub use row::{put_five, put_four, put_six, put_three, put_two};
+pub use spelled::Spelled;
 pub use text::Text;
 pub use twin::Twin;
+pub use twins::{copy_four, copy_three, copy_two};
+pub use value_fault::ValueFault;
+pub use whole::{obeys, read_whole, refuses, write_whole};
 pub use writer::Writer;
-
-#[cfg(test)]
-mod tests;

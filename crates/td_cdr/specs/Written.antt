@@ -13,7 +13,7 @@ use Rattle.td_cdr.specs.Gap.{flag}
 use Rattle.td_cdr.specs.Writing.{written_number, written_octets}
 use Rattle.td_cdr.specs.Spelling.{SpellsSigned, SpellsBoolean, SpellsString, closed, IsFlag}
 use Rattle.td_cdr.specs.Items.{Item, pair, encapsulated, ValueOf, Spells}
-use Rattle.td_cdr.proofs.Joined.{written_number-spelled, written_octets-spelled}
+use Rattle.td_cdr.specs.Joined.{written_number-spelled, written_octets-spelled}
 
 pub written_signed-spelled : (width : Width) (size : ℕ) (order : Order) (place : ℕ) (v : ℤ) → 2 ^ bits width ≤ 256 ^ size → FitsSigned width v → SpellsSigned width size order place v (written_number size order place (cast_unsigned width v))
 written_signed-spelled width size order place v wide fits =

@@ -13,7 +13,7 @@ use Rattle.td_cdr.specs.Place.{At}
 use Rattle.td_cdr.specs.Reading.{after, aligned, number, ◌>>=◌, number_at, signed_at, boolean_at, octets_at, string_at}
 use Rattle.td_cdr.specs.Spelling.{SpellsSigned, SpellsBoolean, SpellsString, IsText, closed, absent, SpellsThen, IsFlag, Found, Joins}
 use Rattle.td_cdr.specs.Items.{read_then}
-use Rattle.td_cdr.proofs.Joined.{bind_ok, ok_is, number-found, number-only, octets-found, octets-only, moved-place, after-after, Found-then}
+use Rattle.td_cdr.specs.Joined.{bind_ok, ok_is, number-found, number-only, octets-found, octets-only, moved-place, after-after, Found-then}
 
 -- ---- signed numbers
 

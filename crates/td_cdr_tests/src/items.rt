@@ -2,9 +2,12 @@
 
 ghost use Rattle.std.specs.Prelude.{◌≤◌, ◌<◌, ◌^◌, length};
 
-use super::*;
 use std::process::Abort;
 use std::test::Fail;
+use td_cdr::{
+    Boxed, CdrFault, List, Octets, Order, Reader, Text, Twin, Writer, is_identifier,
+    is_trader_name, is_word_name,
+};
 
 const BIG: Order = Order::Big;
 

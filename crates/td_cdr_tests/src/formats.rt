@@ -1,0 +1,213 @@
+//! Values that are written whole and read whole, behind one octet that shows their alignment.
+
+use std::alloc::Global;
+use std::test::Fail;
+use td_cdr::{
+    Boxed, CdrFault, List, Memory, Octets, Order, Reader, Spelled, Text, Twin, ValueFault, Writer,
+    copy_four, copy_three, copy_two, put_five, put_four, put_six, put_three, put_two, read_whole,
+    write_whole,
+};
+
+const BIG: Order = Order::Big;
+
+const LITTLE: Order = Order::Little;
+
+/// The octet 9, and then the value.
+fn behind_an_octet<T: Spelled>(alloc: Global, order: Order, value: &T) -> Result<Writer, Memory> {
+    let mut writer = Writer::new(alloc, order);
+    writer.octet(9)?;
+    write_whole(alloc, &mut writer, value)?;
+    Ok(writer)
+}
+
+/// The value behind the first octet, and where its reader then stands.
+fn read_behind<T: Spelled + Drop>(
+    alloc: Global,
+    bytes: &[u8],
+    order: Order,
+) -> (Result<T, ValueFault>, u32) {
+    if bytes.is_empty() || bytes.len() > 10_000 {
+        return (Err(ValueFault::Memory), 0);
+    }
+    let mut reader = Reader::new(bytes, 1, order);
+    let value = read_whole(alloc, &mut reader);
+    (value, reader.place())
+}
+
+/// Whether the value is written as these bytes, and read from them as one that is written so again.
+fn is_spelled<T: Spelled + Drop>(
+    alloc: Global,
+    order: Order,
+    value: &T,
+    want: &[u8],
+) -> Result<bool, ValueFault> {
+    let written = behind_an_octet(alloc, order, value)?;
+    if written.bytes() != want {
+        return Ok(false);
+    }
+    let (read, end) = read_behind::<T>(alloc, want, order);
+    let again = behind_an_octet(alloc, order, &read?)?;
+    Ok(end as usize == want.len() && again.bytes() == want)
+}
+
+/// Why no value of the type is read, and where the reader then stands.
+fn refusal<T: Spelled + Drop>(alloc: Global, bytes: &[u8]) -> (Option<ValueFault>, u32) {
+    let (read, end) = read_behind::<T>(alloc, bytes, BIG);
+    (read.err(), end)
+}
+
+#[test]
+fn numbers(rt: HostRuntime) {
+    let alloc = rt.alloc();
+    assert_eq!(rt; is_spelled(alloc, BIG, &258_u16, &[9, 0, 1, 2]), Ok(true));
+    assert_eq!(rt;
+        is_spelled(alloc, LITTLE, &258_u32, &[9, 0, 0, 0, 2, 1, 0, 0]),
+        Ok(true)
+    );
+    assert_eq!(rt;
+        is_spelled(alloc, BIG, &-2_i16, &[9, 0, 255, 254]),
+        Ok(true)
+    );
+    assert_eq!(rt;
+        is_spelled(alloc, LITTLE, &-2_i32, &[9, 0, 0, 0, 254, 255, 255, 255]),
+        Ok(true)
+    );
+    assert_eq!(rt; is_spelled(alloc, BIG, &true, &[9, 1]), Ok(true));
+}
+
+#[test]
+fn long_numbers(rt: HostRuntime) {
+    let alloc = rt.alloc();
+    let unsigned = [9, 0, 0, 0, 0, 0, 0, 0, 1, 2, 3, 4, 5, 6, 7, 8];
+    assert_eq!(rt;
+        is_spelled(alloc, BIG, &72_623_859_790_382_856_u64, &unsigned),
+        Ok(true)
+    );
+    let signed = [9, 0, 0, 0, 0, 0, 0, 0, 0, 0, 0, 0, 0, 0, 0, 128];
+    assert_eq!(rt; is_spelled(alloc, LITTLE, &i64::MIN, &signed), Ok(true));
+}
+
+#[test]
+fn texts_and_octets(rt: HostRuntime) -> Result<(), Fail> {
+    let alloc = rt.alloc();
+    let text = Text::from_slice(alloc, b"hi")?;
+    assert_eq!(rt;
+        is_spelled(alloc, BIG, &text, &[9, 0, 0, 0, 0, 0, 0, 3, b'h', b'i', 0]),
+        Ok(true)
+    );
+    let octets = Octets::from_slice(alloc, &[7, 0])?;
+    assert_eq!(rt;
+        is_spelled(alloc, LITTLE, &octets, &[9, 0, 0, 0, 2, 0, 0, 0, 7, 0]),
+        Ok(true)
+    );
+    Ok(())
+}
+
+#[test]
+fn lists_and_pairs(rt: HostRuntime) -> Result<(), Fail> {
+    let alloc = rt.alloc();
+    let numbers = List::from_slice(alloc, &[5_u16, 6, 7])?;
+    assert_eq!(rt;
+        is_spelled(
+            alloc,
+            BIG,
+            &numbers,
+            &[9, 0, 0, 0, 0, 0, 0, 3, 0, 5, 0, 6, 0, 7]
+        ),
+        Ok(true)
+    );
+    let pair = (true, 1_u32);
+    assert_eq!(rt;
+        is_spelled(alloc, BIG, &pair, &[9, 1, 0, 0, 0, 0, 0, 1]),
+        Ok(true)
+    );
+    Ok(())
+}
+
+#[test]
+fn refusals(rt: HostRuntime) {
+    let alloc = rt.alloc();
+    let beyond = Some(ValueFault::Cdr(CdrFault::BadBoolean(1)));
+    assert_eq!(rt; refusal::<bool>(alloc, &[9, 2]), (beyond, 1));
+    let second = Some(ValueFault::Cdr(CdrFault::BadBoolean(9)));
+    assert_eq!(rt;
+        refusal::<List<bool>>(alloc, &[9, 0, 0, 0, 0, 0, 0, 3, 1, 2, 3]),
+        (second, 1)
+    );
+    let count = Some(ValueFault::Cdr(CdrFault::Short(4)));
+    assert_eq!(rt;
+        refusal::<List<bool>>(alloc, &[9, 0, 0, 0, 0, 0]),
+        (count, 1)
+    );
+    let third = Some(ValueFault::Cdr(CdrFault::Short(12)));
+    assert_eq!(rt;
+        refusal::<List<u16>>(alloc, &[9, 0, 0, 0, 0, 0, 0, 3, 0, 1, 0, 2, 0]),
+        (third, 1)
+    );
+    let after = Some(ValueFault::Cdr(CdrFault::TooLong(4)));
+    assert_eq!(rt;
+        refusal::<(bool, Text)>(alloc, &[9, 1, 0, 0, 0, 0, 0, 2, b'a']),
+        (after, 1)
+    );
+}
+
+#[test]
+fn many_octets(rt: HostRuntime) -> Result<(), Fail> {
+    let alloc = rt.alloc();
+    let octets: Octets = List::from_vec(vec![in alloc; 7_u8; 8192]?);
+    let mut writer = Writer::new(alloc, BIG);
+    write_whole(alloc, &mut writer, &octets)?;
+    assert_eq!(rt; writer.len(), 8196);
+    assert!(rt; &writer.bytes()[..5] == [0, 0, 32, 0, 7].as_slice());
+    let mut reader = Reader::new(writer.bytes(), 0, BIG);
+    let read: Octets = read_whole(alloc, &mut reader)?;
+    assert_eq!(rt; reader.place(), 8196);
+    assert!(rt; read.as_slice() == octets.as_slice());
+    Ok(())
+}
+
+/// Rows of two to six values, one behind another.
+fn rows(alloc: Global, writer: &mut Writer) -> Result<(), Memory> {
+    put_two(alloc, writer, &true, &1_u16)?;
+    put_three(alloc, writer, &true, &2_u16, &3_u32)?;
+    put_four(alloc, writer, &true, &4_u16, &5_u16, &6_u32)?;
+    put_five(alloc, writer, &true, &false, &7_u16, &8_u16, &9_u16)?;
+    put_six(
+        alloc, writer, &true, &10_u16, &11_u16, &12_u16, &false, &true,
+    )
+}
+
+#[test]
+fn rows_in_order(rt: HostRuntime) -> Result<(), Fail> {
+    let mut writer = Writer::new(rt.alloc(), BIG);
+    rows(rt.alloc(), &mut writer)?;
+    let front = [
+        1, 0, 0, 1, 1, 0, 0, 2, 0, 0, 0, 3, 1, 0, 0, 4, 0, 5, 0, 0, 0, 0, 0, 6,
+    ];
+    let back = [1, 0, 0, 7, 0, 8, 0, 9, 1, 0, 0, 10, 0, 11, 0, 12, 0, 1];
+    assert_eq!(rt; writer.len(), 42);
+    assert!(rt; &writer.bytes()[..24] == front.as_slice());
+    assert!(rt; &writer.bytes()[24..] == back.as_slice());
+    Ok(())
+}
+
+/// Whether a copy of a box's text has the same bytes.
+fn copied(alloc: Global, boxed: &Boxed<Text>) -> Result<bool, Memory> {
+    let twin = boxed.copy(alloc)?;
+    Ok(twin.get().as_slice() == boxed.get().as_slice())
+}
+
+#[test]
+fn copies(rt: HostRuntime) -> Result<(), Fail> {
+    let boxed = Boxed::new(rt.alloc(), Text::from_slice(rt.alloc(), b"twin")?)?;
+    assert_eq!(rt; copied(rt.alloc(), &boxed), Ok(true));
+    Ok(())
+}
+
+#[test]
+fn values_copied_one_after_another(rt: HostRuntime) {
+    let alloc = rt.alloc();
+    assert!(rt; copy_two(alloc, &1u32, &true) == Ok((1, true)));
+    assert!(rt; copy_three(alloc, &1u32, &2u32, &false) == Ok((1, (2, false))));
+    assert!(rt; copy_four(alloc, &1u32, &2u32, &3u32, &4u32) == Ok((1, (2, (3, 4)))));
+}
