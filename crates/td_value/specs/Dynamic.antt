@@ -2,8 +2,10 @@
 -- TypeCode, without aliases at every level.
 use Rattle.std.specs.Prelude.{ℕ, Bool, true, false, IsTrue, ◌&&◌, List, [], ◌∷◌, nat_eq, codes}
 use Rattle.std.specs.Cmp.Lexicographic.{pointwise}
-use Rattle.td_value.specs.declared.code.TypeCode.{TypeCode}
-use Rattle.td_value.specs.Same.{Shapes, empty, node, Shape, shape}
+use Rattle.td_codes.specs.declared.code.TypeCode.{TypeCode}
+use Rattle.td_codes.specs.declared.kinds.CodeKind.TheVariants as kind
+use Rattle.td_codes.specs.Kinds.{number_of}
+use Rattle.td_codes.specs.Same.{Shapes, empty, node, Shape, shape}
 
 abbrev pub dynamic_id : List ℕ
 dynamic_id = codes "IDL:omg.org/CosTradingDynamic/DynamicProp:1.0"
@@ -15,9 +17,13 @@ has_kinds [] (node l k n i x xs) = false
 has_kinds (kind ∷ kinds) empty = false
 has_kinds (kind ∷ kinds) (node l k n i x xs) = nat_eq k kind && has_kinds kinds xs
 
+-- an object reference, a TypeCode and an any
+abbrev pub dynamic_kinds : List ℕ
+dynamic_kinds = number_of kind.ObjRef ∷ number_of kind.Code ∷ number_of kind.AnyCode ∷ []
+
 -- a structure of that id with an object reference, a TypeCode and an any
 abbrev pub dynamic_shape : Shape → Bool
-dynamic_shape s = nat_eq s.kind 15 && (pointwise nat_eq s.id dynamic_id && has_kinds (14 ∷ 12 ∷ 11 ∷ []) s.inner)
+dynamic_shape s = nat_eq s.kind (number_of kind.Struct) && (pointwise nat_eq s.id dynamic_id && has_kinds dynamic_kinds s.inner)
 
 abbrev pub IsDynamic : TypeCode → Type 0
 IsDynamic t = IsTrue (dynamic_shape (shape t))

@@ -1,13 +1,5 @@
-pub mod Codes
-pub mod Grammar
-pub mod Labels
-pub mod Laws
-pub mod References
-pub mod Same
-pub mod Values
-pub mod Writing
-pub mod WritingCodes
-pub mod WritingValues
+pub mod Dynamic
 pub mod Enumerations
 pub mod Structures
-pub mod Dynamic
+pub mod Unions
+pub mod Values

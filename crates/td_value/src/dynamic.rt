@@ -1,12 +1,13 @@
 //! Anys that hold a property which is evaluated when it is asked for.
 
-ghost use Rattle.std.specs.Prelude.{◌≡◌, map, nat_eq, [], ◌∷◌};
+ghost use Rattle.std.specs.Prelude.{◌≡◌, map, nat_eq};
 ghost use Rattle.std.specs.Cmp.Lexicographic.{pointwise};
-ghost use Rattle.td_value.specs.Same.{shape, row, member_entry};
-ghost use Rattle.td_value.specs.Dynamic.{dynamic_shape, has_kinds, dynamic_id};
+ghost use Rattle.td_codes.specs.declared.kinds.CodeKind.TheVariants as kind;
+ghost use Rattle.td_codes.specs.Kinds.{number_of};
+ghost use Rattle.td_codes.specs.Same.{shape, row, member_entry};
+ghost use Rattle.td_value.specs.Dynamic.{dynamic_shape, has_kinds, dynamic_id, dynamic_kinds};
 
-use crate::code::{Member, TypeCode};
-use crate::same::bare;
+use td_codes::{Member, TypeCode, bare};
 
 /// The repository id of a DynamicProp.
 const DYNAMIC_ID: &[u8] = b"IDL:omg.org/CosTradingDynamic/DynamicProp:1.0";
@@ -31,7 +32,7 @@ fn is_dynamic_id(id: &[u8]) -> bool
 }
 
 fn has_dynamic_members(members: &[Member]) -> bool
-    ensures { result ≡ has_kinds (14 ∷ 12 ∷ 11 ∷ []) (row (map member_entry members.now)) }
+    ensures { result ≡ has_kinds dynamic_kinds (row (map member_entry members.now)) }
 {
     match members {
         [first, second, third] => {
@@ -42,19 +43,19 @@ fn has_dynamic_members(members: &[Member]) -> bool
 }
 
 fn is_object(code: &TypeCode) -> bool
-    ensures { result ≡ nat_eq (shape code.now).kind 14 }
+    ensures { result ≡ nat_eq (shape code.now).kind (number_of kind.ObjRef) }
 {
     matches!(bare(code), TypeCode::ObjRef { .. })
 }
 
 fn is_code(code: &TypeCode) -> bool
-    ensures { result ≡ nat_eq (shape code.now).kind 12 }
+    ensures { result ≡ nat_eq (shape code.now).kind (number_of kind.Code) }
 {
     matches!(bare(code), TypeCode::Code)
 }
 
 fn is_any(code: &TypeCode) -> bool
-    ensures { result ≡ nat_eq (shape code.now).kind 11 }
+    ensures { result ≡ nat_eq (shape code.now).kind (number_of kind.AnyCode) }
 {
     matches!(bare(code), TypeCode::AnyCode)
 }

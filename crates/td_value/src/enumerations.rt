@@ -1,14 +1,11 @@
 //! The enumerations of the trading service (OMG's Trading Object Service, modules CosTrading and
-//! CosTradingRepos), with their numbers, from bytes and to bytes.
+//! CosTradingRepos): each value is spelled by its number.
 
 ghost use Rattle.std.specs.Prelude.{◌≡◌};
-ghost use Rattle.td_value.specs.Grammar.{Gives};
-ghost use Rattle.td_value.specs.Writing.{Appends, number};
-ghost use Rattle.td_value.specs.Enumerations.{follow_option, follow_option_of, follow_option_number, how_many_props, how_many_props_of, how_many_props_number, property_mode, property_mode_of, property_mode_number, list_option, list_option_of, list_option_number};
+ghost use Rattle.td_value.specs.Enumerations.{follow_option, follow_option_number, how_many_props, how_many_props_number, property_mode, property_mode_number, list_option, list_option_number};
 
-use crate::fault::ValueFault;
 use std::alloc::Global;
-use td_cdr::{Memory, Reader, Twin, Writer};
+use td_cdr::{Memory, Reader, Spelled, Twin, ValueFault, Writer};
 
 /// How far a query follows a link. A later one permits more.
 #[derive(Clone, Copy, Debug, PartialEq, Eq)]
@@ -37,24 +34,28 @@ impl FollowOption {
     }
 }
 
-/// The next FollowOption. Where it is refused, the reader may have moved.
-pub fn follow_option_at(r: &mut Reader) -> Result<FollowOption, ValueFault>
-    ensures { Gives (λ e. e) r.new result (follow_option.reading r.old) }
-{
-    let place = r.aligned();
-    match r.u32()? {
-        0 => Ok(FollowOption::LocalOnly),
-        1 => Ok(FollowOption::IfNoLocal),
-        2 => Ok(FollowOption::Always),
-        _ => Err(ValueFault::BadValue(place)),
-    }
-}
+impl Spelled for FollowOption {
+    ghost format = { follow_option.format };
 
-/// Appends the number of a FollowOption, or nothing.
-pub fn put_follow_option(w: &mut Writer, e: FollowOption) -> Result<(), Memory>
-    ensures { Appends (number 4 (follow_option_number e)) w.old w.new result }
-{
-    w.u32(e.number())
+    ghost faults = { follow_option.faults };
+
+    fn read(_alloc: Global, r: &mut Reader) -> Result<FollowOption, ValueFault> {
+        let place = r.aligned();
+        match r.u32()? {
+            0 => Ok(FollowOption::LocalOnly),
+            1 => Ok(FollowOption::IfNoLocal),
+            2 => Ok(FollowOption::Always),
+            _ => Err(ValueFault::BadValue(place)),
+        }
+    }
+
+    fn write(&self, _alloc: Global, w: &mut Writer) -> Result<(), Memory> {
+        w.u32(self.number())
+    }
+
+    ghost lawful = { follow_option.lawful };
+
+    ghost refuses = { follow_option.refuses };
 }
 
 /// Which properties an importer asks for.
@@ -84,24 +85,28 @@ impl HowManyProps {
     }
 }
 
-/// The next HowManyProps. Where it is refused, the reader may have moved.
-pub fn how_many_props_at(r: &mut Reader) -> Result<HowManyProps, ValueFault>
-    ensures { Gives (λ e. e) r.new result (how_many_props.reading r.old) }
-{
-    let place = r.aligned();
-    match r.u32()? {
-        0 => Ok(HowManyProps::None),
-        1 => Ok(HowManyProps::Some),
-        2 => Ok(HowManyProps::All),
-        _ => Err(ValueFault::BadValue(place)),
-    }
-}
+impl Spelled for HowManyProps {
+    ghost format = { how_many_props.format };
 
-/// Appends the number of a HowManyProps, or nothing.
-pub fn put_how_many_props(w: &mut Writer, e: HowManyProps) -> Result<(), Memory>
-    ensures { Appends (number 4 (how_many_props_number e)) w.old w.new result }
-{
-    w.u32(e.number())
+    ghost faults = { how_many_props.faults };
+
+    fn read(_alloc: Global, r: &mut Reader) -> Result<HowManyProps, ValueFault> {
+        let place = r.aligned();
+        match r.u32()? {
+            0 => Ok(HowManyProps::None),
+            1 => Ok(HowManyProps::Some),
+            2 => Ok(HowManyProps::All),
+            _ => Err(ValueFault::BadValue(place)),
+        }
+    }
+
+    fn write(&self, _alloc: Global, w: &mut Writer) -> Result<(), Memory> {
+        w.u32(self.number())
+    }
+
+    ghost lawful = { how_many_props.lawful };
+
+    ghost refuses = { how_many_props.refuses };
 }
 
 /// What an exporter owes of a property.
@@ -133,25 +138,29 @@ impl PropertyMode {
     }
 }
 
-/// The next PropertyMode. Where it is refused, the reader may have moved.
-pub fn property_mode_at(r: &mut Reader) -> Result<PropertyMode, ValueFault>
-    ensures { Gives (λ e. e) r.new result (property_mode.reading r.old) }
-{
-    let place = r.aligned();
-    match r.u32()? {
-        0 => Ok(PropertyMode::Normal),
-        1 => Ok(PropertyMode::Readonly),
-        2 => Ok(PropertyMode::Mandatory),
-        3 => Ok(PropertyMode::MandatoryReadonly),
-        _ => Err(ValueFault::BadValue(place)),
-    }
-}
+impl Spelled for PropertyMode {
+    ghost format = { property_mode.format };
 
-/// Appends the number of a PropertyMode, or nothing.
-pub fn put_property_mode(w: &mut Writer, e: PropertyMode) -> Result<(), Memory>
-    ensures { Appends (number 4 (property_mode_number e)) w.old w.new result }
-{
-    w.u32(e.number())
+    ghost faults = { property_mode.faults };
+
+    fn read(_alloc: Global, r: &mut Reader) -> Result<PropertyMode, ValueFault> {
+        let place = r.aligned();
+        match r.u32()? {
+            0 => Ok(PropertyMode::Normal),
+            1 => Ok(PropertyMode::Readonly),
+            2 => Ok(PropertyMode::Mandatory),
+            3 => Ok(PropertyMode::MandatoryReadonly),
+            _ => Err(ValueFault::BadValue(place)),
+        }
+    }
+
+    fn write(&self, _alloc: Global, w: &mut Writer) -> Result<(), Memory> {
+        w.u32(self.number())
+    }
+
+    ghost lawful = { property_mode.lawful };
+
+    ghost refuses = { property_mode.refuses };
 }
 
 /// Which service types are listed.
@@ -179,21 +188,25 @@ impl ListOption {
     }
 }
 
-/// The next ListOption. Where it is refused, the reader may have moved.
-pub fn list_option_at(r: &mut Reader) -> Result<ListOption, ValueFault>
-    ensures { Gives (λ e. e) r.new result (list_option.reading r.old) }
-{
-    let place = r.aligned();
-    match r.u32()? {
-        0 => Ok(ListOption::All),
-        1 => Ok(ListOption::Since),
-        _ => Err(ValueFault::BadValue(place)),
-    }
-}
+impl Spelled for ListOption {
+    ghost format = { list_option.format };
 
-/// Appends the number of a ListOption, or nothing.
-pub fn put_list_option(w: &mut Writer, e: ListOption) -> Result<(), Memory>
-    ensures { Appends (number 4 (list_option_number e)) w.old w.new result }
-{
-    w.u32(e.number())
+    ghost faults = { list_option.faults };
+
+    fn read(_alloc: Global, r: &mut Reader) -> Result<ListOption, ValueFault> {
+        let place = r.aligned();
+        match r.u32()? {
+            0 => Ok(ListOption::All),
+            1 => Ok(ListOption::Since),
+            _ => Err(ValueFault::BadValue(place)),
+        }
+    }
+
+    fn write(&self, _alloc: Global, w: &mut Writer) -> Result<(), Memory> {
+        w.u32(self.number())
+    }
+
+    ghost lawful = { list_option.lawful };
+
+    ghost refuses = { list_option.refuses };
 }

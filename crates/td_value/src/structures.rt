@@ -1,11 +1,16 @@
 //! The structures of the trading service (OMG's Trading Object Service, modules CosTrading,
-//! CosTradingDynamic and CosTradingRepos).
+//! CosTradingDynamic and CosTradingRepos): each is spelled by its members in order.
 
-use crate::code::{Any, TypeCode};
+ghost use Rattle.std.specs.Prelude.{◌≡◌};
+ghost use Rattle.td_value.specs.Structures.{property, policy, incarnation_number, prop_struct, offer, offer_info, link_info, proxy_info, type_struct, dynamic_prop};
+
 use crate::enumerations::{FollowOption, PropertyMode};
-use crate::reference::Ior;
 use std::alloc::Global;
-use td_cdr::{List, Memory, Text, Twin};
+use td_cdr::{
+    List, Memory, Reader, Spelled, Text, Twin, ValueFault, Writer, put_five, put_four, put_six,
+    put_three, put_two,
+};
+use td_codes::{Any, Ior, TypeCode};
 
 /// A property of an offer.
 #[derive(Drop)]
@@ -22,6 +27,27 @@ impl Twin for Property {
             value: self.value.copy(alloc)?,
         })
     }
+}
+
+impl Spelled for Property {
+    ghost format = { property.format };
+
+    ghost faults = { property.faults };
+
+    fn read(alloc: Global, r: &mut Reader) -> Result<Property, ValueFault> {
+        Ok(Property {
+            name: Text::read(alloc, r)?,
+            value: Any::read(alloc, r)?,
+        })
+    }
+
+    fn write(&self, alloc: Global, w: &mut Writer) -> Result<(), Memory> {
+        put_two(alloc, w, &self.name, &self.value)
+    }
+
+    ghost lawful = { property.lawful };
+
+    ghost refuses = { property.refuses };
 }
 
 /// A policy of an importer.
@@ -41,6 +67,27 @@ impl Twin for Policy {
     }
 }
 
+impl Spelled for Policy {
+    ghost format = { policy.format };
+
+    ghost faults = { policy.faults };
+
+    fn read(alloc: Global, r: &mut Reader) -> Result<Policy, ValueFault> {
+        Ok(Policy {
+            name: Text::read(alloc, r)?,
+            value: Any::read(alloc, r)?,
+        })
+    }
+
+    fn write(&self, alloc: Global, w: &mut Writer) -> Result<(), Memory> {
+        put_two(alloc, w, &self.name, &self.value)
+    }
+
+    ghost lawful = { policy.lawful };
+
+    ghost refuses = { policy.refuses };
+}
+
 /// The number that a type gets when it is added, in two halves.
 #[derive(Drop)]
 pub struct IncarnationNumber {
@@ -55,6 +102,27 @@ impl Twin for IncarnationNumber {
             low: self.low,
         })
     }
+}
+
+impl Spelled for IncarnationNumber {
+    ghost format = { incarnation_number.format };
+
+    ghost faults = { incarnation_number.faults };
+
+    fn read(alloc: Global, r: &mut Reader) -> Result<IncarnationNumber, ValueFault> {
+        Ok(IncarnationNumber {
+            high: u32::read(alloc, r)?,
+            low: u32::read(alloc, r)?,
+        })
+    }
+
+    fn write(&self, alloc: Global, w: &mut Writer) -> Result<(), Memory> {
+        put_two(alloc, w, &self.high, &self.low)
+    }
+
+    ghost lawful = { incarnation_number.lawful };
+
+    ghost refuses = { incarnation_number.refuses };
 }
 
 /// A property as a service type declares it.
@@ -76,6 +144,28 @@ impl Twin for PropStruct {
     }
 }
 
+impl Spelled for PropStruct {
+    ghost format = { prop_struct.format };
+
+    ghost faults = { prop_struct.faults };
+
+    fn read(alloc: Global, r: &mut Reader) -> Result<PropStruct, ValueFault> {
+        Ok(PropStruct {
+            name: Text::read(alloc, r)?,
+            value_type: TypeCode::read(alloc, r)?,
+            mode: PropertyMode::read(alloc, r)?,
+        })
+    }
+
+    fn write(&self, alloc: Global, w: &mut Writer) -> Result<(), Memory> {
+        put_three(alloc, w, &self.name, &self.value_type, &self.mode)
+    }
+
+    ghost lawful = { prop_struct.lawful };
+
+    ghost refuses = { prop_struct.refuses };
+}
+
 /// An offer as an importer sees it.
 #[derive(Drop)]
 pub struct Offer {
@@ -90,6 +180,27 @@ impl Twin for Offer {
             properties: self.properties.copy(alloc)?,
         })
     }
+}
+
+impl Spelled for Offer {
+    ghost format = { offer.format };
+
+    ghost faults = { offer.faults };
+
+    fn read(alloc: Global, r: &mut Reader) -> Result<Offer, ValueFault> {
+        Ok(Offer {
+            reference: Ior::read(alloc, r)?,
+            properties: List::read(alloc, r)?,
+        })
+    }
+
+    fn write(&self, alloc: Global, w: &mut Writer) -> Result<(), Memory> {
+        put_two(alloc, w, &self.reference, &self.properties)
+    }
+
+    ghost lawful = { offer.lawful };
+
+    ghost refuses = { offer.refuses };
 }
 
 /// An offer as its exporter sees it.
@@ -109,6 +220,34 @@ impl Twin for OfferInfo {
             properties: self.properties.copy(alloc)?,
         })
     }
+}
+
+impl Spelled for OfferInfo {
+    ghost format = { offer_info.format };
+
+    ghost faults = { offer_info.faults };
+
+    fn read(alloc: Global, r: &mut Reader) -> Result<OfferInfo, ValueFault> {
+        Ok(OfferInfo {
+            reference: Ior::read(alloc, r)?,
+            service_type: Text::read(alloc, r)?,
+            properties: List::read(alloc, r)?,
+        })
+    }
+
+    fn write(&self, alloc: Global, w: &mut Writer) -> Result<(), Memory> {
+        put_three(
+            alloc,
+            w,
+            &self.reference,
+            &self.service_type,
+            &self.properties,
+        )
+    }
+
+    ghost lawful = { offer_info.lawful };
+
+    ghost refuses = { offer_info.refuses };
 }
 
 /// A link to another trader.
@@ -131,6 +270,36 @@ impl Twin for LinkInfo {
             limiting_follow_rule: self.limiting_follow_rule,
         })
     }
+}
+
+impl Spelled for LinkInfo {
+    ghost format = { link_info.format };
+
+    ghost faults = { link_info.faults };
+
+    fn read(alloc: Global, r: &mut Reader) -> Result<LinkInfo, ValueFault> {
+        Ok(LinkInfo {
+            target: Ior::read(alloc, r)?,
+            target_reg: Ior::read(alloc, r)?,
+            def_pass_on_follow_rule: FollowOption::read(alloc, r)?,
+            limiting_follow_rule: FollowOption::read(alloc, r)?,
+        })
+    }
+
+    fn write(&self, alloc: Global, w: &mut Writer) -> Result<(), Memory> {
+        put_four(
+            alloc,
+            w,
+            &self.target,
+            &self.target_reg,
+            &self.def_pass_on_follow_rule,
+            &self.limiting_follow_rule,
+        )
+    }
+
+    ghost lawful = { link_info.lawful };
+
+    ghost refuses = { link_info.refuses };
 }
 
 /// A proxy offer.
@@ -159,6 +328,40 @@ impl Twin for ProxyInfo {
     }
 }
 
+impl Spelled for ProxyInfo {
+    ghost format = { proxy_info.format };
+
+    ghost faults = { proxy_info.faults };
+
+    fn read(alloc: Global, r: &mut Reader) -> Result<ProxyInfo, ValueFault> {
+        Ok(ProxyInfo {
+            service_type: Text::read(alloc, r)?,
+            target: Ior::read(alloc, r)?,
+            properties: List::read(alloc, r)?,
+            if_match_all: bool::read(alloc, r)?,
+            recipe: Text::read(alloc, r)?,
+            policies_to_pass_on: List::read(alloc, r)?,
+        })
+    }
+
+    fn write(&self, alloc: Global, w: &mut Writer) -> Result<(), Memory> {
+        put_six(
+            alloc,
+            w,
+            &self.service_type,
+            &self.target,
+            &self.properties,
+            &self.if_match_all,
+            &self.recipe,
+            &self.policies_to_pass_on,
+        )
+    }
+
+    ghost lawful = { proxy_info.lawful };
+
+    ghost refuses = { proxy_info.refuses };
+}
+
 /// A service type.
 #[derive(Drop)]
 pub struct TypeStruct {
@@ -182,6 +385,38 @@ impl Twin for TypeStruct {
     }
 }
 
+impl Spelled for TypeStruct {
+    ghost format = { type_struct.format };
+
+    ghost faults = { type_struct.faults };
+
+    fn read(alloc: Global, r: &mut Reader) -> Result<TypeStruct, ValueFault> {
+        Ok(TypeStruct {
+            if_name: Text::read(alloc, r)?,
+            props: List::read(alloc, r)?,
+            super_types: List::read(alloc, r)?,
+            masked: bool::read(alloc, r)?,
+            incarnation: IncarnationNumber::read(alloc, r)?,
+        })
+    }
+
+    fn write(&self, alloc: Global, w: &mut Writer) -> Result<(), Memory> {
+        put_five(
+            alloc,
+            w,
+            &self.if_name,
+            &self.props,
+            &self.super_types,
+            &self.masked,
+            &self.incarnation,
+        )
+    }
+
+    ghost lawful = { type_struct.lawful };
+
+    ghost refuses = { type_struct.refuses };
+}
+
 /// A property that is evaluated when it is asked for.
 #[derive(Drop)]
 pub struct DynamicProp {
@@ -201,39 +436,30 @@ impl Twin for DynamicProp {
     }
 }
 
-/// The properties that an importer asks for.
-#[derive(Drop)]
-pub enum SpecifiedProps {
-    None,
-    Some(List<Text>),
-    All,
-}
+impl Spelled for DynamicProp {
+    ghost format = { dynamic_prop.format };
 
-impl Twin for SpecifiedProps {
-    fn copy(&self, alloc: Global) -> Result<SpecifiedProps, Memory> {
-        match self {
-            SpecifiedProps::None => Ok(SpecifiedProps::None),
-            SpecifiedProps::Some(names) => Ok(SpecifiedProps::Some(names.copy(alloc)?)),
-            SpecifiedProps::All => Ok(SpecifiedProps::All),
-        }
+    ghost faults = { dynamic_prop.faults };
+
+    fn read(alloc: Global, r: &mut Reader) -> Result<DynamicProp, ValueFault> {
+        Ok(DynamicProp {
+            eval_if: Ior::read(alloc, r)?,
+            returned_type: TypeCode::read(alloc, r)?,
+            extra_info: Any::read(alloc, r)?,
+        })
     }
-}
 
-/// The service types that are listed.
-#[derive(Drop)]
-pub enum SpecifiedServiceTypes {
-    All,
-    /// Those of this incarnation or a later one.
-    Since(IncarnationNumber),
-}
-
-impl Twin for SpecifiedServiceTypes {
-    fn copy(&self, alloc: Global) -> Result<SpecifiedServiceTypes, Memory> {
-        match self {
-            SpecifiedServiceTypes::All => Ok(SpecifiedServiceTypes::All),
-            SpecifiedServiceTypes::Since(incarnation) => {
-                Ok(SpecifiedServiceTypes::Since(incarnation.copy(alloc)?))
-            }
-        }
+    fn write(&self, alloc: Global, w: &mut Writer) -> Result<(), Memory> {
+        put_three(
+            alloc,
+            w,
+            &self.eval_if,
+            &self.returned_type,
+            &self.extra_info,
+        )
     }
+
+    ghost lawful = { dynamic_prop.lawful };
+
+    ghost refuses = { dynamic_prop.refuses };
 }

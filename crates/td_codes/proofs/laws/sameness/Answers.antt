@@ -1,0 +1,8 @@
+use Rattle.td_codes.proofs.Symmetry.{same-refl, same-symm}
+use Rattle.td_codes.proofs.laws.sameness.Goals as goal
+
+pub returns-clause-reflexive : goal.returns-clause-reflexive
+returns-clause-reflexive c = same-refl
+
+pub returns-clause-symmetric : goal.returns-clause-symmetric
+returns-clause-symmetric c = same-symm

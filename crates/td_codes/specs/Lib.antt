@@ -1,0 +1,9 @@
+pub mod Codes
+pub mod Formats
+pub mod Kinds
+pub mod Labels
+pub mod Layers
+pub mod References
+pub mod Same
+pub mod Values
+pub mod WritingCodes

@@ -1,0 +1,197 @@
+//! The kinds of TypeCodes, by their numbers.
+
+ghost use Rattle.std.specs.Prelude.{◌≡◌};
+ghost use Rattle.td_cdr.specs.Format.{Gives};
+ghost use Rattle.td_cdr.specs.ValueFaults.{is_memory};
+ghost use Rattle.td_codes.specs.Kinds.{number_of, numbered, all_kinds, may_switch, may_stand, under, indirect, kind_in, kind_at, deep_kind};
+
+use crate::mode::Mode;
+use td_cdr::{Reader, ValueFault};
+
+/// The kinds of TypeCodes that this project has (CORBA, General Inter-ORB Protocol, "TypeCode").
+#[derive(Clone, Copy, Debug, PartialEq, Eq)]
+pub enum CodeKind {
+    Null,
+    Void,
+    Short,
+    Long,
+    UShort,
+    ULong,
+    Boolean,
+    Char,
+    Octet,
+    AnyCode,
+    Code,
+    ObjRef,
+    Struct,
+    Union,
+    Enum,
+    Str,
+    Sequence,
+    Array,
+    Alias,
+    Except,
+    LongLong,
+    ULongLong,
+}
+
+/// All kinds, by rising number.
+const KINDS: [CodeKind; 22] = [
+    CodeKind::Null,
+    CodeKind::Void,
+    CodeKind::Short,
+    CodeKind::Long,
+    CodeKind::UShort,
+    CodeKind::ULong,
+    CodeKind::Boolean,
+    CodeKind::Char,
+    CodeKind::Octet,
+    CodeKind::AnyCode,
+    CodeKind::Code,
+    CodeKind::ObjRef,
+    CodeKind::Struct,
+    CodeKind::Union,
+    CodeKind::Enum,
+    CodeKind::Str,
+    CodeKind::Sequence,
+    CodeKind::Array,
+    CodeKind::Alias,
+    CodeKind::Except,
+    CodeKind::LongLong,
+    CodeKind::ULongLong,
+];
+
+/// The highest number that CORBA gives to a kind.
+const LAST_NUMBER: u32 = 28;
+
+/// What stands in a kind's place where a TypeCode that was spelled before is meant.
+const INDIRECTION: u32 = 0xffff_ffff;
+
+impl CodeKind {
+    /// The number that spells it.
+    pub fn number(self) -> u32
+        ensures { result ≡ number_of self }
+    {
+        match self {
+            CodeKind::Null => 0,
+            CodeKind::Void => 1,
+            CodeKind::Short => 2,
+            CodeKind::Long => 3,
+            CodeKind::UShort => 4,
+            CodeKind::ULong => 5,
+            CodeKind::Boolean => 8,
+            CodeKind::Char => 9,
+            CodeKind::Octet => 10,
+            CodeKind::AnyCode => 11,
+            CodeKind::Code => 12,
+            CodeKind::ObjRef => 14,
+            CodeKind::Struct => 15,
+            CodeKind::Union => 16,
+            CodeKind::Enum => 17,
+            CodeKind::Str => 18,
+            CodeKind::Sequence => 19,
+            CodeKind::Array => 20,
+            CodeKind::Alias => 21,
+            CodeKind::Except => 22,
+            CodeKind::LongLong => 23,
+            CodeKind::ULongLong => 24,
+        }
+    }
+}
+
+/// The first of these that has the number.
+fn find_numbered(kinds: &[CodeKind], number: u32) -> Option<CodeKind>
+    ensures { result ≡ numbered kinds.now number }
+{
+    for kind in kinds {
+        if number == kind.number() {
+            return Some(*kind);
+        }
+    }
+    None
+}
+
+/// The kind of a number.
+pub fn kind_of_number(number: u32) -> Option<CodeKind>
+    ensures { result ≡ numbered all_kinds number }
+{
+    find_numbered(&KINDS, number)
+}
+
+/// Whether a discriminator may have the kind, or an alias, whose item is looked at then.
+fn may_switch(kind: CodeKind) -> bool
+    ensures { result ≡ may_switch kind }
+{
+    matches!(
+        kind,
+        CodeKind::Short
+            | CodeKind::Long
+            | CodeKind::UShort
+            | CodeKind::ULong
+            | CodeKind::Boolean
+            | CodeKind::Char
+            | CodeKind::Enum
+            | CodeKind::Alias
+            | CodeKind::LongLong
+            | CodeKind::ULongLong
+    )
+}
+
+/// Whether the kind may stand there.
+pub fn may_stand(mode: Mode, kind: CodeKind) -> bool
+    ensures { result ≡ may_stand mode kind }
+{
+    match mode {
+        Mode::Outer => true,
+        Mode::Inner => !matches!(kind, CodeKind::Null | CodeKind::Void),
+        Mode::Switch => may_switch(kind),
+    }
+}
+
+/// How the item of an alias stands.
+pub fn under(mode: Mode) -> Mode
+    ensures { result ≡ under mode }
+{
+    match mode {
+        Mode::Switch => Mode::Switch,
+        Mode::Inner => Mode::Inner,
+        Mode::Outer => Mode::Inner,
+    }
+}
+
+/// The next kind, which may stand there; whether it is one level too deep tells the fault of an
+/// indirection.
+fn kind_in(r: &mut Reader, mode: Mode, deep: bool) -> Result<CodeKind, ValueFault>
+    ensures { Gives is_memory r.new result ((kind_in (indirect deep) mode).format.reads r.old) }
+{
+    let place = r.aligned();
+    let number = r.u32()?;
+    match kind_of_number(number) {
+        Some(kind) if may_stand(mode, kind) => Ok(kind),
+        Some(_) => Err(ValueFault::BadValue(place)),
+        None if number == INDIRECTION && deep => Err(ValueFault::Depth(place)),
+        None if number == INDIRECTION => Err(ValueFault::Indirection(place)),
+        None if number > LAST_NUMBER => Err(ValueFault::BadKind(place)),
+        None => match mode {
+            Mode::Switch => Err(ValueFault::BadValue(place)),
+            Mode::Inner => Err(ValueFault::Unsupported(number)),
+            Mode::Outer => Err(ValueFault::Unsupported(number)),
+        },
+    }
+}
+
+/// The next kind, which may stand there.
+pub fn kind_at(r: &mut Reader, mode: Mode) -> Result<CodeKind, ValueFault>
+    ensures { Gives is_memory r.new result ((kind_at mode).format.reads r.old) }
+{
+    kind_in(r, mode, false)
+}
+
+/// The next kind, one level too deep: none may stand there.
+pub fn deep_kind(r: &mut Reader, mode: Mode) -> Result<CodeKind, ValueFault>
+    ensures { Gives is_memory r.new result ((deep_kind mode).format.reads r.old) }
+{
+    let place = r.aligned();
+    let _kind = kind_in(r, mode, true)?;
+    Err(ValueFault::Depth(place))
+}

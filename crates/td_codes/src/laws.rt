@@ -1,0 +1,36 @@
+//! What holds of all TypeCodes and anys, as functions that do nothing: each one's contract is the law.
+
+ghost use Rattle.std.specs.Prelude.{◌≡◌, ℕ};
+ghost use Rattle.td_cdr.specs.Lawful.{Lawful};
+ghost use Rattle.td_cdr.specs.Faults.{Refuses};
+ghost use Rattle.td_codes.specs.declared.mode.Mode.{Mode};
+ghost use Rattle.td_codes.specs.declared.code.TypeCode.{TypeCode};
+ghost use Rattle.td_codes.specs.Same.{Same};
+ghost use Rattle.td_codes.specs.Codes.{codes};
+ghost use Rattle.td_codes.specs.Values.{anys};
+ghost use Rattle.td_codes.specs.WritingCodes.{written};
+
+/// A TypeCode is read as it is spelled, whatever follows, and only so; what has a spelling is
+/// admitted. What is written for an admitted TypeCode spells it, and so is read back, in either order
+/// and at any place. It is refused exactly where the bytes are at fault. This holds at every level, in a
+/// body and inside a TypeCode; what is written does not depend on the level.
+pub fn codes_are_spelled()
+    ensures lawful { (levels : ℕ) (mode : Mode) → Lawful (codes levels mode).format }
+    ensures refuses { (levels : ℕ) (mode : Mode) → Refuses (codes levels mode).faults (codes levels mode).format.reads }
+    ensures written { (levels : ℕ) (mode : Mode) → (codes levels mode).format.writes ≡ written }
+{}
+
+/// An any is read as it is spelled, whatever follows, and only so; what has a spelling is admitted.
+/// What is written for an admitted one spells it, and so is read back, in either order and at any place.
+/// It is refused exactly where the bytes are at fault. This holds at every level.
+pub fn anys_are_spelled()
+    ensures lawful { (levels : ℕ) → Lawful (anys levels).format }
+    ensures refuses { (levels : ℕ) → Refuses (anys levels).faults (anys levels).format.reads }
+{}
+
+/// A TypeCode is the same as itself, and so as its copy, and being the same goes both ways. It isn't
+/// transitive, since a TypeCode without an id is the same as two of different ids.
+pub fn sameness()
+    ensures reflexive { (a : TypeCode) → Same a a }
+    ensures symmetric { (a b : TypeCode) → Same a b → Same b a }
+{}

@@ -1,0 +1,27 @@
+//! CORBA's TypeCodes, the values under them, anys and object references.
+#![tactic(auto)]
+
+mod code;
+mod copy;
+mod kinds;
+mod label;
+mod labels;
+mod laws;
+mod mode;
+mod reading;
+mod reference;
+mod same;
+mod spelled;
+mod values;
+mod writing;
+mod writing_values;
+
+pub use code::{Any, Arm, Member, TypeCode, Value};
+pub use kinds::CodeKind;
+pub use laws::{anys_are_spelled, codes_are_spelled, sameness};
+pub use mode::Mode;
+pub use reading::LEVELS;
+pub use reference::{Ior, Profile, read_ior, write_ior};
+pub use same::{bare, same_type};
+pub use spelled::{read_any, read_typecode, write_any};
+pub use writing::write_typecode;

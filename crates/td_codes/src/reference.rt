@@ -1,0 +1,110 @@
+//! Object references (CORBA's chapter on interoperability, "Interoperable Object References").
+
+ghost use Rattle.std.specs.Prelude.{◌≡◌};
+ghost use Rattle.td_cdr.specs.Format.{Reads, Appends};
+ghost use Rattle.td_cdr.specs.ValueFaults.{is_memory};
+ghost use Rattle.td_codes.specs.References.{profile, reference};
+
+use std::alloc::Global;
+use td_cdr::{
+    List, Memory, Octets, Reader, Spelled, Text, Twin, ValueFault, Writer, put_two, read_whole,
+    write_whole,
+};
+
+/// How an object may be reached by one protocol. The octets are kept as they came.
+#[derive(Drop)]
+pub struct Profile {
+    /// Which protocol: 0 is IIOP.
+    pub tag: u32,
+    pub octets: Octets,
+}
+
+/// An interoperable object reference. The nil reference has an empty id and no profiles.
+#[derive(Drop)]
+pub struct Ior {
+    /// The repository id of the object's interface.
+    pub id: Text,
+    pub profiles: List<Profile>,
+}
+
+impl Twin for Profile {
+    fn copy(&self, alloc: Global) -> Result<Profile, Memory> {
+        Ok(Profile {
+            tag: self.tag,
+            octets: self.octets.copy(alloc)?,
+        })
+    }
+}
+
+impl Twin for Ior {
+    fn copy(&self, alloc: Global) -> Result<Ior, Memory> {
+        Ok(Ior {
+            id: self.id.copy(alloc)?,
+            profiles: self.profiles.copy(alloc)?,
+        })
+    }
+}
+
+impl Spelled for Profile {
+    ghost format = { profile.format };
+
+    ghost faults = { profile.faults };
+
+    fn read(alloc: Global, r: &mut Reader) -> Result<Profile, ValueFault> {
+        Ok(Profile {
+            tag: u32::read(alloc, r)?,
+            octets: Octets::read(alloc, r)?,
+        })
+    }
+
+    fn write(&self, alloc: Global, w: &mut Writer) -> Result<(), Memory> {
+        put_two(alloc, w, &self.tag, &self.octets)
+    }
+
+    ghost lawful = { profile.lawful };
+
+    ghost refuses = { profile.refuses };
+}
+
+impl Spelled for Ior {
+    ghost format = { reference.format };
+
+    ghost faults = { reference.faults };
+
+    fn read(alloc: Global, r: &mut Reader) -> Result<Ior, ValueFault> {
+        Ok(Ior {
+            id: Text::read(alloc, r)?,
+            profiles: List::read(alloc, r)?,
+        })
+    }
+
+    fn write(&self, alloc: Global, w: &mut Writer) -> Result<(), Memory> {
+        put_two(alloc, w, &self.id, &self.profiles)
+    }
+
+    ghost lawful = { reference.lawful };
+
+    ghost refuses = { reference.refuses };
+}
+
+/// The next object reference.
+///
+/// # Errors
+///
+/// The first fault in reading order; the reader is then unchanged.
+pub fn read_ior(alloc: Global, r: &mut Reader) -> Result<Ior, ValueFault>
+    ensures { Reads is_memory reference.format r.old r.new result }
+{
+    read_whole::<Ior>(alloc, r)
+}
+
+/// Appends the reference.
+///
+/// # Errors
+///
+/// `Memory` for want of memory or of room; the writer is then unchanged.
+pub fn write_ior(alloc: Global, w: &mut Writer, ior: &Ior) -> Result<(), Memory>
+    ensures { Appends (reference.format.writes ior.now) w.old w.new result }
+{
+    write_whole(alloc, w, ior)
+}

@@ -1,0 +1,320 @@
+//! Values under a TypeCode, and anys, from bytes.
+
+ghost use Rattle.std.specs.Prelude.{◌≡◌, ◌≤◌, option_copied};
+ghost use Rattle.td_cdr.specs.Format.{Gives};
+ghost use Rattle.td_cdr.specs.Sound.{array};
+ghost use Rattle.td_cdr.specs.ValueFaults.{is_memory};
+ghost use Rattle.td_codes.specs.declared.mode.Mode.TheVariants.{Outer};
+ghost use Rattle.td_codes.specs.Codes.{codes};
+ghost use Rattle.td_codes.specs.Values.{anys, values, each, branch, branch_of, bounded, count_within, struct_value, union_value, sequence_value, array_value, index_of, is_default, is_chosen, default_arm};
+
+use crate::code::{Any, Arm, Member, TypeCode, Value};
+use crate::label::{label_of, same_label};
+use crate::labels::{label_at, one_of};
+use crate::mode::Mode;
+use crate::reading::code_at;
+use crate::reference::Ior;
+use std::alloc::Global;
+use td_cdr::{Boxed, List, Reader, Spelled, Text, ValueFault};
+
+/// An any of at most so many levels.
+#[cycle(values)]
+#[tactic(auto, unfolding(crate::specs::Values::anys))]
+pub fn any_at(alloc: Global, r: &mut Reader, levels: u32) -> Result<Any, ValueFault>
+    requires few { levels ≤ 16 }
+    ensures { Gives is_memory r.new result ((anys levels).format.reads r.old) }
+{
+    let code = code_at(alloc, r, levels, Mode::Outer)?;
+    if levels == 0 {
+        drop(code);
+        return Err(ValueFault::BadValue(r.aligned()));
+    }
+    match value_at(alloc, r, levels - 1, levels, &code) {
+        Ok(value) => Ok(Any { code, value }),
+        Err(fault) => {
+            drop(code);
+            Err(fault)
+        }
+    }
+}
+
+/// A value under a TypeCode of at most `depth` levels, in which an any may have `levels` more.
+#[cycle(values)]
+#[tactic(auto, unfolding(crate::specs::Values::values))]
+fn value_at(
+    alloc: Global,
+    r: &mut Reader,
+    levels: u32,
+    depth: u32,
+    code: &TypeCode,
+) -> Result<Value, ValueFault>
+    requires few { levels ≤ 16 }
+    requires shallow { depth ≤ 16 }
+    ensures { Gives is_memory r.new result ((values (anys levels) (codes levels Outer) depth code.now).format.reads r.old) }
+{
+    if depth == 0 {
+        return Err(ValueFault::BadValue(r.aligned()));
+    }
+    let depth = depth - 1;
+    match code {
+        TypeCode::Null => Ok(Value::Empty),
+        TypeCode::Void => Ok(Value::Empty),
+        TypeCode::Short => Ok(Value::Short(r.i16()?)),
+        TypeCode::Long => Ok(Value::Long(r.i32()?)),
+        TypeCode::UShort => Ok(Value::UShort(r.u16()?)),
+        TypeCode::ULong => Ok(Value::ULong(r.u32()?)),
+        TypeCode::Boolean => Ok(Value::Boolean(r.boolean()?)),
+        TypeCode::Char => Ok(Value::Char(r.octet()?)),
+        TypeCode::Octet => Ok(Value::Octet(r.octet()?)),
+        TypeCode::LongLong => Ok(Value::LongLong(r.i64()?)),
+        TypeCode::ULongLong => Ok(Value::ULongLong(r.u64()?)),
+        TypeCode::AnyCode => {
+            let any = any_at(alloc, r, levels)?;
+            Ok(Value::AnyValue(Boxed::new(alloc, any)?))
+        }
+        TypeCode::Code => {
+            let code = code_at(alloc, r, levels, Mode::Outer)?;
+            Ok(Value::Code(Boxed::new(alloc, code)?))
+        }
+        TypeCode::Str { bound } => Ok(Value::Str(bounded_at(alloc, r, *bound)?)),
+        TypeCode::ObjRef { .. } => Ok(Value::ObjRef(Ior::read(alloc, r)?)),
+        TypeCode::Struct { members, .. } => {
+            struct_at(alloc, r, levels, depth, members.as_slice())
+        }
+        TypeCode::Union {
+            switch,
+            default,
+            arms,
+            ..
+        } => union_at(
+            alloc,
+            r,
+            levels,
+            depth,
+            switch.get(),
+            index_of(default),
+            arms.as_slice(),
+        ),
+        TypeCode::Enum { labels, .. } => one_of(r, labels.len()),
+        TypeCode::Sequence { item, bound } => {
+            sequence_at(alloc, r, levels, depth, item.get(), *bound)
+        }
+        TypeCode::Array { item, len } => array_at(alloc, r, levels, depth, item.get(), *len),
+        TypeCode::Alias { item, .. } => value_at(alloc, r, levels, depth, item.get()),
+        TypeCode::Except { .. } => Err(ValueFault::Unsupported(22)),
+    }
+}
+
+/// A string of at most `bound` bytes, 0 being no bound.
+fn bounded_at(alloc: Global, r: &mut Reader, bound: u32) -> Result<Text, ValueFault>
+    ensures { Gives is_memory r.new result ((bounded bound).format.reads r.old) }
+{
+    let place = r.aligned();
+    let text = Text::read(alloc, r)?;
+    if bound != 0 && (bound as usize) < text.len() {
+        return Err(ValueFault::BadValue(place));
+    }
+    Ok(text)
+}
+
+/// A count of at most `bound` items, 0 being no bound.
+fn count_within(r: &mut Reader, bound: u32) -> Result<u32, ValueFault>
+    ensures { Gives is_memory r.new result ((count_within bound).format.reads r.old) }
+{
+    let place = r.aligned();
+    let count = r.u32()?;
+    if bound != 0 && bound < count {
+        return Err(ValueFault::BadValue(place));
+    }
+    Ok(count)
+}
+
+#[cycle(values)]
+fn struct_at(
+    alloc: Global,
+    r: &mut Reader,
+    levels: u32,
+    depth: u32,
+    members: &[Member],
+) -> Result<Value, ValueFault>
+    requires few { levels ≤ 16 }
+    requires shallow { depth ≤ 16 }
+    ensures { Gives is_memory r.new result ((struct_value (anys levels) (codes levels Outer) (values (anys levels) (codes levels Outer) depth) members.now).format.reads r.old) }
+{
+    let values = each_at(alloc, r, levels, depth, members)?;
+    Ok(Value::Struct(values))
+}
+
+#[cycle(values)]
+fn union_at(
+    alloc: Global,
+    r: &mut Reader,
+    levels: u32,
+    depth: u32,
+    switch: &TypeCode,
+    default: Option<usize>,
+    arms: &[Arm],
+) -> Result<Value, ValueFault>
+    requires few { levels ≤ 16 }
+    requires shallow { depth ≤ 16 }
+    ensures { Gives is_memory r.new result ((union_value (anys levels) (codes levels Outer) (values (anys levels) (codes levels Outer) depth) depth switch.now default arms.now).format.reads r.old) }
+{
+    let label = label_at(r, depth, switch)?;
+    branch_at(alloc, r, levels, depth, label, default, arms)
+}
+
+#[cycle(values)]
+fn sequence_at(
+    alloc: Global,
+    r: &mut Reader,
+    levels: u32,
+    depth: u32,
+    item: &TypeCode,
+    bound: u32,
+) -> Result<Value, ValueFault>
+    requires few { levels ≤ 16 }
+    requires shallow { depth ≤ 16 }
+    ensures { Gives is_memory r.new result ((sequence_value (anys levels) (codes levels Outer) (values (anys levels) (codes levels Outer) depth) item.now bound).format.reads r.old) }
+{
+    let count = count_within(r, bound)?;
+    let items = items_at(alloc, r, levels, depth, item, count)?;
+    Ok(Value::Items(items))
+}
+
+#[cycle(values)]
+fn array_at(
+    alloc: Global,
+    r: &mut Reader,
+    levels: u32,
+    depth: u32,
+    item: &TypeCode,
+    len: u32,
+) -> Result<Value, ValueFault>
+    requires few { levels ≤ 16 }
+    requires shallow { depth ≤ 16 }
+    ensures { Gives is_memory r.new result ((array_value (anys levels) (codes levels Outer) (values (anys levels) (codes levels Outer) depth) item.now len).format.reads r.old) }
+{
+    let items = items_at(alloc, r, levels, depth, item, len)?;
+    Ok(Value::Items(items))
+}
+
+/// A union's value behind its discriminator.
+#[cycle(values)]
+fn branch_at(
+    alloc: Global,
+    r: &mut Reader,
+    levels: u32,
+    depth: u32,
+    label: Value,
+    default: Option<usize>,
+    arms: &[Arm],
+) -> Result<Value, ValueFault>
+    requires few { levels ≤ 16 }
+    requires shallow { depth ≤ 16 }
+    ensures { Gives is_memory r.new result ((branch (anys levels) (codes levels Outer) (values (anys levels) (codes levels Outer) depth) label (branch_of default label arms.now)).format.reads r.old) }
+{
+    match branch_of(&label, default, arms) {
+        None => Ok(Value::Union {
+            label: Boxed::new(alloc, label)?,
+            arm: None,
+        }),
+        Some(arm) => {
+            let label = Boxed::new(alloc, label)?;
+            let value = value_at(alloc, r, levels, depth, &arm.code)?;
+            Ok(Value::Union {
+                label,
+                arm: Some(Boxed::new(alloc, value)?),
+            })
+        }
+    }
+}
+
+/// The first arm but the default with this label, or else the default.
+pub fn branch_of<'a>(label: &Value, default: Option<usize>, arms: &'a [Arm]) -> Option<&'a Arm>
+    ensures { option_copied result ≡ branch_of default label.now arms.now }
+{
+    for i in 0..arms.len() {
+        if is_chosen(&arms[i], i, default, label) {
+            return Some(&arms[i]);
+        }
+    }
+    default_arm(arms, default)
+}
+
+fn default_arm(arms: &[Arm], default: Option<usize>) -> Option<&Arm>
+    ensures { option_copied result ≡ default_arm default arms.now }
+{
+    match default {
+        Some(index) => arms.get(index),
+        None => None,
+    }
+}
+
+fn is_chosen(arm: &Arm, i: usize, default: Option<usize>, label: &Value) -> bool
+    ensures { result ≡ is_chosen default label.now i arm.now }
+{
+    !is_default(default, i) && same_label(label_of(&arm.label), label_of(label))
+}
+
+fn is_default(default: Option<usize>, i: usize) -> bool
+    ensures { result ≡ is_default default i }
+{
+    match default {
+        Some(index) => index == i,
+        None => false,
+    }
+}
+
+/// The index of a union's default arm, where there is one.
+pub fn index_of(default: &i32) -> Option<usize>
+    ensures { result ≡ index_of default.now }
+{
+    let index = *default;
+    if index < 0 {
+        return None;
+    }
+    Some(index.cast_unsigned() as usize)
+}
+
+/// The members' values.
+#[cycle(values)]
+fn each_at(
+    alloc: Global,
+    r: &mut Reader,
+    levels: u32,
+    depth: u32,
+    members: &[Member],
+) -> Result<List<Value>, ValueFault>
+    requires few { levels ≤ 16 }
+    requires shallow { depth ≤ 16 }
+    ensures { Gives is_memory r.new result ((each (anys levels) (codes levels Outer) (values (anys levels) (codes levels Outer) depth) members.now).format.reads r.old) }
+{
+    let mut values = List::new(alloc);
+    for member in members {
+        let value = value_at(alloc, r, levels, depth, &member.code)?;
+        values.push(value)?;
+    }
+    Ok(values)
+}
+
+/// So many values of one TypeCode.
+#[cycle(values)]
+fn items_at(
+    alloc: Global,
+    r: &mut Reader,
+    levels: u32,
+    depth: u32,
+    item: &TypeCode,
+    count: u32,
+) -> Result<List<Value>, ValueFault>
+    requires few { levels ≤ 16 }
+    requires shallow { depth ≤ 16 }
+    ensures { Gives is_memory r.new result ((array (values (anys levels) (codes levels Outer) depth item.now) count).format.reads r.old) }
+{
+    let mut values = List::new(alloc);
+    for _ in 0..count {
+        let value = value_at(alloc, r, levels, depth, item)?;
+        values.push(value)?;
+    }
+    Ok(values)
+}

@@ -1,0 +1,314 @@
+//! TypeCodes to bytes.
+
+ghost use Rattle.std.specs.Prelude.{◌≡◌, length, map};
+ghost use Rattle.td_cdr.specs.Format.{Appends, row, ◌then◌};
+ghost use Rattle.td_cdr.specs.Writing.{written_octets};
+ghost use Rattle.td_codes.specs.Formats.{number_piece};
+ghost use Rattle.td_codes.specs.Labels.{label_of, label_piece};
+ghost use Rattle.td_codes.specs.WritingCodes.{Writes, octets_piece, text, enclosed, kind_piece, header_piece, written, written_arm, written_member, head_piece};
+
+use crate::code::{Arm, Member, TypeCode};
+use crate::kinds::CodeKind;
+use crate::label::{Label, label_of};
+use std::alloc::Global;
+use td_cdr::{Memory, Text, Writer};
+
+/// Appends the TypeCode, in the writer's order and with padding 0.
+///
+/// # Errors
+///
+/// `Memory` for want of memory or of room; the writer is then unchanged.
+#[cycle(writing)]
+pub fn write_typecode(alloc: Global, w: &mut Writer, code: &TypeCode) -> Result<(), Memory>
+    ensures { Appends (written code.now) w.old w.new result }
+{
+    match code {
+        TypeCode::Null => write_kind(w, CodeKind::Null),
+        TypeCode::Void => write_kind(w, CodeKind::Void),
+        TypeCode::Short => write_kind(w, CodeKind::Short),
+        TypeCode::Long => write_kind(w, CodeKind::Long),
+        TypeCode::UShort => write_kind(w, CodeKind::UShort),
+        TypeCode::ULong => write_kind(w, CodeKind::ULong),
+        TypeCode::Boolean => write_kind(w, CodeKind::Boolean),
+        TypeCode::Char => write_kind(w, CodeKind::Char),
+        TypeCode::Octet => write_kind(w, CodeKind::Octet),
+        TypeCode::AnyCode => write_kind(w, CodeKind::AnyCode),
+        TypeCode::Code => write_kind(w, CodeKind::Code),
+        TypeCode::LongLong => write_kind(w, CodeKind::LongLong),
+        TypeCode::ULongLong => write_kind(w, CodeKind::ULongLong),
+        TypeCode::Str { bound } => write_two(w, CodeKind::Str, *bound),
+        TypeCode::ObjRef { id, name } => {
+            let mut inner = Writer::inside(alloc, w.order())?;
+            write_texts(&mut inner, id.as_slice(), name.as_slice())?;
+            write_enclosed(w, CodeKind::ObjRef, &inner)
+        }
+        TypeCode::Struct { id, name, members } => {
+            write_fields(
+                alloc,
+                w,
+                CodeKind::Struct,
+                id.as_slice(),
+                name.as_slice(),
+                members.as_slice(),
+            )
+        }
+        TypeCode::Union {
+            id,
+            name,
+            switch,
+            default,
+            arms,
+        } => {
+            let mut inner = Writer::inside(alloc, w.order())?;
+            write_front(
+                alloc,
+                &mut inner,
+                id.as_slice(),
+                name.as_slice(),
+                switch.get(),
+            )?;
+            write_back(alloc, &mut inner, default, arms.as_slice())?;
+            write_enclosed(w, CodeKind::Union, &inner)
+        }
+        TypeCode::Enum { id, name, labels } => {
+            let mut inner = Writer::inside(alloc, w.order())?;
+            write_enum(
+                &mut inner,
+                id.as_slice(),
+                name.as_slice(),
+                labels.as_slice(),
+            )?;
+            write_enclosed(w, CodeKind::Enum, &inner)
+        }
+        TypeCode::Sequence { item, bound } => {
+            let mut inner = Writer::inside(alloc, w.order())?;
+            write_bounded(alloc, &mut inner, item.get(), *bound)?;
+            write_enclosed(w, CodeKind::Sequence, &inner)
+        }
+        TypeCode::Array { item, len } => {
+            let mut inner = Writer::inside(alloc, w.order())?;
+            write_bounded(alloc, &mut inner, item.get(), *len)?;
+            write_enclosed(w, CodeKind::Array, &inner)
+        }
+        TypeCode::Alias { id, name, item } => {
+            let mut inner = Writer::inside(alloc, w.order())?;
+            write_front(
+                alloc,
+                &mut inner,
+                id.as_slice(),
+                name.as_slice(),
+                item.get(),
+            )?;
+            write_enclosed(w, CodeKind::Alias, &inner)
+        }
+        TypeCode::Except { id, name, members } => {
+            write_fields(
+                alloc,
+                w,
+                CodeKind::Except,
+                id.as_slice(),
+                name.as_slice(),
+                members.as_slice(),
+            )
+        }
+    }
+}
+
+/// The number of a kind, or nothing.
+fn write_kind(w: &mut Writer, kind: CodeKind) -> Result<(), Memory>
+    ensures { Appends (kind_piece kind) w.old w.new result }
+{
+    w.u32(kind.number())
+}
+
+/// A kind and a number, or nothing.
+fn write_two(w: &mut Writer, kind: CodeKind, n: u32) -> Result<(), Memory>
+    ensures { Appends (kind_piece kind then number_piece 4 n) w.old w.new result }
+{
+    let held = w.len();
+    w.u32(kind.number())?;
+    match w.u32(n) {
+        Ok(()) => Ok(()),
+        Err(memory) => {
+            w.cut(held);
+            Err(memory)
+        }
+    }
+}
+
+/// The kind and the octets of its encapsulation, or nothing.
+fn write_enclosed(w: &mut Writer, kind: CodeKind, inner: &Writer) -> Result<(), Memory>
+    ensures { Appends (kind_piece kind then octets_piece inner.now.bytes) w.old w.new result }
+{
+    let held = w.len();
+    w.u32(kind.number())?;
+    match w.octets(inner.bytes()) {
+        Ok(()) => Ok(()),
+        Err(memory) => {
+            w.cut(held);
+            Err(memory)
+        }
+    }
+}
+
+#[cycle(writing)]
+fn write_bounded(alloc: Global, w: &mut Writer, item: &TypeCode, bound: u32) -> Result<(), Memory>
+    ensures { Writes (written item.now then number_piece 4 bound) w.old w.new result }
+{
+    write_typecode(alloc, w, item)?;
+    w.u32(bound)
+}
+
+fn write_texts(w: &mut Writer, id: &[u8], name: &[u8]) -> Result<(), Memory>
+    ensures { Writes (header_piece id.now name.now) w.old w.new result }
+{
+    w.string(id)?;
+    w.string(name)
+}
+
+/// A number of items.
+pub fn write_count(w: &mut Writer, count: usize) -> Result<(), Memory>
+    ensures { Appends (number_piece 4 count) w.old w.new result }
+{
+    if count > u32::MAX as usize {
+        return Err(Memory);
+    }
+    w.u32(count as u32)
+}
+
+fn write_enum(w: &mut Writer, id: &[u8], name: &[u8], names: &[Text]) -> Result<(), Memory>
+    ensures { Writes (header_piece id.now name.now then number_piece 4 (length names.now) then row (map text names.now)) w.old w.new result }
+{
+    write_texts(w, id, name)?;
+    write_count(w, names.len())?;
+    write_names(w, names)
+}
+
+fn write_names(w: &mut Writer, names: &[Text]) -> Result<(), Memory>
+    ensures { Writes (row (map text names.now)) w.old w.new result }
+{
+    for name in names {
+        write_name(w, name)?;
+    }
+    Ok(())
+}
+
+fn write_name(w: &mut Writer, name: &Text) -> Result<(), Memory>
+    ensures { Writes (text name.now) w.old w.new result }
+{
+    w.string(name.as_slice())
+}
+
+/// A structure or an exception, or nothing.
+#[cycle(writing)]
+fn write_fields(
+    alloc: Global,
+    w: &mut Writer,
+    kind: CodeKind,
+    id: &[u8],
+    name: &[u8],
+    members: &[Member],
+) -> Result<(), Memory>
+    ensures { Appends (kind_piece kind then enclosed (header_piece id.now name.now then number_piece 4 (length members.now) then row (map written_member members.now))) w.old w.new result }
+{
+    let mut inner = Writer::inside(alloc, w.order())?;
+    write_struct(alloc, &mut inner, id, name, members)?;
+    write_enclosed(w, kind, &inner)
+}
+
+/// The parameters of a structure or an exception.
+#[cycle(writing)]
+fn write_struct(
+    alloc: Global,
+    w: &mut Writer,
+    id: &[u8],
+    name: &[u8],
+    members: &[Member],
+) -> Result<(), Memory>
+    ensures { Writes (header_piece id.now name.now then number_piece 4 (length members.now) then row (map written_member members.now)) w.old w.new result }
+{
+    write_texts(w, id, name)?;
+    write_count(w, members.len())?;
+    write_members(alloc, w, members)
+}
+
+#[cycle(writing)]
+fn write_members(alloc: Global, w: &mut Writer, members: &[Member]) -> Result<(), Memory>
+    ensures { Writes (row (map written_member members.now)) w.old w.new result }
+{
+    for member in members {
+        write_member(alloc, w, member)?;
+    }
+    Ok(())
+}
+
+#[cycle(writing)]
+fn write_member(alloc: Global, w: &mut Writer, member: &Member) -> Result<(), Memory>
+    ensures { Writes (written_member member.now) w.old w.new result }
+{
+    w.string(member.name.as_slice())?;
+    write_typecode(alloc, w, &member.code)
+}
+
+/// An alias's parameters, and a union's up to its discriminator.
+#[cycle(writing)]
+fn write_front(
+    alloc: Global,
+    w: &mut Writer,
+    id: &[u8],
+    name: &[u8],
+    item: &TypeCode,
+) -> Result<(), Memory>
+    ensures { Writes (header_piece id.now name.now then written item.now) w.old w.new result }
+{
+    write_texts(w, id, name)?;
+    write_typecode(alloc, w, item)
+}
+
+/// A union's parameters behind its discriminator.
+#[cycle(writing)]
+fn write_back(alloc: Global, w: &mut Writer, default: &i32, arms: &[Arm]) -> Result<(), Memory>
+    ensures { Writes (head_piece default.now (length arms.now) then row (map written_arm arms.now)) w.old w.new result }
+{
+    write_head(w, default, arms.len())?;
+    write_arms(alloc, w, arms)
+}
+
+fn write_head(w: &mut Writer, default: &i32, count: usize) -> Result<(), Memory>
+    ensures { Writes (head_piece default.now count) w.old w.new result }
+{
+    let index = *default;
+    w.u32(index.cast_unsigned())?;
+    write_count(w, count)
+}
+
+#[cycle(writing)]
+fn write_arms(alloc: Global, w: &mut Writer, arms: &[Arm]) -> Result<(), Memory>
+    ensures { Writes (row (map written_arm arms.now)) w.old w.new result }
+{
+    for arm in arms {
+        write_arm(alloc, w, arm)?;
+    }
+    Ok(())
+}
+
+#[cycle(writing)]
+fn write_arm(alloc: Global, w: &mut Writer, arm: &Arm) -> Result<(), Memory>
+    ensures { Writes (written_arm arm.now) w.old w.new result }
+{
+    write_label(w, label_of(&arm.label))?;
+    w.string(arm.name.as_slice())?;
+    write_typecode(alloc, w, &arm.code)
+}
+
+/// The number that spells a label.
+pub fn write_label(w: &mut Writer, label: Label) -> Result<(), Memory>
+    ensures { Appends (label_piece label) w.old w.new result }
+{
+    match label {
+        Label::One(n) => w.octet(n),
+        Label::Two(n) => w.u16(n),
+        Label::Four(n) => w.u32(n),
+        Label::Eight(n) => w.u64(n),
+    }
+}

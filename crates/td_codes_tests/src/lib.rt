@@ -1,0 +1,5 @@
+//! Tests of TypeCodes, values under them, anys and references.
+#![tactic(auto)]
+
+#[cfg(test)]
+mod tests;

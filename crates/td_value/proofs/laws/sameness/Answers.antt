@@ -1,8 +1,0 @@
-use Rattle.td_value.proofs.Symmetry.{same-refl, same-symm}
-use Rattle.td_value.proofs.laws.sameness.Goals as goal
-
-pub returns-clause-reflexive : goal.returns-clause-reflexive
-returns-clause-reflexive c = same-refl
-
-pub returns-clause-symmetric : goal.returns-clause-symmetric
-returns-clause-symmetric c = same-symm

@@ -1,8 +1,0 @@
-use Rattle.std.proofs.Common.{◌≡◌, ◌-◌}
-use Rattle.td_value.specs.Grammar.{times}
-use Rattle.td_value.specs.Structures.{prop_struct}
-use Rattle.td_value.proofs.Loop.{with_front}
-use Rattle.td_value.proofs.reading_structures.prop_structs_of.Given as goal
-
-abbrev pub invariant-loop : goal.invariant-loop
-invariant-loop l = with_front l.items ((times prop_struct (l.count - l.counter)).reading l.r) ≡ (times prop_struct l.count).reading l.initial.r

@@ -1,9 +1,0 @@
-use Rattle.std.proofs.Common.{◌≡◌, ◌++◌, length, map, take}
-use Rattle.td_value.specs.Writing.{row, text}
-use Rattle.td_value.proofs.writing.write_names.Given as goal
-
-abbrev pub invariant-loop-name : goal.invariant-loop-name
-invariant-loop-name l = record {
-  bytes : l.w.bytes ≡ l.initial.w.bytes ++ row (map text (take l.name-index l.names)) l.initial.w.order (length l.initial.w.bytes);
-  order : l.w.order ≡ l.initial.w.order;
-}

@@ -1,0 +1,267 @@
+//! Spellings that were worked out from the rules of CORBA's chapters by another program.
+
+use std::alloc::Global;
+use std::process::Abort;
+use std::test::Fail;
+use td_cdr::{
+    Boxed, CdrFault, List, Order, Reader, Spelled, Text, Twin, ValueFault, Writer, read_whole,
+    write_whole,
+};
+use td_value::*;
+
+const FOLLOW_OPTION: &str = "big 00000000
+little 00000000
+big 00000001
+little 01000000
+big 00000002
+little 02000000";
+
+const HOW_MANY_PROPS: &str = "big 00000000
+little 00000000
+big 00000001
+little 01000000
+big 00000002
+little 02000000";
+
+const PROPERTY_MODE: &str = "big 00000000
+little 00000000
+big 00000001
+little 01000000
+big 00000002
+little 02000000
+big 00000003
+little 03000000";
+
+const LIST_OPTION: &str = "big 00000000
+little 00000000
+big 00000001
+little 01000000";
+
+const INCARNATION_NUMBER: &str = "big 00000001fffffffe
+little 01000000feffffff";
+
+const PROPERTY: &str = "big 00000005436f7374000000000000000300000005
+little 05000000436f7374000000000300000005000000
+big 0000000100000000000000120000000000000003616200
+little 0100000000000000120000000000000003000000616200";
+
+const POLICY: &str = "big 0000000a686f705f636f756e740000000000000500000003
+little 0a000000686f705f636f756e740000000500000003000000";
+
+const PROP_STRUCT: &str = "big 00000005436f7374000000000000000300000002
+little 05000000436f7374000000000300000002000000
+big 000000054c69737400000000000000130000000c00000000000000180000000700000000
+little 050000004c69737400000000130000000c00000001000000180000000700000000000000";
+
+const OFFER: &str = "big 00000001000000000000000000000000
+little 01000000000000000000000000000000
+big 0000000a49444c3a503a312e3000000000000001000000000000000500010203040000000000000200000005436f73740000000000000003000000050000000100000000000000120000000000000003616200
+little 0a00000049444c3a503a312e3000000001000000000000000500000000010203040000000200000005000000436f73740000000003000000050000000100000000000000120000000000000003000000616200";
+
+const OFFER_INFO: &str =
+    "big 0000000a49444c3a503a312e300000000000000100000000000000050001020304000000000000085072696e746572000000000200000005436f73740000000000000003000000050000000100000000000000120000000000000003616200
+little 0a00000049444c3a503a312e300000000100000000000000050000000001020304000000080000005072696e746572000200000005000000436f73740000000003000000050000000100000000000000120000000000000003000000616200";
+
+const LINK_INFO: &str =
+    "big 0000000a49444c3a503a312e3000000000000001000000000000000500010203040000000000000100000000000000000000000000000002
+little 0a00000049444c3a503a312e3000000001000000000000000500000000010203040000000100000000000000000000000000000002000000
+big 0000000100000000000000000000000a49444c3a503a312e3000000000000001000000000000000500010203040000000000000100000001
+little 0100000000000000000000000a00000049444c3a503a312e3000000001000000000000000500000000010203040000000100000001000000";
+
+const PROXY_INFO: &str =
+    "big 000000085072696e746572000000000a49444c3a503a312e3000000000000001000000000000000500010203040000000000000100000005436f73740000000000000003000000050100000000000003242a0000000000010000000a686f705f636f756e740000000000000500000003
+little 080000005072696e746572000a00000049444c3a503a312e3000000001000000000000000500000000010203040000000100000005000000436f73740000000003000000050000000100000003000000242a0000010000000a000000686f705f636f756e740000000500000003000000
+big 00000001000000000000000100000000000000000000000000000000000000010000000000000000
+little 01000000000000000100000000000000000000000000000000000000010000000000000000000000";
+
+const TYPE_STRUCT: &str =
+    "big 0000000a49444c3a503a312e300000000000000200000005436f7374000000000000000300000002000000054c69737400000000000000130000000c0000000000000018000000070000000000000002000000074465766963650000000000054974656d000100000000000000000009
+little 0a00000049444c3a503a312e300000000200000005000000436f7374000000000300000002000000050000004c69737400000000130000000c0000000100000018000000070000000000000002000000070000004465766963650000050000004974656d000100000000000009000000";
+
+const DYNAMIC_PROP: &str =
+    "big 0000000a49444c3a503a312e3000000000000001000000000000000500010203040000000000000300000001
+little 0a00000049444c3a503a312e3000000001000000000000000500000000010203040000000300000001000000
+big 000000010000000000000000000000130000000c0000000000000018000000070000001200000000000000027800
+little 010000000000000000000000130000000c0000000100000018000000070000001200000000000000020000007800";
+
+const SPECIFIED_PROPS: &str = "big 00000000
+little 00000000
+big 0000000100000002000000026100000000000003626300
+little 0100000002000000020000006100000003000000626300
+big 0000000100000000
+little 0100000000000000
+big 00000002
+little 02000000";
+
+const SPECIFIED_SERVICE_TYPES: &str = "big 00000000
+little 00000000
+big 000000010000000300000004
+little 010000000300000004000000";
+
+/// The order that a word names.
+fn order_of(word: &str) -> Order {
+    if word == "big" {
+        Order::Big
+    } else {
+        Order::Little
+    }
+}
+
+/// Reads a value that fills the bytes, and writes its copy.
+fn spelled<T: Spelled + Twin + Drop>(
+    rt: &impl Abort,
+    alloc: Global,
+    bytes: &[u8],
+    order: Order,
+) -> Result<(), Fail> {
+    assert!(rt; bytes.len() < 1000);
+    let mut reader = Reader::new(bytes, 0, order);
+    let value = Boxed::new(alloc, read_whole::<T>(alloc, &mut reader)?)?;
+    assert_eq!(rt; reader.place() as usize, bytes.len());
+    let twin = Boxed::new(alloc, value.get().copy(alloc)?)?;
+    let mut writer = Writer::new(alloc, order);
+    write_whole(alloc, &mut writer, twin.get())?;
+    assert!(rt; writer.bytes() == bytes);
+    Ok(())
+}
+
+/// Lines of an order and the bytes.
+fn each_spelled<T: Spelled + Twin + Drop>(
+    rt: &impl Abort,
+    alloc: Global,
+    lines: &str,
+) -> Result<(), Fail> {
+    for line in lines.lines() {
+        let (order, digits) = line.split_once(' ').ok_or("an order")?;
+        let bytes = hex::decode(alloc, digits.as_bytes())?;
+        spelled::<T>(rt, alloc, &bytes, order_of(order))?;
+    }
+    Ok(())
+}
+
+#[test]
+fn enumerations(rt: HostRuntime) -> Result<(), Fail> {
+    let alloc = rt.alloc();
+    each_spelled::<FollowOption>(&rt, alloc, FOLLOW_OPTION)?;
+    each_spelled::<HowManyProps>(&rt, alloc, HOW_MANY_PROPS)?;
+    each_spelled::<PropertyMode>(&rt, alloc, PROPERTY_MODE)?;
+    each_spelled::<ListOption>(&rt, alloc, LIST_OPTION)?;
+    Ok(())
+}
+
+#[test]
+fn structures(rt: HostRuntime) -> Result<(), Fail> {
+    let alloc = rt.alloc();
+    each_spelled::<IncarnationNumber>(&rt, alloc, INCARNATION_NUMBER)?;
+    each_spelled::<Property>(&rt, alloc, PROPERTY)?;
+    each_spelled::<Policy>(&rt, alloc, POLICY)?;
+    each_spelled::<PropStruct>(&rt, alloc, PROP_STRUCT)?;
+    each_spelled::<Offer>(&rt, alloc, OFFER)?;
+    Ok(())
+}
+
+#[test]
+fn more_structures(rt: HostRuntime) -> Result<(), Fail> {
+    let alloc = rt.alloc();
+    each_spelled::<OfferInfo>(&rt, alloc, OFFER_INFO)?;
+    each_spelled::<LinkInfo>(&rt, alloc, LINK_INFO)?;
+    each_spelled::<ProxyInfo>(&rt, alloc, PROXY_INFO)?;
+    each_spelled::<TypeStruct>(&rt, alloc, TYPE_STRUCT)?;
+    each_spelled::<DynamicProp>(&rt, alloc, DYNAMIC_PROP)?;
+    Ok(())
+}
+
+#[test]
+fn unions(rt: HostRuntime) -> Result<(), Fail> {
+    let alloc = rt.alloc();
+    each_spelled::<SpecifiedProps>(&rt, alloc, SPECIFIED_PROPS)?;
+    each_spelled::<SpecifiedServiceTypes>(&rt, alloc, SPECIFIED_SERVICE_TYPES)?;
+    Ok(())
+}
+
+/// Why nothing is read, and the place where the reader is then.
+fn fault_of<T: Spelled + Drop>(alloc: Global, bytes: &[u8]) -> (Option<ValueFault>, u32) {
+    if bytes.len() >= 1000 {
+        return (None, 0);
+    }
+    let mut reader = Reader::new(bytes, 0, Order::Big);
+    let found = read_whole::<T>(alloc, &mut reader).err();
+    (found, reader.place())
+}
+
+/// The bytes are refused, by a reader that is then unchanged.
+fn refused<T: Spelled + Drop>(
+    rt: &impl Abort,
+    alloc: Global,
+    bytes: &[u8],
+    want: ValueFault,
+) -> Result<(), Fail> {
+    let (found, place) = fault_of::<T>(alloc, bytes);
+    assert!(rt; found == Some(want));
+    assert_eq!(rt; place, 0);
+    Ok(())
+}
+
+#[test]
+fn faults(rt: HostRuntime) -> Result<(), Fail> {
+    let alloc = rt.alloc();
+    refused::<FollowOption>(&rt, alloc, &[0, 0, 0, 3], ValueFault::BadValue(0))?;
+    refused::<HowManyProps>(&rt, alloc, &[0, 0, 0, 3], ValueFault::BadValue(0))?;
+    refused::<PropertyMode>(&rt, alloc, &[0, 0, 0, 4], ValueFault::BadValue(0))?;
+    refused::<ListOption>(&rt, alloc, &[0, 0, 0, 2], ValueFault::BadValue(0))?;
+    refused::<SpecifiedProps>(&rt, alloc, &[0, 0, 0, 7], ValueFault::BadValue(0))?;
+    let short = ValueFault::Cdr(CdrFault::Short(4));
+    refused::<IncarnationNumber>(&rt, alloc, &[0, 0, 0, 1, 0, 0], short)?;
+    refused::<SpecifiedServiceTypes>(&rt, alloc, &[0, 0, 0, 1, 0, 0, 0], short)
+}
+
+/// A reference with neither a type nor a profile.
+fn nil(alloc: Global) -> Ior {
+    Ior {
+        id: Text::new(alloc),
+        profiles: List::new(alloc),
+    }
+}
+
+#[test]
+fn sizes(rt: HostRuntime) -> Result<(), Fail> {
+    let alloc = rt.alloc();
+    let none = List::<Property>::new(alloc);
+    assert_eq!(rt; offer_size(alloc, &nil(alloc), &none)?, 16);
+    assert_eq!(rt; size_of_type(alloc)?, 112);
+    assert_eq!(rt; size_of_long(alloc)?, 8);
+    Ok(())
+}
+
+/// The size of the type that is read from the first line.
+fn size_of_type(alloc: Global) -> Result<usize, Fail> {
+    let (_order, rest) = TYPE_STRUCT.split_once(' ').ok_or("an order")?;
+    let (digits, _others) = rest.split_once('\n').ok_or("a line")?;
+    let bytes = hex::decode(alloc, digits.as_bytes())?;
+    if bytes.len() >= 1000 {
+        return Err("long".into());
+    }
+    let mut reader = Reader::new(&bytes, 0, Order::Big);
+    let described = Boxed::new(alloc, read_whole::<TypeStruct>(alloc, &mut reader)?)?;
+    Ok(type_struct_size(alloc, described.get())?)
+}
+
+/// The size of an any that holds a long.
+fn size_of_long(alloc: Global) -> Result<usize, Fail> {
+    let mut reader = Reader::new(&[0, 0, 0, 3, 0, 0, 0, 7], 0, Order::Big);
+    let any = Boxed::new(alloc, read_any(alloc, &mut reader)?)?;
+    Ok(any_size(alloc, any.get())?)
+}
+
+#[test]
+fn keys(rt: HostRuntime) -> Result<(), Fail> {
+    let alloc = rt.alloc();
+    let key = ObjectKey {
+        trader: Text::from_slice(alloc, b"A")?,
+        kind: Kind::Iterator(7),
+    };
+    let twin = key.copy(alloc)?;
+    assert!(rt; twin.trader.as_slice() == b"A".as_slice());
+    assert!(rt; twin.kind.copy(alloc)? == Kind::Iterator(7));
+    Ok(())
+}
