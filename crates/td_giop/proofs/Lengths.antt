@@ -1,5 +1,5 @@
 -- How long what is written is.
-use Rattle.std.proofs.Common.{◌≡◌, ℕ, ◌+◌, Bool, List, [], ◌∷◌, ◌++◌, length, replicate, arith, length-append, ap, refl, ◌∙◌}
+use Rattle.std.proofs.Common.{◌≡◌, ℕ, ◌+◌, Bool, List, [], ◌∷◌, ◌++◌, length, replicate, arith, length-append, ap, sym, refl, ◌∙◌}
 use Rattle.std.specs.Int.{from_bool}
 use Rattle.std.proofs.lemmas.List.{length-replicate}
 use Rattle.byteorder.specs.Numbers.{length-bytes_high_first, length-bytes_low_first}
@@ -7,7 +7,22 @@ use Rattle.td_cdr.specs.declared.order.Order.{Order}
 use Rattle.td_cdr.specs.declared.order.Order.TheVariants.{Big, Little}
 use Rattle.td_cdr.specs.Gap.{gap, bytes_of}
 use Rattle.td_cdr.specs.Writing.{written_number, written_octets}
-use Rattle.td_giop.specs.Written.{octets_end, request_size, ◌▹◌, ulong, boolean, octets, text, header_written, request_start, reply_start, locate_written, locate_reply_written}
+use Rattle.td_giop.specs.declared.message_type.TheConstants.{REQUEST, REPLY, LOCATE_REQUEST, LOCATE_REPLY}
+use Rattle.td_giop.specs.Fields as field
+use Rattle.td_giop.proofs.ByField.{◌▹◌, request_by_field, reply_by_field, locate_by_field, locate_reply_by_field, reply_is, locate_reply_is}
+use Rattle.td_giop.specs.Written.{reply_start, locate_reply_written, octets_end, request_size, header_written}
+
+abbrev ulong : Order → ℕ → ℕ → List ℕ
+ulong order v = field.ulong.format.writes v order
+
+abbrev boolean : Order → Bool → ℕ → List ℕ
+boolean order v = field.boolean.format.writes v order
+
+abbrev octets : Order → List ℕ → ℕ → List ℕ
+octets order v = field.octets.format.writes v order
+
+abbrev text : Order → List ℕ → ℕ → List ℕ
+text order v = field.text.format.writes v order
 
 pub length-bytes_of : (order : Order) (size v : ℕ) → length (bytes_of order size v) ≡ size
 length-bytes_of Big size v = length-bytes_high_first size v
@@ -23,24 +38,22 @@ written_octets_length order place v =
     omega (arith, length-append (written_number 4 order place (length v)) v, written_number_length 4 order place (length v))
 
 -- a ulong at a place that its bytes go to without padding
-pub ulong_length : (bytes : List ℕ) (order : Order) (place v : ℕ) → length bytes ≡ place → gap 4 place ≡ 0 → length (bytes ▹ ulong order v) ≡ place + 4
+ulong_length : (bytes : List ℕ) (order : Order) (place v : ℕ) → length bytes ≡ place → gap 4 place ≡ 0 → length (bytes ▹ ulong order v) ≡ place + 4
 ulong_length bytes order place v e aligned =
     let n = written_number_length 4 order place v in
     let here : length (ulong order v (length bytes)) ≡ 4 = rw e (omega (arith, n, aligned)) in
     omega (arith, length-append bytes (ulong order v (length bytes)), here)
 
-pub reply_start_length : (order : Order) (id status : ℕ) → length (reply_start order id status) ≡ 24
-unfolding reply_start
-reply_start_length order id status =
-    let a = ulong_length (header_written order 1) order 12 0 refl refl in
-    let b = ulong_length (header_written order 1 ▹ ulong order 0) order 16 id a refl in
-    ulong_length (header_written order 1 ▹ ulong order 0 ▹ ulong order id) order 20 status b refl
+pub reply_length : (order : Order) (id status : ℕ) → length (reply_by_field order id status) ≡ 24
+reply_length order id status =
+    let a = ulong_length (header_written order REPLY) order 12 0 refl refl in
+    let b = ulong_length (header_written order REPLY ▹ ulong order 0) order 16 id a refl in
+    ulong_length (header_written order REPLY ▹ ulong order 0 ▹ ulong order id) order 20 status b refl
 
-pub locate_reply_written_length : (order : Order) (id status : ℕ) → length (locate_reply_written order id status) ≡ 20
-unfolding locate_reply_written
-locate_reply_written_length order id status =
-    let a = ulong_length (header_written order 4) order 12 id refl refl in
-    ulong_length (header_written order 4 ▹ ulong order id) order 16 status a refl
+pub locate_reply_length : (order : Order) (id status : ℕ) → length (locate_reply_by_field order id status) ≡ 20
+locate_reply_length order id status =
+    let a = ulong_length (header_written order LOCATE_REPLY) order 12 id refl refl in
+    ulong_length (header_written order LOCATE_REPLY ▹ ulong order id) order 16 status a refl
 
 octets_length : (bytes : List ℕ) (order : Order) (place : ℕ) (v : List ℕ) → length bytes ≡ place → length (bytes ▹ octets order v) ≡ octets_end place (length v)
 octets_length bytes order place v e =
@@ -58,18 +71,16 @@ boolean_length bytes order place v e aligned =
     let here : length (boolean order v (length bytes)) ≡ 1 = rw e (omega (arith, n, aligned)) in
     omega (arith, length-append bytes (boolean order v (length bytes)), here)
 
-pub locate_written_length : (order : Order) (id : ℕ) (key : List ℕ) → length (locate_written order id key) ≡ 20 + length key
-unfolding locate_written
-locate_written_length order id key =
-    let a = ulong_length (header_written order 3) order 12 id refl refl in
-    let b = octets_length (header_written order 3 ▹ ulong order id) order 16 key a in
+pub locate_length : (order : Order) (id : ℕ) (key : List ℕ) → length (locate_by_field order id key) ≡ 20 + length key
+locate_length order id key =
+    let a = ulong_length (header_written order LOCATE_REQUEST) order 12 id refl refl in
+    let b = octets_length (header_written order LOCATE_REQUEST ▹ ulong order id) order 16 key a in
     omega (arith, b)
 
-pub request_start_length : (order : Order) (id : ℕ) (answered : Bool) (key operation : List ℕ)
-    → length (request_start order id answered key operation) ≡ request_size (length key) (length operation)
-unfolding request_start
-request_start_length order id answered key operation =
-    let h = header_written order 0 in
+pub request_length : (order : Order) (id : ℕ) (answered : Bool) (key operation : List ℕ)
+    → length (request_by_field order id answered key operation) ≡ request_size (length key) (length operation)
+request_length order id answered key operation =
+    let h = header_written order REQUEST in
     let a = ulong_length h order 12 0 refl refl in
     let b = ulong_length (h ▹ ulong order 0) order 16 id a refl in
     let c = boolean_length (h ▹ ulong order 0 ▹ ulong order id) order 20 answered b refl in
@@ -77,3 +88,11 @@ request_start_length order id answered key operation =
     let e = text_length (h ▹ ulong order 0 ▹ ulong order id ▹ boolean order answered ▹ octets order key) order (octets_end 21 (length key)) operation d in
     octets_length (h ▹ ulong order 0 ▹ ulong order id ▹ boolean order answered ▹ octets order key ▹ text order operation) order
     (octets_end (octets_end 21 (length key)) (length operation + 1)) [] e
+
+-- ---- of what is written whole
+
+pub reply_start_length : (order : Order) (id status : ℕ) → length (reply_start order id status) ≡ 24
+reply_start_length order id status = ap (length {A = ℕ}) (sym (reply_is order id status)) ∙ reply_length order id status
+
+pub locate_reply_written_length : (order : Order) (id status : ℕ) → length (locate_reply_written order id status) ≡ 20
+locate_reply_written_length order id status = ap (length {A = ℕ}) (sym (locate_reply_is order id status)) ∙ locate_reply_length order id status

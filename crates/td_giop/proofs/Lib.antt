@@ -1,8 +1,9 @@
+pub mod ByField
 pub mod Cond
 pub mod Cuts
-pub mod Judged
-pub mod Messages
-pub mod Lengths
-pub mod Passing
 pub mod Framing
 pub mod Heads
+pub mod Judged
+pub mod Lengths
+pub mod Messages
+pub mod Passing

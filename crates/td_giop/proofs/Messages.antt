@@ -1,5 +1,5 @@
 -- What the writers wrote and sealed is a whole good message, and its head is read back.
-use Rattle.std.proofs.Common.{◌≡◌, ℕ, ◌+◌, ◌-◌, ◌^◌, ◌<◌, ◌≤◌, Bool, List, [], ◌∷◌, ◌++◌, length, drop, Result, Ok, refl, sym, ap, subst, ◌∙◌, append_assoc, arith, length-append}
+use Rattle.std.proofs.Common.{◌≡◌, ℕ, ◌+◌, ◌-◌, ◌^◌, ◌<◌, ◌≤◌, Bool, List, [], ◌∷◌, ◌++◌, length, drop, Result, Ok, refl, sym, ap, subst, ◌∙◌, arith, length-append}
 use Rattle.std.proofs.lemmas.List.{drop_at, append-nil}
 use Rattle.byteorder.specs.Numbers.{big_number-reads_back, little_number-reads_back}
 use Rattle.td_cdr.specs.declared.order.Order.{Order}
@@ -9,16 +9,16 @@ use Rattle.td_cdr.specs.Place.{At}
 use Rattle.td_cdr.specs.Gap.{bytes_of, flag}
 use Rattle.td_cdr.specs.Text.{HasNoNul}
 use Rattle.td_cdr.specs.Reading.{number}
-use Rattle.td_cdr.specs.Items as item
-use Rattle.td_cdr.specs.Items.{Item, ValueOf, Spells, reading, pair}
-use Rattle.td_cdr.proofs.Joined.{written_number-spelled, written_octets-spelled}
-use Rattle.td_cdr.proofs.Written.{written_boolean-spelled, written_string-spelled}
+use Rattle.td_cdr.specs.Sound.{Sound, ◌&◌}
+use Rattle.td_cdr.specs.Joined.{written_number-spelled, written_octets-spelled}
+use Rattle.td_cdr.specs.Written.{written_boolean-spelled, written_string-spelled}
+use Rattle.td_giop.specs.declared.message_type.TheConstants.{REQUEST, REPLY, LOCATE_REQUEST, LOCATE_REPLY}
 use Rattle.td_giop.specs.Header.{GoodHeader, TellsOrder}
-use Rattle.td_giop.specs.Heads.{alone, behind_header, request_fields, request_of, request_at, reply_fields, reply_of, reply_at, locate_fields, locate_at, locate_reply_fields, locate_reply_at}
-use Rattle.td_giop.specs.HeadSpelling.{SpellsHead, SpellsContexts}
-use Rattle.td_giop.specs.Written.{◌▹◌, ulong, boolean, octets, text, header_written, request_start, reply_start, locate_written, locate_reply_written, sealed, at_body, IsSealed}
+use Rattle.td_giop.specs.Fields.{ulong, boolean, octets, text}
+use Rattle.td_giop.specs.Heads.{Request, Reply, alone, behind_header, contexts, principal, request, request_at, reply, reply_at, locate_request, locate_at, locate_reply, locate_reply_at}
+use Rattle.td_giop.specs.Written.{header_written, message, request_start, reply_start, locate_written, locate_reply_written, sealed, at_body, IsSealed}
 use Rattle.td_giop.proofs.Lengths.{length-bytes_of}
-use Rattle.td_giop.proofs.Heads.{head_at, head-joins, read-alone}
+use Rattle.td_giop.proofs.Heads.{read-alone}
 
 -- ---- the header once it is sealed
 
@@ -69,158 +69,117 @@ behind_sealed order kind start back body e =
     ap (λ (s : List ℕ). drop 12 (sealed order (s ++ body))) e ∙ ap (drop 12) (sealed_parts order kind x)
     ∙ drop_at (bytes_of order 4 (length x)) x 4 (length-bytes_of order 4 (length x))
 
--- ---- items one behind the other
+-- ---- what is written of a head spells it
 
-abbrev both : (ℕ → List ℕ) → (ℕ → List ℕ) → ℕ → List ℕ
-both p q place = p place ++ q (place + length (p place))
+abbrev IsWritten : {Y : Type 0} → Sound CdrFault Y → Y → Type 0
+IsWritten g v = (order : Order) (place : ℕ) → g.format.spells order place v (g.format.writes v order place)
 
-as_both : (x : List ℕ) (p q : ℕ → List ℕ) → (x ▹ p) ▹ q ≡ x ▹ both p q
-as_both x p q =
-    ap (λ (n : ℕ). (x ++ p (length x)) ++ q n) (length-append x (p (length x))) ∙ append_assoc x (p (length x)) (q (length x + length (p (length x))))
+both-written : {X Y : Type 0} (f : Sound CdrFault X) (g : Sound CdrFault Y) (v : X) (w : Y) → IsWritten f v → IsWritten g w → IsWritten (f & g) (v, w)
+both-written f g v w s t order place =
+    let front = f.format.writes v order place in
+    let there = place + length front in
+    record { front = front; back = g.format.writes w order there; parts = refl; spelled = s order place; then_spelled = t order there }
 
-abbrev Writes : (i : Item) → Order → ValueOf i → (ℕ → List ℕ) → Type 0
-Writes i order v p = (place : ℕ) → Spells i order place v (p place)
+ulong-written : (v : ℕ) → v < 2 ^ 32 → IsWritten ulong v
+ulong-written v small order place = written_number-spelled 4 order place v small
 
-both_write : (i j : Item) (order : Order) (v : ValueOf i) (w : ValueOf j) (p q : ℕ → List ℕ) → Writes i order v p → Writes j order w q → Writes (pair i j) order (v, w) (both p q)
-both_write i j order v w p q s t = λ place. record { front = p place; back = q (place + length (p place)); parts = refl; spelled = s place; then_spelled = t (place + length (p place)) }
+octets-written : (v : List ℕ) → length v < 2 ^ 32 → IsWritten octets v
+octets-written v short order place = written_octets-spelled order place v short
 
-ulong_writes : (order : Order) (v : ℕ) → v < 2 ^ 32 → Writes item.ulong order v (ulong order v)
-ulong_writes order v lt = λ place. written_number-spelled 4 order place v lt
+no_contexts-written : IsWritten contexts tt
+no_contexts-written order place =
+    let count = ulong.format.writes 0 order place in
+    ([], record { front = count; back = []; parts = refl; spelled = ulong-written 0 (omega arith) order place; then_spelled = (refl, refl) })
 
-octets_writes : (order : Order) (v : List ℕ) → length v < 2 ^ 32 → Writes item.octets order v (octets order v)
-octets_writes order v lt = λ place. written_octets-spelled order place v lt
+no_principal-written : IsWritten principal tt
+no_principal-written order place = ([], octets-written [] (omega arith) order place)
 
--- ---- heads behind no contexts
+request-written : (v : Request) → v.id < 2 ^ 32 → length v.key < 2 ^ 32 → length v.operation + 1 < 2 ^ 32 → HasNoNul v.operation → IsWritten request v
+request-written v small short brief free =
+    both-written contexts (ulong & boolean & octets & text & principal) tt (v.id, (v.answered, (v.key, (v.operation, tt)))) no_contexts-written
+    (both-written ulong (boolean & octets & text & principal) v.id (v.answered, (v.key, (v.operation, tt))) (ulong-written v.id small)
+    (both-written boolean (octets & text & principal) v.answered (v.key, (v.operation, tt)) (λ order place. written_boolean-spelled order place v.answered)
+    (both-written octets (text & principal) v.key (v.operation, tt) (octets-written v.key short)
+    (both-written text principal v.operation tt (λ order place. written_string-spelled order place v.operation free brief) no_principal-written))))
 
-no_contexts : (order : Order) (place : ℕ) → SpellsContexts order place [] (ulong order 0 place)
-no_contexts order place =
-    record { front = ulong order 0 place; back = []; parts = sym (append-nil (ulong order 0 place)); spelled = ulong_writes order 0 (omega arith) place; then_spelled = refl }
+reply-written : (v : Reply) → v.id < 2 ^ 32 → v.status < 2 ^ 32 → IsWritten reply v
+reply-written v small low =
+    both-written contexts (ulong & ulong) tt (v.id, v.status) no_contexts-written
+    (both-written ulong ulong v.id v.status (ulong-written v.id small) (ulong-written v.status low))
 
-head_spelled : {Y : Type 0} (i : Item) (kept : ValueOf i → Y) (order : Order) (fields : ValueOf i) (p : ℕ → List ℕ) (place : ℕ) → Writes i order fields p
-    → SpellsHead i kept order place (kept fields) (both (ulong order 0) p place)
-head_spelled i kept order fields p place w = record {
-  contexts = [];
-  fields = fields;
-  spelled = record { front = ulong order 0 place; back = p (place + length (ulong order 0 place)); parts = refl; spelled = no_contexts order place; then_spelled = w (place + length (ulong order 0 place)) };
-  keeps = refl;
-}
+-- ---- a head is read back
 
-head_back : {Y : Type 0} (i : Item) (kept : ValueOf i → Y) (order : Order) (kind : ℕ) (fields : ValueOf i) (p : ℕ → List ℕ) (start body : List ℕ) → Writes i order fields p
-    → start ≡ header_written order kind ▹ both (ulong order 0) p
-    → head_at i kept (behind_header order (sealed order (start ++ body))) ≡ Ok (kept fields, at_body order start body)
-head_back {Y = Y} i kept order kind fields p start body w e =
-    let b = both (ulong order 0) p 12 in
+head_back : {Y : Type 0} (g : Sound CdrFault Y) (order : Order) (kind : ℕ) (v : Y) (body : List ℕ) → IsWritten g v
+    → g.format.reads (behind_header order (sealed order (message kind (g.format.writes v) order ++ body))) ≡ Ok (v, at_body order (message kind (g.format.writes v) order) body)
+head_back {Y = Y} g order kind v body w =
+    let b = g.format.writes v order 12 in
+    let start = message kind (g.format.writes v) order in
     let m = sealed order (start ++ body) in
-    let rest : drop 12 m ≡ b ++ body = behind_sealed order kind start b body e in
-    let read = (head-joins i kept).only (behind_header order m) (kept fields) b body (omega arith) (head_spelled i kept order fields p 12 w) rest in
-    let place : 12 + length b ≡ length start = sym (ap (length {A = ℕ}) e ∙ (let n : length (header_written order kind ++ b) ≡ 12 + length b = omega (arith, length-append (header_written order kind) b) in n)) in
+    let rest : drop 12 m ≡ b ++ body = behind_sealed order kind start b body refl in
+    let read = g.lawful.only (behind_header order m) v b body (omega arith) (w order 12) rest in
+    let place : 12 + length b ≡ length start = omega (arith, length-append (header_written order kind) b) in
     let left : drop (length b) (drop 12 m) ≡ body = ap (drop (length b)) rest ∙ drop_at b body (length b) refl in
-    let answered : List ℕ → ℕ → Result (Y × At) CdrFault = λ r n. Ok (kept fields, record { rest = r; place = n; origin = 0; order = order }) in
+    let answered : List ℕ → ℕ → Result (Y × At) CdrFault = λ r n. Ok (v, record { rest = r; place = n; origin = 0; order = order }) in
     read ∙ ap (λ (r : List ℕ). answered r (12 + length b)) left ∙ ap (answered body) place
 
+alone_back : {Y : Type 0} (g : Sound CdrFault Y) (order : Order) (kind : ℕ) (v : Y) → IsWritten g v
+    → alone (g.format.reads (behind_header order (sealed order (message kind (g.format.writes v) order)))) ≡ Ok v
+alone_back g order kind v w =
+    let b = g.format.writes v order 12 in
+    let start = message kind (g.format.writes v) order in
+    let rest : drop 12 (sealed order start) ≡ b ++ [] = sym (ap (λ (m : List ℕ). drop 12 (sealed order m)) (append-nil start)) ∙ behind_sealed order kind start b [] refl in
+    (read-alone g).only (behind_header order (sealed order start)) v b [] (omega arith) (w order 12) rest
+
 -- ---- each message
-
-abbrev request_fields_written : Order → ℕ → Bool → List ℕ → List ℕ → ℕ → List ℕ
-request_fields_written order id answered key operation =
-    both (ulong order id) (both (boolean order answered) (both (octets order key) (both (text order operation) (octets order []))))
-
-request_parts : (order : Order) (id : ℕ) (answered : Bool) (key operation : List ℕ)
-    → request_start order id answered key operation ≡ header_written order 0 ▹ both (ulong order 0) (request_fields_written order id answered key operation)
-unfolding request_start
-request_parts order id answered key operation =
-    let h = header_written order 0 in
-    let z = ulong order 0 in
-    let a = ulong order id in
-    let b = boolean order answered in
-    let c = octets order key in
-    let d = text order operation in
-    let e = octets order [] in
-    as_both (h ▹ z ▹ a ▹ b ▹ c) d e
-    ∙ as_both (h ▹ z ▹ a ▹ b) c (both d e)
-    ∙ as_both (h ▹ z ▹ a) b (both c (both d e))
-    ∙ as_both (h ▹ z) a (both b (both c (both d e)))
-    ∙ as_both h z (both a (both b (both c (both d e))))
-
-request_written : (order : Order) (id : ℕ) (answered : Bool) (key operation : List ℕ) → id < 2 ^ 32 → length key < 2 ^ 32 → length operation + 1 < 2 ^ 32 → HasNoNul operation
-    → Writes request_fields order (id, (answered, (key, (operation, [])))) (request_fields_written order id answered key operation)
-request_written order id answered key operation small short brief free =
-    both_write item.ulong (pair item.boolean (pair item.octets (pair item.string item.octets))) order id (answered, (key, (operation, []))) (ulong order id) _
-    (ulong_writes order id small)
-    (both_write item.boolean (pair item.octets (pair item.string item.octets)) order answered (key, (operation, [])) (boolean order answered) _
-    (λ place. written_boolean-spelled order place answered)
-    (both_write item.octets (pair item.string item.octets) order key (operation, []) (octets order key) _
-    (octets_writes order key short)
-    (both_write item.string item.octets order operation [] (text order operation) (octets order [])
-    (λ place. written_string-spelled order place operation free brief)
-    (octets_writes order [] (omega arith)))))
 
 pub request_back : (order : Order) (id : ℕ) (answered : Bool) (key operation body : List ℕ) → id < 2 ^ 32 → length key < 2 ^ 32 → length operation + 1 < 2 ^ 32 → HasNoNul operation
     → request_at (behind_header order (sealed order (request_start order id answered key operation ++ body)))
     ≡ Ok (record { id = id; answered = answered; key = key; operation = operation }, at_body order (request_start order id answered key operation) body)
-unfolding request_at
+unfolding request_at request_start
 request_back order id answered key operation body small short brief free =
-    head_back request_fields request_of order 0 (id, (answered, (key, (operation, [])))) (request_fields_written order id answered key operation)
-    (request_start order id answered key operation) body
-    (request_written order id answered key operation small short brief free) (request_parts order id answered key operation)
-
-reply_parts : (order : Order) (id status : ℕ) → reply_start order id status ≡ header_written order 1 ▹ both (ulong order 0) (both (ulong order id) (ulong order status))
-unfolding reply_start
-reply_parts order id status =
-    let h = header_written order 1 in
-    as_both (h ▹ ulong order 0) (ulong order id) (ulong order status) ∙ as_both h (ulong order 0) (both (ulong order id) (ulong order status))
+    let v : Request = record { id = id; answered = answered; key = key; operation = operation } in
+    head_back request order REQUEST v body (request-written v small short brief free)
 
 pub reply_back : (order : Order) (id status : ℕ) (body : List ℕ) → id < 2 ^ 32 → status < 2 ^ 32
     → reply_at (behind_header order (sealed order (reply_start order id status ++ body))) ≡ Ok (record { id = id; status = status }, at_body order (reply_start order id status) body)
-unfolding reply_at
+unfolding reply_at reply_start
 reply_back order id status body small low =
-    head_back reply_fields reply_of order 1 (id, status) (both (ulong order id) (ulong order status)) (reply_start order id status) body
-    (both_write item.ulong item.ulong order id status (ulong order id) (ulong order status) (ulong_writes order id small) (ulong_writes order status low)) (reply_parts order id status)
-
--- fields with no contexts before them
-alone_back : (i : Item) (order : Order) (kind : ℕ) (fields : ValueOf i) (p : ℕ → List ℕ) (message : List ℕ) → Writes i order fields p → message ≡ header_written order kind ▹ p
-    → alone (reading i (behind_header order (sealed order message))) ≡ Ok fields
-alone_back i order kind fields p message w e =
-    let whole : message ++ [] ≡ message = append-nil message in
-    let rest : drop 12 (sealed order message) ≡ p 12 ++ [] = sym (ap (λ (m : List ℕ). drop 12 (sealed order m)) whole) ∙ behind_sealed order kind message (p 12) [] e in
-    (read-alone i).only (behind_header order (sealed order message)) fields (p 12) [] (omega arith) (w 12) rest
-
-locate_parts : (order : Order) (id : ℕ) (key : List ℕ) → locate_written order id key ≡ header_written order 3 ▹ both (ulong order id) (octets order key)
-unfolding locate_written
-locate_parts order id key = as_both (header_written order 3) (ulong order id) (octets order key)
+    let v : Reply = record { id = id; status = status } in
+    head_back reply order REPLY v body (reply-written v small low)
 
 pub locate_back : (order : Order) (id : ℕ) (key : List ℕ) → id < 2 ^ 32 → length key < 2 ^ 32 → locate_at (behind_header order (sealed order (locate_written order id key))) ≡ Ok (id, key)
-unfolding locate_at
+unfolding locate_at locate_written
 locate_back order id key small short =
-    alone_back locate_fields order 3 (id, key) (both (ulong order id) (octets order key)) (locate_written order id key)
-    (both_write item.ulong item.octets order id key (ulong order id) (octets order key) (ulong_writes order id small) (octets_writes order key short)) (locate_parts order id key)
-
-locate_reply_parts : (order : Order) (id status : ℕ) → locate_reply_written order id status ≡ header_written order 4 ▹ both (ulong order id) (ulong order status)
-unfolding locate_reply_written
-locate_reply_parts order id status = as_both (header_written order 4) (ulong order id) (ulong order status)
+    alone_back locate_request order LOCATE_REQUEST (id, key) (both-written ulong octets id key (ulong-written id small) (octets-written key short))
 
 pub locate_reply_back : (order : Order) (id status : ℕ) → id < 2 ^ 32 → status < 2 ^ 32 → locate_reply_at (behind_header order (sealed order (locate_reply_written order id status))) ≡ Ok (id, status)
-unfolding locate_reply_at
+unfolding locate_reply_at locate_reply_written
 locate_reply_back order id status small low =
-    alone_back locate_reply_fields order 4 (id, status) (both (ulong order id) (ulong order status)) (locate_reply_written order id status)
-    (both_write item.ulong item.ulong order id status (ulong order id) (ulong order status) (ulong_writes order id small) (ulong_writes order status low)) (locate_reply_parts order id status)
+    alone_back locate_reply order LOCATE_REPLY (id, status) (both-written ulong ulong id status (ulong-written id small) (ulong-written status low))
 
 -- ---- each is a whole good message
 
-pub request_whole : (order : Order) (id : ℕ) (answered : Bool) (key operation body : List ℕ) (limit : ℕ) → IsSealed limit order 0 (request_start order id answered key operation ++ body)
-request_whole order id answered key operation body limit = record { good = sealed_message limit order 0 (request_start order id answered key operation) (both (ulong order 0) (request_fields_written order id answered key operation) 12) body (request_parts order id answered key operation) (omega arith) }
+pub request_whole : (order : Order) (id : ℕ) (answered : Bool) (key operation body : List ℕ) (limit : ℕ) → IsSealed limit order REQUEST (request_start order id answered key operation ++ body)
+unfolding request_start
+request_whole order id answered key operation body limit =
+    record { good = sealed_message limit order REQUEST (request_start order id answered key operation) (request.format.writes (record { id = id; answered = answered; key = key; operation = operation }) order 12) body refl (omega arith) }
 
-pub reply_whole : (order : Order) (id status : ℕ) (body : List ℕ) (limit : ℕ) → IsSealed limit order 1 (reply_start order id status ++ body)
-reply_whole order id status body limit = record { good = sealed_message limit order 1 (reply_start order id status) (both (ulong order 0) (both (ulong order id) (ulong order status)) 12) body (reply_parts order id status) (omega arith) }
+pub reply_whole : (order : Order) (id status : ℕ) (body : List ℕ) (limit : ℕ) → IsSealed limit order REPLY (reply_start order id status ++ body)
+unfolding reply_start
+reply_whole order id status body limit =
+    record { good = sealed_message limit order REPLY (reply_start order id status) (reply.format.writes (record { id = id; status = status }) order 12) body refl (omega arith) }
 
-sealed_alone : (order : Order) (kind : ℕ) (message back : List ℕ) (limit : ℕ) → message ≡ header_written order kind ++ back → kind ≤ 6 → IsSealed limit order kind message
-sealed_alone order kind message back limit e known =
-    subst (λ (m : List ℕ). IsSealed limit order kind m) (append-nil message) (record { good = sealed_message limit order kind message back [] e known })
+sealed_alone : (order : Order) (kind : ℕ) (whole back : List ℕ) (limit : ℕ) → whole ≡ header_written order kind ++ back → kind ≤ 6 → IsSealed limit order kind whole
+sealed_alone order kind whole back limit e known =
+    subst (λ (m : List ℕ). IsSealed limit order kind m) (append-nil whole) (record { good = sealed_message limit order kind whole back [] e known })
 
-pub locate_whole : (order : Order) (id : ℕ) (key : List ℕ) (limit : ℕ) → IsSealed limit order 3 (locate_written order id key)
-locate_whole order id key limit = sealed_alone order 3 (locate_written order id key) (both (ulong order id) (octets order key) 12) limit (locate_parts order id key) (omega arith)
+pub locate_whole : (order : Order) (id : ℕ) (key : List ℕ) (limit : ℕ) → IsSealed limit order LOCATE_REQUEST (locate_written order id key)
+unfolding locate_written
+locate_whole order id key limit = sealed_alone order LOCATE_REQUEST (locate_written order id key) (locate_request.format.writes (id, key) order 12) limit refl (omega arith)
 
-pub locate_reply_whole : (order : Order) (id status : ℕ) (limit : ℕ) → IsSealed limit order 4 (locate_reply_written order id status)
-locate_reply_whole order id status limit = sealed_alone order 4 (locate_reply_written order id status) (both (ulong order id) (ulong order status) 12) limit (locate_reply_parts order id status) (omega arith)
+pub locate_reply_whole : (order : Order) (id status : ℕ) (limit : ℕ) → IsSealed limit order LOCATE_REPLY (locate_reply_written order id status)
+unfolding locate_reply_written
+locate_reply_whole order id status limit = sealed_alone order LOCATE_REPLY (locate_reply_written order id status) (locate_reply.format.writes (id, status) order 12) limit refl (omega arith)
 
 pub plain_whole : (order : Order) (kind : ℕ) (limit : ℕ) → kind ≤ 6 → IsSealed limit order kind (header_written order kind)
 plain_whole order kind limit known = sealed_alone order kind (header_written order kind) [] limit refl known

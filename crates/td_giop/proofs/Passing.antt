@@ -1,13 +1,21 @@
 -- Contexts that are passed over.
-use Rattle.std.proofs.Common.{◌≡◌, ℕ, suc, ◌+◌, ◌-◌, ◌<◌, Result, Ok, ap, sym, ◌∙◌, arith}
-use Rattle.td_cdr.specs.declared.fault.CdrFault.{CdrFault}
+use Rattle.std.proofs.Common.{◌≡◌, ℕ, suc, ◌+◌, ◌-◌, ◌<◌, List, ◌∷◌, Ok, Err, refl, sym, ◌∙◌, arith}
 use Rattle.td_cdr.specs.Place.{At}
-use Rattle.td_cdr.specs.Reading.{◌>>=◌}
-use Rattle.td_giop.specs.Heads.{context_passed, row_passed}
+use Rattle.td_cdr.specs.Format.{Format, Read, ◌>>=◌, array_format}
+use Rattle.td_giop.specs.Heads.{passed}
+
+abbrev behind : {F X : Type 0} → X → Read F (List X) → Read F (X × List X)
+behind x s = s >>= λ y. Ok ((x, y.0), y.1)
+
+passed-more : {F X : Type 0} (x : X) (s : Read F (List X)) → passed (behind x s >>= λ p. Ok (p.0.0 ∷ p.0.1, p.1)) ≡ passed s
+passed-more x (Ok y) = refl
+passed-more x (Err e) = refl
 
 -- once one more was passed over, one fewer is left
-pub row_step : (count turn : ℕ) (a b : At) → turn < count → context_passed a ≡ Ok b → row_passed (count - (turn + 1)) b ≡ row_passed (count - turn) a
-row_step count turn a b lt e =
+pub goes_on : {F X : Type 0} (g : Format F X) (count turn : ℕ) (a b : At) (x : X) (total : Read F (Unit {0})) → turn < count → g.reads a ≡ Ok (x, b)
+    → passed ((array_format g (count - turn)).reads a) ≡ total → passed ((array_format g (count - (turn + 1))).reads b) ≡ total
+goes_on g count turn a b x total lt read so_far =
     let left : count - turn ≡ suc (count - (turn + 1)) = omega arith in
-    let step : row_passed (suc (count - (turn + 1))) a ≡ row_passed (count - (turn + 1)) b = ap (λ (r : Result At CdrFault). r >>= row_passed (count - (turn + 1))) e in
-    sym (ap (λ (n : ℕ). row_passed n a) left ∙ step)
+    let one : passed ((array_format g (count - turn)).reads a) ≡ passed ((array_format g (count - (turn + 1))).reads b) =
+    rw (left, read) (passed-more x ((array_format g (count - (turn + 1))).reads b)) in
+    sym one ∙ so_far

@@ -4,6 +4,7 @@ use Rattle.td_cdr.specs.declared.order.Order.{Order}
 use Rattle.td_giop.specs.Header.{GoodHeader}
 use Rattle.td_giop.specs.declared.fault.FrameFault.{FrameFault}
 use Rattle.td_giop.specs.Stream.{first_at}
+use Rattle.td_giop.specs.declared.header.TheConstants.{HEADER_SIZE}
 
 -- why no message follows: the stream is at the border of a message, inside one, or at a bad header
 pub data Ending : Type 0 where
@@ -49,4 +50,4 @@ pub record SameCut (ms ns : List (List ℕ)) (r s : List ℕ) (e f : Ending) : T
 pub record IsMessage (limit : ℕ) (m : List ℕ) : Type 0 where
   pub order : Order
   pub kind : ℕ
-  pub good : GoodHeader limit m order kind (length m - 12)
+  pub good : GoodHeader limit m order kind (length m - HEADER_SIZE)

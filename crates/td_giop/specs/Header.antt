@@ -8,20 +8,22 @@ use Rattle.td_cdr.specs.Reading.{number}
 use Rattle.td_giop.specs.declared.fault.FrameFault.{FrameFault}
 use Rattle.td_giop.specs.declared.fault.FrameFault.TheVariants.{BadMagic, BadVersion, BadType, TooLarge}
 use Rattle.td_giop.specs.declared.header.Header.{Header}
+use Rattle.td_giop.specs.declared.header.TheConstants.{HEADER_SIZE, MAGIC, MAJOR, MINOR, MAJOR_PLACE, MINOR_PLACE, ORDER_PLACE, TYPE_PLACE, SIZE_PLACE}
+use Rattle.td_giop.specs.declared.message_type.TheConstants.{MESSAGE_ERROR}
 
 -- ---- the header in the standard's words
 
 -- the first four octets are 'GIOP'
 pub record HasMagic (bytes : List ℕ) : Type 0 where
-  pub g : slice_index bytes 0 ≡ 71
-  pub i : slice_index bytes 1 ≡ 73
-  pub o : slice_index bytes 2 ≡ 79
-  pub p : slice_index bytes 3 ≡ 80
+  pub g : slice_index bytes 0 ≡ slice_index MAGIC 0
+  pub i : slice_index bytes 1 ≡ slice_index MAGIC 1
+  pub o : slice_index bytes 2 ≡ slice_index MAGIC 2
+  pub p : slice_index bytes 3 ≡ slice_index MAGIC 3
 
 -- version 1.0
 pub record HasVersion (bytes : List ℕ) : Type 0 where
-  pub major : slice_index bytes 4 ≡ 1
-  pub minor : slice_index bytes 5 ≡ 0
+  pub major : slice_index bytes MAJOR_PLACE ≡ MAJOR
+  pub minor : slice_index bytes MINOR_PLACE ≡ MINOR
 
 -- the lowest bit of the order octet is 0 for big and 1 for little
 abbrev pub TellsOrder : ℕ → Order → Type 0
@@ -30,54 +32,65 @@ TellsOrder octet Little = octet % 2 ≡ 1
 
 -- one of Request, Reply, CancelRequest, LocateRequest, LocateReply, CloseConnection and MessageError
 abbrev pub HasType : List ℕ → ℕ → Type 0
-HasType bytes kind = (slice_index bytes 7 ≡ kind) × (kind ≤ 6)
+HasType bytes kind = (slice_index bytes TYPE_PLACE ≡ kind) × (kind ≤ MESSAGE_ERROR)
 
 -- bytes begin with a good header of a message of this order and type, which is followed by size bytes
 pub record GoodHeader (limit : ℕ) (bytes : List ℕ) (order : Order) (kind size : ℕ) : Type 0 where
-  pub whole : 12 ≤ length bytes
+  pub whole : HEADER_SIZE ≤ length bytes
   pub magic : HasMagic bytes
   pub version : HasVersion bytes
-  pub order_octet : TellsOrder (slice_index bytes 6) order
+  pub order_octet : TellsOrder (slice_index bytes ORDER_PLACE) order
   pub type_octet : HasType bytes kind
-  pub size_field : number order 4 (drop 8 bytes) ≡ size
+  pub size_field : number order 4 (drop SIZE_PLACE bytes) ≡ size
   pub within : size ≤ limit
 
 -- ---- judging a header
 
 abbrev pub has_magic : List ℕ → Bool
-has_magic bytes = nat_eq (slice_index bytes 0) 71 && (nat_eq (slice_index bytes 1) 73 && (nat_eq (slice_index bytes 2) 79 && nat_eq (slice_index bytes 3) 80))
+has_magic bytes =
+    nat_eq (slice_index bytes 0) (slice_index MAGIC 0) && (nat_eq (slice_index bytes 1) (slice_index MAGIC 1)
+    && (nat_eq (slice_index bytes 2) (slice_index MAGIC 2) && nat_eq (slice_index bytes 3) (slice_index MAGIC 3)))
 
 abbrev pub has_version : List ℕ → Bool
-has_version bytes = nat_eq (slice_index bytes 4) 1 && nat_eq (slice_index bytes 5) 0
+has_version bytes = nat_eq (slice_index bytes MAJOR_PLACE) MAJOR && nat_eq (slice_index bytes MINOR_PLACE) MINOR
 
 abbrev pub order_told : ℕ → Order
 order_told octet = if nat_eq (octet % 2) 0 then Big else Little
 
 abbrev pub size_told : Order → List ℕ → ℕ
-size_told order bytes = number order 4 (drop 8 bytes)
+size_told order bytes = number order 4 (drop SIZE_PLACE bytes)
 
--- the header in front, none where its 12 octets aren't there yet, or the first fault in the order magic,
+-- the header in front, none where its octets aren't there yet, or the first fault in the order magic,
 -- version, type, size
 unfoldable pub header_at : ℕ → List ℕ → Result (Option Header) FrameFault
 header_at limit bytes =
-    if nat_lt (length bytes) 12 then Ok None
+    if nat_lt (length bytes) HEADER_SIZE then Ok None
     else if not (has_magic bytes) then Err BadMagic
     else if not (has_version bytes) then Err BadVersion
-    else if nat_lt 6 (slice_index bytes 7) then Err BadType
-    else if nat_lt limit (size_told (order_told (slice_index bytes 6)) bytes) then Err TooLarge
-    else Ok (Some (record { kind = slice_index bytes 7; order = order_told (slice_index bytes 6); size = size_told (order_told (slice_index bytes 6)) bytes }))
+    else if nat_lt MESSAGE_ERROR (slice_index bytes TYPE_PLACE) then Err BadType
+    else if nat_lt limit (size_told (order_told (slice_index bytes ORDER_PLACE)) bytes) then Err TooLarge
+    else Ok (Some (record {
+      kind = slice_index bytes TYPE_PLACE;
+      order = order_told (slice_index bytes ORDER_PLACE);
+      size = size_told (order_told (slice_index bytes ORDER_PLACE)) bytes;
+    }))
 
 -- what is wrong with a header that is there: the first that fails
 abbrev pub FirstFault : FrameFault → ℕ → List ℕ → Type 0
 FirstFault BadMagic limit bytes = HasMagic bytes → ⊥
 FirstFault BadVersion limit bytes = HasMagic bytes × (HasVersion bytes → ⊥)
-FirstFault BadType limit bytes = HasMagic bytes × HasVersion bytes × (6 < slice_index bytes 7)
+FirstFault BadType limit bytes = HasMagic bytes × HasVersion bytes × (MESSAGE_ERROR < slice_index bytes TYPE_PLACE)
 FirstFault TooLarge limit bytes =
-    HasMagic bytes × HasVersion bytes × (slice_index bytes 7 ≤ 6)
-    × ((order : Order) → TellsOrder (slice_index bytes 6) order → limit < number order 4 (drop 8 bytes))
+    HasMagic bytes × HasVersion bytes × (slice_index bytes TYPE_PLACE ≤ MESSAGE_ERROR)
+    × ((order : Order) → TellsOrder (slice_index bytes ORDER_PLACE) order
+    → limit < number order 4 (drop SIZE_PLACE bytes))
+
+-- a header that is there, and the fault that is its first
+abbrev pub IsFault : FrameFault → ℕ → List ℕ → Type 0
+IsFault fault limit bytes = (HEADER_SIZE ≤ length bytes) × FirstFault fault limit bytes
 
 -- what an answer says of the bytes
 abbrev pub Judged : ℕ → List ℕ → Result (Option Header) FrameFault → Type 0
-Judged limit bytes (Ok None) = length bytes < 12
+Judged limit bytes (Ok None) = length bytes < HEADER_SIZE
 Judged limit bytes (Ok (Some h)) = GoodHeader limit bytes h.order h.kind h.size
-Judged limit bytes (Err fault) = (12 ≤ length bytes) × FirstFault fault limit bytes
+Judged limit bytes (Err fault) = IsFault fault limit bytes

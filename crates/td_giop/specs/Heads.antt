@@ -1,35 +1,17 @@
--- The heads of GIOP 1.0's messages (chapter "General Inter-ORB Protocol", "GIOP Messages"), read from
--- behind the message header.
-use Rattle.std.specs.Prelude.{◌≡◌, ℕ, zero, suc, ◌^◌, ◌≤◌, ◌<◌, Bool, List, length, drop, Result, Ok, Err}
+-- The heads of GIOP 1.0's messages (chapter "General Inter-ORB Protocol", "GIOP Messages"), as formats, and read
+-- from behind the message header.
+use Rattle.std.specs.Prelude.{ℕ, ◌^◌, ◌≤◌, ◌<◌, Bool, List, [], length, drop, Result, Ok, Err, refl}
+use Rattle.std.proofs.Common.{arith}
 use Rattle.td_cdr.specs.declared.order.Order.{Order}
 use Rattle.td_cdr.specs.declared.fault.CdrFault.{CdrFault}
 use Rattle.td_cdr.specs.Place.{At}
-use Rattle.td_cdr.specs.Reading.{◌>>=◌, number_at}
-use Rattle.td_cdr.specs.Items.{Item, ulong, boolean, octets, string, pair, ValueOf, reading}
+use Rattle.td_cdr.specs.Format.{Read, ◌>>=◌}
+use Rattle.td_cdr.specs.Sound.{Sound, ◌&◌, structure, placeholder}
+use Rattle.td_giop.specs.declared.header.TheConstants.{HEADER_SIZE}
+use Rattle.td_giop.specs.Fields.{ulong, boolean, octets, text, sequence}
 
--- ---- the fields, in the standard's order
+-- ---- what the heads tell
 
--- a context: its id and its octets
-abbrev pub context_fields : Item
-context_fields = pair ulong octets
-
--- request id, response expected, object key, operation, principal
-abbrev pub request_fields : Item
-request_fields = pair ulong (pair boolean (pair octets (pair string octets)))
-
--- request id, reply status
-abbrev pub reply_fields : Item
-reply_fields = pair ulong ulong
-
--- request id, object key
-abbrev pub locate_fields : Item
-locate_fields = pair ulong octets
-
--- request id, locate status
-abbrev pub locate_reply_fields : Item
-locate_reply_fields = pair ulong ulong
-
--- what a Request's head tells, and a Reply's
 pub record Request : Type 0 where
   pub id : ℕ
   pub answered : Bool
@@ -40,58 +22,73 @@ pub record Reply : Type 0 where
   pub id : ℕ
   pub status : ℕ
 
-abbrev pub request_of : ValueOf request_fields → Request
-request_of v = record { id = v.0; answered = v.1.0; key = v.1.1.0; operation = v.1.1.1.0 }
+-- ---- the fields, in the standard's order
 
-abbrev pub reply_of : ValueOf reply_fields → Reply
-reply_of v = record { id = v.0; status = v.1 }
+-- a context: its id and its octets
+abbrev pub context : Sound CdrFault (ℕ × List ℕ)
+context = ulong & octets
+
+pub no_contexts-admitted : (sequence context).format.admits []
+no_contexts-admitted = (omega arith, refl)
+
+-- any contexts, which are passed over; none are written
+abbrev pub contexts : Sound CdrFault (Unit {0})
+contexts = placeholder [] (sequence context) no_contexts-admitted
+
+-- any principal, which is passed over; an empty one is written
+abbrev pub principal : Sound CdrFault (Unit {0})
+principal = placeholder [] octets tt
+
+abbrev pub request_of : Unit {0} × (ℕ × (Bool × (List ℕ × (List ℕ × Unit {0})))) → Request
+request_of p = record { id = p.1.0; answered = p.1.1.0; key = p.1.1.1.0; operation = p.1.1.1.1.0 }
+
+-- contexts, request id, response expected, object key, operation, principal
+abbrev pub request : Sound CdrFault Request
+request =
+    structure request_of (λ x. (tt, (x.id, (x.answered, (x.key, (x.operation, tt)))))) (λ _. refl) (λ _. refl)
+    (contexts & ulong & boolean & octets & text & principal)
+
+abbrev pub reply_of : Unit {0} × (ℕ × ℕ) → Reply
+reply_of p = record { id = p.1.0; status = p.1.1 }
+
+-- contexts, request id, reply status
+abbrev pub reply : Sound CdrFault Reply
+reply = structure reply_of (λ x. (tt, (x.id, x.status))) (λ _. refl) (λ _. refl) (contexts & ulong & ulong)
+
+-- request id, object key
+abbrev pub locate_request : Sound CdrFault (ℕ × List ℕ)
+locate_request = ulong & octets
+
+-- request id, locate status
+abbrev pub locate_reply : Sound CdrFault (ℕ × ℕ)
+locate_reply = ulong & ulong
+
+-- request id
+abbrev pub cancel_request : Sound CdrFault ℕ
+cancel_request = ulong
 
 -- ---- reading them
 
 -- a message with a whole header, of which a u32 can name each place
 pub record IsReadable (bytes : List ℕ) : Type 0 where
-  pub header : 12 ≤ length bytes
+  pub header : HEADER_SIZE ≤ length bytes
   pub places : length bytes < 2 ^ 32
 
--- behind the header's 12 octets; alignment counts from the message's first
+-- behind the header's octets; alignment counts from the message's first
 abbrev pub behind_header : Order → List ℕ → At
-behind_header order bytes = record { rest = drop 12 bytes; place = 12; origin = 0; order = order }
+behind_header order bytes = record { rest = drop HEADER_SIZE bytes; place = HEADER_SIZE; origin = 0; order = order }
 
--- where a reading leads; its value is dropped
-abbrev pub passed : {Y : Type 0} → Result (Y × At) CdrFault → Result At CdrFault
-passed (Ok v) = Ok v.1
-passed (Err e) = Err e
-
--- a context is passed over
-unfoldable pub context_passed : At → Result At CdrFault
-context_passed a = passed (reading context_fields a)
-
--- so many contexts, one after the other
-abbrev pub row_passed : ℕ → At → Result At CdrFault
-row_passed zero a = Ok a
-row_passed (suc count) a = do
-  next ← context_passed a
-  row_passed count next
-
--- contexts, behind their number
-unfoldable pub contexts_passed : At → Result At CdrFault
-contexts_passed a = do
-  count ← number_at 4 a
-  row_passed count.0 count.1
+-- a reading whose value is dropped
+abbrev pub passed : {F Y : Type 0} → Read F Y → Read F (Unit {0})
+passed r = r >>= λ v. Ok (tt, v.1)
 
 -- a Request's head, and where its parameters begin
 unfoldable pub request_at : At → Result (Request × At) CdrFault
-request_at a = do
-  next ← contexts_passed a
-  fields ← reading request_fields next
-  Ok (request_of fields.0, fields.1)
+request_at a = request.format.reads a
 
 -- a Reply's head, and where its body begins
 unfoldable pub reply_at : At → Result (Reply × At) CdrFault
-reply_at a = do
-  next ← contexts_passed a
-  fields ← reading reply_fields next
-  Ok (reply_of fields.0, fields.1)
+reply_at a = reply.format.reads a
 
 -- what is read, and what follows it is ignored
 abbrev pub alone : {Y : Type 0} → Result (Y × At) CdrFault → Result Y CdrFault
@@ -100,17 +97,12 @@ alone (Err e) = Err e
 
 -- a LocateRequest: request id and object key
 unfoldable pub locate_at : At → Result (ℕ × List ℕ) CdrFault
-locate_at a = alone (reading locate_fields a)
+locate_at a = alone (locate_request.format.reads a)
 
 -- a LocateReply: request id and locate status
 unfoldable pub locate_reply_at : At → Result (ℕ × ℕ) CdrFault
-locate_reply_at a = alone (reading locate_reply_fields a)
+locate_reply_at a = alone (locate_reply.format.reads a)
 
 -- a CancelRequest: request id
 unfoldable pub cancel_at : At → Result ℕ CdrFault
-cancel_at a = alone (number_at 4 a)
-
--- what a call that passes over bytes answered, and where the reader then stands, is what reading gives
-abbrev pub Passes : At → Result (Unit {0}) CdrFault → Result At CdrFault → Type 0
-Passes new (Ok _) reading = reading ≡ Ok new
-Passes new (Err e) reading = reading ≡ Err e
+cancel_at a = alone (cancel_request.format.reads a)

@@ -1,7 +1,8 @@
+pub mod Alone
 pub mod Cut
+pub mod Fields
 pub mod FramerLends
 pub mod Header
-pub mod HeadSpelling
 pub mod Heads
 pub mod Stream
 pub mod Written

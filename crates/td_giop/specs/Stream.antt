@@ -3,6 +3,7 @@ use Rattle.std.specs.Global.{Vec}
 use Rattle.std.specs.Prelude.{◌⊎◌, vec_capacity, ◌≡◌, ℕ, ◌+◌, ◌≤◌, ◌<◌, nat_lt, if◌then◌else◌, List, ◌++◌, length, drop, Option, Some, None, Result, Ok, Err}
 use Rattle.td_giop.specs.declared.fault.FrameFault.{FrameFault}
 use Rattle.td_giop.specs.declared.header.Header.{Header}
+use Rattle.td_giop.specs.declared.header.TheConstants.{HEADER_SIZE}
 use Rattle.td_giop.specs.Header.{header_at}
 
 -- what of a stream was not taken away
@@ -15,7 +16,8 @@ pub record Stream : Type 0 where
 
 -- the size of a message, where so many bytes have come
 abbrev pub whole_within : ℕ → Result (Option Header) FrameFault → Result (Option ℕ) FrameFault
-whole_within held (Ok (Some h)) = if nat_lt held (12 + h.size) then Ok None else Ok (Some (12 + h.size))
+whole_within held (Ok (Some h)) =
+    if nat_lt held (HEADER_SIZE + h.size) then Ok None else Ok (Some (HEADER_SIZE + h.size))
 whole_within held (Ok None) = Ok None
 whole_within held (Err f) = Err f
 

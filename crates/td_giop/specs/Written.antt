@@ -1,33 +1,42 @@
--- What the writers of GIOP 1.0's messages append (chapter "General Inter-ORB Protocol", "GIOP
--- Messages"): no contexts, an empty principal, and 0 in the size field until the message is sealed.
-use Rattle.std.specs.Prelude.{◌≡◌, ◌<◌, ◌≤◌, Result, OnOk, OnErr, ℕ, ◌+◌, ◌-◌, ◌^◌, Bool, List, [], ◌∷◌, ◌++◌, length, take, drop}
-use Rattle.std.specs.Int.{from_bool}
+-- What the writers of GIOP 1.0's messages append (chapter "General Inter-ORB Protocol", "GIOP Messages"): the
+-- header, with 0 in the size field until the message is sealed, and then the head.
+use Rattle.std.specs.Prelude.{◌<◌, ◌≤◌, ◌+◌, ◌-◌, ◌^◌, ℕ, Bool, List, [], ◌∷◌, ◌++◌, length, take, drop}
 use Rattle.td_cdr.specs.declared.order.Order.{Order}
 use Rattle.td_cdr.specs.Place.{At}
-use Rattle.td_giop.specs.Header.{GoodHeader}
 use Rattle.td_cdr.specs.Gap.{gap, bytes_of, flag}
-use Rattle.td_cdr.specs.Writing.{Draft, written_number, written_octets}
-
--- an item behind these bytes, spelled at the place where they end
-infixl 10 ◌▹◌
-abbrev pub ◌▹◌ : List ℕ → (ℕ → List ℕ) → List ℕ
-bytes ▹ item = bytes ++ item (length bytes)
-
-abbrev pub ulong : Order → ℕ → ℕ → List ℕ
-ulong order v place = written_number 4 order place v
-
-abbrev pub boolean : Order → Bool → ℕ → List ℕ
-boolean order v place = written_number 1 order place (from_bool v)
-
-abbrev pub octets : Order → List ℕ → ℕ → List ℕ
-octets order v place = written_octets order place v
-
-abbrev pub text : Order → List ℕ → ℕ → List ℕ
-text order v place = written_octets order place (v ++ 0 ∷ [])
+use Rattle.td_cdr.specs.Format.{Piece}
+use Rattle.td_giop.specs.declared.header.TheConstants.{HEADER_SIZE, MAGIC, MAJOR, MINOR, SIZE_PLACE}
+use Rattle.td_giop.specs.declared.message_type.TheConstants.{REQUEST, REPLY, LOCATE_REQUEST, LOCATE_REPLY}
+use Rattle.td_giop.specs.Header.{GoodHeader}
+use Rattle.td_giop.specs.Heads.{Request, request, reply, locate_request, locate_reply}
 
 -- the message header, whose size isn't known yet
 abbrev pub header_written : Order → ℕ → List ℕ
-header_written order kind = 71 ∷ 73 ∷ 79 ∷ 80 ∷ 1 ∷ 0 ∷ flag order ∷ kind ∷ 0 ∷ 0 ∷ 0 ∷ 0 ∷ []
+header_written order kind = MAGIC ++ MAJOR ∷ MINOR ∷ flag order ∷ kind ∷ 0 ∷ 0 ∷ 0 ∷ 0 ∷ []
+
+-- a header of this type, and what follows it
+abbrev pub message : ℕ → Piece → Order → List ℕ
+message kind head order = header_written order kind ++ head order HEADER_SIZE
+
+-- Request: no contexts, request id, response expected, object key, operation, no principal
+unfoldable pub request_start : Order → ℕ → Bool → List ℕ → List ℕ → List ℕ
+request_start order id answered key operation =
+    let head : Request = record { id = id; answered = answered; key = key; operation = operation } in
+    message REQUEST (request.format.writes head) order
+
+-- Reply: no contexts, request id, reply status
+unfoldable pub reply_start : Order → ℕ → ℕ → List ℕ
+reply_start order id status = message REPLY (reply.format.writes (record { id = id; status = status })) order
+
+-- LocateRequest: request id, object key
+unfoldable pub locate_written : Order → ℕ → List ℕ → List ℕ
+locate_written order id key = message LOCATE_REQUEST (locate_request.format.writes (id, key)) order
+
+-- LocateReply: request id, locate status
+unfoldable pub locate_reply_written : Order → ℕ → ℕ → List ℕ
+locate_reply_written order id status = message LOCATE_REPLY (locate_reply.format.writes (id, status)) order
+
+-- ---- how long they are
 
 -- where so many octets end whose number is the next item
 abbrev pub octets_end : ℕ → ℕ → ℕ
@@ -35,33 +44,13 @@ octets_end place len = place + (gap 4 place + 4 + len)
 
 -- how long the start of a Request is with a key and an operation of these lengths
 abbrev pub request_size : ℕ → ℕ → ℕ
-request_size key operation = octets_end (octets_end (octets_end 21 key) (operation + 1)) 0
+request_size key operation = octets_end (octets_end (octets_end (HEADER_SIZE + 9) key) (operation + 1)) 0
 
--- Request: no contexts, request id, response expected, object key, operation, no principal
-unfoldable pub request_start : Order → ℕ → Bool → List ℕ → List ℕ → List ℕ
-request_start order id answered key operation =
-    header_written order 0 ▹ ulong order 0 ▹ ulong order id ▹ boolean order answered ▹ octets order key ▹ text order operation ▹ octets order []
-
--- Reply: no contexts, request id, reply status
-unfoldable pub reply_start : Order → ℕ → ℕ → List ℕ
-reply_start order id status = header_written order 1 ▹ ulong order 0 ▹ ulong order id ▹ ulong order status
-
--- LocateRequest: request id, object key
-unfoldable pub locate_written : Order → ℕ → List ℕ → List ℕ
-locate_written order id key = header_written order 3 ▹ ulong order id ▹ octets order key
-
--- LocateReply: request id, locate status
-unfoldable pub locate_reply_written : Order → ℕ → ℕ → List ℕ
-locate_reply_written order id status = header_written order 4 ▹ ulong order id ▹ ulong order status
-
--- the same of an empty writer, but for what a refused writer holds
-pub record Puts {E : Type 0} (bytes : List ℕ) (old new : Draft) (result : Result (Unit {0}) E) : Type 0 where
-  pub done : OnOk result ((new.bytes ≡ bytes) × (new.order ≡ old.order) × (old.room ≤ new.room))
-  pub refused : OnErr result (old.room < length bytes)
+-- ---- a sealed message
 
 -- the same bytes with the size of what follows the header in its field
 abbrev pub sealed : Order → List ℕ → List ℕ
-sealed order bytes = take 8 bytes ++ bytes_of order 4 (length bytes - 12) ++ drop 12 bytes
+sealed order bytes = take SIZE_PLACE bytes ++ bytes_of order 4 (length bytes - HEADER_SIZE) ++ drop HEADER_SIZE bytes
 
 -- where a reader stands once it has read a start
 abbrev pub at_body : Order → List ℕ → List ℕ → At
@@ -69,4 +58,5 @@ at_body order start body = record { rest = body; place = length start; origin = 
 
 -- once it is sealed, it is a whole good message, if a size field can tell its size and the limit allows it
 pub record IsSealed (limit : ℕ) (order : Order) (kind : ℕ) (bytes : List ℕ) : Type 0 where
-  pub good : length bytes < 2 ^ 32 → length bytes ≤ limit + 12 → GoodHeader limit (sealed order bytes) order kind (length bytes - 12)
+  pub good : length bytes < 2 ^ 32 → length bytes ≤ limit + HEADER_SIZE
+      → GoodHeader limit (sealed order bytes) order kind (length bytes - HEADER_SIZE)

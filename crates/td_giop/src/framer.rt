@@ -5,7 +5,7 @@ ghost use Rattle.std.specs.Borrow.{sem};
 ghost use Rattle.td_giop.specs.Stream.{first_at, dropped, IsInside, IsFront};
 
 use crate::fault::FrameFault;
-use crate::header::{HEADER_SIZE, judge, order_of};
+use crate::header::{HEADER_SIZE, ORDER_PLACE, TYPE_PLACE, judge, order_of};
 use crate::raw::Raw;
 use circular_buffer::HeapCircularBuffer;
 use std::alloc::Global;
@@ -36,7 +36,8 @@ impl Model for Framer {
 
     ghost view = { λ f. record { start = f.start; rest = f.message.items ++ f.ring.items; limit = f.limit } };
 
-    ghost invariant = { λ f. (f.start + length (f.message.items ++ f.ring.items) < 2 ^ 64) × IsFront f.limit f.message f.ring.items };
+    ghost invariant = { λ f. (f.start + length (f.message.items ++ f.ring.items) < 2 ^ 64)
+        × IsFront f.limit f.message f.ring.items };
 }
 
 impl Framer {
@@ -91,8 +92,8 @@ impl Framer {
         }
         Ok(Some(Raw {
             start: self.start,
-            kind: self.message[7],
-            order: order_of(self.message[6]),
+            kind: self.message[TYPE_PLACE],
+            order: order_of(self.message[ORDER_PLACE]),
             bytes: self.message.as_slice(),
         }))
     }
@@ -160,7 +161,8 @@ fn settle(
     ensures same { message.new.items ++ ring.new.items ≡ message.old.items ++ ring.old.items }
     ensures front { IsFront limit message.new ring.new.items }
     ensures found { MatchResult result
-        (λ b. MatchBool b (first_at limit (message.old.items ++ ring.old.items) ≡ Ok (Some (length message.new.items))) (first_at limit (message.old.items ++ ring.old.items) ≡ Ok None))
+        (λ b. MatchBool b (first_at limit (message.old.items ++ ring.old.items)
+        ≡ Ok (Some (length message.new.items))) (first_at limit (message.old.items ++ ring.old.items) ≡ Ok None))
         (λ e. first_at limit (message.old.items ++ ring.old.items) ≡ Err e) }
 {
     if !message.is_empty() {

@@ -2,8 +2,10 @@
 //! Protocol", "GIOP Messages").
 
 ghost use Rattle.std.specs.Prelude.{◌≡◌, ◌≤◌, ◌<◌, ◌^◌, length, drop, MatchResult};
-ghost use Rattle.td_giop.specs.Heads.{behind_header, Passes, context_passed, row_passed, contexts_passed, Request, request_at, Reply, reply_at, locate_at, locate_reply_at, cancel_at, IsReadable};
+ghost use Rattle.td_cdr.specs.Format.{Shows, array_format};
+ghost use Rattle.td_giop.specs.Heads.{behind_header, passed, context, contexts, Request, request_at, Reply, reply_at, locate_at, locate_reply_at, cancel_at, IsReadable};
 
+use crate::header::HEADER_SIZE;
 use crate::raw::Raw;
 use td_cdr::{CdrFault, Reader};
 
@@ -43,7 +45,8 @@ pub struct ReplyHead<'a> {
 pub fn read_request<'a>(m: &Raw<'a>) -> Result<RequestHead<'a>, CdrFault>
     requires { IsReadable m.now.bytes.now }
     ensures { MatchResult result
-        (λ h. request_at (behind_header m.now.order m.now.bytes.now) ≡ Ok (record { id = h.id; answered = h.answered; key = h.key.now; operation = h.operation.now }, h.body))
+        (λ h. request_at (behind_header m.now.order m.now.bytes.now)
+        ≡ Ok (record { id = h.id; answered = h.answered; key = h.key.now; operation = h.operation.now }, h.body))
         (λ e. request_at (behind_header m.now.order m.now.bytes.now) ≡ Err e) }
 {
     let mut body = behind_header(m);
@@ -71,7 +74,8 @@ pub fn read_request<'a>(m: &Raw<'a>) -> Result<RequestHead<'a>, CdrFault>
 pub fn read_reply<'a>(m: &Raw<'a>) -> Result<ReplyHead<'a>, CdrFault>
     requires { IsReadable m.now.bytes.now }
     ensures { MatchResult result
-        (λ h. reply_at (behind_header m.now.order m.now.bytes.now) ≡ Ok (record { id = h.id; status = h.status }, h.body))
+        (λ h. reply_at (behind_header m.now.order m.now.bytes.now)
+        ≡ Ok (record { id = h.id; status = h.status }, h.body))
         (λ e. reply_at (behind_header m.now.order m.now.bytes.now) ≡ Err e) }
 {
     let mut body = behind_header(m);
@@ -133,13 +137,12 @@ fn behind_header<'a>(m: &Raw<'a>) -> Reader<'a>
     requires { IsReadable m.now.bytes.now }
     ensures { result ≡ behind_header m.now.order m.now.bytes.now }
 {
-    Reader::new(m.bytes, 12, m.order)
+    Reader::new(m.bytes, HEADER_SIZE as u32, m.order)
 }
 
 /// Passes over the contexts of a head.
-#[tactic(auto, unfolding(crate::specs::Heads::contexts_passed))]
 fn pass_contexts(r: &mut Reader) -> Result<(), CdrFault>
-    ensures { Passes r.new result (contexts_passed r.old) }
+    ensures { Shows (λ u. u) r.new result (contexts.format.reads r.old) }
 {
     let count = r.u32()?;
     pass_row(r, count)
@@ -147,20 +150,11 @@ fn pass_contexts(r: &mut Reader) -> Result<(), CdrFault>
 
 /// Passes over so many contexts.
 fn pass_row(r: &mut Reader, count: u32) -> Result<(), CdrFault>
-    ensures { Passes r.new result (row_passed count r.old) }
+    ensures { Shows (λ u. u) r.new result (passed ((array_format context.format count).reads r.old)) }
 {
     for turn in 0..count {
-        pass_context(r)?;
+        let _id = r.u32()?;
+        let _octets = r.octets()?;
     }
-    Ok(())
-}
-
-/// Passes over a context: its id and its octets.
-#[tactic(auto, unfolding(crate::specs::Heads::context_passed))]
-fn pass_context(r: &mut Reader) -> Result<(), CdrFault>
-    ensures { Passes r.new result (context_passed r.old) }
-{
-    let _id = r.u32()?;
-    let _octets = r.octets()?;
     Ok(())
 }

@@ -6,6 +6,7 @@ ghost use Rattle.td_cdr.specs.Reading.{number};
 ghost use Rattle.td_giop.specs.Header.{has_magic, has_version, order_told, size_told, header_at};
 
 use crate::fault::FrameFault;
+use crate::message_type::MESSAGE_ERROR;
 use byteorder::{BigEndian, ByteOrder, LittleEndian};
 use circular_buffer::HeapCircularBuffer;
 use td_cdr::Order;
@@ -13,8 +14,29 @@ use td_cdr::Order;
 /// How many octets a header has.
 pub const HEADER_SIZE: usize = 12;
 
-/// The highest message type, MessageError.
-const LAST_TYPE: u8 = 6;
+/// The octets that a message begins with.
+pub const MAGIC: [u8; 4] = *b"GIOP";
+
+/// The major version of GIOP 1.0.
+pub const MAJOR: u8 = 1;
+
+/// The minor version of GIOP 1.0.
+pub const MINOR: u8 = 0;
+
+/// Where the major version stands in a header.
+pub const MAJOR_PLACE: usize = 4;
+
+/// Where the minor version stands in a header.
+pub const MINOR_PLACE: usize = 5;
+
+/// Where the octet stands that tells the order.
+pub const ORDER_PLACE: usize = 6;
+
+/// Where the message type stands in a header.
+pub const TYPE_PLACE: usize = 7;
+
+/// Where the size field stands in a header.
+pub const SIZE_PLACE: usize = 8;
 
 /// What a good header tells.
 #[derive(Clone, Copy, Debug, PartialEq, Eq)]
@@ -41,11 +63,11 @@ pub fn judge(ring: &HeapCircularBuffer<u8>, limit: u32) -> Result<Option<Header>
     if !has_version(ring) {
         return Err(FrameFault::BadVersion);
     }
-    let kind = octet(ring, 7);
-    if kind > LAST_TYPE {
+    let kind = octet(ring, TYPE_PLACE);
+    if kind > MESSAGE_ERROR {
         return Err(FrameFault::BadType);
     }
-    let order = order_of(octet(ring, 6));
+    let order = order_of(octet(ring, ORDER_PLACE));
     let size = size_of(ring, order);
     if size > limit {
         return Err(FrameFault::TooLarge);
@@ -56,16 +78,16 @@ pub fn judge(ring: &HeapCircularBuffer<u8>, limit: u32) -> Result<Option<Header>
 fn has_magic(ring: &HeapCircularBuffer<u8>) -> bool
     ensures { result ≡ has_magic ring.now.items }
 {
-    octet(ring, 0) == b'G'
-        && octet(ring, 1) == b'I'
-        && octet(ring, 2) == b'O'
-        && octet(ring, 3) == b'P'
+    octet(ring, 0) == MAGIC[0]
+        && octet(ring, 1) == MAGIC[1]
+        && octet(ring, 2) == MAGIC[2]
+        && octet(ring, 3) == MAGIC[3]
 }
 
 fn has_version(ring: &HeapCircularBuffer<u8>) -> bool
     ensures { result ≡ has_version ring.now.items }
 {
-    octet(ring, 4) == 1 && octet(ring, 5) == 0
+    octet(ring, MAJOR_PLACE) == MAJOR && octet(ring, MINOR_PLACE) == MINOR
 }
 
 /// The size field, which is a number in the message's order.
@@ -73,10 +95,10 @@ fn size_of(ring: &HeapCircularBuffer<u8>, order: Order) -> u32
     ensures { result ≡ size_told order ring.now.items }
 {
     let cell = [
-        octet(ring, 8),
-        octet(ring, 9),
-        octet(ring, 10),
-        octet(ring, 11),
+        octet(ring, SIZE_PLACE),
+        octet(ring, SIZE_PLACE + 1),
+        octet(ring, SIZE_PLACE + 2),
+        octet(ring, SIZE_PLACE + 3),
     ];
     match order {
         Order::Big => BigEndian::read_u32(&cell),

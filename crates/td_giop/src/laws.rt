@@ -9,25 +9,28 @@ ghost use Rattle.td_cdr.specs.Place.{At};
 ghost use Rattle.td_cdr.specs.Text.{HasNoNul};
 ghost use Rattle.td_cdr.specs.Spelling.{Joins};
 ghost use Rattle.td_cdr.specs.Faults.{Refuses};
-ghost use Rattle.td_cdr.specs.Items.{ulong};
 ghost use Rattle.td_giop.specs.declared.fault.FrameFault.{FrameFault};
 ghost use Rattle.td_giop.specs.declared.header.Header.{Header};
 ghost use Rattle.td_giop.specs.declared.raw.Raw.{Raw};
-ghost use Rattle.td_giop.specs.Header.{GoodHeader, FirstFault, header_at};
+ghost use Rattle.td_giop.specs.declared.header.TheConstants.{HEADER_SIZE};
+ghost use Rattle.td_giop.specs.declared.message_type.TheConstants.{REQUEST, REPLY, LOCATE_REQUEST, LOCATE_REPLY, MESSAGE_ERROR};
+ghost use Rattle.td_giop.specs.Header.{GoodHeader, IsFault, header_at};
 ghost use Rattle.td_giop.specs.Stream.{Stream};
 ghost use Rattle.td_giop.specs.FramerLends.{IsRaw};
 ghost use Rattle.td_giop.specs.Cut.{Ending, EndsSo, Front, Fronts, Cut, HasCut, SameCut, IsMessage};
-ghost use Rattle.td_giop.specs.Heads.{behind_header, request_fields, request_of, request_at, reply_fields, reply_of, reply_at, locate_fields, locate_at, locate_reply_fields, locate_reply_at, cancel_at};
-ghost use Rattle.td_giop.specs.HeadSpelling.{SpellsHead, HeadFault, IsReadAlone};
+ghost use Rattle.td_giop.specs.Heads.{behind_header, request, request_at, reply, reply_at, locate_request, locate_at, locate_reply, locate_reply_at, cancel_request, cancel_at};
+ghost use Rattle.td_giop.specs.Alone.{IsReadAlone};
 ghost use Rattle.td_giop.specs.Written.{header_written, request_start, reply_start, locate_written, locate_reply_written, sealed, at_body, IsSealed};
 
 /// A header is answered exactly where it is good, with what it tells; none exactly where fewer than 12
 /// octets are there; and a fault exactly where it is the first, in the order magic, version, type and
 /// size.
 pub fn header_is_judged()
-    ensures good { (limit : ℕ) (bytes : List ℕ) (h : Header) → (header_at limit bytes ≡ Ok (Some h)) ↔ GoodHeader limit bytes h.order h.kind h.size }
-    ensures cut { (limit : ℕ) (bytes : List ℕ) → (header_at limit bytes ≡ Ok None) ↔ (length bytes < 12) }
-    ensures refused { (limit : ℕ) (bytes : List ℕ) (f : FrameFault) → (header_at limit bytes ≡ Err f) ↔ ((12 ≤ length bytes) × FirstFault f limit bytes) }
+    ensures good { (limit : ℕ) (bytes : List ℕ) (h : Header)
+        → (header_at limit bytes ≡ Ok (Some h)) ↔ GoodHeader limit bytes h.order h.kind h.size }
+    ensures cut { (limit : ℕ) (bytes : List ℕ) → (header_at limit bytes ≡ Ok None) ↔ (length bytes < HEADER_SIZE) }
+    ensures refused { (limit : ℕ) (bytes : List ℕ) (f : FrameFault)
+        → (header_at limit bytes ≡ Err f) ↔ IsFault f limit bytes }
 {}
 
 /// What stands whole in front of a stream is a message by itself, with a good header that tells its
@@ -36,36 +39,42 @@ pub fn header_is_judged()
 pub fn front_is_message()
     ensures front { (limit : ℕ) (s m : List ℕ) → Front limit s m → IsMessage limit m }
     ensures message { (limit : ℕ) (m rest : List ℕ) → IsMessage limit m → Front limit (m ++ rest) m }
-    ensures raw { (s : Stream) (m : Raw) → IsRaw s m → Front s.limit s.rest m.bytes.now × GoodHeader s.limit m.bytes.now m.order m.kind (length m.bytes.now - 12) }
+    ensures raw { (s : Stream) (m : Raw) → IsRaw s m → Front s.limit s.rest m.bytes.now
+        × GoodHeader s.limit m.bytes.now m.order m.kind (length m.bytes.now - HEADER_SIZE) }
 {}
 
 /// Every stream is messages and a rest, and the messages followed by the rest are the stream. No second
 /// pair fits.
 pub fn one_cut()
-    ensures one { (limit : ℕ) (s : List ℕ) (ms ns : List (List ℕ)) (rest other : List ℕ) (e f : Ending) → Cut limit s ms rest e → Cut limit s ns other f → SameCut ms ns rest other e f }
+    ensures one { (limit : ℕ) (s : List ℕ) (ms ns : List (List ℕ)) (rest other : List ℕ) (e f : Ending)
+        → Cut limit s ms rest e → Cut limit s ns other f → SameCut ms ns rest other e f }
     ensures some_cut { (limit : ℕ) (s : List ℕ) → HasCut limit s }
-    ensures joined { (limit : ℕ) (s : List ℕ) (ms : List (List ℕ)) (rest : List ℕ) → Fronts limit s ms rest → concat ms ++ rest ≡ s }
+    ensures joined { (limit : ℕ) (s : List ℕ) (ms : List (List ℕ)) (rest : List ℕ) → Fronts limit s ms rest
+        → concat ms ++ rest ≡ s }
 {}
 
 /// Messages in front of a stream stay there when more of it comes, which goes into the rest. A message
 /// in front of the rest is one more of them. Where the rest ends so, they are the stream's cut.
 pub fn fronts_go_on()
     ensures none { (limit : ℕ) (s : List ℕ) → Fronts limit s [] s }
-    ensures fed { (limit : ℕ) (s p : List ℕ) (ms : List (List ℕ)) (rest : List ℕ) → Fronts limit s ms rest → Fronts limit (s ++ p) ms (rest ++ p) }
-    ensures more { (limit : ℕ) (s : List ℕ) (ms : List (List ℕ)) (rest m : List ℕ) → Fronts limit s ms rest → Front limit rest m → Fronts limit s (ms ++ m ∷ []) (drop (length m) rest) }
-    ensures cut { (limit : ℕ) (s : List ℕ) (ms : List (List ℕ)) (rest : List ℕ) (e : Ending) → Fronts limit s ms rest → EndsSo limit e rest → Cut limit s ms rest e }
+    ensures fed { (limit : ℕ) (s p : List ℕ) (ms : List (List ℕ)) (rest : List ℕ) → Fronts limit s ms rest
+        → Fronts limit (s ++ p) ms (rest ++ p) }
+    ensures more { (limit : ℕ) (s : List ℕ) (ms : List (List ℕ)) (rest m : List ℕ) → Fronts limit s ms rest
+        → Front limit rest m → Fronts limit s (ms ++ m ∷ []) (drop (length m) rest) }
+    ensures cut { (limit : ℕ) (s : List ℕ) (ms : List (List ℕ)) (rest : List ℕ) (e : Ending)
+        → Fronts limit s ms rest → EndsSo limit e rest → Cut limit s ms rest e }
 {}
 
 /// A head is read exactly where it is spelled, whatever follows, and refused exactly with the fault of
 /// the first item that has no spelling.
 pub fn heads_are_read()
-    ensures request { Joins (SpellsHead request_fields request_of) request_at }
-    ensures request_refused { Refuses (HeadFault request_fields) request_at }
-    ensures reply { Joins (SpellsHead reply_fields reply_of) reply_at }
-    ensures reply_refused { Refuses (HeadFault reply_fields) reply_at }
-    ensures locate { IsReadAlone locate_fields locate_at }
-    ensures locate_reply { IsReadAlone locate_reply_fields locate_reply_at }
-    ensures cancel { IsReadAlone ulong cancel_at }
+    ensures request { Joins request.format.spells request_at }
+    ensures request_refused { Refuses request.faults request_at }
+    ensures reply { Joins reply.format.spells reply_at }
+    ensures reply_refused { Refuses reply.faults reply_at }
+    ensures locate { IsReadAlone locate_request locate_at }
+    ensures locate_reply { IsReadAlone locate_reply locate_reply_at }
+    ensures cancel { IsReadAlone cancel_request cancel_at }
 {}
 
 /// No reading of a head wants memory.
@@ -79,20 +88,33 @@ pub fn heads_take_no_memory()
 
 /// What was written and sealed is read back, and the reader then stands at the body.
 pub fn written_is_read()
-    ensures request { (order : Order) (id : ℕ) (answered : Bool) (key operation body : List ℕ) → id < 2 ^ 32 → length key < 2 ^ 32 → length operation + 1 < 2 ^ 32 → HasNoNul operation
+    ensures request { (order : Order) (id : ℕ) (answered : Bool) (key operation body : List ℕ) → id < 2 ^ 32
+        → length key < 2 ^ 32 → length operation + 1 < 2 ^ 32 → HasNoNul operation
         → request_at (behind_header order (sealed order (request_start order id answered key operation ++ body)))
-        ≡ Ok (record { id = id; answered = answered; key = key; operation = operation }, at_body order (request_start order id answered key operation) body) }
+        ≡ Ok (
+          record { id = id; answered = answered; key = key; operation = operation },
+          at_body order (request_start order id answered key operation) body,
+        ) }
     ensures reply { (order : Order) (id status : ℕ) (body : List ℕ) → id < 2 ^ 32 → status < 2 ^ 32
-        → reply_at (behind_header order (sealed order (reply_start order id status ++ body))) ≡ Ok (record { id = id; status = status }, at_body order (reply_start order id status) body) }
-    ensures locate { (order : Order) (id : ℕ) (key : List ℕ) → id < 2 ^ 32 → length key < 2 ^ 32 → locate_at (behind_header order (sealed order (locate_written order id key))) ≡ Ok (id, key) }
-    ensures locate_reply { (order : Order) (id status : ℕ) → id < 2 ^ 32 → status < 2 ^ 32 → locate_reply_at (behind_header order (sealed order (locate_reply_written order id status))) ≡ Ok (id, status) }
+        → reply_at (behind_header order (sealed order (reply_start order id status ++ body)))
+        ≡ Ok (record { id = id; status = status }, at_body order (reply_start order id status) body) }
+    ensures locate { (order : Order) (id : ℕ) (key : List ℕ) → id < 2 ^ 32 → length key < 2 ^ 32
+        → locate_at (behind_header order (sealed order (locate_written order id key))) ≡ Ok (id, key) }
+    ensures locate_reply { (order : Order) (id status : ℕ) → id < 2 ^ 32 → status < 2 ^ 32
+        → locate_reply_at (behind_header order (sealed order (locate_reply_written order id status)))
+        ≡ Ok (id, status) }
 {}
 
 /// What was written and sealed is a whole good message of its type.
 pub fn sealed_is_whole()
-    ensures request { (order : Order) (id : ℕ) (answered : Bool) (key operation body : List ℕ) (limit : ℕ) → IsSealed limit order 0 (request_start order id answered key operation ++ body) }
-    ensures reply { (order : Order) (id status : ℕ) (body : List ℕ) (limit : ℕ) → IsSealed limit order 1 (reply_start order id status ++ body) }
-    ensures locate { (order : Order) (id : ℕ) (key : List ℕ) (limit : ℕ) → IsSealed limit order 3 (locate_written order id key) }
-    ensures locate_reply { (order : Order) (id status : ℕ) (limit : ℕ) → IsSealed limit order 4 (locate_reply_written order id status) }
-    ensures plain { (order : Order) (kind : ℕ) (limit : ℕ) → kind ≤ 6 → IsSealed limit order kind (header_written order kind) }
+    ensures request { (order : Order) (id : ℕ) (answered : Bool) (key operation body : List ℕ) (limit : ℕ)
+        → IsSealed limit order REQUEST (request_start order id answered key operation ++ body) }
+    ensures reply { (order : Order) (id status : ℕ) (body : List ℕ) (limit : ℕ)
+        → IsSealed limit order REPLY (reply_start order id status ++ body) }
+    ensures locate { (order : Order) (id : ℕ) (key : List ℕ) (limit : ℕ)
+        → IsSealed limit order LOCATE_REQUEST (locate_written order id key) }
+    ensures locate_reply { (order : Order) (id status : ℕ) (limit : ℕ)
+        → IsSealed limit order LOCATE_REPLY (locate_reply_written order id status) }
+    ensures plain { (order : Order) (kind : ℕ) (limit : ℕ) → kind ≤ MESSAGE_ERROR
+        → IsSealed limit order kind (header_written order kind) }
 {}

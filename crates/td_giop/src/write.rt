@@ -4,20 +4,24 @@
 ghost use Rattle.std.specs.Prelude.{◌≡◌, ◌+◌, ◌≤◌, ◌<◌, ◌^◌, [], ◌∷◌, ◌++◌, length, OnOk, OnErr};
 ghost use Rattle.td_cdr.specs.Gap.{flag, gap};
 ghost use Rattle.td_cdr.specs.Writing.{Adds, written_octets};
-ghost use Rattle.td_giop.specs.Written.{Puts, octets_end, request_size, header_written, request_start, reply_start, locate_written, locate_reply_written, sealed};
+ghost use Rattle.td_giop.specs.Written.{octets_end, request_size, header_written, request_start, reply_start, locate_written, locate_reply_written, sealed};
 
+use crate::header::{HEADER_SIZE, MAGIC, MAJOR, MINOR, SIZE_PLACE};
+use crate::message_type::{LOCATE_REPLY, LOCATE_REQUEST, REPLY, REQUEST};
 use td_cdr::{Memory, Order, Writer};
 
-const REQUEST: u8 = 0;
+/// How long the start of a Reply is: the header, the number of contexts, the request id and the status.
+const REPLY_SIZE: usize = HEADER_SIZE + 12;
 
-const REPLY: u8 = 1;
+/// How long a LocateReply is: the header, the request id and the status.
+const LOCATE_REPLY_SIZE: usize = HEADER_SIZE + 8;
 
-const LOCATE_REQUEST: u8 = 3;
+/// How long a LocateRequest is before its key: the header, the request id and the key's length.
+const LOCATE_FRONT: usize = HEADER_SIZE + 8;
 
-const LOCATE_REPLY: u8 = 4;
-
-/// Where the size field stands in the header.
-const SIZE_PLACE: u32 = 8;
+/// Where the key's length stands in a Request, without padding: behind the header, the number of
+/// contexts, the request id and the octet that tells whether a reply is expected.
+const KEY_PLACE: usize = HEADER_SIZE + 9;
 
 /// Starts a Request, behind which its parameters follow. The writer is empty. The request has no
 /// contexts and an empty principal.
@@ -25,7 +29,7 @@ const SIZE_PLACE: u32 = 8;
 /// # Errors
 ///
 /// `Memory` for want of room; the writer is then unchanged.
-#[tactic(auto, using(crate::proofs::Lengths::request_start_length))]
+#[tactic(auto, using(crate::proofs::Lengths::request_length, crate::proofs::ByField::request_is))]
 pub fn start_request(
     w: &mut Writer,
     id: u32,
@@ -41,27 +45,14 @@ pub fn start_request(
         return Err(Memory);
     }
     w.reserve(request_size(key.len(), operation.len()))?;
-    put_request(w, id, answered, key, operation)
-}
-
-#[tactic(auto, unfolding(crate::specs::Written::request_start))]
-fn put_request(
-    w: &mut Writer,
-    id: u32,
-    answered: bool,
-    key: &[u8],
-    operation: &[u8],
-) -> Result<(), Memory>
-    requires { w.old.bytes ≡ [] }
-    ensures { Puts (request_start w.old.order id answered key.now operation.now) w.old w.new result }
-{
     put_header(w, REQUEST)?;
     w.u32(0)?;
     w.u32(id)?;
-    w.octet(answered as u8)?;
+    w.octet(u8::from(answered))?;
     w.octets(key)?;
     w.string(operation)?;
-    w.octets(&[])
+    w.octets(&[])?;
+    Ok(())
 }
 
 /// How long the start of a Request is with a key and an operation of these lengths.
@@ -70,7 +61,7 @@ fn request_size(key: usize, operation: usize) -> usize
     requires operation { operation < 2 ^ 32 }
     ensures { result ≡ request_size key operation }
 {
-    let key_end = octets_end(21, key);
+    let key_end = octets_end(KEY_PLACE, key);
     let operation_end = octets_end(key_end, operation + 1);
     octets_end(operation_end, 0)
 }
@@ -89,20 +80,12 @@ fn octets_end(place: usize, len: usize) -> usize
 /// # Errors
 ///
 /// `Memory` for want of room; the writer is then unchanged.
-#[tactic(auto, using(crate::proofs::Lengths::reply_start_length))]
+#[tactic(auto, using(crate::proofs::Lengths::reply_length, crate::proofs::ByField::reply_is))]
 pub fn start_reply(w: &mut Writer, id: u32, status: u32) -> Result<(), Memory>
     requires { w.old.bytes ≡ [] }
     ensures { Adds (reply_start w.old.order id status) w.old w.new result }
 {
-    w.reserve(24)?;
-    put_reply(w, id, status)
-}
-
-#[tactic(auto, unfolding(crate::specs::Written::reply_start))]
-fn put_reply(w: &mut Writer, id: u32, status: u32) -> Result<(), Memory>
-    requires { w.old.bytes ≡ [] }
-    ensures { Puts (reply_start w.old.order id status) w.old w.new result }
-{
+    w.reserve(REPLY_SIZE)?;
     put_header(w, REPLY)?;
     w.u32(0)?;
     w.u32(id)?;
@@ -114,20 +97,12 @@ fn put_reply(w: &mut Writer, id: u32, status: u32) -> Result<(), Memory>
 /// # Errors
 ///
 /// `Memory` for want of room; the writer is then unchanged.
-#[tactic(auto, using(crate::proofs::Lengths::locate_written_length))]
+#[tactic(auto, using(crate::proofs::Lengths::locate_length, crate::proofs::ByField::locate_is))]
 pub fn write_locate(w: &mut Writer, id: u32, key: &[u8]) -> Result<(), Memory>
     requires { w.old.bytes ≡ [] }
     ensures { Adds (locate_written w.old.order id key.now) w.old w.new result }
 {
-    w.reserve(20 + key.len())?;
-    put_locate(w, id, key)
-}
-
-#[tactic(auto, unfolding(crate::specs::Written::locate_written))]
-fn put_locate(w: &mut Writer, id: u32, key: &[u8]) -> Result<(), Memory>
-    requires { w.old.bytes ≡ [] }
-    ensures { Puts (locate_written w.old.order id key.now) w.old w.new result }
-{
+    w.reserve(LOCATE_FRONT + key.len())?;
     put_header(w, LOCATE_REQUEST)?;
     w.u32(id)?;
     w.octets(key)
@@ -138,27 +113,18 @@ fn put_locate(w: &mut Writer, id: u32, key: &[u8]) -> Result<(), Memory>
 /// # Errors
 ///
 /// `Memory` for want of room; the writer is then unchanged.
-#[tactic(auto, using(crate::proofs::Lengths::locate_reply_written_length))]
+#[tactic(auto, using(crate::proofs::Lengths::locate_reply_length, crate::proofs::ByField::locate_reply_is))]
 pub fn write_locate_reply(w: &mut Writer, id: u32, status: u32) -> Result<(), Memory>
     requires { w.old.bytes ≡ [] }
     ensures { Adds (locate_reply_written w.old.order id status) w.old w.new result }
 {
-    w.reserve(20)?;
-    put_locate_reply(w, id, status)
-}
-
-#[tactic(auto, unfolding(crate::specs::Written::locate_reply_written))]
-fn put_locate_reply(w: &mut Writer, id: u32, status: u32) -> Result<(), Memory>
-    requires { w.old.bytes ≡ [] }
-    ensures { Puts (locate_reply_written w.old.order id status) w.old w.new result }
-{
+    w.reserve(LOCATE_REPLY_SIZE)?;
     put_header(w, LOCATE_REPLY)?;
     w.u32(id)?;
     w.u32(status)
 }
 
-/// Writes a message that is a header alone: a CloseConnection, of type 5, or a MessageError, of type
-/// 6. The writer is empty.
+/// Writes a message that is a header alone: a CloseConnection or a MessageError. The writer is empty.
 ///
 /// # Errors
 ///
@@ -175,7 +141,8 @@ fn put_header(w: &mut Writer, kind: u8) -> Result<(), Memory>
     ensures { Adds (header_written w.old.order kind) w.old w.new result }
 {
     let order = flag_of(w.order());
-    w.append(&[b'G', b'I', b'O', b'P', 1, 0, order, kind, 0, 0, 0, 0])
+    let [g, i, o, p] = MAGIC;
+    w.append(&[g, i, o, p, MAJOR, MINOR, order, kind, 0, 0, 0, 0])
 }
 
 /// The octet that tells the order.
@@ -192,9 +159,9 @@ fn flag_of(order: Order) -> u8
 ///
 /// The writer's bytes begin with what a `start_` or `write_` call wrote, so with a header.
 pub fn seal(w: &mut Writer)
-    requires { 12 ≤ length w.old.bytes }
+    requires { HEADER_SIZE ≤ length w.old.bytes }
     ensures { w.new ≡ record w.old { bytes = sealed w.old.order w.old.bytes } }
 {
-    let size = w.len() as u32 - 12;
-    w.set_u32(SIZE_PLACE, size);
+    let size = (w.len() - HEADER_SIZE) as u32;
+    w.set_u32(SIZE_PLACE as u32, size);
 }

@@ -1,0 +1,7 @@
+//! Tests of message heads and framing.
+#![tactic(auto)]
+
+#[cfg(test)]
+mod framing;
+#[cfg(test)]
+mod heads;
