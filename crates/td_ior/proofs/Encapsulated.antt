@@ -6,9 +6,9 @@ use Rattle.std.proofs.lemmas.Bool.Decides.{nat_tests}
 use Rattle.td_cdr.specs.declared.order.Order.TheVariants.{Big}
 use Rattle.td_cdr.specs.Place.{At}
 use Rattle.td_cdr.specs.Spelling.{IsFlag}
-use Rattle.td_value.specs.Grammar.{Grammar, Read}
-use Rattle.td_value.specs.Laws.{Joins, Spelled}
-use Rattle.td_value.specs.Writing.{Piece}
+use Rattle.td_cdr.specs.Format.{Read}
+use Rattle.td_cdr.specs.Sound.{Sound}
+use Rattle.td_cdr.specs.declared.value_fault.ValueFault.{ValueFault}
 use Rattle.td_ior.specs.Enclosed.{Encloses, start, start_of, value_in, enclosed_in, enclosing}
 use Rattle.td_ior.proofs.Keys.{bind-Some, some-is}
 
@@ -43,36 +43,36 @@ start-only : (little : Bool) (octet : ℕ) (body : List ℕ) → IsFlag little o
 start-only false octet body e h = let t = lt-ltb (length body + 1) (2 ^ 32) (omega arith) in rw (t, e) refl
 start-only true octet body e h = let t = lt-ltb (length body + 1) (2 ^ 32) (omega arith) in rw (t, e) refl
 
-value-found : {Y : Type 0} (r : Read Y) (v : Y) → value_in r ≡ Some v → (next : At) × (r ≡ Ok (v, next))
+value-found : {Y : Type 0} (r : Read ValueFault Y) (v : Y) → value_in r ≡ Some v → (next : At) × (r ≡ Ok (v, next))
 value-found (Ok x) v e = (x.1, ap (λ (y : _). Ok (y, x.1)) (some-is x.0 v e))
 value-found (Err d) v e = absurd cc
 
-pub enclosed-found : {Y : Type 0} (g : Grammar Y) → Joins g → (octets : List ℕ) (v : Y) → enclosed_in g octets ≡ Some v → Encloses g octets v
-enclosed-found {Y = Y} g j octets v e =
-    let b = bind-Some (start_of octets) (λ (a : At). value_in (g.reading a)) v e in
+pub enclosed-found : {Y : Type 0} (g : Sound ValueFault Y) → (octets : List ℕ) (v : Y) → enclosed_in g octets ≡ Some v → Encloses g octets v
+enclosed-found {Y = Y} g octets v e =
+    let b = bind-Some (start_of octets) (λ (a : At). value_in (g.format.reads a)) v e in
     let s = start-found octets b.0 b.1 in
-    let n = value-found (g.reading b.0) v b.2 in
-    let at : g.reading (start s.little s.body) ≡ Ok (v, n.0) = ap g.reading s.is ∙ n.1 in
-    let f = j.found (start s.little s.body) v n.0 (omega arith) at in
+    let n = value-found (g.format.reads b.0) v b.2 in
+    let at : g.format.reads (start s.little s.body) ≡ Ok (v, n.0) = ap g.format.reads s.is ∙ n.1 in
+    let f = g.lawful.found (start s.little s.body) v n.0 (omega arith) at in
     record { little = s.little; order_octet = s.octet; body = f.bytes; ignored = n.0.rest; order_told = s.told; parts = s.parts ∙ ap (λ (x : List ℕ). s.octet ∷ x) f.parts; short = s.short; spelled = f.spelled }
 
-pub enclosed-only : {Y : Type 0} (g : Grammar Y) → Joins g → (octets : List ℕ) (v : Y) → Encloses g octets v → enclosed_in g octets ≡ Some v
-enclosed-only {Y = Y} g j octets v s =
+pub enclosed-only : {Y : Type 0} (g : Sound ValueFault Y) → (octets : List ℕ) (v : Y) → Encloses g octets v → enclosed_in g octets ≡ Some v
+enclosed-only {Y = Y} g octets v s =
     let body : List ℕ = s.body ++ s.ignored in
     let short : length (s.order_octet ∷ body) < 2 ^ 32 = subst (λ (x : List ℕ). length x < 2 ^ 32) s.parts s.short in
     let begins = start-only s.little s.order_octet body s.order_told short in
-    let one = j.only (start s.little body) v s.body s.ignored (omega arith) s.spelled refl in
+    let one = g.lawful.only (start s.little body) v s.body s.ignored (omega arith) s.spelled refl in
     ap (enclosed_in g) s.parts ∙ rw (begins, one) refl
 
 -- what is written for a value, behind the octet that tells big order
-pub enclosing-holds : {Y : Type 0} (g : Grammar Y) (v : Y) (piece : Piece) → Spelled g v piece → length (enclosing piece) < 2 ^ 32 → Encloses g (enclosing piece) v
-enclosing-holds g v piece s short = record {
+pub enclosing-holds : {Y : Type 0} (g : Sound ValueFault Y) (v : Y) → g.format.admits v → length (enclosing g v) < 2 ^ 32 → Encloses g (enclosing g v) v
+enclosing-holds g v ok short = record {
   little = false;
   order_octet = 0;
-  body = piece Big 1;
+  body = g.format.writes v Big 1;
   ignored = [];
   order_told = refl;
-  parts = ap (λ (x : List ℕ). 0 ∷ x) (sym (append-nil (piece Big 1)));
+  parts = ap (λ (x : List ℕ). 0 ∷ x) (sym (append-nil (g.format.writes v Big 1)));
   short = short;
-  spelled = s.from Big 1 (omega arith);
+  spelled = g.lawful.written Big 1 v ok (omega (arith, short));
 }

@@ -1,25 +1,14 @@
 -- The first profile of IIOP: how it is found, and that a made one is found.
-use Rattle.std.proofs.Common.{◌≡◌, ℕ, suc, ◌+◌, ◌^◌, ◌<◌, ◌≤◌, nat_eq, Bool, true, false, List, [], ◌∷◌, ◌++◌, length, drop, get_or, add-one, drop-cons, Option, Some, None, refl, sym, ap, ◌∙◌, subst, arith, if◌then◌else◌}
+use Rattle.std.proofs.Common.{◌≡◌, ℕ, suc, ◌+◌, ◌^◌, ◌<◌, ◌≤◌, nat_eq, Bool, true, false, List, [], ◌∷◌, ◌++◌, length, drop, get_or, add-one, drop-cons, Option, Some, None, refl, sym, ap, ◌∙◌, subst, if◌then◌else◌}
 use Rattle.std.specs.Option.{option_map, is_some}
-use Rattle.std.proofs.lemmas.List.{drop_all, length-append}
+use Rattle.std.proofs.lemmas.List.{drop_all}
 use Rattle.std.proofs.lemmas.Bool.{eqb-true}
-use Rattle.td_cdr.specs.Reading.{octets_at}
-use Rattle.td_cdr.specs.Spelling.{SpellsOctets}
 use Rattle.td_cdr.specs.Text.{HasNoNul}
-use Rattle.td_cdr.specs.Writing.{written_number}
-use Rattle.td_cdr.proofs.Joined.{octets-joins, written_octets-spelled}
-use Rattle.td_value.specs.declared.reference.Profile.{Profile}
-use Rattle.td_value.specs.Grammar.{number, text, pair, checked}
-use Rattle.td_value.specs.Labels.{bad_value}
-use Rattle.td_value.specs.Laws.{Joins, Spelled}
-use Rattle.td_value.specs.References.{octets}
-use Rattle.td_value.specs.Writing.{◌then◌, number as a_number, text as a_text, octets as some_octets}
-use Rattle.td_value.proofs.Joins.{lifted-joins, number-joined, text-joined, pair-joins, made-joins, checked-joins}
-use Rattle.td_value.proofs.Spelled.{number-spelled, text-spelled, pair-spelled, made-spelled, checked-spelled}
+use Rattle.td_codes.specs.declared.reference.Profile.{Profile}
 use Rattle.td_ior.specs.declared.profile.Iiop.{Iiop}
-use Rattle.td_ior.specs.Enclosed.{enclosed_in, enclosing}
+use Rattle.td_ior.specs.Enclosed.{enclosed_in}
 use Rattle.td_ior.specs.Laws.{Agrees}
-use Rattle.td_ior.specs.Profiles.{profile_body, IsIiop, HasNoIiop, IsFirstIiop, first_iiop, iiop_in, or_else, iiop_of, profile_piece, made_reference}
+use Rattle.td_ior.specs.Profiles.{iiop_tag, profile_body, IsIiop, HasNoIiop, IsFirstIiop, first_iiop, iiop_in, or_else, iiop_of, made_octets, made_reference}
 use Rattle.td_ior.proofs.Encapsulated.{enclosed-found, enclosed-only, enclosing-holds}
 
 -- ---- a search that has come to place i
@@ -53,21 +42,15 @@ missed-all ps i h so_far = sym (ap first_iiop (drop_all i ps h)) ∙ so_far
 
 -- ---- a profile
 
-octets-joined : Joins octets
-octets-joined = lifted-joins SpellsOctets octets_at (λ v. Unit {0}) octets-joins (λ order place v b o s. tt)
-
-body-joins : Joins profile_body
-body-joins = made-joins _ _ (pair-joins _ _ (checked-joins _ _ _ (number-joined 1)) (λ _. pair-joins _ _ (number-joined 1) (λ _. pair-joins _ _ text-joined (λ _. pair-joins _ _ (number-joined 2) (λ _. octets-joined)))))
-
 tagged : (t : Bool) (p : Profile) (v : Iiop) → nat_eq p.tag 0 ≡ t → (if t then enclosed_in profile_body p.octets else None) ≡ Some v → IsIiop p v
-tagged true p v e h = record { tag = eqb-true p.tag 0 e; body = enclosed-found profile_body body-joins p.octets v h }
+tagged true p v e h = record { tag = eqb-true p.tag 0 e; body = enclosed-found profile_body p.octets v h }
 tagged false p v e h = absurd cc
 
 profile-found : (p : Profile) (v : Iiop) → iiop_in p ≡ Some v → IsIiop p v
 profile-found p v e = tagged (nat_eq p.tag 0) p v refl e
 
 profile-only : (p : Profile) (v : Iiop) → IsIiop p v → iiop_in p ≡ Some v
-profile-only p v s = rw s.tag (enclosed-only profile_body body-joins p.octets v s.body)
+profile-only p v s = rw s.tag (enclosed-only profile_body p.octets v s.body)
 
 pub profile-agrees : Agrees IsIiop iiop_in
 profile-agrees = record { found = profile-found; only = profile-only }
@@ -126,26 +109,16 @@ none-only (p ∷ ps) h = rw (no-profile p h.0 (iiop_in p) refl) (none-only ps h.
 
 -- ---- a made profile
 
-octets-spelled : (v : List ℕ) → Spelled octets v (some_octets v)
-octets-spelled v = record { from = λ order place short. written_octets-spelled order place v (omega (arith, short, length-append (written_number 4 order place (length v)) v)) }
-
-body-spelled : (host key : List ℕ) (port : ℕ) → HasNoNul host → port < 65536 → Spelled profile_body (record { host = host; port = port; key = key }) (profile_piece host port key)
-body-spelled host key port clean low =
-    let last = pair-spelled (number 2) (λ _. octets) port key (a_number 2 port) (some_octets key) (number-spelled 2 port (omega arith)) (octets-spelled key) in
-    let named = pair-spelled text (λ _. pair (number 2) (λ _. octets)) host (port, key) (a_text host) (a_number 2 port then some_octets key) (text-spelled host clean) last in
-    let minor = pair-spelled (number 1) (λ _. pair text (λ _. pair (number 2) (λ _. octets))) 0 (host, (port, key)) (a_number 1 0) (a_text host then (a_number 2 port then some_octets key)) (number-spelled 1 0 (omega arith)) named in
-    let major = pair-spelled (checked (λ major. nat_eq major 1) bad_value (number 1)) (λ _. pair (number 1) (λ _. pair text (λ _. pair (number 2) (λ _. octets)))) 1 (0, (host, (port, key))) (a_number 1 1) _
-    (checked-spelled (λ major. nat_eq major 1) bad_value (number 1) 1 (a_number 1 1) refl (number-spelled 1 1 (omega arith))) minor in
-    made-spelled _ _ (1, (0, (host, (port, key)))) (record { host = host; port = port; key = key }) (profile_piece host port key) refl major
-
-pub made-found : (id host key : List ℕ) (port : ℕ) → HasNoNul host → port < 65536 → length (enclosing (profile_piece host port key)) < 2 ^ 32 → iiop_of (made_reference id host port key) ≡ Some (record { host = host; port = port; key = key })
+pub made-found : (id host key : List ℕ) (port : ℕ) → HasNoNul host → port < 65536 → length (made_octets host port key) < 2 ^ 32
+    → iiop_of (made_reference id host port key) ≡ Some (record { host = host; port = port; key = key })
 unfolding first_iiop
 made-found id host key port clean low short =
-    let holds = enclosing-holds profile_body (record { host = host; port = port; key = key }) (profile_piece host port key) (body-spelled host key port clean low) short in
-    rw (enclosed-only profile_body body-joins (enclosing (profile_piece host port key)) (record { host = host; port = port; key = key }) holds) refl
+    let v : Iiop = record { host = host; port = port; key = key } in
+    let holds = enclosing-holds profile_body v (tt, (tt, (clean, (low, tt)))) short in
+    rw (enclosed-only profile_body (made_octets host port key) v holds) refl
 
-pub made-back : (id host key kept : List ℕ) (port : ℕ) (profiles : List Profile) → HasNoNul host → port < 65536 → length kept < 2 ^ 32 → kept ≡ enclosing (profile_piece host port key)
-    → profiles ≡ record { tag = 0; octets = kept } ∷ [] → first_iiop profiles ≡ Some (record { host = host; port = port; key = key })
+pub made-back : (id host key kept : List ℕ) (port : ℕ) (profiles : List Profile) → HasNoNul host → port < 65536 → length kept < 2 ^ 32 → kept ≡ made_octets host port key
+    → profiles ≡ record { tag = iiop_tag; octets = kept } ∷ [] → first_iiop profiles ≡ Some (record { host = host; port = port; key = key })
 made-back id host key kept port profiles clean low short e f =
-    let profiles_are : profiles ≡ (made_reference id host port key).profiles = f ∙ ap (λ (o : List ℕ). record { tag = 0; octets = o } ∷ []) e in
+    let profiles_are : profiles ≡ (made_reference id host port key).profiles = f ∙ ap (λ (o : List ℕ). record { tag = iiop_tag; octets = o } ∷ []) e in
     ap first_iiop profiles_are ∙ made-found id host key port clean low (subst (λ (o : List ℕ). length o < 2 ^ 32) e short)

@@ -9,10 +9,9 @@ use Rattle.hex.specs.Hex.{decode_of, encode_lower, IsBytes}
 use Rattle.hex.specs.declared.error.FromHexError.{FromHexError}
 use Rattle.hex.proofs.HexLemmas.{decode_of-encode_lower}
 use Rattle.td_cdr.specs.Text.{has_nul, HasNoNul}
-use Rattle.td_value.specs.declared.reference.Ior.{Ior}
-use Rattle.td_value.specs.declared.reference.Profile.{Profile}
-use Rattle.td_value.specs.References.{reference, reference_piece}
-use Rattle.td_value.proofs.ReferencesLawful.{reference-joins, reference-spelled}
+use Rattle.td_codes.specs.declared.reference.Ior.{Ior}
+use Rattle.td_codes.specs.declared.reference.Profile.{Profile}
+use Rattle.td_codes.specs.References.{reference}
 use Rattle.td_ior.specs.Enclosed.{Encloses, enclosed_in, enclosing}
 use Rattle.td_ior.specs.Keys.{◌>>=◌}
 use Rattle.td_ior.specs.Laws.{Agrees}
@@ -188,10 +187,10 @@ decoded-found (Err d) octets e = absurd cc
 hex-found : (text digits : List ℕ) (r : Ior) → text ≡ codes "IOR:" ++ digits → hex_form digits ≡ Some r → IsHexForm text r
 hex-found text digits r whole e =
     let b = bind-Some (result_ok (decode_of digits)) (enclosed_in reference) r e in
-    record { digits = digits; octets = b.0; whole = whole; decoded = decoded-found (decode_of digits) b.0 b.1; holds = enclosed-found reference reference-joins b.0 r b.2 }
+    record { digits = digits; octets = b.0; whole = whole; decoded = decoded-found (decode_of digits) b.0 b.1; holds = enclosed-found reference b.0 r b.2 }
 
 hex-only : (digits octets : List ℕ) (r : Ior) → decode_of digits ≡ Ok octets → Encloses reference octets r → hex_form digits ≡ Some r
-hex-only digits octets r e h = ap (λ (x : Result (List ℕ) FromHexError). result_ok x >>= enclosed_in reference) e ∙ enclosed-only reference reference-joins octets r h
+hex-only digits octets r e h = ap (λ (x : Result (List ℕ) FromHexError). result_ok x >>= enclosed_in reference) e ∙ enclosed-only reference octets r h
 
 -- ---- both forms
 
@@ -213,20 +212,20 @@ text-only text r (IsReferenceText.plain s) =
 pub texts-agree : Agrees IsReferenceText reference_in
 texts-agree = record { found = text-found; only = text-only }
 
-pub printed-found : (r : Ior) → reference.admits r → IsBytes (enclosing (reference_piece r)) → length (enclosing (reference_piece r)) < 2 ^ 32 → reference_in (printed r) ≡ Some r
+pub printed-found : (r : Ior) → reference.format.admits r → IsBytes (enclosing reference r) → length (enclosing reference r) < 2 ^ 32 → reference_in (printed r) ≡ Some r
 printed-found r ok bytes short =
-    hex-only (encode_lower (enclosing (reference_piece r))) (enclosing (reference_piece r)) r (decode_of-encode_lower (enclosing (reference_piece r)) bytes)
-    (enclosing-holds reference r (reference_piece r) (reference-spelled r ok) short)
+    hex-only (encode_lower (enclosing reference r)) (enclosing reference r) r (decode_of-encode_lower (enclosing reference r) bytes)
+    (enclosing-holds reference r ok short)
 
-pub printed-back : {E : Type 0} (r : Ior) (octets : List ℕ) (result : Result (List ℕ) E) → IfOk result (λ t. t ≡ codes "IOR:" ++ encode_lower octets) → octets ≡ enclosing (reference_piece r) → IsBytes octets → length octets < 2 ^ 32
-    → IfOk result (λ t. reference.admits r → reference_in t ≡ Some r)
+pub printed-back : {E : Type 0} (r : Ior) (octets : List ℕ) (result : Result (List ℕ) E) → IfOk result (λ t. t ≡ codes "IOR:" ++ encode_lower octets) → octets ≡ enclosing reference r → IsBytes octets → length octets < 2 ^ 32
+    → IfOk result (λ t. reference.format.admits r → reference_in t ≡ Some r)
 printed-back r octets (Ok t) e held bytes short = λ ok.
     let printed_is : t ≡ printed r = e ∙ ap (λ (o : List ℕ). codes "IOR:" ++ encode_lower o) held in
     ap reference_in printed_is ∙ printed-found r ok (subst IsBytes held bytes) (subst (λ (o : List ℕ). length o < 2 ^ 32) held short)
 printed-back r octets (Err d) e held bytes short = tt
 
 -- a made reference has a spelling
-pub made-admitted : (id host key : List ℕ) (port : ℕ) → HasNoNul id → reference.admits (made_reference id host port key)
+pub made-admitted : (id host key : List ℕ) (port : ℕ) → HasNoNul id → reference.format.admits (made_reference id host port key)
 made-admitted id host key port plain =
     let p : Profile = made_profile host port key in
-    ((id, p ∷ []), refl, (plain, (1, omega arith, ((p, []), refl, (((0, p.octets), refl, (omega arith, tt)), refl)))))
+    (plain, (omega arith, ((p, []), refl, ((omega arith, tt), refl))))

@@ -7,12 +7,13 @@ use Rattle.td_cdr.specs.Gap.{flag}
 use Rattle.td_cdr.specs.Place.{At}
 use Rattle.td_cdr.specs.Spelling.{IsFlag}
 use Rattle.td_cdr.specs.Truth.{order_of}
-use Rattle.td_value.specs.Grammar.{Grammar, Read}
-use Rattle.td_value.specs.Writing.{Piece}
+use Rattle.td_cdr.specs.Format.{Read}
+use Rattle.td_cdr.specs.Sound.{Sound}
+use Rattle.td_cdr.specs.declared.value_fault.ValueFault.{ValueFault}
 use Rattle.td_ior.specs.Keys.{◌>>=◌}
 
 -- these octets hold a value, which other octets may follow
-pub record Encloses {Y : Type 0} (g : Grammar Y) (octets : List ℕ) (v : Y) : Type 0 where
+pub record Encloses {Y : Type 0} (g : Sound ValueFault Y) (octets : List ℕ) (v : Y) : Type 0 where
   pub little : Bool
   pub order_octet : ℕ
   pub body : List ℕ
@@ -20,7 +21,7 @@ pub record Encloses {Y : Type 0} (g : Grammar Y) (octets : List ℕ) (v : Y) : T
   pub order_told : IsFlag little order_octet
   pub parts : octets ≡ order_octet ∷ (body ++ ignored)
   pub short : length octets < 2 ^ 32
-  pub spelled : g.spells (order_of little) 1 v body
+  pub spelled : g.format.spells (order_of little) 1 v body
 
 -- ---- how they are read
 
@@ -35,14 +36,14 @@ start_of (octet ∷ body) =
     then (if nat_eq octet 0 then Some (start false body) else if nat_eq octet 1 then Some (start true body) else None)
     else None
 
-abbrev pub value_in : {Y : Type 0} → Read Y → Option Y
+abbrev pub value_in : {Y : Type 0} → Read ValueFault Y → Option Y
 value_in (Ok x) = Some x.0
 value_in (Err e) = None
 
-abbrev pub enclosed_in : {Y : Type 0} → Grammar Y → List ℕ → Option Y
-enclosed_in g octets = start_of octets >>= λ a. value_in (g.reading a)
+abbrev pub enclosed_in : {Y : Type 0} → Sound ValueFault Y → List ℕ → Option Y
+enclosed_in g octets = start_of octets >>= λ a. value_in (g.format.reads a)
 
 -- ---- how they are written, in big order
 
-abbrev pub enclosing : Piece → List ℕ
-enclosing piece = flag Big ∷ piece Big 1
+abbrev pub enclosing : {Y : Type 0} → Sound ValueFault Y → Y → List ℕ
+enclosing g v = flag Big ∷ g.format.writes v Big 1

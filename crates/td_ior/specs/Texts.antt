@@ -6,8 +6,8 @@ use Rattle.std.specs.Result.{result_ok}
 use Rattle.std.specs.Str.{bytes_eq}
 use Rattle.hex.specs.Hex.{decode_of, encode_lower}
 use Rattle.td_cdr.specs.Text.{has_nul, HasNoNul}
-use Rattle.td_value.specs.declared.reference.Ior.{Ior}
-use Rattle.td_value.specs.References.{reference, reference_piece}
+use Rattle.td_codes.specs.declared.reference.Ior.{Ior}
+use Rattle.td_codes.specs.References.{reference}
 use Rattle.td_ior.specs.declared.fault.IorFault.{IorFault}
 use Rattle.td_ior.specs.declared.fault.IorFault.TheVariants.{NotIor, Memory}
 use Rattle.td_ior.specs.Enclosed.{Encloses, enclosed_in, enclosing}
@@ -71,7 +71,9 @@ pub record Parts : Type 0 where
   pub key : List ℕ
 
 abbrev pub with_port : List ℕ × List ℕ → List ℕ → ℕ → Option Parts
-with_port first key port = if has_nul first.0 || has_nul first.1 then None else Some (record { id = first.0; host = first.1; port = port; key = key })
+with_port first key port =
+    if has_nul first.0 || has_nul first.1 then None
+    else Some (record { id = first.0; host = first.1; port = port; key = key })
 
 unfoldable pub parts_of : List ℕ → Option Parts
 parts_of text = do
@@ -98,4 +100,4 @@ ReadsText found (Err e) = ⊥
 -- ---- how a reference is printed
 
 abbrev pub printed : Ior → List ℕ
-printed r = codes "IOR:" ++ encode_lower (enclosing (reference_piece r))
+printed r = codes "IOR:" ++ encode_lower (enclosing reference r)

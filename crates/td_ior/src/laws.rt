@@ -6,20 +6,21 @@ ghost use Rattle.hex.specs.Hex.{IsBytes};
 ghost use Rattle.td_cdr.specs.Names.{IsTraderName};
 ghost use Rattle.td_cdr.specs.Text.{HasNoNul};
 ghost use Rattle.td_value.specs.declared.key.ObjectKey.{ObjectKey};
-ghost use Rattle.td_value.specs.declared.reference.Ior.{Ior};
-ghost use Rattle.td_value.specs.declared.reference.Profile.{Profile};
-ghost use Rattle.td_value.specs.References.{reference, reference_piece};
+ghost use Rattle.td_codes.specs.declared.reference.Ior.{Ior};
+ghost use Rattle.td_codes.specs.declared.reference.Profile.{Profile};
+ghost use Rattle.td_codes.specs.References.{reference};
 ghost use Rattle.td_ior.specs.Enclosed.{enclosing};
 ghost use Rattle.td_ior.specs.Keys.{SpellsKey, IsKind, key_of, written_key};
 ghost use Rattle.td_ior.specs.Laws.{Agrees};
-ghost use Rattle.td_ior.specs.Profiles.{IsIiop, HasNoIiop, IsFirstIiop, iiop_in, first_iiop, iiop_of, profile_piece, made_reference};
+ghost use Rattle.td_ior.specs.Profiles.{IsIiop, HasNoIiop, IsFirstIiop, iiop_in, first_iiop, iiop_of, made_octets, made_reference};
 ghost use Rattle.td_ior.specs.Texts.{IsReferenceText, reference_in, printed};
 
 /// A key is read as it is written, and only so, and no two keys are written alike.
 pub fn keys_are_read()
     ensures agrees { Agrees SpellsKey key_of }
     ensures back { (key : ObjectKey) → IsTraderName key.trader → IsKind key.kind → key_of (written_key key) ≡ Some key }
-    ensures one_key { (key other : ObjectKey) → IsTraderName key.trader → IsTraderName other.trader → IsKind key.kind → IsKind other.kind → written_key key ≡ written_key other → key ≡ other }
+    ensures one_key { (key other : ObjectKey) → IsTraderName key.trader → IsTraderName other.trader
+        → IsKind key.kind → IsKind other.kind → written_key key ≡ written_key other → key ≡ other }
 {}
 
 /// A profile is read as the layout of IIOP spells it, and only so, and the first one that is of IIOP is
@@ -30,7 +31,8 @@ pub fn profiles_are_read()
     ensures first { Agrees IsFirstIiop first_iiop }
     ensures none { (profiles : List Profile) → first_iiop profiles ≡ None → HasNoIiop profiles }
     ensures only_none { (profiles : List Profile) → HasNoIiop profiles → first_iiop profiles ≡ None }
-    ensures back { (id host key : List ℕ) (port : ℕ) → HasNoNul host → port < 65536 → length (enclosing (profile_piece host port key)) < 2 ^ 32
+    ensures back { (id host key : List ℕ) (port : ℕ) → HasNoNul host → port < 65536
+        → length (made_octets host port key) < 2 ^ 32
         → iiop_of (made_reference id host port key) ≡ Some (record { host = host; port = port; key = key }) }
 {}
 
@@ -38,6 +40,8 @@ pub fn profiles_are_read()
 /// reference is read back as that reference where it has a spelling, as a made one does.
 pub fn texts_are_read()
     ensures agrees { Agrees IsReferenceText reference_in }
-    ensures back { (r : Ior) → reference.admits r → IsBytes (enclosing (reference_piece r)) → length (enclosing (reference_piece r)) < 2 ^ 32 → reference_in (printed r) ≡ Some r }
-    ensures made { (id host key : List ℕ) (port : ℕ) → HasNoNul id → reference.admits (made_reference id host port key) }
+    ensures back { (r : Ior) → reference.format.admits r → IsBytes (enclosing reference r)
+        → length (enclosing reference r) < 2 ^ 32 → reference_in (printed r) ≡ Some r }
+    ensures made { (id host key : List ℕ) (port : ℕ) → HasNoNul id
+        → reference.format.admits (made_reference id host port key) }
 {}

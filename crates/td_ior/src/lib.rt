@@ -16,6 +16,3 @@ pub use laws::{keys_are_read, profiles_are_read, texts_are_read};
 pub use profile::{Iiop, iiop_of, make_ior};
 pub use td_value::{Kind, ObjectKey};
 pub use text::{print_text, read_text};
-
-#[cfg(test)]
-mod tests;

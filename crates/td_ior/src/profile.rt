@@ -3,14 +3,23 @@
 ghost use Rattle.std.specs.Prelude.{◌≡◌, ◌<◌, ◌^◌, length, Some, IfOk};
 ghost use Rattle.std.specs.Option.{option_map};
 ghost use Rattle.td_cdr.specs.Text.{HasNoNul};
-ghost use Rattle.td_ior.specs.Enclosed.{value_in, enclosing};
-ghost use Rattle.td_ior.specs.Profiles.{profile_body, iiop_in, first_iiop, iiop_of, ReadsIiop, profile_piece, made_reference};
+ghost use Rattle.td_ior.specs.Enclosed.{value_in};
+ghost use Rattle.td_ior.specs.Profiles.{profile_body, iiop_in, first_iiop, iiop_of, lent, ReadsIiop, made_octets, made_reference};
 
 use crate::enclosed::start_of;
 use crate::fault::IorFault;
 use std::alloc::Global;
 use td_cdr::{List, Memory, Octets, Order, Reader, Text, Writer};
 use td_value::{Ior, Profile};
+
+/// The tag of an IIOP profile.
+const TAG_INTERNET_IOP: u32 = 0;
+
+/// The major version of an IIOP profile.
+const IIOP_MAJOR: u8 = 1;
+
+/// The minor version that is written.
+const IIOP_MINOR: u8 = 0;
 
 /// What an IIOP profile says: where an object's server listens, and the object's key there.
 #[derive(Debug, Drop)]
@@ -50,7 +59,7 @@ pub fn iiop_of(alloc: Global, reference: &Ior) -> Result<Iiop, IorFault>
 }
 
 fn first_iiop(profiles: &[Profile]) -> Option<Body<'_>>
-    ensures { option_map (λ b. record { host = b.host.now; port = b.port; key = b.key.now }) result ≡ first_iiop profiles.now }
+    ensures { option_map lent result ≡ first_iiop profiles.now }
 {
     for profile in profiles {
         let found = iiop_in(profile);
@@ -62,9 +71,9 @@ fn first_iiop(profiles: &[Profile]) -> Option<Body<'_>>
 }
 
 fn iiop_in(profile: &Profile) -> Option<Body<'_>>
-    ensures { option_map (λ b. record { host = b.host.now; port = b.port; key = b.key.now }) result ≡ iiop_in profile.now }
+    ensures { option_map lent result ≡ iiop_in profile.now }
 {
-    if profile.tag != 0 {
+    if profile.tag != TAG_INTERNET_IOP {
         return None;
     }
     body_of(start_of(profile.octets.as_slice())?)
@@ -72,9 +81,9 @@ fn iiop_in(profile: &Profile) -> Option<Body<'_>>
 
 /// The body of a profile, behind the octet that tells its order.
 fn body_of(mut r: Reader<'_>) -> Option<Body<'_>>
-    ensures { option_map (λ b. record { host = b.host.now; port = b.port; key = b.key.now }) result ≡ value_in (profile_body.reading r.entry) }
+    ensures { option_map lent result ≡ value_in (profile_body.format.reads r.entry) }
 {
-    if r.octet().ok()? != 1 {
+    if r.octet().ok()? != IIOP_MAJOR {
         return None;
     }
     let _minor = r.octet().ok()?;
@@ -97,17 +106,20 @@ pub fn make_ior(alloc: Global, id: &[u8], host: &[u8], port: u16, key: &[u8]) ->
     let id = Text::from_slice(alloc, id)?;
     let octets = profile_octets(alloc, host, port, key)?;
     let mut profiles = List::new(alloc);
-    profiles.push(Profile { tag: 0, octets })?;
+    profiles.push(Profile {
+        tag: TAG_INTERNET_IOP,
+        octets,
+    })?;
     Ok(Ior { id, profiles })
 }
 
 fn profile_octets(alloc: Global, host: &[u8], port: u16, key: &[u8]) -> Result<Octets, Memory>
-    ensures made { IfOk result (λ o. o ≡ enclosing (profile_piece host.now port key.now)) }
+    ensures made { IfOk result (λ o. o ≡ made_octets host.now port key.now) }
     ensures short { IfOk result (λ o. length o < 2 ^ 32) }
 {
     let mut w = Writer::inside(alloc, Order::Big)?;
-    w.octet(1)?;
-    w.octet(0)?;
+    w.octet(IIOP_MAJOR)?;
+    w.octet(IIOP_MINOR)?;
     w.string(host)?;
     w.u16(port)?;
     w.octets(key)?;

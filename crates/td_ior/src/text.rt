@@ -4,7 +4,7 @@ ghost use Rattle.std.specs.Prelude.{codes, ◌≡◌, ◌<◌, ◌^◌, ◌++◌
 ghost use Rattle.hex.specs.Hex.{IsBytes, encode_lower};
 ghost use Rattle.std.specs.Option.{option_map, option_copied};
 ghost use Rattle.td_cdr.specs.Text.{has_nul, HasNoNul};
-ghost use Rattle.td_value.specs.References.{reference as references, reference_piece};
+ghost use Rattle.td_codes.specs.References.{reference as references};
 ghost use Rattle.td_ior.specs.Enclosed.{enclosed_in, enclosing};
 ghost use Rattle.td_ior.specs.Texts.{cut_last, unmarked, parts_of, hex_form, plain_form, reference_in, ReadsText, printed};
 
@@ -107,7 +107,8 @@ struct Parts<'a> {
 
 #[tactic(auto, unfolding(crate::specs::Texts::parts_of))]
 fn parts_of(text: &[u8]) -> Option<Parts<'_>>
-    ensures parts { MatchOption result (parts_of text.now ≡ None) (λ p. parts_of text.now ≡ Some (record { id = p.id.now; host = p.host.now; port = p.port; key = p.key.now })) }
+    ensures parts { MatchOption result (parts_of text.now ≡ None) (λ p. parts_of text.now
+        ≡ Some (record { id = p.id.now; host = p.host.now; port = p.port; key = p.key.now })) }
     ensures plain { IfSome result (λ p. HasNoNul p.host.now) }
 {
     let (rest, key) = cut_last(unmarked(text)?)?;
@@ -133,7 +134,7 @@ fn parts_of(text: &[u8]) -> Option<Parts<'_>>
 /// `Memory` for want of memory, or where the encapsulation would come to 2^32 octets.
 pub fn print_text(alloc: Global, reference: &Ior) -> Result<Text, Memory>
     ensures printed { IfOk result (λ t. t ≡ printed reference.now) }
-    ensures back { IfOk result (λ t. references.admits reference.now → reference_in t ≡ Some reference.now) }
+    ensures back { IfOk result (λ t. references.format.admits reference.now → reference_in t ≡ Some reference.now) }
 {
     let octets = enclose(alloc, reference)?;
     hex_text(alloc, octets.as_slice())
@@ -151,12 +152,12 @@ fn hex_text(alloc: Global, octets: &[u8]) -> Result<Text, Memory>
 
 /// The octets of an encapsulation of the reference.
 fn enclose(alloc: Global, reference: &Ior) -> Result<Octets, Memory>
-    ensures held { IfOk result (λ o. o ≡ enclosing (reference_piece reference.now)) }
+    ensures held { IfOk result (λ o. o ≡ enclosing references reference.now) }
     ensures short { IfOk result (λ o. length o < 2 ^ 32) }
     ensures octets { IfOk result (λ o. IsBytes o) }
 {
     let mut w = Writer::inside(alloc, Order::Big)?;
-    write_ior(&mut w, reference)?;
+    write_ior(alloc, &mut w, reference)?;
     owned(alloc, w.bytes())
 }
 

@@ -1,10 +1,13 @@
 //! Keys by the table of the server's objects, and references that were put together by another program
 //! from the layouts of CORBA's chapters.
 
-use super::*;
 use std::alloc::Global;
-use std::process::Abort;
 use std::test::Fail;
+use td_cdr::Boxed;
+use td_ior::{
+    IorFault, Kind, ObjectKey, iiop_of, make_ior, print_text, read_key, read_text, write_key,
+};
+use td_value::Ior;
 
 /// Octets, and the object of the trader `A-1` whose key they are.
 const KEYS: [(&[u8], Option<Kind>); 24] = [
@@ -37,21 +40,34 @@ const KEYS: [(&[u8], Option<Kind>); 24] = [
     (b"", None),
 ];
 
+/// Whether the key is that of an object of this kind of the trader, and is written with these octets.
+fn is_key(alloc: Global, key: &ObjectKey, kind: Kind, octets: &[u8]) -> bool {
+    if key.trader.as_slice() != b"A-1".as_slice() || key.kind != kind {
+        return false;
+    }
+    match write_key(alloc, key) {
+        Ok(written) => written.as_slice() == octets,
+        Err(_) => false,
+    }
+}
+
+/// Whether the octets are the key of such an object, or of none.
+fn reads_key(alloc: Global, octets: &[u8], kind: Option<Kind>) -> bool {
+    match read_key(alloc, octets) {
+        Ok(key) => match kind {
+            Some(kind) => is_key(alloc, &key, kind, octets),
+            None => false,
+        },
+        Err(fault) => kind.is_none() && fault == IorFault::BadKey,
+    }
+}
+
 #[test]
-fn keys(rt: HostRuntime) -> Result<(), Fail> {
+fn keys_are_read_and_written(rt: HostRuntime) {
     let alloc = rt.alloc();
     for (octets, kind) in KEYS {
-        match (read_key(alloc, octets), kind) {
-            (Ok(key), Some(kind)) => {
-                assert!(rt; key.trader.as_slice() == b"A-1".as_slice());
-                assert!(rt; key.kind == kind);
-                assert!(rt; write_key(alloc, &key)?.as_slice() == octets);
-            }
-            (Err(fault), None) => assert!(rt; fault == IorFault::BadKey),
-            _ => return Err("the object of this key".into()),
-        }
+        assert!(rt; reads_key(alloc, octets, kind));
     }
-    Ok(())
 }
 
 /// The reference of the worked queries.
@@ -112,28 +128,69 @@ const NEITHER: [&[u8]; 16] = [
     b"REF:a,h,9,k",
 ];
 
+/// Whether the first IIOP profile of the reference says this.
+fn is_at(alloc: Global, reference: &Ior, host: &[u8], port: u16, key: &[u8]) -> bool {
+    match iiop_of(alloc, reference) {
+        Ok(iiop) => {
+            iiop.host.as_slice() == host && iiop.port == port && iiop.key.as_slice() == key
+        }
+        Err(_) => false,
+    }
+}
+
+/// Whether the text spells a reference whose first IIOP profile says this.
+fn spells(alloc: Global, text: &[u8], host: &[u8], port: u16, key: &[u8]) -> bool {
+    match read_text(alloc, text) {
+        Ok(reference) => is_at(alloc, &reference, host, port, key),
+        Err(_) => false,
+    }
+}
+
 #[test]
-fn texts(rt: HostRuntime) -> Result<(), Fail> {
+fn texts_are_read(rt: HostRuntime) {
     let alloc = rt.alloc();
     for (text, (host, port, key)) in TEXTS {
-        let reference = read_text(alloc, text)?;
-        let iiop = iiop_of(alloc, &reference)?;
-        assert!(rt; iiop.host.as_slice() == host);
-        assert_eq!(rt; iiop.port, port);
-        assert!(rt; iiop.key.as_slice() == key);
-    }
-    for text in WITHOUT {
-        let reference = read_text(alloc, text)?;
-        assert!(rt; matches!(&iiop_of(alloc, &reference), Err(IorFault::NoIiop)));
-        assert!(rt; print_text(alloc, &reference)?.as_slice() == text);
+        assert!(rt; spells(alloc, text, host, port, key));
     }
     for text in NEITHER {
         assert!(rt; matches!(&read_text(alloc, text), Err(IorFault::NotIor)));
     }
-    let made = make_ior(alloc, b"IDL:Printer:1.0", b"h", 9, b"p1")?;
-    assert!(rt; print_text(alloc, &made)?.as_slice() == WORKED);
-    let read = read_text(alloc, WORKED)?;
-    assert!(rt; read.id.as_slice() == b"IDL:Printer:1.0".as_slice());
-    assert_eq!(rt; read.profiles.len(), 1);
+}
+
+/// Whether the reference is printed so.
+fn prints(alloc: Global, reference: &Ior, text: &[u8]) -> bool {
+    match print_text(alloc, reference) {
+        Ok(printed) => printed.as_slice() == text,
+        Err(_) => false,
+    }
+}
+
+/// Whether the text spells a reference without an IIOP profile, which is printed as it is.
+fn has_no_profile(alloc: Global, text: &[u8]) -> bool {
+    match read_text(alloc, text) {
+        Ok(reference) => {
+            matches!(&iiop_of(alloc, &reference), Err(IorFault::NoIiop))
+                && prints(alloc, &reference, text)
+        }
+        Err(_) => false,
+    }
+}
+
+#[test]
+fn references_without_an_iiop_profile_are_kept_as_they_came(rt: HostRuntime) {
+    let alloc = rt.alloc();
+    for text in WITHOUT {
+        assert!(rt; has_no_profile(alloc, text));
+    }
+}
+
+#[test]
+fn a_made_reference_is_that_of_the_layouts(rt: HostRuntime) -> Result<(), Fail> {
+    let alloc = rt.alloc();
+    let made = Boxed::new(alloc, make_ior(alloc, b"IDL:Printer:1.0", b"h", 9, b"p1")?)?;
+    assert!(rt; prints(alloc, made.get(), WORKED));
+    let read = Boxed::new(alloc, read_text(alloc, WORKED)?)?;
+    assert!(rt; read.get().id.as_slice() == b"IDL:Printer:1.0".as_slice());
+    assert_eq!(rt; read.get().profiles.len(), 1);
     Ok(())
 }
