@@ -1,6 +1,4 @@
-pub mod Bodies
-pub mod Results
-pub mod Told
 pub mod Heard
 pub mod Named
-pub mod Members
+pub mod Tags
+pub mod Told

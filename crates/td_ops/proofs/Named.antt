@@ -1,56 +1,93 @@
--- Each operation has its name.
-use Rattle.std.proofs.Common.{◌≡◌, Some, refl, map}
-use Rattle.std.specs.List.{IsDistinct}
+-- Each operation of an object is found by its name.
+use Rattle.std.proofs.Common.{◌≡◌, ℕ, List, [], ◌∷◌, ◌++◌, Bool, true, false, if◌then◌else◌, Option, Some, None, Err, codes, refl, map}
+use Rattle.std.specs.List.{IsDistinct, AllByRecursion}
 use Rattle.std.specs.Str.{bytes_eq}
+use Rattle.td_cdr.specs.Place.{At}
+use Rattle.td_cdr.specs.Format.{value_named}
 use Rattle.td_value.specs.declared.key.Kind.{Kind}
-use Rattle.td_value.specs.declared.key.Kind.TheVariants.{Lookup, Register, Link, Proxy, Admin, Types, Iterator}
-use Rattle.td_ops.specs.declared.operation.Operation.{Operation}
-use Rattle.td_ops.specs.declared.operation.Operation.TheVariants.{AddType, RemoveType, ListTypes, DescribeType, FullyDescribeType, MaskType, UnmaskType, TypesIncarnation, IsA, NonExistent}
-use Rattle.td_ops.specs.Operations.{of_objects, of_types, operations, operation_named, name_of}
+use Rattle.td_value.specs.declared.key.Kind.TheVariants as kind
+use Rattle.td_ops.specs.declared.fault.OpsFault.TheVariants.{NoImplement}
+use Rattle.td_ops.specs.declared.operation.Operation.TheVariants.{NonExistent}
+use Rattle.td_ops.specs.Operations.{name_of, operations, operation_named}
+use Rattle.td_ops.specs.Calls.{call_read}
 
-pub types-named : (operation : Operation) → operation_named Types (name_of operation) ≡ Some operation
-types-named AddType = refl
-types-named RemoveType = refl
-types-named ListTypes = refl
-types-named DescribeType = refl
-types-named FullyDescribeType = refl
-types-named MaskType = refl
-types-named UnmaskType = refl
-types-named TypesIncarnation = refl
-types-named IsA = refl
-types-named NonExistent = refl
+-- ---- a list in two parts
 
-pub is_a-named : (kind : Kind) → operation_named kind (name_of IsA) ≡ Some IsA
-is_a-named Lookup = refl
-is_a-named Register = refl
-is_a-named Link = refl
-is_a-named Proxy = refl
-is_a-named Admin = refl
-is_a-named Types = refl
-is_a-named (Iterator n) = refl
+abbrev pub or_named : {K : Type 0} → Option K → Option K → Option K
+or_named (Some x) y = Some x
+or_named None y = y
 
-pub non_existent-named : (kind : Kind) → operation_named kind (name_of NonExistent) ≡ Some NonExistent
-non_existent-named Lookup = refl
-non_existent-named Register = refl
-non_existent-named Link = refl
-non_existent-named Proxy = refl
-non_existent-named Admin = refl
-non_existent-named Types = refl
-non_existent-named (Iterator n) = refl
+if_or : {K : Type 0} (b : Bool) (x : K) (y z : Option K) → (if b then Some x else or_named y z) ≡ or_named (if b then Some x else y) z
+if_or true x y z = refl
+if_or false x y z = refl
 
-objects-distinct : IsDistinct bytes_eq (map (λ row. row.0) of_objects)
+pub value_named_append : {K : Type 0} (name_of : K → List ℕ) (xs ys : List K) (name : List ℕ) → value_named name_of (xs ++ ys) name ≡ or_named (value_named name_of xs name) (value_named name_of ys name)
+value_named_append name_of [] ys name = refl
+value_named_append name_of (x ∷ xs) ys name = rw (value_named_append name_of xs ys name) (if_or (bytes_eq name (name_of x)) x (value_named name_of xs name) (value_named name_of ys name))
+
+-- ---- no name twice
+
+abbrev unless : Bool → Bool → Bool
+unless true b = false
+unless false b = b
+
+unless-both : (a b : Bool) → unless a b ≡ true → (a ≡ false) × (b ≡ true)
+unless-both true b e = absurd cc
+unless-both false b e = (refl, e)
+
+abbrev differs : List ℕ → List (List ℕ) → Bool
+differs x [] = true
+differs x (y ∷ ys) = unless (bytes_eq x y) (differs x ys)
+
+differs-all : (x : List ℕ) (ys : List (List ℕ)) → differs x ys ≡ true → AllByRecursion (λ y. bytes_eq x y ≡ false) ys
+differs-all x [] e = tt
+differs-all x (y ∷ ys) e = let p = unless-both (bytes_eq x y) (differs x ys) e in (p.0, differs-all x ys p.1)
+
+abbrev both : Bool → Bool → Bool
+both true b = b
+both false b = false
+
+both-hold : (a b : Bool) → both a b ≡ true → (a ≡ true) × (b ≡ true)
+both-hold true b e = (refl, e)
+both-hold false b e = absurd cc
+
+abbrev are_apart : List (List ℕ) → Bool
+are_apart [] = true
+are_apart (x ∷ xs) = both (differs x xs) (are_apart xs)
+
+distinct : (xs : List (List ℕ)) → are_apart xs ≡ true → IsDistinct bytes_eq xs
 unfolding IsDistinct
-objects-distinct = ((refl, (refl, tt)), ((refl, tt), (tt, tt)))
+distinct [] e = tt
+distinct (x ∷ xs) e = let p = both-hold (differs x xs) (are_apart xs) e in (differs-all x xs p.0, distinct xs p.1)
 
-types-distinct : IsDistinct bytes_eq (map (λ row. row.0) of_types)
-unfolding IsDistinct
-types-distinct = ((refl, (refl, (refl, (refl, (refl, (refl, (refl, (refl, (refl, (refl, tt)))))))))), ((refl, (refl, (refl, (refl, (refl, (refl, (refl, (refl, (refl, tt))))))))), ((refl, (refl, (refl, (refl, (refl, (refl, (refl, (refl, tt)))))))), ((refl, (refl, (refl, (refl, (refl, (refl, (refl, tt))))))), ((refl, (refl, (refl, (refl, (refl, (refl, tt)))))), ((refl, (refl, (refl, (refl, (refl, tt))))), ((refl, (refl, (refl, (refl, tt)))), ((refl, (refl, (refl, tt))), ((refl, (refl, tt)), ((refl, tt), (tt, tt)))))))))))
+pub names-distinct : (k : Kind) → IsDistinct bytes_eq (map name_of (operations k))
+names-distinct kind.Lookup = distinct (map name_of (operations kind.Lookup)) refl
+names-distinct kind.Register = distinct (map name_of (operations kind.Register)) refl
+names-distinct kind.Link = distinct (map name_of (operations kind.Link)) refl
+names-distinct kind.Proxy = distinct (map name_of (operations kind.Proxy)) refl
+names-distinct kind.Admin = distinct (map name_of (operations kind.Admin)) refl
+names-distinct kind.Types = distinct (map name_of (operations kind.Types)) refl
+names-distinct (kind.Iterator n) = distinct (map name_of (operations (kind.Iterator n))) refl
 
-pub names-distinct : (kind : Kind) → IsDistinct bytes_eq (map (λ row. row.0) (operations kind))
-names-distinct Lookup = objects-distinct
-names-distinct Register = objects-distinct
-names-distinct Link = objects-distinct
-names-distinct Proxy = objects-distinct
-names-distinct Admin = objects-distinct
-names-distinct Types = types-distinct
-names-distinct (Iterator n) = objects-distinct
+-- ---- the tables
+
+pub operations-found : (k : Kind) → map (λ o. operation_named k (name_of o)) (operations k) ≡ map (λ o. Some o) (operations k)
+operations-found kind.Lookup = refl
+operations-found kind.Register = refl
+operations-found kind.Link = refl
+operations-found kind.Proxy = refl
+operations-found kind.Admin = refl
+operations-found kind.Types = refl
+operations-found (kind.Iterator n) = refl
+
+pub second-found : (k : Kind) → operation_named k (codes "_not_existent") ≡ Some NonExistent
+second-found kind.Lookup = refl
+second-found kind.Register = refl
+second-found kind.Link = refl
+second-found kind.Proxy = refl
+second-found kind.Admin = refl
+second-found kind.Types = refl
+second-found (kind.Iterator n) = refl
+
+pub repository-kept : (a : At) → call_read kind.Admin (codes "set_type_repos") a ≡ Err NoImplement
+repository-kept a = refl

@@ -2,9 +2,9 @@
 use Rattle.std.specs.Prelude.{◌≡◌, Result, Ok, Err, OnErr, IfOk}
 use Rattle.td_cdr.specs.declared.fault.CdrFault.TheVariants as cdr
 use Rattle.td_cdr.specs.Place.{At}
-use Rattle.td_value.specs.declared.fault.ValueFault.{ValueFault}
-use Rattle.td_value.specs.declared.fault.ValueFault.TheVariants as value
-use Rattle.td_value.specs.Grammar.{Read}
+use Rattle.td_cdr.specs.declared.value_fault.ValueFault.{ValueFault}
+use Rattle.td_cdr.specs.declared.value_fault.ValueFault.TheVariants as value
+use Rattle.td_cdr.specs.Format.{Read}
 use Rattle.td_ops.specs.declared.fault.OpsFault.{OpsFault}
 use Rattle.td_ops.specs.declared.fault.OpsFault.TheVariants.{BadOperation, Marshal, NoImplement, Memory}
 
@@ -23,7 +23,7 @@ fault_of (value.Indirection place) = Marshal place
 fault_of value.Memory = Memory
 
 -- a reading, with its fault as the caller is told it
-abbrev pub told : {X : Type 0} → Read X → Result (X × At) OpsFault
+abbrev pub told : {X : Type 0} → Read ValueFault X → Result (X × At) OpsFault
 told (Ok x) = Ok x
 told (Err e) = Err (fault_of e)
 

@@ -1,22 +1,30 @@
 //! Replies from bytes.
 
 ghost use Rattle.std.specs.Prelude.{◌≡◌};
-ghost use Rattle.td_value.specs.Grammar.{Gives};
+ghost use Rattle.td_cdr.specs.Format.{Gives};
+ghost use Rattle.td_cdr.specs.ValueFaults.{is_memory};
 ghost use Rattle.td_ops.specs.Refusals.{Answers};
-ghost use Rattle.td_ops.specs.Operations.{operation_in};
-ghost use Rattle.td_ops.specs.Answers.{answer_of, outcome_read, result_of};
+ghost use Rattle.td_ops.specs.Called.{operation_in};
+ghost use Rattle.td_ops.specs.Answers.{answer_of, outcome_read, system_answer};
+ghost use Rattle.td_ops.specs.Shapes.{results};
 
 use crate::call::Call;
+use crate::called::operation_in;
 use crate::fault::OpsFault;
-use crate::operation::{Operation, operation_in};
+use crate::operation::{Operation, result_shape};
 use crate::outcome::{Answered, Reply};
+use crate::reading::see_octets;
+use crate::shape::Shape;
 use std::alloc::Global;
-use td_cdr::Reader;
-use td_value::{ValueFault, incarnation_number_at, see_octets, text_at, texts_at, type_struct_at};
+use td_cdr::{List, Octets, Reader, Spelled, Text, ValueFault};
+use td_value::{
+    FollowOption, IncarnationNumber, Ior, LinkInfo, Offer, OfferInfo, ProxyInfo, TypeStruct,
+};
 
 /// What a reply of this status to a call tells (CORBA, chapter on General Inter-ORB Protocol, "Reply
 /// Body"): by status 0 the call's result, by 1 the id of a user exception, whose members stay unread,
-/// by 2 a system exception's id, minor code and completion. Ids and numbers may be any.
+/// by 2 a system exception's id, minor code and completion. Ids and numbers may be any. The items of a
+/// `next_n` are read as offers.
 ///
 /// # Errors
 ///
@@ -29,69 +37,86 @@ pub fn read_outcome(
     status: u32,
     body: &mut Reader,
 ) -> Result<Answered, OpsFault>
-    ensures { Answers ((answer_of (operation_in call.now) status).admits) (outcome_read call.now status body.old) body.old body.new result }
+    ensures { let reply = answer_of (operation_in call.now) status in
+        Answers reply.format.admits (outcome_read call.now status body.old) body.old body.new result }
 {
     let operation = operation_in(call);
     see_octets(body.left());
     let mut next = body.copied();
-    let answer = answer_at(alloc, &mut next, operation, status)?;
+    let answer = read_answer(alloc, &mut next, operation, status)?;
     *body = next;
     Ok(answer)
 }
 
 /// What a reply of this status tells. Where it is refused, the reader may have moved.
-fn answer_at(
+fn read_answer(
     alloc: Global,
     r: &mut Reader,
     operation: Operation,
     status: u32,
 ) -> Result<Answered, ValueFault>
-    ensures { Gives (λ a. a) r.new result ((answer_of operation status).reading r.old) }
+    ensures { Gives is_memory r.new result ((answer_of operation status).format.reads r.old) }
 {
     match status {
         0 => {
-            let reply = result_at(alloc, r, operation)?;
+            let reply = read_reply(alloc, r, result_shape(operation))?;
             Ok(Answered::Done(reply))
         }
-        1 => {
-            let id = text_at(alloc, r)?;
-            Ok(Answered::User(id))
-        }
-        2 => {
-            let id = text_at(alloc, r)?;
-            let minor = r.u32()?;
-            let completion = r.u32()?;
-            Ok(Answered::System {
-                id,
-                minor,
-                completion,
-            })
-        }
+        1 => Ok(Answered::User(Text::read(alloc, r)?)),
+        2 => read_system(alloc, r),
         _ => Err(ValueFault::BadValue(r.place())),
     }
 }
 
-/// The result of an operation. Where it is refused, the reader may have moved.
-fn result_at(alloc: Global, r: &mut Reader, operation: Operation) -> Result<Reply, ValueFault>
-    ensures { Gives (λ v. v) r.new result ((result_of operation).reading r.old) }
+/// A system exception. Where it is refused, the reader may have moved.
+fn read_system(alloc: Global, r: &mut Reader) -> Result<Answered, ValueFault>
+    ensures { Gives is_memory r.new result (system_answer.format.reads r.old) }
 {
-    match operation {
-        Operation::AddType | Operation::TypesIncarnation => {
-            let incarnation = incarnation_number_at(r)?;
-            Ok(Reply::Incarnation(incarnation))
+    let (id, (minor, completion)) = <(Text, (u32, u32))>::read(alloc, r)?;
+    Ok(Answered::System {
+        id,
+        minor,
+        completion,
+    })
+}
+
+/// A result of a shape. Where it is refused, the reader may have moved.
+fn read_reply(alloc: Global, r: &mut Reader, shape: Shape) -> Result<Reply, ValueFault>
+    ensures { Gives is_memory r.new result ((results shape).format.reads r.old) }
+{
+    match shape {
+        Shape::Nothing => Ok(Reply::Nothing),
+        Shape::Id => Ok(Reply::Id(Text::read(alloc, r)?)),
+        Shape::Number => Ok(Reply::Number(u32::read(alloc, r)?)),
+        Shape::Truth => Ok(Reply::Truth(bool::read(alloc, r)?)),
+        Shape::Reference => Ok(Reply::Reference(Ior::read(alloc, r)?)),
+        Shape::Follow => Ok(Reply::Follow(FollowOption::read(alloc, r)?)),
+        Shape::Stem => Ok(Reply::Stem(Octets::read(alloc, r)?)),
+        Shape::Incarnation => Ok(Reply::Incarnation(IncarnationNumber::read(alloc, r)?)),
+        Shape::Names => Ok(Reply::Names(List::read(alloc, r)?)),
+        Shape::Offer => Ok(Reply::Offer(OfferInfo::read(alloc, r)?)),
+        Shape::Link => Ok(Reply::Link(LinkInfo::read(alloc, r)?)),
+        Shape::Proxy => Ok(Reply::Proxy(ProxyInfo::read(alloc, r)?)),
+        Shape::Typed => Ok(Reply::Typed(TypeStruct::read(alloc, r)?)),
+        Shape::Found => {
+            let (offers, (iterator, limits)) = <(List<Offer>, (Ior, List<Text>))>::read(alloc, r)?;
+            Ok(Reply::Found {
+                offers,
+                iterator,
+                limits,
+            })
         }
-        Operation::RemoveType | Operation::MaskType | Operation::UnmaskType => Ok(Reply::Nothing),
-        Operation::ListTypes => {
-            let names = texts_at(alloc, r)?;
-            Ok(Reply::Names(names))
+        Shape::Ids => {
+            let (ids, iterator) = <(List<Text>, Ior)>::read(alloc, r)?;
+            Ok(Reply::Ids { ids, iterator })
         }
-        Operation::DescribeType | Operation::FullyDescribeType => {
-            let described = type_struct_at(alloc, r)?;
-            Ok(Reply::Typed(described))
+        Shape::Batch => {
+            let (more, offers) = <(bool, List<Offer>)>::read(alloc, r)?;
+            Ok(Reply::Batch { more, offers })
         }
-        Operation::IsA | Operation::NonExistent => {
-            let truth = r.boolean()?;
-            Ok(Reply::Truth(truth))
+        Shape::IdBatch => {
+            let (more, ids) = <(bool, List<Text>)>::read(alloc, r)?;
+            Ok(Reply::IdBatch { more, ids })
         }
     }
 }

@@ -1,24 +1,95 @@
 //! Calls of a trader's objects, by the names of their operations and parameters (OMG's Trading Object
-//! Service, module CosTradingRepos, interface ServiceTypeRepository).
+//! Service, modules CosTrading and CosTradingRepos).
 
+ghost use Rattle.std.specs.Prelude.{◌≡◌};
+ghost use Rattle.td_ops.specs.Parameters.{add_link, query};
+
+use crate::attribute::{Attribute, FollowAttribute, NumberAttribute, TruthAttribute};
 use std::alloc::Global;
-use td_cdr::{List, Memory, Text, Twin};
-use td_value::{PropStruct, SpecifiedServiceTypes};
+use td_cdr::{List, Memory, Octets, Reader, Spelled, Text, ValueFault, Writer, put_four, put_six};
+use td_value::{
+    FollowOption, Ior, Policy, PropStruct, Property, SpecifiedProps, SpecifiedServiceTypes,
+};
 
 /// A call of an operation, with its parameters.
 #[derive(Drop)]
 pub enum Call {
     Change(Change),
     Look(Look),
+    Query(Query),
+    AddLink(AddLink),
+    /// What the links of these names lead to, one after the other.
+    Resolve(List<Text>),
+    Iter(IterCall),
     /// Whether the object has the interface of this repository id.
     IsA(Text),
     /// Whether the object is gone.
     NonExistent,
 }
 
-/// A call that changes what a trader keeps.
+/// A call that changes what a trader or its type repository keeps. `AddLink` is the change that a call of
+/// `add_link` comes to, once the register of its target is known; no request carries it.
 #[derive(Drop)]
 pub enum Change {
+    Export {
+        reference: Ior,
+        service_type: Text,
+        properties: List<Property>,
+    },
+    Withdraw {
+        id: Text,
+    },
+    Modify {
+        id: Text,
+        deleted: List<Text>,
+        changed: List<Property>,
+    },
+    WithdrawUsingConstraint {
+        service_type: Text,
+        constraint: Text,
+    },
+    AddLink {
+        name: Text,
+        target: Ior,
+        def_pass_on: FollowOption,
+        limiting: FollowOption,
+        register: Option<Ior>,
+    },
+    RemoveLink {
+        name: Text,
+    },
+    ModifyLink {
+        name: Text,
+        def_pass_on: FollowOption,
+        limiting: FollowOption,
+    },
+    ExportProxy {
+        target: Ior,
+        service_type: Text,
+        properties: List<Property>,
+        if_match_all: bool,
+        recipe: Text,
+        policies: List<Policy>,
+    },
+    WithdrawProxy {
+        id: Text,
+    },
+    /// Sets an attribute of Admin.
+    SetTruth {
+        attribute: TruthAttribute,
+        value: bool,
+    },
+    SetNumber {
+        attribute: NumberAttribute,
+        value: u32,
+    },
+    SetFollow {
+        attribute: FollowAttribute,
+        value: FollowOption,
+    },
+    SetRequestIdStem {
+        value: Octets,
+    },
     AddType {
         name: Text,
         if_name: Text,
@@ -39,64 +110,110 @@ pub enum Change {
 /// A call that changes nothing.
 #[derive(Drop)]
 pub enum Look {
+    Describe { id: Text },
+    DescribeLink { name: Text },
+    ListLinks,
+    DescribeProxy { id: Text },
+    ListOffers { how_many: u32 },
+    ListProxies { how_many: u32 },
     ListTypes { which: SpecifiedServiceTypes },
     DescribeType { name: Text },
     FullyDescribeType { name: Text },
-    /// The attribute `incarnation`.
-    TypesIncarnation,
+    /// An attribute is read.
+    Get(Attribute),
 }
 
-impl Twin for Call {
-    fn copy(&self, alloc: Global) -> Result<Call, Memory> {
-        match self {
-            Call::Change(change) => Ok(Call::Change(change.copy(alloc)?)),
-            Call::Look(look) => Ok(Call::Look(look.copy(alloc)?)),
-            Call::IsA(id) => Ok(Call::IsA(id.copy(alloc)?)),
-            Call::NonExistent => Ok(Call::NonExistent),
-        }
-    }
+/// A call of an iterator.
+#[derive(Drop)]
+pub enum IterCall {
+    MaxLeft,
+    /// At most this many items.
+    NextN { n: u32 },
+    Destroy,
 }
 
-impl Twin for Change {
-    fn copy(&self, alloc: Global) -> Result<Change, Memory> {
-        match self {
-            Change::AddType {
-                name,
-                if_name,
-                props,
-                super_types,
-            } => Ok(Change::AddType {
-                name: name.copy(alloc)?,
-                if_name: if_name.copy(alloc)?,
-                props: props.copy(alloc)?,
-                super_types: super_types.copy(alloc)?,
-            }),
-            Change::RemoveType { name } => Ok(Change::RemoveType {
-                name: name.copy(alloc)?,
-            }),
-            Change::MaskType { name } => Ok(Change::MaskType {
-                name: name.copy(alloc)?,
-            }),
-            Change::UnmaskType { name } => Ok(Change::UnmaskType {
-                name: name.copy(alloc)?,
-            }),
-        }
-    }
+/// The parameters of `query`.
+#[derive(Drop)]
+pub struct Query {
+    pub service_type: Text,
+    pub constraint: Text,
+    pub preference: Text,
+    pub policies: List<Policy>,
+    /// The properties that each offer is answered with.
+    pub desired: SpecifiedProps,
+    /// The number of offers that the answer itself may have; the others come by the iterator.
+    pub how_many: u32,
 }
 
-impl Twin for Look {
-    fn copy(&self, alloc: Global) -> Result<Look, Memory> {
-        match self {
-            Look::ListTypes { which } => Ok(Look::ListTypes {
-                which: which.copy(alloc)?,
-            }),
-            Look::DescribeType { name } => Ok(Look::DescribeType {
-                name: name.copy(alloc)?,
-            }),
-            Look::FullyDescribeType { name } => Ok(Look::FullyDescribeType {
-                name: name.copy(alloc)?,
-            }),
-            Look::TypesIncarnation => Ok(Look::TypesIncarnation),
-        }
+/// The parameters of `add_link`.
+#[derive(Drop)]
+pub struct AddLink {
+    pub name: Text,
+    pub target: Ior,
+    pub def_pass_on: FollowOption,
+    pub limiting: FollowOption,
+}
+
+impl Spelled for Query {
+    ghost format = { query.format };
+
+    ghost faults = { query.faults };
+
+    fn read(alloc: Global, r: &mut Reader) -> Result<Query, ValueFault> {
+        Ok(Query {
+            service_type: Text::read(alloc, r)?,
+            constraint: Text::read(alloc, r)?,
+            preference: Text::read(alloc, r)?,
+            policies: List::read(alloc, r)?,
+            desired: SpecifiedProps::read(alloc, r)?,
+            how_many: u32::read(alloc, r)?,
+        })
     }
+
+    fn write(&self, alloc: Global, w: &mut Writer) -> Result<(), Memory> {
+        put_six(
+            alloc,
+            w,
+            &self.service_type,
+            &self.constraint,
+            &self.preference,
+            &self.policies,
+            &self.desired,
+            &self.how_many,
+        )
+    }
+
+    ghost lawful = { query.lawful };
+
+    ghost refuses = { query.refuses };
+}
+
+impl Spelled for AddLink {
+    ghost format = { add_link.format };
+
+    ghost faults = { add_link.faults };
+
+    fn read(alloc: Global, r: &mut Reader) -> Result<AddLink, ValueFault> {
+        Ok(AddLink {
+            name: Text::read(alloc, r)?,
+            target: Ior::read(alloc, r)?,
+            def_pass_on: FollowOption::read(alloc, r)?,
+            limiting: FollowOption::read(alloc, r)?,
+        })
+    }
+
+    fn write(&self, alloc: Global, w: &mut Writer) -> Result<(), Memory> {
+        put_four(
+            alloc,
+            w,
+            &self.name,
+            &self.target,
+            &self.def_pass_on,
+            &self.limiting,
+        )
+    }
+
+    ghost lawful = { add_link.lawful };
+
+    ghost refuses = { add_link.refuses };
 }

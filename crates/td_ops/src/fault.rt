@@ -4,8 +4,7 @@ ghost use Rattle.std.specs.Prelude.{◌≡◌};
 ghost use Rattle.td_ops.specs.Refusals.{fault_of};
 ghost use Rattle.td_ops.specs.declared.fault.OpsFault.TheVariants.{Memory as memory};
 
-use td_cdr::{CdrFault, Memory};
-use td_value::ValueFault;
+use td_cdr::{CdrFault, Memory, ValueFault};
 use thiserror::Error;
 
 /// Why a call or a reply could not be read.

@@ -1,19 +1,24 @@
 //! Calls from bytes.
 
 ghost use Rattle.std.specs.Prelude.{◌≡◌};
-ghost use Rattle.td_value.specs.Grammar.{Gives};
+ghost use Rattle.td_cdr.specs.Format.{Gives};
+ghost use Rattle.td_cdr.specs.ValueFaults.{is_memory};
+ghost use Rattle.td_cdr.specs.Lawful.{AreOctets};
 ghost use Rattle.td_ops.specs.Refusals.{Answers};
-ghost use Rattle.td_ops.specs.Calls.{AdmitsCall, body_of, call_read};
-ghost use Rattle.td_ops.specs.declared.operation.Operation.TheVariants.{AddType};
+ghost use Rattle.td_ops.specs.Calls.{AdmitsCall, call_read};
+ghost use Rattle.td_ops.specs.Operations.{row};
 
-use crate::call::{Call, Change, Look};
+use crate::call::{Call, Change, Look, Query};
 use crate::fault::OpsFault;
-use crate::operation::{Operation, operation_named};
+use crate::finding::operation_named;
+use crate::operation::Operation;
+use crate::reading_admin::read_admin;
+use crate::reading_links::{read_link, read_proxy};
+use crate::reading_register::read_register;
+use crate::reading_types::{read_iterator, read_types};
 use std::alloc::Global;
-use td_cdr::Reader;
-use td_value::{
-    Kind, ValueFault, prop_structs_at, see_octets, specified_types_at, text_at, texts_at,
-};
+use td_cdr::{Octets, Reader, Spelled, Text, ValueFault};
+use td_value::{FollowOption, Kind};
 
 /// The call of an object that a request's operation and body spell (CORBA, chapter on General Inter-ORB
 /// Protocol, "Request Body"). Anything may follow the last parameter.
@@ -21,8 +26,9 @@ use td_value::{
 /// # Errors
 ///
 /// `BadOperation` exactly where the object has no such operation, before the body is looked at. Else
-/// the first fault in reading order: `NoImplement` for a TypeCode of a kind that is left out, `Marshal`
-/// with its place for each other one. `Memory` for want of memory. The reader is then unchanged.
+/// the first fault in reading order: `NoImplement` for a TypeCode of a kind that is left out, and for
+/// `set_type_repos` whatever its body; `Marshal` with its place for each other one. `Memory` for want of
+/// memory. The reader is then unchanged.
 pub fn read_call(
     alloc: Global,
     kind: &Kind,
@@ -36,58 +42,47 @@ pub fn read_call(
     };
     see_octets(body.left());
     let mut next = body.copied();
-    let call = parameters_at(alloc, &mut next, operation)?;
+    let call = read_parameters(alloc, &mut next, operation)?;
     *body = next;
     Ok(call)
 }
 
-/// The parameters of an operation. Where they are refused, the reader may have moved.
-fn parameters_at(alloc: Global, r: &mut Reader, operation: Operation) -> Result<Call, ValueFault>
-    ensures { Gives (λ c. c) r.new result ((body_of operation).reading r.old) }
+/// Nothing is done: the contract says what a slice's type says.
+pub(crate) fn see_octets(bytes: &[u8])
+    ensures { AreOctets bytes.now }
 {
-    match operation {
-        Operation::AddType => add_type_at(alloc, r),
-        Operation::RemoveType => {
-            let name = text_at(alloc, r)?;
-            Ok(Call::Change(Change::RemoveType { name }))
-        }
-        Operation::MaskType => {
-            let name = text_at(alloc, r)?;
-            Ok(Call::Change(Change::MaskType { name }))
-        }
-        Operation::UnmaskType => {
-            let name = text_at(alloc, r)?;
-            Ok(Call::Change(Change::UnmaskType { name }))
-        }
-        Operation::ListTypes => {
-            let which = specified_types_at(r)?;
-            Ok(Call::Look(Look::ListTypes { which }))
-        }
-        Operation::DescribeType => {
-            let name = text_at(alloc, r)?;
-            Ok(Call::Look(Look::DescribeType { name }))
-        }
-        Operation::FullyDescribeType => {
-            let name = text_at(alloc, r)?;
-            Ok(Call::Look(Look::FullyDescribeType { name }))
-        }
-        Operation::TypesIncarnation => Ok(Call::Look(Look::TypesIncarnation)),
-        Operation::IsA => Ok(Call::IsA(text_at(alloc, r)?)),
-        Operation::NonExistent => Ok(Call::NonExistent),
-    }
+    let _count = bytes.len();
 }
 
-fn add_type_at(alloc: Global, r: &mut Reader) -> Result<Call, ValueFault>
-    ensures { Gives (λ c. c) r.new result ((body_of AddType).reading r.old) }
+/// The parameters of an operation. Where they are refused, the reader may have moved.
+fn read_parameters(alloc: Global, r: &mut Reader, operation: Operation) -> Result<Call, ValueFault>
+    ensures { Gives is_memory r.new result ((row operation).body.format.reads r.old) }
 {
-    let name = text_at(alloc, r)?;
-    let if_name = text_at(alloc, r)?;
-    let props = prop_structs_at(alloc, r)?;
-    let super_types = texts_at(alloc, r)?;
-    Ok(Call::Change(Change::AddType {
-        name,
-        if_name,
-        props,
-        super_types,
-    }))
+    match operation {
+        Operation::Query => Ok(Call::Query(Query::read(alloc, r)?)),
+        Operation::Register(register) => read_register(alloc, r, register),
+        Operation::Link(link) => read_link(alloc, r, link),
+        Operation::Proxy(proxy) => read_proxy(alloc, r, proxy),
+        Operation::Admin(admin) => read_admin(alloc, r, admin),
+        Operation::Iterator(iterator) => read_iterator(alloc, r, iterator),
+        Operation::Types(types) => read_types(alloc, r, types),
+        Operation::Get(attribute) => Ok(Call::Look(Look::Get(attribute))),
+        Operation::SetTruth(attribute) => Ok(Call::Change(Change::SetTruth {
+            attribute,
+            value: bool::read(alloc, r)?,
+        })),
+        Operation::SetNumber(attribute) => Ok(Call::Change(Change::SetNumber {
+            attribute,
+            value: u32::read(alloc, r)?,
+        })),
+        Operation::SetFollow(attribute) => Ok(Call::Change(Change::SetFollow {
+            attribute,
+            value: FollowOption::read(alloc, r)?,
+        })),
+        Operation::SetRequestIdStem => Ok(Call::Change(Change::SetRequestIdStem {
+            value: Octets::read(alloc, r)?,
+        })),
+        Operation::IsA => Ok(Call::IsA(Text::read(alloc, r)?)),
+        Operation::NonExistent => Ok(Call::NonExistent),
+    }
 }

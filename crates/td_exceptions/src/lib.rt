@@ -1,0 +1,12 @@
+//! The user exceptions of a trader, their repository ids and their members as bytes (OMG's Trading
+//! Object Service, modules CosTrading, CosTradingDynamic and CosTradingRepos).
+#![tactic(auto)]
+
+mod copying;
+mod exception;
+mod ids;
+mod writing;
+
+pub use exception::UserException;
+pub use ids::user_id;
+pub use writing::put_user;

@@ -1,0 +1,56 @@
+//! Calls of Register from bytes.
+
+ghost use Rattle.std.specs.Prelude.{◌≡◌};
+ghost use Rattle.td_cdr.specs.Format.{Gives};
+ghost use Rattle.td_cdr.specs.ValueFaults.{is_memory};
+ghost use Rattle.td_ops.specs.Registers.{register_row};
+
+use crate::call::{Call, Change, Look};
+use crate::operation::RegisterOperation;
+use std::alloc::Global;
+use td_cdr::{List, Reader, Spelled, Text, ValueFault};
+use td_value::{Ior, Property};
+
+/// The parameters of an operation of Register. Where they are refused, the reader may have moved.
+pub(crate) fn read_register(
+    alloc: Global,
+    r: &mut Reader,
+    operation: RegisterOperation,
+) -> Result<Call, ValueFault>
+    ensures { Gives is_memory r.new result ((register_row operation).body.format.reads r.old) }
+{
+    match operation {
+        RegisterOperation::Export => {
+            let (reference, (service_type, properties)) = <(Ior, (Text, List<Property>))>::read(
+                alloc, r,
+            )?;
+            Ok(Call::Change(Change::Export {
+                reference,
+                service_type,
+                properties,
+            }))
+        }
+        RegisterOperation::Withdraw => Ok(Call::Change(Change::Withdraw {
+            id: Text::read(alloc, r)?,
+        })),
+        RegisterOperation::Describe => Ok(Call::Look(Look::Describe {
+            id: Text::read(alloc, r)?,
+        })),
+        RegisterOperation::Modify => {
+            let (id, (deleted, changed)) = <(Text, (List<Text>, List<Property>))>::read(alloc, r)?;
+            Ok(Call::Change(Change::Modify {
+                id,
+                deleted,
+                changed,
+            }))
+        }
+        RegisterOperation::WithdrawUsingConstraint => {
+            let (service_type, constraint) = <(Text, Text)>::read(alloc, r)?;
+            Ok(Call::Change(Change::WithdrawUsingConstraint {
+                service_type,
+                constraint,
+            }))
+        }
+        RegisterOperation::Resolve => Ok(Call::Resolve(List::read(alloc, r)?)),
+    }
+}
