@@ -48,14 +48,14 @@ full_of_other types t name h = rw (youngest types t, h) refl
 
 -- ---- by the supertypes' entries
 
-found_name : (e x : Entry) (b : Bool) (later : Option Entry) (s : List ℕ) → (b ≡ true → x.name ≡ s) → (later ≡ Some e → e.name ≡ s) → cond b (Some x) later ≡ Some e → e.name ≡ s
-found_name e x true later s here there h = let same : x ≡ e = cc in ap (λ (y : Entry). y.name) (sym same) ∙ here refl
+found_name : (e x : Entry) (b : Bool) (later : Option Entry) (s : List ℕ) → (b ≡ true → x.service_type.name ≡ s) → (later ≡ Some e → e.service_type.name ≡ s) → cond b (Some x) later ≡ Some e → e.service_type.name ≡ s
+found_name e x true later s here there h = let same : x ≡ e = cc in ap (λ (y : Entry). y.service_type.name) (sym same) ∙ here refl
 found_name e x false later s here there h = there h
 
 -- the entry of a name has that name
-pub name_of_found : (es : List Entry) (s : List ℕ) (e : Entry) → entry_named es s ≡ Some e → e.name ≡ s
+pub name_of_found : (es : List Entry) (s : List ℕ) (e : Entry) → entry_named es s ≡ Some e → e.service_type.name ≡ s
 name_of_found [] s e h = absurd (let bad : ⊥ = cc in bad)
-name_of_found (x ∷ es) s e h = found_name e x (bytes_eq x.name s) (entry_named es s) s (bytes_same x.name s) (name_of_found es s e) h
+name_of_found (x ∷ es) s e h = found_name e x (bytes_eq x.service_type.name s) (entry_named es s) s (bytes_same x.service_type.name s) (name_of_found es s e) h
 
 first_of : (P : Entry → Type 0) (x e : Entry) (b : Bool) (later : Option Entry) → P x → (later ≡ Some e → P e) → cond b (Some x) later ≡ Some e → P e
 first_of P x e true later here there h = let same : x ≡ e = cc in subst P same here
@@ -63,9 +63,9 @@ first_of P x e false later here there h = there h
 
 pub kept_found : (P : Entry → Type 0) (es : List Entry) (s : List ℕ) (e : Entry) → AllByRecursion P es → entry_named es s ≡ Some e → P e
 kept_found P [] s e all h = absurd (let bad : ⊥ = cc in bad)
-kept_found P (x ∷ es) s e all h = first_of P x e (bytes_eq x.name s) (entry_named es s) all.0 (kept_found P es s e all.1) h
+kept_found P (x ∷ es) s e all h = first_of P x e (bytes_eq x.service_type.name s) (entry_named es s) all.0 (kept_found P es s e all.1) h
 
-full_found : (types : List ServiceType) (s : List ℕ) (e : Entry) → IsKept types e → e.name ≡ s → full (reverse types) s ≡ e.full
+full_found : (types : List ServiceType) (s : List ℕ) (e : Entry) → IsKept types e → e.service_type.name ≡ s → full (reverse types) s ≡ e.full
 unfolding full_properties
 full_found types s e k same = rw (← same) (sym k.full)
 
@@ -77,7 +77,7 @@ inherited_are es all (s ∷ ss) [] k h = absurd h
 inherited_are es all (s ∷ ss) (b ∷ bs) k h =
     rw (full_found (map kept all) s b (kept_found (IsKept (map kept all)) es s b k h.0) (name_of_found es s b h.0), inherited_are es all ss bs k h.1) refl
 
-definitions_found : (types : List ServiceType) (s : List ℕ) (e : Entry) → IsKept types e → e.name ≡ s → definitions s false (full_properties types s) ≡ definitions e.name false e.full
+definitions_found : (types : List ServiceType) (s : List ℕ) (e : Entry) → IsKept types e → e.service_type.name ≡ s → definitions s false (full_properties types s) ≡ definitions e.service_type.name false e.full
 definitions_found types s e k same = rw (← same, ← k.full) refl
 
 -- their definitions
@@ -141,7 +141,7 @@ pub absorbs : (met before xs : List (List ℕ)) → once met (once before xs) �
 absorbs met before [] = refl
 absorbs met before (x ∷ xs) = absorbs met (add_once before x) xs ∙ ap (λ (ns : List (List ℕ)). once ns xs) (one_when (is_among x before) met before x (λ h. h))
 
-walk_found : (types : List ServiceType) (s : List ℕ) (e : Entry) → IsKept types e → e.name ≡ s → once [] (walk (reverse types) s) ≡ e.ancestors
+walk_found : (types : List ServiceType) (s : List ℕ) (e : Entry) → IsKept types e → e.service_type.name ≡ s → once [] (walk (reverse types) s) ≡ e.ancestors
 unfolding ancestors
 walk_found types s e k same = rw (← same) (sym k.ancestors)
 
@@ -156,7 +156,7 @@ above_are es all [] [] met k h = refl
 above_are es all [] (b ∷ bs) met k h = absurd h
 above_are es all (s ∷ ss) [] met k h = absurd h
 above_are es all (s ∷ ss) (b ∷ bs) met k h =
-    above_step met (flat_map (λ s. s ∷ walk (reverse (map kept all)) s) ss) (names_above bs) (walk (reverse (map kept all)) s) b.ancestors s b.name (name_of_found es s b h.0)
+    above_step met (flat_map (λ s. s ∷ walk (reverse (map kept all)) s) ss) (names_above bs) (walk (reverse (map kept all)) s) b.ancestors s b.service_type.name (name_of_found es s b h.0)
     (walk_found (map kept all) s b (kept_found (IsKept (map kept all)) es s b k h.0) (name_of_found es s b h.0)) (λ m. above_are es all ss bs m k h.1)
 
 -- ---- what the others keep
@@ -165,15 +165,15 @@ none_left : (a b : Bool) → (a || b) ≡ false → (a ≡ false) × (b ≡ fals
 none_left true b h = absurd (let bad : ⊥ = cc in bad)
 none_left false b h = (refl, h)
 
-stays_kept : (types : List ServiceType) (t : ServiceType) (e : Entry) → bytes_eq e.name t.name ≡ false → IsKept types e → IsKept (types ++ t ∷ []) e
+stays_kept : (types : List ServiceType) (t : ServiceType) (e : Entry) → bytes_eq e.service_type.name t.name ≡ false → IsKept types e → IsKept (types ++ t ∷ []) e
 stays_kept types t e h k =
-    let other : bytes_eq t.name e.name ≡ false = bytes_eq-sym t.name e.name ∙ h in
-    record { ancestors = k.ancestors ∙ sym (ancestors_of_other types t e.name other); full = k.full ∙ sym (full_of_other types t e.name other) }
+    let other : bytes_eq t.name e.service_type.name ≡ false = bytes_eq-sym t.name e.service_type.name ∙ h in
+    record { ancestors = k.ancestors ∙ sym (ancestors_of_other types t e.service_type.name other); full = k.full ∙ sym (full_of_other types t e.service_type.name other) }
 
 pub stay_kept : (types : List ServiceType) (t : ServiceType) (es : List Entry) → has_type (map kept es) t.name ≡ false → AllByRecursion (IsKept types) es → AllByRecursion (IsKept (types ++ t ∷ [])) es
 stay_kept types t [] h k = tt
 stay_kept types t (e ∷ es) h k =
-    let none = none_left (bytes_eq e.name t.name) (has_type (map kept es) t.name) h in
+    let none = none_left (bytes_eq e.service_type.name t.name) (has_type (map kept es) t.name) h in
     (stays_kept types t e none.0 k.0, stay_kept types t es none.1 k.1)
 
 pub All-snoc : (P : Entry → Type 0) (es : List Entry) (e : Entry) → AllByRecursion P es → P e → AllByRecursion P (es ++ e ∷ [])
@@ -204,12 +204,12 @@ supers_known es (s ∷ ss) (b ∷ bs) h = All-cons (λ (s : List ℕ). IsTrue (h
 with_new : (es : List Entry) (e : Entry) → reverse (map kept (es ++ e ∷ [])) ≡ kept e ∷ reverse (map kept es)
 with_new es e = ap reverse (map-append kept es (e ∷ [])) ∙ youngest (map kept es) (kept e)
 
-pub still_valid : (es : List Entry) (interfaces : Declared) (last : ℕ) (e : Entry) (bs : List Entry) → IsRepository (repository es interfaces last) → has_type (map kept es) e.name ≡ false → AreBases es e.supers bs → e.incarnation ≡ last + 1 →
-    IsRepository (repository (es ++ e ∷ []) interfaces e.incarnation)
+pub still_valid : (es : List Entry) (interfaces : Declared) (last : ℕ) (e : Entry) (bs : List Entry) → IsRepository (repository es interfaces last) → has_type (map kept es) e.service_type.name ≡ false → AreBases es e.service_type.supers bs → e.service_type.incarnation ≡ last + 1 →
+    IsRepository (repository (es ++ e ∷ []) interfaces e.service_type.incarnation)
 still_valid es interfaces last e bs v fresh h inc =
     let counted : top (reverse (map kept es)) ≤ last = v.counted in
     let founded : Founded (kept e ∷ reverse (map kept es)) =
-    Founded.more (kept e) (reverse (map kept es)) (any_last (is_named e.name) (map kept es) ∙ fresh) (supers_known es e.supers bs h) (rw inc (omega (arith, counted))) v.founded in
+    Founded.more (kept e) (reverse (map kept es)) (any_last (is_named e.service_type.name) (map kept es) ∙ fresh) (supers_known es e.service_type.supers bs h) (rw inc (omega (arith, counted))) v.founded in
     record { founded = rw (with_new es e) founded; counted = rw (with_new es e) (omega arith) }
 
 -- ---- why it isn't added

@@ -13,7 +13,7 @@ use Rattle.td_types.proofs.Others.{any-reverse}
 use Rattle.td_types.proofs.Subtypes.{ancestor-walked}
 use Rattle.td_types.specs.Conforming.{IsSuper, Leads, Conforms, walk, ancestors, conforms}
 use Rattle.td_types.specs.Judged.{AreKept}
-use Rattle.td_types.specs.Kept.{kept, IsKept}
+use Rattle.td_types.specs.Kept.{kept, IsKept, is_below}
 use Rattle.td_types.specs.Repository.{ServiceType, Founded, has_type, is_named, type_named, is_among}
 use Rattle.td_types.specs.Sought.{entry_named}
 use Rattle.td_types.specs.declared.entry.Entry.{Entry}
@@ -134,7 +134,7 @@ of_chain types a b f k = leads_conform types a k.names b f k.leads
 
 -- ---- by the entries
 
-ancestors_found : (types : List ServiceType) (a : List ℕ) (e : Entry) → IsKept types e → e.name ≡ a → ancestors types a ≡ e.ancestors
+ancestors_found : (types : List ServiceType) (a : List ℕ) (e : Entry) → IsKept types e → e.service_type.name ≡ a → ancestors types a ≡ e.ancestors
 ancestors_found types a e k same = rw (← same) (sym k.ancestors)
 
 pub by_entry : (es : List Entry) (a b : List ℕ) (e : Entry) → AreKept es → entry_named es a ≡ Some e → (bytes_eq a b || is_among b e.ancestors) ≡ conforms (map kept es) a b
@@ -147,17 +147,12 @@ no_entry es a b h =
     let there : has_type (map kept es) a ≡ false = is_found es a ∙ ap (λ (o : Option Entry). is_some o) h in
     rw there refl
 
-pub same_entry : (es : List Entry) (a b : List ℕ) (e : Entry) (r : Bool) → AreKept es → entry_named es a ≡ Some e → r ≡ true → bytes_eq a b ≡ true → r ≡ conforms (map kept es) a b
-same_entry es a b e r k h is same = is ∙ (sym (or_left (bytes_eq a b) (is_among b e.ancestors) same) ∙ by_entry es a b e k h)
-
-pub other_entry : (es : List Entry) (a b : List ℕ) (e : Entry) (r : Bool) → AreKept es → entry_named es a ≡ Some e → r ≡ is_among b e.ancestors → bytes_eq a b ≡ false → r ≡ conforms (map kept es) a b
-other_entry es a b e r k h is other =
-    let either : (bytes_eq a b || is_among b e.ancestors) ≡ is_among b e.ancestors = rw other refl in
-    is ∙ (sym either ∙ by_entry es a b e k h)
+pub below_conforms : (es : List Entry) (a b : List ℕ) (e : Entry) → AreKept es → entry_named es a ≡ Some e → is_below b e ≡ conforms (map kept es) a b
+below_conforms es a b e k h = ap (λ (n : List ℕ). bytes_eq n b || is_among b e.ancestors) (name_of_found es a e h) ∙ by_entry es a b e k h
 
 -- the test is the chain
-pub chain_iff : (es given : List Entry) (a sub b base : List ℕ) (r : Bool) → Founded (reverse (map kept es)) → given ≡ es → sub ≡ a → base ≡ b → r ≡ conforms (map kept given) sub base →
+pub chain_iff : (es : List Entry) (a sub b base : List ℕ) (r : Bool) → Founded (reverse (map kept es)) → sub ≡ a → base ≡ b → r ≡ conforms (map kept es) sub base →
     (r ≡ true → Conforms (map kept es) a b) × (Conforms (map kept es) a b → r ≡ true)
-chain_iff es given a sub b base r f p q s is =
-    let told : r ≡ conforms (map kept es) a b = rw (p, q, s) at is in
+chain_iff es a sub b base r f q s is =
+    let told : r ≡ conforms (map kept es) a b = rw (q, s) at is in
     (λ h. chain_of (map kept es) a b f (sym told ∙ h), λ k. told ∙ of_chain (map kept es) a b f k)

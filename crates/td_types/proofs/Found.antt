@@ -2,13 +2,12 @@
 use Rattle.std.proofs.Common.{◌≡◌, ℕ, Bool, true, false, List, [], ◌∷◌, refl, sym, ap, ◌∙◌, Ok, Err, Option, None, Some, map, cond, subst}
 use Rattle.std.specs.List.{AllByRecursion}
 use Rattle.std.specs.Option.{option_map}
-use Rattle.std.specs.Str.{bytes_eq}
 use Rattle.td_cdr.specs.Names.{word_name}
 use Rattle.td_value.specs.declared.structures.TypeStruct.{TypeStruct}
 use Rattle.td_types.specs.Calls.{Comes, refuse, known, act_on, Answers, describe_type, fully_describe_type}
 use Rattle.td_types.specs.Descriptions.{description, full_description}
 use Rattle.td_types.specs.Kept.{kept, repository, IsKept, AreEntries, kept_description}
-use Rattle.td_types.specs.Repository.{Repository, Declared, ServiceType, type_named}
+use Rattle.td_types.specs.Repository.{Repository, Declared, ServiceType, is_named, type_named}
 use Rattle.td_types.specs.Sought.{entry_named, entry_or_unknown, sought, IsRefused}
 use Rattle.td_types.specs.declared.entry.Entry.{Entry}
 use Rattle.td_types.specs.declared.fault.RepoFault.{RepoFault}
@@ -24,7 +23,7 @@ first_type e false type entry h = h
 -- the type of a name is that of the entry of the name
 pub type_of_entry : (es : List Entry) (name : List ℕ) → type_named (map kept es) name ≡ option_map kept (entry_named es name)
 type_of_entry [] name = refl
-type_of_entry (e ∷ es) name = first_type e (bytes_eq e.name name) _ _ (type_of_entry es name)
+type_of_entry (e ∷ es) name = first_type e (is_named name (kept e)) _ _ (type_of_entry es name)
 
 first_found : (P : Entry → Type 0) (x e : Entry) (b : Bool) (later : Option Entry) → P x → (later ≡ Some e → P e) → cond b (Some x) later ≡ Some e → P e
 first_found P x e true later here there h = let same : x ≡ e = cc in subst P same here
@@ -33,7 +32,7 @@ first_found P x e false later here there h = there h
 -- what holds of each entry holds of the one that is found
 pub of_found : (P : Entry → Type 0) (es : List Entry) (name : List ℕ) (e : Entry) → AllByRecursion P es → entry_named es name ≡ Some e → P e
 of_found P [] name e all h = absurd (let bad : ⊥ = cc in bad)
-of_found P (x ∷ es) name e all h = first_found P x e (bytes_eq x.name name) (entry_named es name) all.0 (of_found P es name e all.1) h
+of_found P (x ∷ es) name e all h = first_found P x e (is_named name (kept x)) (entry_named es name) all.0 (of_found P es name e all.1) h
 
 -- ---- what is done with the type of a name
 
@@ -78,26 +77,25 @@ pub described_as_kept : (es : List Entry) (interfaces : Declared) (last : ℕ) (
 described_as_kept es interfaces last name e valid h =
     full_as_kept (map kept es) e (of_found (IsKept (map kept es)) es name e valid.kept (found_named es name e h))
 
-pub described : (es given : List Entry) (interfaces : Declared) (last : ℕ) (name : List ℕ) (e : Entry) (d : TypeStruct) → given ≡ es → sought given name ≡ Ok e → d ≡ description (kept e) →
+pub described : (es : List Entry) (interfaces : Declared) (last : ℕ) (name : List ℕ) (e : Entry) (d : TypeStruct) → sought es name ≡ Ok e → d ≡ description (kept e) →
     describe_type (repository es interfaces last) name ≡ Ok (reply.Described d, repository es interfaces last)
 unfolding describe_type
-described es given interfaces last name e d same h is =
-    known_found es interfaces last name e (λ t. Ok (reply.Described (description t), repository es interfaces last)) (rw same at h)
+described es interfaces last name e d h is =
+    known_found es interfaces last name e (λ t. Ok (reply.Described (description t), repository es interfaces last)) h
     ∙ ap (λ (x : TypeStruct). Ok (reply.Described x, repository es interfaces last)) (sym is)
 
-pub fully_described : (es given : List Entry) (interfaces : Declared) (last : ℕ) (name : List ℕ) (e : Entry) (d : TypeStruct) → given ≡ es → AreEntries es interfaces last → sought given name ≡ Ok e → d ≡ kept_description e →
+pub fully_described : (es : List Entry) (interfaces : Declared) (last : ℕ) (name : List ℕ) (e : Entry) (d : TypeStruct) → AreEntries es interfaces last → sought es name ≡ Ok e → d ≡ kept_description e →
     fully_describe_type (repository es interfaces last) name ≡ Ok (reply.Described d, repository es interfaces last)
 unfolding fully_describe_type
-fully_described es given interfaces last name e d same valid h is =
-    known_found es interfaces last name e (λ t. Ok (reply.Described (full_description (map kept es) t), repository es interfaces last)) (rw same at h)
-    ∙ ap (λ (x : TypeStruct). Ok (reply.Described x, repository es interfaces last)) (described_as_kept es interfaces last name e valid (rw same at h) ∙ sym is)
+fully_described es interfaces last name e d valid h is =
+    known_found es interfaces last name e (λ t. Ok (reply.Described (full_description (map kept es) t), repository es interfaces last)) h
+    ∙ ap (λ (x : TypeStruct). Ok (reply.Described x, repository es interfaces last)) (described_as_kept es interfaces last name e valid h ∙ sym is)
 
-pub describe_refused : (es given : List Entry) (interfaces : Declared) (last : ℕ) (name : List ℕ) (t : TypesFault) → given ≡ es → IsRefused (sought given name) t →
-    Answers (describe_type (repository es interfaces last) name) (repository es interfaces last) (repository es interfaces last) (Err t)
-unfolding describe_type
-describe_refused es given interfaces last name t same h = refused es interfaces last name (λ t. Ok (reply.Described (description t), repository es interfaces last)) (repository es interfaces last) t (rw same at h)
+module _ (es : List Entry) (interfaces : Declared) (last : ℕ) (name : List ℕ) (t : TypesFault) (h : IsRefused (sought es name) t) where
+  pub describe_refused : Answers (describe_type (repository es interfaces last) name) (repository es interfaces last) (repository es interfaces last) (Err t)
+  unfolding describe_type
+  describe_refused = refused es interfaces last name (λ t. Ok (reply.Described (description t), repository es interfaces last)) (repository es interfaces last) t h
 
-pub fully_describe_refused : (es given : List Entry) (interfaces : Declared) (last : ℕ) (name : List ℕ) (t : TypesFault) → given ≡ es → IsRefused (sought given name) t →
-    Answers (fully_describe_type (repository es interfaces last) name) (repository es interfaces last) (repository es interfaces last) (Err t)
-unfolding fully_describe_type
-fully_describe_refused es given interfaces last name t same h = refused es interfaces last name (λ t. Ok (reply.Described (full_description (map kept es) t), repository es interfaces last)) (repository es interfaces last) t (rw same at h)
+  pub fully_describe_refused : Answers (fully_describe_type (repository es interfaces last) name) (repository es interfaces last) (repository es interfaces last) (Err t)
+  unfolding fully_describe_type
+  fully_describe_refused = refused es interfaces last name (λ t. Ok (reply.Described (full_description (map kept es) t), repository es interfaces last)) (repository es interfaces last) t h

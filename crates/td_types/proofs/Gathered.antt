@@ -157,11 +157,11 @@ names_on met names i name new total lt is e h =
     let one : once met (drop i names) ≡ once (add_once met name) (drop (i + 1) names) = rw (rest names i name lt is) refl in
     rw e (sym one ∙ h)
 
-pub bases_on : (bases : List (Bor Entry)) (i : ℕ) (b : Bor Entry) (met new last total : List (List ℕ)) → i < length bases → b ≡ get_or bases i b → new ≡ add_once met b.now.name → last ≡ once new b.now.ancestors →
+pub bases_on : (bases : List (Bor Entry)) (i : ℕ) (b : Bor Entry) (met new last total : List (List ℕ)) → i < length bases → b ≡ get_or bases i b → new ≡ add_once met b.now.service_type.name → last ≡ once new b.now.ancestors →
     once met (names_above (entries_of (drop i bases))) ≡ total → once last (names_above (entries_of (drop (i + 1) bases))) ≡ total
 bases_on bases i b met new last total lt is e k h =
-    let one : once met (names_above (entries_of (drop i bases))) ≡ once (once (add_once met b.now.name) b.now.ancestors) (names_above (entries_of (drop (i + 1) bases))) =
-    rw (rest bases i b lt is) (once-append (add_once met b.now.name) b.now.ancestors (names_above (entries_of (drop (i + 1) bases)))) in
+    let one : once met (names_above (entries_of (drop i bases))) ≡ once (once (add_once met b.now.service_type.name) b.now.ancestors) (names_above (entries_of (drop (i + 1) bases))) =
+    rw (rest bases i b lt is) (once-append (add_once met b.now.service_type.name) b.now.ancestors (names_above (entries_of (drop (i + 1) bases)))) in
     rw (k, e) (sym one ∙ h)
 
 -- ---- supertype by supertype

@@ -1,9 +1,12 @@
 pub mod Adds
+pub mod Below
+pub mod ByName
 pub mod Chained
 mod Chains
 pub mod Equal
 pub mod Found
 pub mod Gathered
+pub mod Judging
 pub mod Masks
 pub mod Named
 pub mod Names
@@ -12,7 +15,6 @@ pub mod Outcomes
 mod Placing
 pub mod Prepares
 pub mod Redefined
-pub mod Refusing
 pub mod Removed
 pub mod Rest
 pub mod Rising

@@ -1,20 +1,22 @@
 -- The repository with a type masked or not: everything but the mask stays.
-use Rattle.std.proofs.Common.{◌≡◌, ℕ, ◌+◌, ◌≤◌, ◌<◌, Bool, true, false, ◌||◌, cond, List, [], ◌∷◌, ◌++◌, length, get_or, set, take, drop, reverse, map, refl, sym, ap, subst, ◌∙◌, arith, Ok}
+use Rattle.std.proofs.Common.{◌≡◌, ℕ, ◌+◌, ◌≤◌, ◌<◌, Bool, true, false, ◌||◌, cond, inl, inr, List, [], ◌∷◌, ◌++◌, length, get_or, reverse, map, refl, sym, ap, subst, ◌∙◌, arith, Ok, Option, Some}
 use Rattle.std.specs.List.{flat_map, AllByRecursion}
 use Rattle.std.specs.Str.{bytes_eq}
-use Rattle.std.proofs.lemmas.List.{reverse-append, map-append, append-nil, append_assoc, drop_more, take_all, drop_all, set_at, get_or_at, map_more, length-map, length-take-le}
+use Rattle.std.proofs.lemmas.Bool.{cases_Bool}
+use Rattle.std.proofs.lemmas.List.{reverse-append, map-append}
 use Rattle.td_types.specs.declared.entry.Entry.{Entry}
 use Rattle.td_types.specs.declared.fault.RepoFault.TheVariants as fault
 use Rattle.td_types.specs.declared.reply.TypesReply.TheVariants as reply
 use Rattle.td_types.specs.Calls.{Comes, refuse, set_mask, mask_type, unmask_type}
 use Rattle.td_types.specs.Conforming.{once, walk, ancestors, conforms}
 use Rattle.td_types.specs.Kept.{kept, repository, IsKept, AreEntries}
+use Rattle.td_types.specs.Laws.{unmasked}
 use Rattle.td_types.specs.Properties.{full, full_properties}
 use Rattle.td_types.specs.Removing.{masked_entry, with_mask}
-use Rattle.td_types.specs.Repository.{Repository, ServiceType, Declared, is_named, has_type, top, Founded, IsRepository}
+use Rattle.td_types.specs.Repository.{Repository, ServiceType, Declared, is_named, has_type, type_named, mask_of, top, Founded, IsRepository}
 use Rattle.td_types.specs.Sought.{sought}
 use Rattle.td_types.proofs.Found.{known_found}
-use Rattle.td_types.proofs.Others.{Descends, full-step, full-descends, walk-step, walk-descends}
+use Rattle.td_types.proofs.Others.{named-otherwise, Descends, full-step, full-descends, walk-step, walk-descends}
 
 -- ---- types that differ in the mask alone
 
@@ -85,13 +87,39 @@ module _ (types : List ServiceType) (name : List ℕ) (masked : Bool) where
   pub conforms-masked : (a b : List ℕ) → conforms (map (masked_type name masked) types) a b ≡ conforms types a b
   conforms-masked a b = rw (has-alike (masked_type name masked) (alike-masked name masked) types a, ancestors-masked a) refl
 
-  still-kept_when : (e : Entry) (b : Bool) → IsKept types e → IsKept (map (masked_type name masked) types) (cond b (record e { masked = masked }) e)
-  still-kept_when e true k = record { ancestors = k.ancestors ∙ sym (ancestors-masked e.name); full = k.full ∙ sym (full-masked e.name) }
-  still-kept_when e false k = record { ancestors = k.ancestors ∙ sym (ancestors-masked e.name); full = k.full ∙ sym (full-masked e.name) }
+  still-kept_when : (e : Entry) (b : Bool) → IsKept types e → IsKept (map (masked_type name masked) types) (cond b (record e { service_type = record e.service_type { masked = masked } }) e)
+  still-kept_when e true k = record { ancestors = k.ancestors ∙ sym (ancestors-masked e.service_type.name); full = k.full ∙ sym (full-masked e.service_type.name) }
+  still-kept_when e false k = record { ancestors = k.ancestors ∙ sym (ancestors-masked e.service_type.name); full = k.full ∙ sym (full-masked e.service_type.name) }
 
   still-kept : (es : List Entry) → AllByRecursion (IsKept types) es → AllByRecursion (IsKept (map (masked_type name masked) types)) (with_mask es name masked)
   still-kept [] k = tt
-  still-kept (e ∷ es) k = (still-kept_when e (bytes_eq e.name name) k.0, still-kept es k.1)
+  still-kept (e ∷ es) k = (still-kept_when e (bytes_eq e.service_type.name name) k.0, still-kept es k.1)
+
+pub named-masked : (name : List ℕ) (masked : Bool) (ts : List ServiceType) (other : List ℕ) → (other ≡ name → ⊥) → type_named (map (masked_type name masked) ts) other ≡ type_named ts other
+named-masked name masked [] other differs = refl
+named-masked name masked (t ∷ ts) other differs =
+    elim (cases_Bool (is_named name t)) [
+      | inl here ↦ rw (here, named-otherwise t name other differs here) (named-masked name masked ts other differs)
+      | inr unlike ↦ rw unlike (ap (λ (o : Option ServiceType). cond (is_named other t) (Some t) o) (named-masked name masked ts other differs))
+    ]
+
+pub mask-set : (name : List ℕ) (masked : Bool) (ts : List ServiceType) (t : ServiceType) → type_named ts name ≡ Some t → mask_of (map (masked_type name masked) ts) name ≡ Some masked
+mask-set name masked [] t h = absurd (let bad : ⊥ = cc in bad)
+mask-set name masked (x ∷ ts) t h =
+    elim (cases_Bool (is_named name x)) [
+      | inl here ↦ rw (here, here) refl
+      | inr unlike ↦ rw (unlike, unlike) (mask-set name masked ts t (rw unlike at h))
+    ]
+
+unmasked-when : (b masked : Bool) (t : ServiceType) → unmasked (cond b (record t { masked = masked }) t) ≡ unmasked t
+unmasked-when true masked t = refl
+unmasked-when false masked t = refl
+
+pub all-unmasked : (name : List ℕ) (masked : Bool) (ts : List ServiceType) → map unmasked (map (masked_type name masked) ts) ≡ map unmasked ts
+all-unmasked name masked [] = refl
+all-unmasked name masked (t ∷ ts) =
+    ap (λ (x : ServiceType). x ∷ map unmasked (map (masked_type name masked) ts)) (unmasked-when (is_named name t) masked t)
+    ∙ ap (λ (xs : List ServiceType). unmasked t ∷ xs) (all-unmasked name masked ts)
 
 pub valid-masked : (r : Repository) (name : List ℕ) (masked : Bool) → IsRepository r → IsRepository (set_mask r name masked)
 valid-masked r name masked valid =
@@ -104,17 +132,17 @@ valid-masked r name masked valid =
 
 -- ---- their entries
 
-kept_when : (e : Entry) (b masked : Bool) → kept (cond b (record e { masked = masked }) e) ≡ cond b (record (kept e) { masked = masked }) (kept e)
+kept_when : (e : Entry) (b masked : Bool) → kept (cond b (record e { service_type = record e.service_type { masked = masked } }) e) ≡ cond b (record (kept e) { masked = masked }) (kept e)
 kept_when e true masked = refl
 kept_when e false masked = refl
 
 pub kept-masked : (es : List Entry) (name : List ℕ) (masked : Bool) → map kept (with_mask es name masked) ≡ map (masked_type name masked) (map kept es)
 kept-masked [] name masked = refl
 kept-masked (e ∷ es) name masked =
-    ap (λ (t : ServiceType). t ∷ map kept (with_mask es name masked)) (kept_when e (bytes_eq e.name name) masked)
+    ap (λ (t : ServiceType). t ∷ map kept (with_mask es name masked)) (kept_when e (bytes_eq e.service_type.name name) masked)
     ∙ ap (λ (ts : List ServiceType). masked_type name masked (kept e) ∷ ts) (kept-masked es name masked)
 
-repository-masked : (es : List Entry) (interfaces : Declared) (last : ℕ) (name : List ℕ) (masked : Bool) → repository (with_mask es name masked) interfaces last ≡ set_mask (repository es interfaces last) name masked
+pub repository-masked : (es : List Entry) (interfaces : Declared) (last : ℕ) (name : List ℕ) (masked : Bool) → repository (with_mask es name masked) interfaces last ≡ set_mask (repository es interfaces last) name masked
 repository-masked es interfaces last name masked = ap (λ (ts : List ServiceType). record { types = ts; interfaces = interfaces; last = last }) (kept-masked es name masked)
 
 pub entries-masked : (es : List Entry) (interfaces : Declared) (last : ℕ) (name : List ℕ) (masked : Bool) → AreEntries es interfaces last → AreEntries (with_mask es name masked) interfaces last
@@ -122,63 +150,3 @@ entries-masked es interfaces last name masked are = record {
   valid = subst IsRepository (sym (repository-masked es interfaces last name masked)) (valid-masked (repository es interfaces last) name masked are.valid);
   kept = subst (λ (ts : List ServiceType). AllByRecursion (IsKept ts) (with_mask es name masked)) (sym (kept-masked es name masked)) (still-kept (map kept es) name masked es are.kept);
 }
-
--- ---- what the calls come to
-
-mask_when : (r : Repository) (name : List ℕ) (b test : Bool) (x y : Comes) → b ≡ test → cond b x y ≡ cond test x y
-mask_when r name b test x y h = rw h refl
-
-module _ (es : List Entry) (interfaces : Declared) (last : ℕ) (name : List ℕ) (e : Entry) (found : sought es name ≡ Ok e) where
-  pub masked : e.masked ≡ false → mask_type (repository es interfaces last) name ≡ Ok (reply.Masked, repository (with_mask es name true) interfaces last)
-  unfolding mask_type
-  masked h =
-      let r = repository es interfaces last in
-      known_found es interfaces last name e (λ t. cond t.masked (refuse (fault.AlreadyMasked name)) (Ok (reply.Masked, set_mask r name true))) found
-      ∙ ap (λ (b : Bool). cond b (refuse (fault.AlreadyMasked name)) (Ok (reply.Masked, set_mask r name true))) h
-      ∙ ap (λ (after : Repository). Ok (reply.Masked, after)) (sym (repository-masked es interfaces last name true))
-
-  pub already_masked : e.masked ≡ true → mask_type (repository es interfaces last) name ≡ refuse (fault.AlreadyMasked name)
-  unfolding mask_type
-  already_masked h =
-      let r = repository es interfaces last in
-      known_found es interfaces last name e (λ t. cond t.masked (refuse (fault.AlreadyMasked name)) (Ok (reply.Masked, set_mask r name true))) found
-      ∙ ap (λ (b : Bool). cond b (refuse (fault.AlreadyMasked name)) (Ok (reply.Masked, set_mask r name true))) h
-
-  pub unmasked : e.masked ≡ true → unmask_type (repository es interfaces last) name ≡ Ok (reply.Unmasked, repository (with_mask es name false) interfaces last)
-  unfolding unmask_type
-  unmasked h =
-      let r = repository es interfaces last in
-      known_found es interfaces last name e (λ t. cond t.masked (Ok (reply.Unmasked, set_mask r name false)) (refuse (fault.NotMasked name))) found
-      ∙ ap (λ (b : Bool). cond b (Ok (reply.Unmasked, set_mask r name false)) (refuse (fault.NotMasked name))) h
-      ∙ ap (λ (after : Repository). Ok (reply.Unmasked, after)) (sym (repository-masked es interfaces last name false))
-
-  pub not_masked : e.masked ≡ false → unmask_type (repository es interfaces last) name ≡ refuse (fault.NotMasked name)
-  unfolding unmask_type
-  not_masked h =
-      let r = repository es interfaces last in
-      known_found es interfaces last name e (λ t. cond t.masked (Ok (reply.Unmasked, set_mask r name false)) (refuse (fault.NotMasked name))) found
-      ∙ ap (λ (b : Bool). cond b (Ok (reply.Unmasked, set_mask r name false)) (refuse (fault.NotMasked name))) h
-
--- ---- a loop over the entries that sets the mask
-
-pub changed_more : (f : Entry → Entry) (old items : List Entry) (i : ℕ) (d new : Entry) → i < length old → items ≡ map f (take i old) ++ drop i old → new ≡ f (get_or items i d) → set items i new ≡ map f (take (i + 1) old) ++ drop (i + 1) old
-changed_more f old items i d new h inv n =
-    let front = map f (take i old) in
-    let y = get_or old i d in
-    let back = drop (i + 1) old in
-    let split : items ≡ front ++ y ∷ back = inv ∙ ap (λ (es : List Entry). front ++ es) (drop_more old i d h) in
-    let count : length front ≡ i = length-map (take i old) f ∙ length-take-le i old (omega (arith, h)) in
-    let read : get_or items i d ≡ y = ap (λ (es : List Entry). get_or es i d) split ∙ get_or_at front y back d i count in
-    ap (λ (es : List Entry). set es i new) split ∙ (set_at front y back new i count
-    ∙ (ap (λ (e : Entry). front ++ e ∷ back) (n ∙ ap f read)
-    ∙ (sym (append_assoc front (f y ∷ []) back)
-    ∙ ap (λ (es : List Entry). es ++ back) (sym (map_more f old i d h)))))
-
-pub changed_all : (f : Entry → Entry) (old items : List Entry) (i : ℕ) → length old ≤ i → items ≡ map f (take i old) ++ drop i old → items ≡ map f old
-changed_all f old items i h inv = inv ∙ rw (take_all i old h, drop_all i old h) (append-nil (map f old))
-
-pub masked-here : (name : List ℕ) (masked : Bool) (e : Entry) (known : List ℕ) (answer : Bool) → known ≡ e.name → answer ≡ bytes_eq known name → answer ≡ true → record e { masked = masked } ≡ masked_entry name masked e
-masked-here name masked e known answer k a t = let b : bytes_eq e.name name ≡ true = rw (← k, ← a) t in rw b refl
-
-pub masked-not : (name : List ℕ) (masked : Bool) (e : Entry) (known : List ℕ) (answer : Bool) → known ≡ e.name → answer ≡ bytes_eq known name → answer ≡ false → e ≡ masked_entry name masked e
-masked-not name masked e known answer k a t = let b : bytes_eq e.name name ≡ false = rw (← k, ← a) t in rw b refl

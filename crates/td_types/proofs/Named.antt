@@ -13,7 +13,7 @@ found_or e false found any h = h
 
 pub is_found : (es : List Entry) (name : List ℕ) → has_type (map kept es) name ≡ is_some (entry_named es name)
 is_found [] name = refl
-is_found (e ∷ es) name = found_or e (bytes_eq e.name name) (entry_named es name) _ (is_found es name)
+is_found (e ∷ es) name = found_or e (bytes_eq e.service_type.name name) (entry_named es name) _ (is_found es name)
 
 pub no_type : (es : List Entry) (name : List ℕ) → is_some (entry_named es name) ≡ false → has_type (map kept es) name ≡ false
 no_type es name h = is_found es name ∙ h

@@ -9,7 +9,7 @@ use Rattle.std.proofs.lemmas.List.Folds.{list_any-append}
 use Rattle.td_value.specs.declared.structures.PropStruct.{PropStruct}
 use Rattle.td_types.specs.Conforming.{walk}
 use Rattle.td_types.specs.Properties.{full, with_inherited}
-use Rattle.td_types.specs.Repository.{ServiceType, is_named, has_type, is_among, top, Founded}
+use Rattle.td_types.specs.Repository.{ServiceType, is_named, type_named, has_type, is_among, top, Founded}
 use Rattle.td_types.proofs.Chains.{same-bytes, bytes-same}
 
 -- ---- lists from their other end
@@ -92,6 +92,14 @@ has-others gone name (t ∷ ts) differs =
     elim (cases_Bool (is_named gone t)) [
       | inl here ↦ rw (here, named-otherwise t gone name differs here) (has-others gone name ts differs)
       | inr other ↦ rw other (ap (λ (b : Bool). is_named name t || b) (has-others gone name ts differs))
+    ]
+
+pub named-others : (gone name : List ℕ) (ts : List ServiceType) → (name ≡ gone → ⊥) → type_named (filter (others gone) ts) name ≡ type_named ts name
+named-others gone name [] differs = refl
+named-others gone name (t ∷ ts) differs =
+    elim (cases_Bool (is_named gone t)) [
+      | inl here ↦ rw (here, named-otherwise t gone name differs here) (named-others gone name ts differs)
+      | inr other ↦ rw other (ap (λ (o : Option ServiceType). cond (is_named name t) (Some t) o) (named-others gone name ts differs))
     ]
 
 pub has-not_gone : (gone : List ℕ) (ts : List ServiceType) → has_type (filter (others gone) ts) gone ≡ false

@@ -1,5 +1,5 @@
 -- What it means for a repository that a call was accepted.
-use Rattle.std.proofs.Common.{◌≡◌, ℕ, suc, ◌+◌, ◌<◌, Bool, true, false, ◌||◌, cond, inl, inr, List, [], ◌∷◌, reverse, length, refl, sym, ap, subst, ◌∙◌, arith, Option, None, Some, Ok, Err}
+use Rattle.std.proofs.Common.{◌≡◌, ℕ, suc, ◌+◌, ◌<◌, Bool, true, false, not, ◌||◌, cond, inl, inr, List, [], ◌∷◌, reverse, length, refl, sym, ap, subst, ◌∙◌, arith, Option, None, Some, Ok, Err}
 use Rattle.std.specs.List.{flat_map}
 use Rattle.std.specs.Prelude.{slice_index_or}
 use Rattle.std.specs.Str.{bytes_eq}
@@ -15,11 +15,11 @@ use Rattle.td_types.specs.declared.reply.TypesReply.TheVariants as reply
 use Rattle.td_types.specs.Adding.{new_type, with_type, passes_limit}
 use Rattle.td_types.specs.Calls.{Comes, refuse, unless, known, act_on, add_fault, add_type, sub_type, remove_unless, remove_type, without, set_mask, mask_type, unmask_type}
 use Rattle.td_types.specs.Conforming.{walk, ancestors, conforms}
-use Rattle.td_types.specs.Laws.{Removes, KeepsAllButMasks, IsNewest}
-use Rattle.td_types.specs.Repository.{Repository, ServiceType, IsRepository, is_named, is_among, type_named, has_type, Founded}
+use Rattle.td_types.specs.Laws.{Removes, SetsMask, IsNewest}
+use Rattle.td_types.specs.Repository.{Repository, ServiceType, IsRepository, is_named, is_among, type_named, mask_in, has_type, Founded}
 use Rattle.td_types.proofs.Chains.{same-bytes, bytes-same}
-use Rattle.td_types.proofs.Masks.{masked_type, alike-masked, has-alike, full-masked, ancestors-masked, conforms-masked, valid-masked}
-use Rattle.td_types.proofs.Others.{has-others, has-not_gone}
+use Rattle.td_types.proofs.Masks.{masked_type, alike-masked, has-alike, named-masked, mask-set, all-unmasked, full-masked, ancestors-masked, conforms-masked, valid-masked}
+use Rattle.td_types.proofs.Others.{has-others, named-others, has-not_gone}
 use Rattle.td_types.proofs.Removed.{full-without, ancestors-without, conforms-without, valid-without}
 use Rattle.td_types.proofs.Rising.{below-last}
 use Rattle.td_types.proofs.Subtypes.{no-subtypes, ancestor-walked}
@@ -30,7 +30,7 @@ named_when : (name : List ℕ) (x t : ServiceType) (b : Bool) (later : Option Se
 named_when name x t true later e there h = let same : x ≡ t = cc in subst (λ (y : ServiceType). y.name ≡ name) same (same-bytes x.name name e)
 named_when name x t false later e there h = there h
 
-named : (types : List ServiceType) (name : List ℕ) (t : ServiceType) → type_named types name ≡ Some t → t.name ≡ name
+pub named : (types : List ServiceType) (name : List ℕ) (t : ServiceType) → type_named types name ≡ Some t → t.name ≡ name
 named [] name t h = absurd (let bad : ⊥ = cc in bad)
 named (x ∷ types) name t h = named_when name x t (is_named name x) (type_named types name) refl (named types name t) h
 
@@ -40,10 +40,10 @@ known_when name act x true None h = absurd (let bad : ⊥ = cc in bad)
 known_when name act x false found h = absurd (let bad : ⊥ = cc in bad)
 
 -- an accepted call found the type and did this with it
-known-ok : (r : Repository) (name : List ℕ) (act : ServiceType → Comes) (x : TypesReply × Repository) → known r name act ≡ Ok x → (t : ServiceType) × (t.name ≡ name) × (act t ≡ Ok x)
+known-ok : (r : Repository) (name : List ℕ) (act : ServiceType → Comes) (x : TypesReply × Repository) → known r name act ≡ Ok x → (t : ServiceType) × (t.name ≡ name) × (act t ≡ Ok x) × (type_named r.types name ≡ Some t)
 known-ok r name act x h =
     let f = known_when name act x (word_name name) (type_named r.types name) h in
-    (f.0, named r.types name f.0 f.1, f.2)
+    (f.0, named r.types name f.0 f.1, f.2, f.1)
 
 second : (a b : TypesReply × Repository) → ◌≡◌ {A = Comes} (Ok a) (Ok b) → a ≡ b
 second a b h = cc
@@ -67,12 +67,15 @@ removes r name valid none =
     record {
       valid = valid-without r name h valid;
       gone = has-not_gone name r.types;
+      remaining = refl;
+      types = λ other differs. named-others name other r.types differs;
       others = λ other differs. record {
         there = has-others name other r.types differs;
         properties = full-without r.types name other h differs;
         supertypes = ancestors-without r.types name other h differs;
         bases = λ base. conforms-without r.types name other base h differs;
       };
+      interfaces = refl;
       last = refl;
     }
 
@@ -83,39 +86,46 @@ removal r name told after valid h =
 
 -- ---- masking
 
-keeps : (r : Repository) (name : List ℕ) (masked : Bool) → IsRepository r → KeepsAllButMasks r (set_mask r name masked)
-keeps r name masked valid = record {
+sets : (r : Repository) (name : List ℕ) (masked : Bool) (t : ServiceType) → IsRepository r → type_named r.types name ≡ Some t → t.masked ≡ not masked → SetsMask name masked r (set_mask r name masked)
+sets r name masked t valid found had = record {
   valid = valid-masked r name masked valid;
-  types = λ n. record {
+  had = ap mask_in found ∙ ap (λ (b : Bool). Some b) had;
+  has = mask-set name masked r.types t found;
+  all = all-unmasked name masked r.types;
+  types = λ other differs. named-masked name masked r.types other differs;
+  supertypes = λ n. record {
     there = has-alike (masked_type name masked) (alike-masked name masked) r.types n;
     properties = full-masked r.types name masked n;
     supertypes = ancestors-masked r.types name masked n;
     bases = λ base. conforms-masked r.types name masked n base;
   };
+  interfaces = refl;
   last = refl;
 }
 
-masked_when : (b : Bool) (f : RepoFault) (done told : TypesReply) (later after : Repository) → cond b (refuse f) (Ok (done, later)) ≡ Ok (told, after) → later ≡ after
+masked_when : (b : Bool) (f : RepoFault) (done told : TypesReply) (later after : Repository) → cond b (refuse f) (Ok (done, later)) ≡ Ok (told, after) → (b ≡ false) × (later ≡ after)
 masked_when true f done told later after h = absurd (let bad : ⊥ = cc in bad)
-masked_when false f done told later after h = ap (λ (p : TypesReply × Repository). p.1) (second (done, later) (told, after) h)
+masked_when false f done told later after h = (refl, ap (λ (p : TypesReply × Repository). p.1) (second (done, later) (told, after) h))
 
-unmasked_when : (b : Bool) (f : RepoFault) (done told : TypesReply) (later after : Repository) → cond b (Ok (done, later)) (refuse f) ≡ Ok (told, after) → later ≡ after
+unmasked_when : (b : Bool) (f : RepoFault) (done told : TypesReply) (later after : Repository) → cond b (Ok (done, later)) (refuse f) ≡ Ok (told, after) → (b ≡ true) × (later ≡ after)
 unmasked_when false f done told later after h = absurd (let bad : ⊥ = cc in bad)
-unmasked_when true f done told later after h = ap (λ (p : TypesReply × Repository). p.1) (second (done, later) (told, after) h)
+unmasked_when true f done told later after h = (refl, ap (λ (p : TypesReply × Repository). p.1) (second (done, later) (told, after) h))
 
-pub masking : (r : Repository) (name : List ℕ) (told : TypesReply) (after : Repository) → IsRepository r → mask_type r name ≡ Ok (told, after) → KeepsAllButMasks r after
+pub masking : (r : Repository) (name : List ℕ) (told : TypesReply) (after : Repository) → IsRepository r → mask_type r name ≡ Ok (told, after) → SetsMask name true r after
 unfolding mask_type
 masking r name told after valid h =
     let act : ServiceType → Comes = λ t. cond t.masked (refuse (fault.AlreadyMasked name)) (Ok (reply.Masked, set_mask r name true)) in
     let f = known-ok r name act (told, after) h in
-    subst (KeepsAllButMasks r) (masked_when f.0.masked (fault.AlreadyMasked name) reply.Masked told (set_mask r name true) after f.2) (keeps r name true valid)
+    let w = masked_when f.0.masked (fault.AlreadyMasked name) reply.Masked told (set_mask r name true) after f.2 in
+    subst (SetsMask name true r) w.1 (sets r name true f.0 valid f.3 w.0)
 
-pub unmasking : (r : Repository) (name : List ℕ) (told : TypesReply) (after : Repository) → IsRepository r → unmask_type r name ≡ Ok (told, after) → KeepsAllButMasks r after
+pub unmasking : (r : Repository) (name : List ℕ) (told : TypesReply) (after : Repository) → IsRepository r → unmask_type r name ≡ Ok (told, after) → SetsMask name false r after
 unfolding unmask_type
 unmasking r name told after valid h =
     let act : ServiceType → Comes = λ t. cond t.masked (Ok (reply.Unmasked, set_mask r name false)) (refuse (fault.NotMasked name)) in
     let f = known-ok r name act (told, after) h in
-    subst (KeepsAllButMasks r) (unmasked_when f.0.masked (fault.NotMasked name) reply.Unmasked told (set_mask r name false) after f.2) (keeps r name false valid)
+    let w = unmasked_when f.0.masked (fault.NotMasked name) reply.Unmasked told (set_mask r name false) after f.2 in
+    subst (SetsMask name false r) w.1 (sets r name false f.0 valid f.3 w.0)
 
 -- ---- adding
 

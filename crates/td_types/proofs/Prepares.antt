@@ -4,7 +4,7 @@ use Rattle.std.proofs.lemmas.List.{map-append, length-map}
 use Rattle.std.proofs.lemmas.Bool.{lt-ltb, le-ltb}
 use Rattle.std.specs.List.{AllByRecursion}
 use Rattle.td_cdr.specs.declared.order.Order.TheVariants.{Big}
-use Rattle.td_value.specs.Structures.{type_struct_piece}
+use Rattle.td_value.specs.Structures.{type_struct}
 use Rattle.td_value.specs.declared.structures.PropStruct.{PropStruct}
 use Rattle.td_value.specs.declared.structures.TypeStruct.{TypeStruct}
 use Rattle.td_types.proofs.Adds.{ancestors_of_new, full_of_new, inherited_are, above_are, stay_kept, All-snoc, still_valid, add_fault_last, is_fresh, limit_first, limit_second, limit_third, limit_fourth, limit_none, comes_refused, comes_full, comes_added}
@@ -17,7 +17,7 @@ use Rattle.td_types.specs.Inheriting.{IsMore}
 use Rattle.td_types.specs.Judged.{Judges, AreBases, inherited, names_above}
 use Rattle.td_types.specs.Kept.{kept, repository, IsKept, AreEntries, kept_description}
 use Rattle.td_types.specs.Properties.{full_properties, with_inherited}
-use Rattle.td_types.specs.Repository.{Repository, ServiceType, Declared}
+use Rattle.td_types.specs.Repository.{Repository, ServiceType, Declared, has_type}
 use Rattle.td_types.specs.declared.entry.Entry.{Entry}
 use Rattle.td_types.specs.declared.fault.TypesFault.{TypesFault}
 use Rattle.td_types.specs.declared.fault.TypesFault.TheVariants.{User, Full, Memory}
@@ -54,7 +54,7 @@ abbrev properties_over : List Entry → ServiceType → Bool
 properties_over es t = nat_lt most_properties (length (full_properties (map kept es ++ t ∷ []) t.name))
 
 abbrev bytes_over : List Entry → ServiceType → Bool
-bytes_over es t = nat_lt most_bytes (length (type_struct_piece (full_description (map kept es ++ t ∷ []) t) Big 0))
+bytes_over es t = nat_lt most_bytes (length (type_struct.format.writes (full_description (map kept es ++ t ∷ []) t) Big 0))
 
 one_longer : (es : List Entry) (t : ServiceType) → length (map kept es ++ t ∷ []) ≡ length es + 1
 one_longer es t = length-append (map kept es) (t ∷ []) ∙ ap (λ (n : ℕ). n + 1) (length-map es kept)
@@ -122,14 +122,14 @@ prepares es interfaces last name if_name props supers bs full above k few low f 
     let types : types_over es t ≡ false = le-ltb most_types (length (map kept es ++ t ∷ [])) (rw (one_longer es t) (omega (arith, few))) in
     let given : last_over t ≡ false = le-ltb last_incarnation (last + 1) (omega (arith, low)) in
     let properties : properties_over es t ≡ false = le-ltb most_properties (length (full_properties (map kept es ++ t ∷ []) name)) (rw (new_full es interfaces last name if_name props supers bs k, ← f) short) in
-    let bytes : bytes_over es t ≡ false = le-ltb most_bytes (length (type_struct_piece (full_description (map kept es ++ t ∷ []) t) Big 0)) (subst (λ (d : TypeStruct). length (type_struct_piece d Big 0) ≤ most_bytes) (sym described) (subst (λ (x : Entry). described_bytes x ≤ most_bytes) h.0 h.1)) in
+    let bytes : bytes_over es t ≡ false = le-ltb most_bytes (length (type_struct.format.writes (full_description (map kept es ++ t ∷ []) t) Big 0)) (subst (λ (d : TypeStruct). length (type_struct.format.writes d Big 0) ≤ most_bytes) (sym described) (subst (λ (x : Entry). described_bytes x ≤ most_bytes) h.0 h.1)) in
     let comes : add_type r name if_name props supers ≡ Ok (reply.Added (last + 1), with_type r t) =
     comes_added r name if_name props supers (no_fault es interfaces last name if_name props supers bs k) (limit_none (types_over es t) (last_over t) (properties_over es t) (bytes_over es t) types given properties bytes) in
-    subst (λ (x : Entry). (add_type (repository es interfaces last) name if_name props supers ≡ Ok (reply.Added x.incarnation, with_type (repository es interfaces last) (kept x))) × AreEntries (es ++ x ∷ []) interfaces x.incarnation) (sym h.0)
-    (comes, new_kept es interfaces last name if_name props supers bs full above k f a)
+    subst (λ (x : Entry). (add_type (repository es interfaces last) name if_name props supers ≡ Ok (reply.Added x.service_type.incarnation, with_type (repository es interfaces last) (kept x))) × AreEntries (es ++ x ∷ []) interfaces x.service_type.incarnation × (has_type (map kept es) x.service_type.name ≡ false)) (sym h.0)
+    (comes, new_kept es interfaces last name if_name props supers bs full above k f a, is_fresh es interfaces name if_name props supers k.fault)
 prepares es interfaces last name if_name props supers bs full above k few low f short a (Err (User fault)) h = absurd h
 prepares es interfaces last name if_name props supers bs full above k few low f short a (Err Full) h =
     let t : ServiceType = new_type (repository es interfaces last) name if_name props supers in
-    let over : bytes_over es t ≡ true = lt-ltb most_bytes (length (type_struct_piece (full_description (map kept es ++ t ∷ []) t) Big 0)) (subst (λ (d : TypeStruct). most_bytes < length (type_struct_piece d Big 0)) (sym (new_described es interfaces last name if_name props supers bs full above k f a)) h) in
+    let over : bytes_over es t ≡ true = lt-ltb most_bytes (length (type_struct.format.writes (full_description (map kept es ++ t ∷ []) t) Big 0)) (subst (λ (d : TypeStruct). most_bytes < length (type_struct.format.writes d Big 0)) (sym (new_described es interfaces last name if_name props supers bs full above k f a)) h) in
     comes_full (repository es interfaces last) name if_name props supers (no_fault es interfaces last name if_name props supers bs k) (limit_fourth (types_over es t) (last_over t) (properties_over es t) (bytes_over es t) over)
 prepares es interfaces last name if_name props supers bs full above k few low f short a (Err Memory) h = tt

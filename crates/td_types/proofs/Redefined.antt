@@ -142,31 +142,31 @@ flat_map-append f (x ∷ xs) ys = rw (flat_map-append f xs ys) (sym (append_asso
 abbrev pub entries_of : List (Bor Entry) → List Entry
 entries_of bases = map (λ (b : Bor Entry). b.now) bases
 
-pub base_more : (bases : List (Bor Entry)) (i : ℕ) (b : Bor Entry) → i < length bases → b ≡ get_or bases i b → inherited_from (entries_of (take (i + 1) bases)) ≡ inherited_from (entries_of (take i bases)) ++ definitions b.now.name false b.now.full
+pub base_more : (bases : List (Bor Entry)) (i : ℕ) (b : Bor Entry) → i < length bases → b ≡ get_or bases i b → inherited_from (entries_of (take (i + 1) bases)) ≡ inherited_from (entries_of (take i bases)) ++ definitions b.now.service_type.name false b.now.full
 base_more bases i b lt is =
-    rw (add-one, take-suc bases i b lt, ← is, map-append, flat_map-append (λ (e : Entry). definitions e.name false e.full) (entries_of (take i bases)) (b.now ∷ [])) (rw (append-nil (definitions b.now.name false b.now.full)) refl)
+    rw (add-one, take-suc bases i b lt, ← is, map-append, flat_map-append (λ (e : Entry). definitions e.service_type.name false e.full) (entries_of (take i bases)) (b.now ∷ [])) (rw (append-nil (definitions b.now.service_type.name false b.now.full)) refl)
 
 pub base_stops : (own : List Definition) (bases : List (Bor Entry)) (i : ℕ) (b : Bor Entry) (f : RepoFault) (total : Option RepoFault) → i < length bases → b ≡ get_or bases i b →
     redefinition (own ++ inherited_from (entries_of (take i bases))) (inherited_from (entries_of (drop i bases))) ≡ total →
-    redefinition (own ++ inherited_from (entries_of (take i bases))) (definitions b.now.name false b.now.full) ≡ Some f → total ≡ Some f
+    redefinition (own ++ inherited_from (entries_of (take i bases))) (definitions b.now.service_type.name false b.now.full) ≡ Some f → total ≡ Some f
 base_stops own bases i b f total lt is so_far h =
     let one : redefinition (own ++ inherited_from (entries_of (take i bases))) (inherited_from (entries_of (drop i bases))) ≡ Some f =
-    rw (rest bases i b lt is, redefinition-append (own ++ inherited_from (entries_of (take i bases))) (definitions b.now.name false b.now.full) (inherited_from (entries_of (drop (i + 1) bases))), h) refl in
+    rw (rest bases i b lt is, redefinition-append (own ++ inherited_from (entries_of (take i bases))) (definitions b.now.service_type.name false b.now.full) (inherited_from (entries_of (drop (i + 1) bases))), h) refl in
     sym so_far ∙ one
 
 pub base_goes_on : (own : List Definition) (bases : List (Bor Entry)) (i : ℕ) (b : Bor Entry) (total : Option RepoFault) → i < length bases → b ≡ get_or bases i b →
     redefinition (own ++ inherited_from (entries_of (take i bases))) (inherited_from (entries_of (drop i bases))) ≡ total →
-    redefinition (own ++ inherited_from (entries_of (take i bases))) (definitions b.now.name false b.now.full) ≡ None →
+    redefinition (own ++ inherited_from (entries_of (take i bases))) (definitions b.now.service_type.name false b.now.full) ≡ None →
     redefinition (own ++ inherited_from (entries_of (take (i + 1) bases))) (inherited_from (entries_of (drop (i + 1) bases))) ≡ total
 base_goes_on own bases i b total lt is so_far h =
     let one : redefinition (own ++ inherited_from (entries_of (take i bases))) (inherited_from (entries_of (drop i bases)))
-    ≡ redefinition ((own ++ inherited_from (entries_of (take i bases))) ++ definitions b.now.name false b.now.full) (inherited_from (entries_of (drop (i + 1) bases))) =
-    rw (rest bases i b lt is, redefinition-append (own ++ inherited_from (entries_of (take i bases))) (definitions b.now.name false b.now.full) (inherited_from (entries_of (drop (i + 1) bases))), h) refl in
-    let two : (own ++ inherited_from (entries_of (take i bases))) ++ definitions b.now.name false b.now.full ≡ own ++ inherited_from (entries_of (take (i + 1) bases)) = append_assoc own (inherited_from (entries_of (take i bases))) (definitions b.now.name false b.now.full) ∙ ap (λ (ds : List Definition). own ++ ds) (sym (base_more bases i b lt is)) in
+    ≡ redefinition ((own ++ inherited_from (entries_of (take i bases))) ++ definitions b.now.service_type.name false b.now.full) (inherited_from (entries_of (drop (i + 1) bases))) =
+    rw (rest bases i b lt is, redefinition-append (own ++ inherited_from (entries_of (take i bases))) (definitions b.now.service_type.name false b.now.full) (inherited_from (entries_of (drop (i + 1) bases))), h) refl in
+    let two : (own ++ inherited_from (entries_of (take i bases))) ++ definitions b.now.service_type.name false b.now.full ≡ own ++ inherited_from (entries_of (take (i + 1) bases)) = append_assoc own (inherited_from (entries_of (take i bases))) (definitions b.now.service_type.name false b.now.full) ∙ ap (λ (ds : List Definition). own ++ ds) (sym (base_more bases i b lt is)) in
     ap (λ (ds : List Definition). redefinition ds (inherited_from (entries_of (drop (i + 1) bases)))) (sym two) ∙ (sym one ∙ so_far)
 
 pub base_firsts : (new : Firsts) (own : List Definition) (bases : List (Bor Entry)) (i : ℕ) (b : Bor Entry) → i < length bases → b ≡ get_or bases i b →
-    AreFirsts new ((own ++ inherited_from (entries_of (take i bases))) ++ definitions b.now.name false b.now.full) → AreFirsts new (own ++ inherited_from (entries_of (take (i + 1) bases)))
+    AreFirsts new ((own ++ inherited_from (entries_of (take i bases))) ++ definitions b.now.service_type.name false b.now.full) → AreFirsts new (own ++ inherited_from (entries_of (take (i + 1) bases)))
 base_firsts new own bases i b lt is h =
-    let two : (own ++ inherited_from (entries_of (take i bases))) ++ definitions b.now.name false b.now.full ≡ own ++ inherited_from (entries_of (take (i + 1) bases)) = append_assoc own (inherited_from (entries_of (take i bases))) (definitions b.now.name false b.now.full) ∙ ap (λ (ds : List Definition). own ++ ds) (sym (base_more bases i b lt is)) in
+    let two : (own ++ inherited_from (entries_of (take i bases))) ++ definitions b.now.service_type.name false b.now.full ≡ own ++ inherited_from (entries_of (take (i + 1) bases)) = append_assoc own (inherited_from (entries_of (take i bases))) (definitions b.now.service_type.name false b.now.full) ∙ ap (λ (ds : List Definition). own ++ ds) (sym (base_more bases i b lt is)) in
     subst (λ (ds : List Definition). AreFirsts new ds) two h

@@ -49,20 +49,20 @@ kept_or_not e false es ts h = h
 
 pub kept-without : (es : List Entry) (gone : List ℕ) → map kept (without_entry es gone) ≡ filter (others gone) (map kept es)
 kept-without [] gone = refl
-kept-without (e ∷ es) gone = kept_or_not e (not (bytes_eq e.name gone)) (without_entry es gone) (filter (others gone) (map kept es)) (kept-without es gone)
+kept-without (e ∷ es) gone = kept_or_not e (not (bytes_eq e.service_type.name gone)) (without_entry es gone) (filter (others gone) (map kept es)) (kept-without es gone)
 
 still-kept : (types : List ServiceType) (gone : List ℕ) → IsNoSuper gone (reverse types) → (es : List Entry) → AllByRecursion (IsKept types) es → AllByRecursion (IsKept (filter (others gone) types)) (without_entry es gone)
 still-kept types gone h [] k = tt
 still-kept types gone h (e ∷ es) k =
     let rest = still-kept types gone h es k.1 in
-    elim (cases_Bool (bytes_eq e.name gone)) [
+    elim (cases_Bool (bytes_eq e.service_type.name gone)) [
       | inl here ↦ rw here rest
       | inr other ↦
-          let differs : e.name ≡ gone → ⊥ = λ same. both_ways (bytes_eq e.name gone) other (bytes-same e.name gone same) in
-          rw other (record { ancestors = k.0.ancestors ∙ sym (ancestors-without types gone e.name h differs); full = k.0.full ∙ sym (full-without types gone e.name h differs) }, rest)
+          let differs : e.service_type.name ≡ gone → ⊥ = λ same. both_ways (bytes_eq e.service_type.name gone) other (bytes-same e.service_type.name gone same) in
+          rw other (record { ancestors = k.0.ancestors ∙ sym (ancestors-without types gone e.service_type.name h differs); full = k.0.full ∙ sym (full-without types gone e.service_type.name h differs) }, rest)
     ]
 
-repository-without : (es : List Entry) (interfaces : Declared) (last : ℕ) (gone : List ℕ) → repository (without_entry es gone) interfaces last ≡ without (repository es interfaces last) gone
+pub repository-without : (es : List Entry) (interfaces : Declared) (last : ℕ) (gone : List ℕ) → repository (without_entry es gone) interfaces last ≡ without (repository es interfaces last) gone
 repository-without es interfaces last gone = ap (λ (ts : List ServiceType). record { types = ts; interfaces = interfaces; last = last }) (kept-without es gone)
 
 not-super : (es : List Entry) (interfaces : Declared) (last : ℕ) (gone : List ℕ) → AreEntries es interfaces last → sub_entry es gone ≡ None → IsNoSuper gone (reverse (map kept es))
@@ -79,13 +79,13 @@ entries-without es interfaces last gone are h =
 
 -- ---- what the call comes to
 
-named_when : (name : List ℕ) (x e : Entry) (b : Bool) (later : Option Entry) → bytes_eq x.name name ≡ b → (later ≡ Some e → e.name ≡ name) → cond b (Some x) later ≡ Some e → e.name ≡ name
-named_when name x e true later t there h = let same : x ≡ e = cc in subst (λ (y : Entry). y.name ≡ name) same (same-bytes x.name name t)
+named_when : (name : List ℕ) (x e : Entry) (b : Bool) (later : Option Entry) → bytes_eq x.service_type.name name ≡ b → (later ≡ Some e → e.service_type.name ≡ name) → cond b (Some x) later ≡ Some e → e.service_type.name ≡ name
+named_when name x e true later t there h = let same : x ≡ e = cc in subst (λ (y : Entry). y.service_type.name ≡ name) same (same-bytes x.service_type.name name t)
 named_when name x e false later t there h = there h
 
-pub found-name : (es : List Entry) (name : List ℕ) (e : Entry) → entry_named es name ≡ Some e → e.name ≡ name
+pub found-name : (es : List Entry) (name : List ℕ) (e : Entry) → entry_named es name ≡ Some e → e.service_type.name ≡ name
 found-name [] name e h = absurd (let bad : ⊥ = cc in bad)
-found-name (x ∷ es) name e h = named_when name x e (bytes_eq x.name name) (entry_named es name) refl (found-name es name e) h
+found-name (x ∷ es) name e h = named_when name x e (bytes_eq x.service_type.name name) (entry_named es name) refl (found-name es name e) h
 
 pub removed : (es : List Entry) (interfaces : Declared) (last : ℕ) (name : List ℕ) (e : Entry) → AreEntries es interfaces last → sought es name ≡ Ok e → sub_entry es name ≡ None →
     remove_type (repository es interfaces last) name ≡ Ok (reply.Removed, repository (without_entry es name) interfaces last)
@@ -98,10 +98,10 @@ removed es interfaces last name e are h none =
     ∙ ap (λ (after : Repository). Ok (reply.Removed, after)) (sym (repository-without es interfaces last name))
 
 pub has_sub : (es : List Entry) (interfaces : Declared) (last : ℕ) (name : List ℕ) (e sub : Entry) → AreEntries es interfaces last → sought es name ≡ Ok e → sub_entry es name ≡ Some sub →
-    remove_type (repository es interfaces last) name ≡ refuse (fault.HasSubTypes name sub.name)
+    remove_type (repository es interfaces last) name ≡ refuse (fault.HasSubTypes name sub.service_type.name)
 unfolding remove_type
 has_sub es interfaces last name e sub are h some =
     let r = repository es interfaces last in
     known_found es interfaces last name e (λ t. remove_unless r t (sub_type r name)) h
     ∙ ap (remove_unless r (kept e)) (sub_type-kept es interfaces last name are.kept ∙ ap (option_map kept) some)
-    ∙ ap (λ (n : List ℕ). refuse (fault.HasSubTypes n sub.name)) (found-name es name e (found_named es name e h))
+    ∙ ap (λ (n : List ℕ). refuse (fault.HasSubTypes n sub.service_type.name)) (found-name es name e (found_named es name e h))

@@ -134,9 +134,9 @@ first_sub e false false type entry same h = h
 sub-of_entries : (types : List ServiceType) (gone : List ℕ) (es : List Entry) → AllByRecursion (λ t. has_type types t.name ≡ true) (map kept es) → AllByRecursion (IsKept types) es → find (is_sub types gone) (map kept es) ≡ option_map kept (sub_entry es gone)
 sub-of_entries types gone [] h k = refl
 sub-of_entries types gone (e ∷ es) h k =
-    first_sub e (is_sub types gone (kept e)) (not (bytes_eq e.name gone) && is_among gone e.ancestors) (find (is_sub types gone) (map kept es)) (sub_entry es gone)
-    (sub-test (has_type types e.name) (bytes_eq e.name gone) (is_among gone (ancestors types e.name)) h.0
-    ∙ ap (λ (names : List (List ℕ)). not (bytes_eq e.name gone) && is_among gone names) (sym k.0.ancestors))
+    first_sub e (is_sub types gone (kept e)) (not (bytes_eq e.service_type.name gone) && is_among gone e.ancestors) (find (is_sub types gone) (map kept es)) (sub_entry es gone)
+    (sub-test (has_type types e.service_type.name) (bytes_eq e.service_type.name gone) (is_among gone (ancestors types e.service_type.name)) h.0
+    ∙ ap (λ (names : List (List ℕ)). not (bytes_eq e.service_type.name gone) && is_among gone names) (sym k.0.ancestors))
     (sub-of_entries types gone es h.1 k.1)
 
 pub sub_type-kept : (es : List Entry) (interfaces : Declared) (last : ℕ) (gone : List ℕ) → AllByRecursion (IsKept (map kept es)) es → sub_type (repository es interfaces last) gone ≡ option_map kept (sub_entry es gone)

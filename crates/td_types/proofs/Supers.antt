@@ -49,23 +49,23 @@ met_twice among conforms second mismatch h = rw h refl
 pub super_twice : (es : List Entry) (interfaces : Declared) (name if_name : List ℕ) (before : List (List ℕ)) (s : List ℕ) (e : Entry) → sought es s ≡ Ok e → is_among s before ≡ true →
     super_fault (repository es interfaces 0) name if_name before s ≡ Some (fault.DuplicateServiceTypeName s)
 super_twice es interfaces name if_name before s e h twice =
-    super_found es interfaces name if_name before s e h ∙ met_twice (is_among s before) (interface_conforms interfaces if_name e.if_name) (fault.DuplicateServiceTypeName s) (fault.InterfaceTypeMismatch s e.if_name name if_name) twice
+    super_found es interfaces name if_name before s e h ∙ met_twice (is_among s before) (interface_conforms interfaces if_name e.service_type.if_name) (fault.DuplicateServiceTypeName s) (fault.InterfaceTypeMismatch s e.service_type.if_name name if_name) twice
 
 met_once : (among : Bool) (conforms : Bool) (second mismatch : RepoFault) → among ≡ false → conforms ≡ false → cond among (Some second) (cond conforms None (Some mismatch)) ≡ Some mismatch
 met_once among conforms second mismatch h bad = rw (h, bad) refl
 
 pub super_mismatch : (es : List Entry) (interfaces : Declared) (name if_name : List ℕ) (before : List (List ℕ)) (s : List ℕ) (e : Entry) → sought es s ≡ Ok e → is_among s before ≡ false →
-    interface_conforms interfaces if_name e.if_name ≡ false → super_fault (repository es interfaces 0) name if_name before s ≡ Some (fault.InterfaceTypeMismatch s e.if_name name if_name)
+    interface_conforms interfaces if_name e.service_type.if_name ≡ false → super_fault (repository es interfaces 0) name if_name before s ≡ Some (fault.InterfaceTypeMismatch s e.service_type.if_name name if_name)
 super_mismatch es interfaces name if_name before s e h first bad =
-    super_found es interfaces name if_name before s e h ∙ met_once (is_among s before) (interface_conforms interfaces if_name e.if_name) (fault.DuplicateServiceTypeName s) (fault.InterfaceTypeMismatch s e.if_name name if_name) first bad
+    super_found es interfaces name if_name before s e h ∙ met_once (is_among s before) (interface_conforms interfaces if_name e.service_type.if_name) (fault.DuplicateServiceTypeName s) (fault.InterfaceTypeMismatch s e.service_type.if_name name if_name) first bad
 
 is_fine : (among : Bool) (conforms : Bool) (second mismatch : RepoFault) → among ≡ false → conforms ≡ true → cond among (Some second) (cond conforms None (Some mismatch)) ≡ None
 is_fine among conforms second mismatch h good = rw (h, good) refl
 
 pub super_fine : (es : List Entry) (interfaces : Declared) (name if_name : List ℕ) (before : List (List ℕ)) (s : List ℕ) (e : Entry) → sought es s ≡ Ok e → is_among s before ≡ false →
-    interface_conforms interfaces if_name e.if_name ≡ true → super_fault (repository es interfaces 0) name if_name before s ≡ None
+    interface_conforms interfaces if_name e.service_type.if_name ≡ true → super_fault (repository es interfaces 0) name if_name before s ≡ None
 super_fine es interfaces name if_name before s e h first good =
-    super_found es interfaces name if_name before s e h ∙ is_fine (is_among s before) (interface_conforms interfaces if_name e.if_name) (fault.DuplicateServiceTypeName s) (fault.InterfaceTypeMismatch s e.if_name name if_name) first good
+    super_found es interfaces name if_name before s e h ∙ is_fine (is_among s before) (interface_conforms interfaces if_name e.service_type.if_name) (fault.DuplicateServiceTypeName s) (fault.InterfaceTypeMismatch s e.service_type.if_name name if_name) first good
 
 -- ---- in a loop
 

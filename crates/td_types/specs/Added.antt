@@ -1,12 +1,12 @@
 -- A type that is to be added, step by step.
-use Rattle.std.specs.Prelude.{◌≡◌, ◌<◌, ◌≤◌, ℕ, false, length, List, [], ◌∷◌, ◌++◌, Result, Ok, Err}
+use Rattle.std.specs.Prelude.{◌≡◌, ◌<◌, ◌≤◌, ℕ, false, length, map, List, [], ◌∷◌, ◌++◌, Result, Ok, Err}
 use Rattle.td_cdr.specs.declared.order.Order.TheVariants.{Big}
-use Rattle.td_value.specs.Structures.{type_struct_piece}
+use Rattle.td_value.specs.Structures.{type_struct}
 use Rattle.td_value.specs.declared.structures.PropStruct.{PropStruct}
 use Rattle.td_types.specs.Adding.{most_bytes, with_type}
 use Rattle.td_types.specs.Calls.{add_type, refuse}
 use Rattle.td_types.specs.Kept.{kept, kept_description, repository, AreEntries}
-use Rattle.td_types.specs.Repository.{Declared}
+use Rattle.td_types.specs.Repository.{Declared, has_type}
 use Rattle.td_types.specs.declared.entry.Entry.{Entry}
 use Rattle.td_types.specs.declared.fault.TypesFault.{TypesFault}
 use Rattle.td_types.specs.declared.fault.TypesFault.TheVariants.{User, Full, Memory}
@@ -14,10 +14,14 @@ use Rattle.td_types.specs.declared.reply.TypesReply.TheVariants as reply
 
 abbrev pub entry_of : (incarnation : ℕ) (name if_name : List ℕ) → List PropStruct → List (List ℕ) → List PropStruct → List (List ℕ) → Entry
 entry_of incarnation name if_name props supers full above =
-    record { name = name; if_name = if_name; props = props; supers = supers; masked = false; incarnation = incarnation; ancestors = above; full = full }
+    record {
+      service_type = record { name = name; if_name = if_name; props = props; supers = supers; masked = false; incarnation = incarnation };
+      ancestors = above;
+      full = full;
+    }
 
 abbrev pub described_bytes : Entry → ℕ
-described_bytes e = length (type_struct_piece (kept_description e) Big 0)
+described_bytes e = length (type_struct.format.writes (kept_description e) Big 0)
 
 -- the entry of these parts, whose full description is short enough
 abbrev pub IsMeasured : (incarnation : ℕ) (name if_name : List ℕ) → List PropStruct → List (List ℕ) → List PropStruct → List (List ℕ) → Result Entry TypesFault → Type 0
@@ -29,8 +33,8 @@ IsMeasured incarnation name if_name props supers full above (Err Memory) = Unit 
 -- the answer with the new entry, which is kept beside the others; or the refusal
 abbrev pub IsPrepared : List Entry → Declared → (last : ℕ) (name if_name : List ℕ) → List PropStruct → List (List ℕ) → Result Entry TypesFault → Type 0
 IsPrepared entries interfaces last name if_name props supers (Ok e) =
-    (add_type (repository entries interfaces last) name if_name props supers ≡ Ok (reply.Added e.incarnation, with_type (repository entries interfaces last) (kept e)))
-    × AreEntries (entries ++ e ∷ []) interfaces e.incarnation
+    (add_type (repository entries interfaces last) name if_name props supers ≡ Ok (reply.Added e.service_type.incarnation, with_type (repository entries interfaces last) (kept e)))
+    × AreEntries (entries ++ e ∷ []) interfaces e.service_type.incarnation × (has_type (map kept entries) e.service_type.name ≡ false)
 IsPrepared entries interfaces last name if_name props supers (Err (User f)) = add_type (repository entries interfaces last) name if_name props supers ≡ refuse f
 IsPrepared entries interfaces last name if_name props supers (Err Full) = add_type (repository entries interfaces last) name if_name props supers ≡ Err Full
 IsPrepared entries interfaces last name if_name props supers (Err Memory) = Unit {0}

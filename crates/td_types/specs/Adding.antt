@@ -3,8 +3,8 @@
 use Rattle.std.specs.Prelude.{ℕ, ◌+◌, ◌^◌, nat_lt, Bool, false, not, ◌&&◌, ◌||◌, if◌then◌else◌, List, [], ◌∷◌, ◌++◌, length, map, flat_map, find, Option, None, Some}
 use Rattle.td_cdr.specs.Names.{word_name, identifier}
 use Rattle.td_cdr.specs.declared.order.Order.TheVariants.{Big}
-use Rattle.td_value.specs.Same.{same}
-use Rattle.td_value.specs.Structures.{type_struct_piece}
+use Rattle.td_codes.specs.Same.{same}
+use Rattle.td_value.specs.Structures.{type_struct}
 use Rattle.td_value.specs.declared.structures.PropStruct.{PropStruct}
 use Rattle.td_types.specs.Descriptions.{full_description}
 use Rattle.td_types.specs.Interfaces.{interface_conforms}
@@ -116,4 +116,4 @@ abbrev pub passes_limit : Repository → ServiceType → Bool
 passes_limit after t =
     nat_lt most_types (length after.types) || nat_lt last_incarnation after.last
     || nat_lt most_properties (length (full_properties after.types t.name))
-    || nat_lt most_bytes (length (type_struct_piece (full_description after.types t) Big 0))
+    || nat_lt most_bytes (length (type_struct.format.writes (full_description after.types t) Big 0))

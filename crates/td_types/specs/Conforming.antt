@@ -1,5 +1,5 @@
 -- When a service type conforms to another (OMG's Trading Object Service, "Service Types", on subtypes).
-use Rattle.std.specs.Prelude.{◌≡◌, ℕ, Bool, IsTrue, ◌&&◌, ◌||◌, if◌then◌else◌, List, [], ◌∷◌, ◌++◌, reverse, flat_map, Some}
+use Rattle.std.specs.Prelude.{◌≡◌, ℕ, Bool, IsTrue, ◌&&◌, ◌||◌, if◌then◌else◌, List, [], ◌∷◌, ◌++◌, map, filter, reverse, flat_map, Some}
 use Rattle.std.specs.Str.{bytes_eq}
 use Rattle.td_types.specs.Repository.{ServiceType, type_named, has_type, is_named, is_among}
 
@@ -42,3 +42,7 @@ ancestors types name = once [] (walk (reverse types) name)
 -- whether the first conforms to the second
 abbrev pub conforms : List ServiceType → List ℕ → List ℕ → Bool
 conforms types a b = has_type types a && (bytes_eq a b || is_among b (ancestors types a))
+
+-- the incarnations of the types that conform to this one, itself among them
+abbrev pub subtypes : List ServiceType → List ℕ → List ℕ
+subtypes types base = map (λ t. t.incarnation) (filter (λ t. conforms types t.name base) types)

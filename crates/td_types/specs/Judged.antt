@@ -29,11 +29,11 @@ AreBases entries (s ∷ ss) (b ∷ bs) = (entry_named entries s ≡ Some b) × A
 
 -- of each of these in order its name and then its ancestors
 abbrev pub names_above : List Entry → List (List ℕ)
-names_above bases = flat_map (λ b. b.name ∷ b.ancestors) bases
+names_above bases = flat_map (λ b. b.service_type.name ∷ b.ancestors) bases
 
 -- of each of these in order its full properties in order
 abbrev pub inherited : List Entry → List PropStruct
 inherited bases = flat_map (λ b. b.full) bases
 
 abbrev pub inherited_from : List Entry → List Definition
-inherited_from bases = flat_map (λ b. definitions b.name false b.full) bases
+inherited_from bases = flat_map (λ b. definitions b.service_type.name false b.full) bases

@@ -1,11 +1,11 @@
 -- What holds of every repository that calls can make (OMG's Trading Object Service, "Service Type Repository").
-use Rattle.std.specs.Prelude.{◌≡◌, ℕ, ◌<◌, ◌≤◌, Bool, false, ◌&&◌, IsTrue, List, [], ◌∷◌}
+use Rattle.std.specs.Prelude.{◌≡◌, ℕ, ◌<◌, ◌≤◌, Bool, false, not, ◌&&◌, IsTrue, List, [], ◌∷◌, map, filter, Some}
 use Rattle.std.specs.List.{list_any, AllByRecursion}
 use Rattle.td_value.specs.declared.structures.PropStruct.{PropStruct}
 use Rattle.td_types.specs.Conforming.{ancestors, conforms}
 use Rattle.td_types.specs.Modes.{is_at_least}
 use Rattle.td_types.specs.Properties.{is_called, full_properties}
-use Rattle.td_types.specs.Repository.{Repository, ServiceType, IsRepository, has_type}
+use Rattle.td_types.specs.Repository.{Repository, ServiceType, IsRepository, has_type, is_named, type_named, mask_of}
 use Rattle.td_types.specs.declared.reply.TypesReply.{TypesReply}
 use Rattle.td_types.specs.declared.reply.TypesReply.TheVariants as reply
 
@@ -14,6 +14,14 @@ abbrev pub Rises : ℕ → List ℕ → Type 0
 Rises below [] = Unit {0}
 Rises below (n ∷ ns) = (below < n) × Rises n ns
 
+-- the types of other names, in order
+abbrev pub other_types : List ℕ → List ServiceType → List ServiceType
+other_types name types = filter (λ t. not (is_named name t)) types
+
+-- a type but for its mask
+abbrev pub unmasked : ServiceType → ServiceType
+unmasked t = record t { masked = false }
+
 -- what follows from the supertypes of a name is the same among both
 pub record IsSameOf (name : List ℕ) (before after : List ServiceType) : Type 0 where
   pub there : has_type after name ≡ has_type before name
@@ -21,17 +29,28 @@ pub record IsSameOf (name : List ℕ) (before after : List ServiceType) : Type 0
   pub supertypes : ancestors after name ≡ ancestors before name
   pub bases : (base : List ℕ) → conforms after name base ≡ conforms before name base
 
--- the type of this name is gone, and everything of the others is as it was
+-- The type of this name is gone. The others stand in their order as they were: incarnation, interface, own
+-- properties, listed supertypes and mask. What follows from their supertypes is as it was, too.
 pub record Removes (name : List ℕ) (before after : Repository) : Type 0 where
   pub valid : IsRepository after
   pub gone : has_type after.types name ≡ false
+  pub remaining : after.types ≡ other_types name before.types
+  pub types : (other : List ℕ) → (other ≡ name → ⊥) → type_named after.types other ≡ type_named before.types other
   pub others : (other : List ℕ) → (other ≡ name → ⊥) → IsSameOf other before.types after.types
+  pub interfaces : after.interfaces ≡ before.interfaces
   pub last : after.last ≡ before.last
 
--- everything but masks is as it was
-pub record KeepsAllButMasks (before after : Repository) : Type 0 where
+-- The type of this name has this mask, and had the other. But for it all types stand in their order as they were:
+-- incarnation, interface, own properties and listed supertypes, and the others their masks. What follows from
+-- supertypes is as it was, too.
+pub record SetsMask (name : List ℕ) (masked : Bool) (before after : Repository) : Type 0 where
   pub valid : IsRepository after
-  pub types : (name : List ℕ) → IsSameOf name before.types after.types
+  pub had : mask_of before.types name ≡ Some (not masked)
+  pub has : mask_of after.types name ≡ Some masked
+  pub all : map unmasked after.types ≡ map unmasked before.types
+  pub types : (other : List ℕ) → (other ≡ name → ⊥) → type_named after.types other ≡ type_named before.types other
+  pub supertypes : (other : List ℕ) → IsSameOf other before.types after.types
+  pub interfaces : after.interfaces ≡ before.interfaces
   pub last : after.last ≡ before.last
 
 -- the new type's incarnation is told, and no type and no call before had one as great

@@ -7,10 +7,12 @@ pub mod Firsts
 pub mod Inheriting
 pub mod Interfaces
 pub mod Judged
+pub mod Judgements
 pub mod Kept
 pub mod Laws
 pub mod Marking
 pub mod Modes
+pub mod NamedEntries
 pub mod Properties
 pub mod Reaching
 pub mod Removing

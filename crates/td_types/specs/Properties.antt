@@ -1,6 +1,6 @@
 -- The properties that a service type has by itself and by its supertypes (OMG's Trading Object Service, "Service
 -- Types", on the inheritance of properties).
-use Rattle.std.specs.Prelude.{ℕ, Bool, if◌then◌else◌, List, [], ◌∷◌, ◌++◌, map, reverse, flat_map}
+use Rattle.std.specs.Prelude.{ℕ, Bool, if◌then◌else◌, List, [], ◌∷◌, ◌++◌, map, reverse, find, flat_map, Option}
 use Rattle.std.specs.List.{list_any}
 use Rattle.std.specs.Str.{bytes_eq}
 use Rattle.td_value.specs.declared.enumerations.PropertyMode.{PropertyMode}
@@ -15,6 +15,10 @@ is_called name p = bytes_eq p.name name
 -- a property of that name is among these
 abbrev pub has_property : List PropStruct → List ℕ → Bool
 has_property props name = list_any (is_called name) props
+
+-- the first property of that name
+abbrev pub property_named : List PropStruct → List ℕ → Option PropStruct
+property_named props name = find (is_called name) props
 
 -- the join of the modes that these give a name
 abbrev pub joined_mode : List PropStruct → List ℕ → PropertyMode

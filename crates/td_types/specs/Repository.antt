@@ -1,18 +1,9 @@
 -- The repository of service types as a plain value (OMG's Trading Object Service, "Service Type Repository").
+pub use Rattle.td_types.specs.declared.entry.ServiceType.{ServiceType}
 use Rattle.std.specs.Prelude.{ℕ, ◌<◌, ◌≤◌, ◌%◌, ◌/◌, ◌^◌, Bool, IsTrue, IsFalse, List, [], ◌∷◌, reverse, find, All, Option, None, Some}
 use Rattle.std.specs.List.{list_any}
 use Rattle.std.specs.Str.{bytes_eq}
-use Rattle.td_value.specs.declared.structures.PropStruct.{PropStruct}
 use Rattle.td_value.specs.declared.structures.IncarnationNumber.{IncarnationNumber}
-
--- a service type as it was added, masked or not, with the number that it got then
-pub record ServiceType : Type 0 where
-  pub name : List ℕ
-  pub if_name : List ℕ
-  pub props : List PropStruct
-  pub supers : List (List ℕ)
-  pub masked : Bool
-  pub incarnation : ℕ
 
 -- interfaces by their ids, each with its declared bases
 abbrev pub Declared : Type 0
@@ -40,6 +31,14 @@ incarnation_in (Some t) = Some t.incarnation
 
 abbrev pub incarnation_of : List ServiceType → List ℕ → Option ℕ
 incarnation_of types name = incarnation_in (type_named types name)
+
+-- whether the type of a name is masked
+abbrev pub mask_in : Option ServiceType → Option Bool
+mask_in None = None
+mask_in (Some t) = Some t.masked
+
+abbrev pub mask_of : List ServiceType → List ℕ → Option Bool
+mask_of types name = mask_in (type_named types name)
 
 abbrev pub has_type : List ServiceType → List ℕ → Bool
 has_type types name = list_any (is_named name) types

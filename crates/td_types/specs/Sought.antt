@@ -1,8 +1,9 @@
 -- An entry looked for by its name (interface CosTradingRepos::ServiceTypeRepository, on IllegalServiceType and
 -- UnknownServiceType).
 use Rattle.std.specs.Prelude.{◌≡◌, ℕ, if◌then◌else◌, List, find, Option, None, Some, Result, Ok, Err, IsErr}
-use Rattle.std.specs.Str.{bytes_eq}
 use Rattle.td_cdr.specs.Names.{word_name}
+use Rattle.td_types.specs.Kept.{kept}
+use Rattle.td_types.specs.Repository.{is_named}
 use Rattle.td_types.specs.declared.entry.Entry.{Entry}
 use Rattle.td_types.specs.declared.fault.RepoFault.{RepoFault}
 use Rattle.td_types.specs.declared.fault.RepoFault.TheVariants as fault
@@ -10,7 +11,7 @@ use Rattle.td_types.specs.declared.fault.TypesFault.{TypesFault}
 use Rattle.td_types.specs.declared.fault.TypesFault.TheVariants.{User, Full, Memory}
 
 abbrev pub entry_named : List Entry → List ℕ → Option Entry
-entry_named entries name = find (λ e. bytes_eq e.name name) entries
+entry_named entries name = find (λ e. is_named name (kept e)) entries
 
 abbrev pub entry_or_unknown : Option Entry → List ℕ → Result Entry RepoFault
 entry_or_unknown None name = Err (fault.UnknownServiceType name)

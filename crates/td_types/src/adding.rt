@@ -9,7 +9,8 @@ ghost use Rattle.td_types.specs.Repository.{IsRepository};
 
 use crate::bases::bases_of;
 use crate::described::halves;
-use crate::entry::Entry;
+use crate::entries::Entries;
+use crate::entry::{Entry, ServiceType};
 use crate::fault::TypesFault;
 use crate::inheriting::{ancestors, with_inherited};
 use crate::interfaces::Interfaces;
@@ -52,21 +53,17 @@ impl Types {
         let entry = prepared(
             self.alloc,
             &self.interfaces,
-            self.entries.as_slice(),
+            &self.entries,
             self.last,
             name,
             if_name,
             props,
             supers,
         )?;
-        let incarnation = entry.incarnation;
-        match self.entries.push(entry) {
-            Err(_) => Err(TypesFault::Memory),
-            Ok(()) => {
-                self.last = incarnation;
-                Ok(TypesReply::Added(incarnation))
-            }
-        }
+        let incarnation = entry.service_type.incarnation;
+        self.entries.add(self.alloc, entry)?;
+        self.last = incarnation;
+        Ok(TypesReply::Added(incarnation))
     }
 }
 
@@ -74,7 +71,7 @@ impl Types {
 fn prepared(
     alloc: Global,
     interfaces: &Interfaces,
-    entries: &[Entry],
+    entries: &Entries,
     last: u64,
     name: Text,
     if_name: Text,
@@ -108,7 +105,7 @@ fn prepared(
 fn judged<'a>(
     alloc: Global,
     interfaces: &Interfaces,
-    entries: &'a [Entry],
+    entries: &'a Entries,
     name: &Text,
     if_name: &Text,
     props: &[PropStruct],
@@ -154,12 +151,14 @@ fn measured(
         ..
     } = described;
     Ok(Entry {
-        name,
-        if_name,
-        props,
-        supers,
-        masked: false,
-        incarnation,
+        service_type: ServiceType {
+            name,
+            if_name,
+            props,
+            supers,
+            masked: false,
+            incarnation,
+        },
         ancestors,
         full,
     })

@@ -6,6 +6,7 @@ ghost use Rattle.td_types.specs.Judged.{Judges, AreBases};
 ghost use Rattle.td_types.specs.Kept.{repository};
 ghost use Rattle.td_types.specs.declared.fault.RepoFault.TheVariants as fault;
 
+use crate::entries::Entries;
 use crate::entry::Entry;
 use crate::fault::{RepoFault, TypesFault};
 use crate::interfaces::Interfaces;
@@ -19,7 +20,7 @@ use td_cdr::{List, Memory, Text, Twin};
 pub(crate) fn bases_of<'a>(
     alloc: Global,
     interfaces: &Interfaces,
-    entries: &'a [Entry],
+    entries: &'a Entries,
     name: &Text,
     if_name: &Text,
     supers: &[Text],
@@ -35,7 +36,7 @@ pub(crate) fn bases_of<'a>(
                 alloc,
             )?)));
         }
-        if !interfaces.conforms(if_name.as_slice(), base.if_name.as_slice()) {
+        if !interfaces.conforms(if_name.as_slice(), base.service_type.if_name.as_slice()) {
             return Err(TypesFault::User(mismatch(alloc, base_name, base, name, if_name)?));
         }
         bases.push(base)?;
@@ -51,11 +52,11 @@ fn mismatch(
     name: &Text,
     if_name: &Text,
 ) -> Result<RepoFault, Memory>
-    ensures { IfOk result (λ f. f ≡ fault.InterfaceTypeMismatch base_name.now base.now.if_name name.now if_name.now) }
+    ensures { IfOk result (λ f. f ≡ fault.InterfaceTypeMismatch base_name.now base.now.service_type.if_name name.now if_name.now) }
 {
     Ok(RepoFault::InterfaceTypeMismatch {
         base_service: base_name.copy(alloc)?,
-        base_if: base.if_name.copy(alloc)?,
+        base_if: base.service_type.if_name.copy(alloc)?,
         derived_service: name.copy(alloc)?,
         derived_if: if_name.copy(alloc)?,
     })

@@ -29,11 +29,11 @@ pub(crate) fn description(alloc: Global, entry: &Entry) -> Result<TypeStruct, Me
     ensures { IfOk result (λ d. d ≡ description (kept entry.now)) }
 {
     Ok(TypeStruct {
-        if_name: entry.if_name.copy(alloc)?,
-        props: entry.props.copy(alloc)?,
-        super_types: entry.supers.copy(alloc)?,
-        masked: entry.masked,
-        incarnation: halves(entry.incarnation),
+        if_name: entry.service_type.if_name.copy(alloc)?,
+        props: entry.service_type.props.copy(alloc)?,
+        super_types: entry.service_type.supers.copy(alloc)?,
+        masked: entry.service_type.masked,
+        incarnation: halves(entry.service_type.incarnation),
     })
 }
 
@@ -46,10 +46,10 @@ pub(crate) fn kept_description(alloc: Global, entry: &Entry) -> Result<TypeStruc
     ensures { IfOk result (λ d. d ≡ kept_description entry.now) }
 {
     Ok(TypeStruct {
-        if_name: entry.if_name.copy(alloc)?,
+        if_name: entry.service_type.if_name.copy(alloc)?,
         props: entry.full.copy(alloc)?,
         super_types: entry.ancestors.copy(alloc)?,
-        masked: entry.masked,
-        incarnation: halves(entry.incarnation),
+        masked: entry.service_type.masked,
+        incarnation: halves(entry.service_type.incarnation),
     })
 }

@@ -20,7 +20,7 @@ impl Types {
     pub fn describe(&self, name: &Text) -> Result<TypesReply, TypesFault>
         ensures answer { Answers (describe_type self.now name.now) self.now self.now result }
     {
-        let entry = sought(self.alloc, self.entries.as_slice(), name)?;
+        let entry = sought(self.alloc, &self.entries, name)?;
         Ok(TypesReply::Described(description(self.alloc, entry)?))
     }
 
@@ -32,7 +32,7 @@ impl Types {
     pub fn fully_describe(&self, name: &Text) -> Result<TypesReply, TypesFault>
         ensures answer { Answers (fully_describe_type self.now name.now) self.now self.now result }
     {
-        let entry = sought(self.alloc, self.entries.as_slice(), name)?;
+        let entry = sought(self.alloc, &self.entries, name)?;
         Ok(TypesReply::Described(kept_description(self.alloc, entry)?))
     }
 }

@@ -3,15 +3,21 @@
 use td_cdr::{List, Text};
 use td_value::PropStruct;
 
-/// A type as it was added, with what follows from its supertypes.
+/// A type as it was added, masked or not, with the incarnation that it got then.
+#[derive(Drop)]
+pub struct ServiceType {
+    pub name: Text,
+    pub if_name: Text,
+    pub props: List<PropStruct>,
+    pub supers: List<Text>,
+    pub masked: bool,
+    pub incarnation: u64,
+}
+
+/// A type with what follows from its supertypes.
 #[derive(Drop)]
 pub(crate) struct Entry {
-    pub(crate) name: Text,
-    pub(crate) if_name: Text,
-    pub(crate) props: List<PropStruct>,
-    pub(crate) supers: List<Text>,
-    pub(crate) masked: bool,
-    pub(crate) incarnation: u64,
+    pub(crate) service_type: ServiceType,
     /// All its supertypes, in the order in which a depth-first walk meets them.
     pub(crate) ancestors: List<Text>,
     /// All its properties, its own and its supertypes'.

@@ -52,7 +52,8 @@ fn extend(
     base: &Entry,
 ) -> Result<(), TypesFault>
     requires { length full.old ≤ most_properties }
-    ensures { (later : Row a_property) → IsMoreBy (inherited (map (λ b. b.now) bases.now)) full.old full.new (base.now.full ++ later) later result }
+    ensures { (later : Row a_property) → IsMoreBy (inherited (map
+        (λ b. b.now) bases.now)) full.old full.new (base.now.full ++ later) later result }
 {
     for property in base.full.as_slice() {
         extend_by_one(alloc, full, bases, property)?;
@@ -68,7 +69,8 @@ fn extend_by_one(
     property: &PropStruct,
 ) -> Result<(), TypesFault>
     requires { length full.old ≤ most_properties }
-    ensures { (later : Row a_property) → IsMoreBy (inherited (map (λ b. b.now) bases.now)) full.old full.new (property.now ∷ later) later result }
+    ensures { (later : Row a_property) → IsMoreBy (inherited (map
+        (λ b. b.now) bases.now)) full.old full.new (property.now ∷ later) later result }
 {
     if has_property(full.as_slice(), property.name.as_slice()) {
         return Ok(());
@@ -142,7 +144,7 @@ pub(crate) fn ancestors(alloc: Global, bases: &[&Entry]) -> Result<List<Text>, M
     let mut met = List::new(alloc);
     let mut seen = nothing_seen(alloc);
     for base in bases {
-        meet(alloc, &mut met, &mut seen, &base.name)?;
+        meet(alloc, &mut met, &mut seen, &base.service_type.name)?;
         meet_all(alloc, &mut met, &mut seen, base.ancestors.as_slice())?;
     }
     Ok(met)
@@ -154,7 +156,8 @@ fn meet_all<'a>(
     seen: &mut BTreeSet<&'a [u8]>,
     names: &'a [Text],
 ) -> Result<(), Memory>
-    ensures { HaveSeen seen.old met.old → OnOk result ((met.new ≡ once met.old names.now) × HaveSeen seen.new met.new) }
+    ensures { HaveSeen seen.old met.old → OnOk result ((met.new ≡ once met.old names.now)
+        × HaveSeen seen.new met.new) }
 {
     for name in names {
         meet(alloc, met, seen, name)?;
@@ -169,7 +172,8 @@ fn meet<'a>(
     seen: &mut BTreeSet<&'a [u8]>,
     name: &'a Text,
 ) -> Result<(), Memory>
-    ensures { HaveSeen seen.old met.old → OnOk result ((met.new ≡ add_once met.old name.now) × HaveSeen seen.new met.new) }
+    ensures { HaveSeen seen.old met.old → OnOk result ((met.new ≡ add_once met.old name.now)
+        × HaveSeen seen.new met.new) }
 {
     if see(seen, name.as_slice())? {
         met.push(name.copy(alloc)?)?;

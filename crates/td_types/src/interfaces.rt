@@ -99,7 +99,8 @@ fn leads(declared: &[(Text, List<Text>)], reached: &[List<bool>], first: &[u8], 
 
 /// The first place at which an interface is declared.
 fn place_of(declared: &[(Text, List<Text>)], id: &[u8]) -> Option<usize>
-    ensures { MatchOption result ((place : ℕ) → declares declared.now (id.now ∷ []) place ≡ false) (λ place. (place < length declared.now) × (id_at declared.now place ≡ id.now)) }
+    ensures { MatchOption result ((place : ℕ) → declares declared.now (id.now ∷ []) place ≡ false)
+        (λ place. (place < length declared.now) × (id_at declared.now place ≡ id.now)) }
 {
     for (place, entry) in declared.iter().enumerate() {
         if entry.0.as_slice() == id {

@@ -1,12 +1,12 @@
 //! What holds of service types and interfaces, as functions that do nothing: each one's contract is
 //! the law.
 
-ghost use Rattle.std.specs.Prelude.{◌≡◌, ℕ, ◌↔◌, List, Ok, Some, Option, IsTrue, map, filter};
+ghost use Rattle.std.specs.Prelude.{◌≡◌, ℕ, ◌↔◌, List, Ok, Some, Option, IsTrue, true, false, map, filter};
 ghost use Rattle.td_value.specs.declared.structures.PropStruct.{PropStruct};
-ghost use Rattle.td_types.specs.Calls.{add_type, remove_type, mask_type, unmask_type, list_types, is_listed, sub_type};
+ghost use Rattle.td_types.specs.Calls.{add_type, remove_type, mask_type, unmask_type, is_listed, sub_type};
 ghost use Rattle.td_types.specs.Conforming.{conforms};
 ghost use Rattle.td_types.specs.Interfaces.{LeadsTo, InterfaceConforms, interface_conforms};
-ghost use Rattle.td_types.specs.Laws.{Rises, Removes, KeepsAllButMasks, IsNewest, IsOldestSubType, AreAsStrong};
+ghost use Rattle.td_types.specs.Laws.{Rises, Removes, SetsMask, IsNewest, IsOldestSubType, AreAsStrong};
 ghost use Rattle.td_types.specs.Properties.{full_properties};
 ghost use Rattle.td_types.specs.Repository.{Declared, Repository, ServiceType, IsRepository, has_type, is_among};
 ghost use Rattle.td_types.specs.declared.reply.TypesReply.{TypesReply};
@@ -14,46 +14,60 @@ ghost use Rattle.td_types.specs.declared.reply.TypesReply.{TypesReply};
 /// The test of conforming interfaces is the relation: declared bases lead from the one to the other,
 /// in however many steps, or either is empty. What leads on from where an interface leads is led to.
 pub fn interfaces_conform()
-    ensures test { (declared : Declared) (sub base : List ℕ) → IsTrue (interface_conforms declared sub base) ↔ InterfaceConforms declared sub base }
-    ensures transitive { (declared : Declared) (first middle last : List ℕ) → LeadsTo declared first middle → LeadsTo declared middle last → LeadsTo declared first last }
+    ensures test { (declared : Declared) (sub base : List ℕ) →
+        IsTrue (interface_conforms declared sub base) ↔ InterfaceConforms declared sub base }
+    ensures transitive { (declared : Declared) (first middle last : List ℕ) →
+        LeadsTo declared first middle → LeadsTo declared middle last → LeadsTo declared first last }
 {}
 
 /// A type that is there conforms to itself, and to what those conform to that it conforms to.
 pub fn types_conform()
-    ensures reflexive { (types : List ServiceType) (name : List ℕ) → IsTrue (has_type types name) → IsTrue (conforms types name name) }
-    ensures transitive { (r : Repository) (a b c : List ℕ) → IsRepository r → IsTrue (conforms r.types a b) → IsTrue (conforms r.types b c) → IsTrue (conforms r.types a c) }
+    ensures reflexive { (types : List ServiceType) (name : List ℕ) →
+        IsTrue (has_type types name) → IsTrue (conforms types name name) }
+    ensures transitive { (r : Repository) (a b c : List ℕ) → IsRepository r →
+        IsTrue (conforms r.types a b) → IsTrue (conforms r.types b c) → IsTrue (conforms r.types a c) }
 {}
 
-/// An accepted removal takes the type of that name and leaves all others as they were: their
-/// properties, their supertypes, and what they conform to. The last incarnation stays.
+/// An accepted removal takes the type of that name and leaves all others as they were, in their
+/// order. The declared interfaces and the last incarnation stay.
 pub fn removing_leaves_the_others()
-    ensures { (r after : Repository) (name : List ℕ) (told : TypesReply) → IsRepository r → remove_type r name ≡ Ok (told, after) → Removes name r after }
+    ensures { (r after : Repository) (name : List ℕ) (told : TypesReply) → IsRepository r →
+        remove_type r name ≡ Ok (told, after) → Removes name r after }
 {}
 
 /// A removal that is refused since another type conforms names the oldest of these.
 pub fn the_oldest_sub_type_is_named()
-    ensures { (r : Repository) (name : List ℕ) (sub : ServiceType) → IsRepository r → sub_type r name ≡ Some sub → IsOldestSubType r name sub }
+    ensures { (r : Repository) (name : List ℕ) (sub : ServiceType) → IsRepository r →
+        sub_type r name ≡ Some sub → IsOldestSubType r name sub }
 {}
 
 /// A mask changes nothing but itself: a masked type conforms to what it did, and others to it.
 pub fn masks_change_nothing_else()
-    ensures mask { (r after : Repository) (name : List ℕ) (told : TypesReply) → IsRepository r → mask_type r name ≡ Ok (told, after) → KeepsAllButMasks r after }
-    ensures unmask { (r after : Repository) (name : List ℕ) (told : TypesReply) → IsRepository r → unmask_type r name ≡ Ok (told, after) → KeepsAllButMasks r after }
+    ensures mask { (r after : Repository) (name : List ℕ) (told : TypesReply) → IsRepository r →
+        mask_type r name ≡ Ok (told, after) → SetsMask name true r after }
+    ensures unmask { (r after : Repository) (name : List ℕ) (told : TypesReply) → IsRepository r →
+        unmask_type r name ≡ Ok (told, after) → SetsMask name false r after }
 {}
 
 /// A new type's incarnation is above all that were given before, those of removed types too, since a
 /// removal leaves the last incarnation as it was.
 pub fn incarnations_are_new()
-    ensures { (r after : Repository) (name if_name : List ℕ) (props : List PropStruct) (supers : List (List ℕ)) (told : TypesReply) → IsRepository r → add_type r name if_name props supers ≡ Ok (told, after) → IsNewest r after told }
+    ensures { (r after : Repository) (name if_name : List ℕ) (props : List PropStruct) (supers : List (List ℕ)) →
+        (told : TypesReply) → IsRepository r →
+        add_type r name if_name props supers ≡ Ok (told, after) → IsNewest r after told }
 {}
 
 /// Types are listed by rising incarnation.
 pub fn listing_rises()
-    ensures { (r : Repository) (since : Option ℕ) → IsRepository r → Rises 0 (map (λ t. t.incarnation) (filter (is_listed since) r.types)) }
+    ensures { (r : Repository) (since : Option ℕ) → IsRepository r →
+        Rises 0 (map (λ t. t.incarnation) (filter (is_listed since) r.types)) }
 {}
 
 /// Each full property of a supertype is among a new type's full properties, with a mode that is at
 /// least the supertype's.
 pub fn supertypes_modes_hold()
-    ensures { (r after : Repository) (name if_name : List ℕ) (props : List PropStruct) (supers : List (List ℕ)) (told : TypesReply) → add_type r name if_name props supers ≡ Ok (told, after) → (super : List ℕ) → IsTrue (is_among super supers) → AreAsStrong (full_properties after.types name) (full_properties r.types super) }
+    ensures { (r after : Repository) (name if_name : List ℕ) (props : List PropStruct) (supers : List (List ℕ)) →
+        (told : TypesReply) → add_type r name if_name props supers ≡ Ok (told, after) →
+        (super : List ℕ) → IsTrue (is_among super supers) →
+        AreAsStrong (full_properties after.types name) (full_properties r.types super) }
 {}

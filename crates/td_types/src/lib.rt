@@ -6,10 +6,12 @@ mod bases;
 mod conforming;
 mod described;
 mod describing;
+mod entries;
 mod entry;
 mod fault;
 mod inheriting;
 mod interfaces;
+mod judgement;
 mod laws;
 mod listing;
 mod lookup;
@@ -25,17 +27,12 @@ mod sought;
 mod types;
 
 pub use described::halves;
+pub use entry::ServiceType;
 pub use fault::{RepoFault, TypesFault};
+pub use judgement::Judgement;
 pub use laws::{
     incarnations_are_new, interfaces_conform, listing_rises, masks_change_nothing_else,
     removing_leaves_the_others, supertypes_modes_hold, the_oldest_sub_type_is_named, types_conform,
 };
 pub use reply::TypesReply;
 pub use types::Types;
-
-#[cfg(test)]
-mod interface_tests;
-#[cfg(test)]
-mod removal_tests;
-#[cfg(test)]
-mod tests;

@@ -45,7 +45,7 @@ fn listed(alloc: Global, entries: &[Entry], since: Option<u64>) -> Result<List<T
     let mut names = List::new(alloc);
     for entry in entries {
         if is_listed(since, entry) {
-            names.push(entry.name.copy(alloc)?)?;
+            names.push(entry.service_type.name.copy(alloc)?)?;
         }
     }
     Ok(names)
@@ -57,6 +57,6 @@ fn is_listed(since: Option<u64>, entry: &Entry) -> bool
 {
     match since {
         None => true,
-        Some(since) => since <= entry.incarnation,
+        Some(since) => since <= entry.service_type.incarnation,
     }
 }

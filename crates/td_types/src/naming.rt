@@ -5,23 +5,22 @@ ghost use Rattle.td_types.specs.Adding.{name_fault, property_fault};
 ghost use Rattle.td_types.specs.Judged.{Judges};
 ghost use Rattle.td_types.specs.Kept.{repository};
 
-use crate::entry::Entry;
+use crate::entries::Entries;
 use crate::fault::{RepoFault, TypesFault};
 use crate::seen::{nothing_seen, see};
-use crate::sought::entry_named;
 use std::alloc::Global;
 use td_cdr::{Text, Twin, is_identifier, is_word_name};
 use td_value::PropStruct;
 
 /// Refuses a type's name that is none, or that a type has.
 #[tactic(auto, using(crate::proofs::Named::no_type, crate::proofs::Named::some_type))]
-pub(crate) fn check_name(alloc: Global, entries: &[Entry], name: &Text) -> Result<(), TypesFault>
+pub(crate) fn check_name(alloc: Global, entries: &Entries, name: &Text) -> Result<(), TypesFault>
     ensures { Judges (name_fault (repository entries.now [] 0) name.now) (λ _. Unit {0}) result }
 {
     if !is_word_name(name.as_slice()) {
         return Err(TypesFault::User(RepoFault::IllegalServiceType(name.copy(alloc)?)));
     }
-    if entry_named(entries, name.as_slice()).is_some() {
+    if entries.get(name.as_slice()).is_some() {
         return Err(TypesFault::User(RepoFault::ServiceTypeExists(name.copy(alloc)?)));
     }
     Ok(())

@@ -33,7 +33,8 @@ pub(crate) fn check_redefinitions(
     props: &[PropStruct],
     bases: &[&Entry],
 ) -> Result<(), TypesFault>
-    ensures { Judges (redefinition (definitions name.now true props.now) (inherited_from (map (λ b. b.now) bases.now))) (λ _. Unit {0}) result }
+    ensures { Judges (redefinition (definitions name.now true props.now) (inherited_from (map
+        (λ b. b.now) bases.now))) (λ _. Unit {0}) result }
 {
     let mut firsts = own_definitions(alloc, name, props)?;
     for base in bases {
@@ -68,11 +69,14 @@ fn check_base<'a>(
     firsts: &mut BTreeMap<&'a [u8], Given<'a>>,
     base: &'a Entry,
 ) -> Result<(), TypesFault>
-    ensures { (earlier : List Definition) → AreFirsts firsts.old earlier → Judges (redefinition earlier (definitions base.now.name false base.now.full)) (λ _. AreFirsts firsts.new (earlier ++ definitions base.now.name false base.now.full)) result }
+    ensures { (earlier : List Definition) → AreFirsts firsts.old earlier →
+        Judges (redefinition earlier (definitions base.now.service_type.name false base.now.full))
+        (λ _. AreFirsts firsts.new
+        (earlier ++ definitions base.now.service_type.name false base.now.full)) result }
 {
     for property in base.full.as_slice() {
         let given = Given {
-            type_name: &base.name,
+            type_name: &base.service_type.name,
             property,
             own: false,
         };
@@ -87,7 +91,9 @@ fn check_definition<'a>(
     firsts: &mut BTreeMap<&'a [u8], Given<'a>>,
     given: Given<'a>,
 ) -> Result<(), TypesFault>
-    ensures { (earlier : List Definition) → AreFirsts firsts.old earlier → Judges (conflict (earlier_of earlier given.entry.property.now.name) (stated given.entry)) (λ _. AreFirsts firsts.new (earlier ++ stated given.entry ∷ [])) result }
+    ensures { (earlier : List Definition) → AreFirsts firsts.old earlier →
+        Judges (conflict (earlier_of earlier given.entry.property.now.name) (stated given.entry))
+        (λ _. AreFirsts firsts.new (earlier ++ stated given.entry ∷ [])) result }
 {
     match first(firsts, given)? {
         None => Ok(()),
@@ -129,7 +135,9 @@ fn first<'a>(
     given: Given<'a>,
 ) -> Result<Option<Given<'a>>, Memory>
     ensures earlier { IfOk result (λ e. option_map stated e ≡ first_at firsts.old given.entry.property.now.name) }
-    ensures kept { OnOk result ((name : List ℕ) → first_at firsts.new name ≡ option_or (first_at firsts.old name) (cond (bytes_eq given.entry.property.now.name name) (Some (stated given.entry)) None)) }
+    ensures kept { OnOk result ((name : List ℕ) → first_at firsts.new name
+        ≡ option_or (first_at firsts.old name) (cond (bytes_eq given.entry.property.now.name name)
+        (Some (stated given.entry)) None)) }
 {
     let name = given.property.name.as_slice();
     match firsts.get(name) {

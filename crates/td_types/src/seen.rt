@@ -22,7 +22,8 @@ pub(crate) fn nothing_seen<'a>(alloc: Global) -> BTreeSet<&'a [u8]>
 /// `Memory` for want of memory alone.
 pub(crate) fn see<'a>(seen: &mut BTreeSet<&'a [u8]>, name: &'a [u8]) -> Result<bool, Memory>
     ensures fresh { IfOk result (λ fresh. fresh ≡ not (has_seen seen.old name.now)) }
-    ensures added { OnOk result ((other : List ℕ) → has_seen seen.new other ≡ (bytes_eq name.now other || has_seen seen.old other)) }
+    ensures added { OnOk result ((other : List ℕ) → has_seen seen.new other
+        ≡ (bytes_eq name.now other || has_seen seen.old other)) }
 {
     Ok(seen.insert(name)?)
 }

@@ -4,7 +4,7 @@ ghost use Rattle.std.specs.Prelude.{◌≡◌, [], IfOk};
 ghost use Rattle.td_types.specs.Interfaces.{interface_conforms};
 ghost use Rattle.td_types.specs.Repository.{IsRepository};
 
-use crate::entry::Entry;
+use crate::entries::Entries;
 use crate::interfaces::Interfaces;
 use std::alloc::Global;
 use std::marker::Model;
@@ -16,8 +16,7 @@ use td_cdr::{List, Memory, Text};
 pub struct Types {
     pub(crate) alloc: Global,
     pub(crate) interfaces: Interfaces,
-    /// In the order of adding.
-    pub(crate) entries: Vec<Entry>,
+    pub(crate) entries: Entries,
     /// The last incarnation given, 0 before the first.
     pub(crate) last: u64,
 }
@@ -25,16 +24,16 @@ pub struct Types {
 impl Model for Types {
     ghost use Rattle.td_types.specs.Repository.{Repository};
     ghost use Rattle.td_types.specs.Kept.{repository, AreEntries};
-    ghost use Rattle.td_value.specs.contracts.code.TypeCode as code;
+    ghost use Rattle.td_codes.specs.contracts.code.TypeCode as code;
     ghost use Rattle.std.specs.Coded.{codes};
 
     ghost Value = { Repository };
 
     ghost coded = { Prim.hlevel (codes, code.the_row.coded) };
 
-    ghost view = { λ t. repository t.entries.items t.interfaces t.last };
+    ghost view = { λ t. repository t.entries t.interfaces t.last };
 
-    ghost invariant = { λ t. AreEntries t.entries.items t.interfaces t.last };
+    ghost invariant = { λ t. AreEntries t.entries t.interfaces t.last };
 }
 
 impl Types {
@@ -51,7 +50,7 @@ impl Types {
         Ok(Types {
             alloc,
             interfaces,
-            entries: Vec::new(alloc),
+            entries: Entries::new(alloc),
             last: 0,
         })
     }

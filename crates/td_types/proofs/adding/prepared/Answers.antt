@@ -15,10 +15,10 @@ returns-in_err-bases c =
     rw (p.1, p.2) (refused {X = List (Bor Entry)} (λ (bases : List (Bor Entry)). AreBases c.args.entries.now c.as_slice-2.result.now (entries_of bases)) c.args.entries.now c.args.interfaces.now c.args.last c.args.name c.args.if_name
     c.args.props c.as_slice.result.now c.args.supers c.as_slice-2.result.now c.in_err-bases.field-0.0 c.as_slice.ensures c.as_slice-2.ensures c.in_err-bases.ensures)
 
-pub returns-then-entries-ge-MOST_TYPES : goal.returns-then-entries-ge-MOST_TYPES
-returns-then-entries-ge-MOST_TYPES c =
+pub returns-then-len-ge-MOST_TYPES : goal.returns-then-len-ge-MOST_TYPES
+returns-then-len-ge-MOST_TYPES c =
     let k : Ready c.args.entries.now c.args.interfaces.now c.args.last c.args.name c.args.if_name c.args.props c.args.supers (entries_of c.in_ok-bases.bases) = (record { valid = c.requires; fault = rw (c.as_slice.ensures, c.as_slice-2.ensures) at c.in_ok-bases.ensures.0; bases = rw c.as_slice-2.ensures at c.in_ok-bases.ensures.1 }) in
-    let many : most_types ≤ length c.args.entries.now = omega (arith, c.if-entries-ge-MOST_TYPES.true) in
+    let many : most_types ≤ length c.args.entries.now = omega (arith, c.if-len-ge-MOST_TYPES.true) in
     many_types c.args.entries.now c.args.interfaces.now c.args.last c.args.name c.args.if_name c.args.props c.args.supers (entries_of c.in_ok-bases.bases) k many
 
 pub returns-then-last-ge-LAST_INCARNATION : goal.returns-then-last-ge-LAST_INCARNATION
@@ -35,6 +35,6 @@ returns-in_err-full c =
 pub returns : goal.returns
 returns c =
     let k : Ready c.args.entries.now c.args.interfaces.now c.args.last c.args.name c.args.if_name c.args.props c.args.supers (entries_of c.in_ok-bases.bases) = (record { valid = c.requires; fault = rw (c.as_slice.ensures, c.as_slice-2.ensures) at c.in_ok-bases.ensures.0; bases = rw c.as_slice-2.ensures at c.in_ok-bases.ensures.1 }) in
-    let few : length c.args.entries.now < most_types = omega (arith, c.if-entries-ge-MOST_TYPES.false) in
+    let few : length c.args.entries.now < most_types = omega (arith, c.if-len-ge-MOST_TYPES.false) in
     let full = rw c.as_slice-3.ensures at c.in_ok-full.ensures in
     prepares c.args.entries.now c.args.interfaces.now c.args.last c.args.name c.args.if_name c.args.props c.args.supers (entries_of c.in_ok-bases.bases) c.in_ok-full.full c.in_ok-above.above k few c.if-last-ge-LAST_INCARNATION.false full.0 full.1 (rw c.as_slice-4.ensures at c.in_ok-above.ensures) c.measured.result c.measured.ensures

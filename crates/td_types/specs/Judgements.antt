@@ -1,0 +1,24 @@
+-- Whether a call on one type is accepted (interface CosTradingRepos::ServiceTypeRepository, remove_type, mask_type
+-- and unmask_type).
+use Rattle.std.specs.Prelude.{◌≡◌, ℕ, List, IsOk, IsErr}
+use Rattle.td_types.specs.Calls.{Comes, refuse}
+use Rattle.td_types.specs.declared.fault.RepoFault.TheVariants as fault
+use Rattle.td_types.specs.declared.fault.TypesFault.{TypesFault}
+use Rattle.td_types.specs.declared.fault.TypesFault.TheVariants.{User, Full, Memory}
+use Rattle.td_types.specs.declared.judgement.Judgement.{Judgement}
+use Rattle.td_types.specs.declared.judgement.Judgement.TheVariants.{Accepted, IllegalServiceType, UnknownServiceType, HasSubTypes, AlreadyMasked, NotMasked}
+
+-- what a call on the type of this name comes to is judged right
+abbrev pub IsJudged : Comes → (name : List ℕ) → Judgement → Type 0
+IsJudged comes name Accepted = IsOk comes
+IsJudged comes name IllegalServiceType = comes ≡ refuse (fault.IllegalServiceType name)
+IsJudged comes name UnknownServiceType = comes ≡ refuse (fault.UnknownServiceType name)
+IsJudged comes name (HasSubTypes sub) = comes ≡ refuse (fault.HasSubTypes name sub.now)
+IsJudged comes name AlreadyMasked = comes ≡ refuse (fault.AlreadyMasked name)
+IsJudged comes name NotMasked = comes ≡ refuse (fault.NotMasked name)
+
+-- the call is refused so, or memory was wanted, which is wanted for a refusal alone
+abbrev pub IsRefusal : Comes → TypesFault → Type 0
+IsRefusal comes (User f) = comes ≡ refuse f
+IsRefusal comes Full = ⊥
+IsRefusal comes Memory = IsErr comes
