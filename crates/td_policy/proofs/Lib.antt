@@ -1,0 +1,5 @@
+pub mod Decided
+pub mod Items
+pub mod Least
+pub mod ReadBack
+pub mod Sets

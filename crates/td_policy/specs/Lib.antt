@@ -1,0 +1,8 @@
+pub mod Attributes
+pub mod Effective
+pub mod Faults
+pub mod Laws
+pub mod Rules
+pub mod Seen
+pub mod Stated
+pub mod Values

@@ -1,0 +1,94 @@
+-- What an importer states by its policies (Trading Object Service, "Policies" and interface Lookup, query: the
+-- exceptions IllegalPolicyName, DuplicatePolicyName, PolicyTypeMismatch, InvalidPolicyValue).
+use Rattle.std.specs.Prelude.{ℕ, Bool, not, if◌then◌else◌, List, [], ◌∷◌, Option, Some, None, Result, Ok, Err, codes}
+use Rattle.std.specs.List.{list_any}
+use Rattle.std.specs.Map.{lookup}
+use Rattle.std.specs.Str.{bytes_eq}
+use Rattle.td_cdr.specs.Names.{identifier}
+use Rattle.td_codes.specs.Same.{same}
+use Rattle.td_value.specs.declared.structures.Policy.{Policy}
+use Rattle.td_policy.specs.Values.{Kind, truth, number, rule, texts, octets}
+use Rattle.td_policy.specs.declared.fault.PolicyFault.{PolicyFault}
+use Rattle.td_policy.specs.declared.fault.PolicyFault.TheVariants as fault
+use Rattle.td_policy.specs.declared.stated.Stated.{Stated}
+
+infixl 10 ◌>>=◌
+abbrev pub ◌>>=◌ : {A B : Type 0} → Result A PolicyFault → (A → Result B PolicyFault) → Result B PolicyFault
+(Ok x) >>= f = f x
+(Err e) >>= f = Err e
+
+-- nothing is stated
+abbrev pub nothing : Stated
+nothing = record {
+  exact = None;
+  hops = None;
+  follow = None;
+  match_card = None;
+  return_card = None;
+  search_card = None;
+  start = None;
+  use_dynamic = None;
+  use_modifiable = None;
+  use_proxy = None;
+  request_id = None;
+}
+
+-- ---- one policy
+
+abbrev pub valid : {A : Type 0} → Policy → Option A → Result (Option A) PolicyFault
+valid p None = Err (fault.InvalidPolicyValue p)
+valid p (Some x) = Ok (Some x)
+
+-- the value that the policy states, or why it states none
+abbrev pub stated_value : {A : Type 0} → Kind A → Policy → Result (Option A) PolicyFault
+stated_value kind p =
+    if same p.value.code kind.code then valid p (kind.value_of p.value.value)
+    else Err (fault.PolicyTypeMismatch p)
+
+-- a policy of a type, and the field that it states
+abbrev pub states : {A : Type 0} → Kind A → (Option A → Stated → Stated) → Policy → Stated → Result Stated PolicyFault
+states kind put p s = stated_value kind p >>= λ x. Ok (put x s)
+
+-- the policies, by their names
+abbrev pub policies : List (List ℕ × (Policy → Stated → Result Stated PolicyFault))
+policies =
+    (codes "exact_type_match", states truth (λ x s. record s { exact = x }))
+    ∷ (codes "hop_count", states number (λ x s. record s { hops = x }))
+    ∷ (codes "link_follow_rule", states rule (λ x s. record s { follow = x }))
+    ∷ (codes "match_card", states number (λ x s. record s { match_card = x }))
+    ∷ (codes "return_card", states number (λ x s. record s { return_card = x }))
+    ∷ (codes "search_card", states number (λ x s. record s { search_card = x }))
+    ∷ (codes "starting_trader", states (texts 64) (λ x s. record s { start = x }))
+    ∷ (codes "use_dynamic_properties", states truth (λ x s. record s { use_dynamic = x }))
+    ∷ (codes "use_modifiable_properties", states truth (λ x s. record s { use_modifiable = x }))
+    ∷ (codes "use_proxy_offers", states truth (λ x s. record s { use_proxy = x }))
+    ∷ (codes "request_id", states (octets 256) (λ x s. record s { request_id = x }))
+    ∷ []
+
+-- a policy of an unknown name states nothing
+abbrev pub known : Option (Policy → Stated → Result Stated PolicyFault) → Policy → Stated → Result Stated PolicyFault
+known None p s = Ok s
+known (Some entry) p s = entry p s
+
+abbrev pub with_policy : Policy → Stated → Result Stated PolicyFault
+with_policy p s = known (lookup (bytes_eq p.name) policies) p s
+
+-- ---- a list of policies
+
+abbrev pub is_among : List ℕ → List (List ℕ) → Bool
+is_among name names = list_any (bytes_eq name) names
+
+-- a policy after others of these names, which state this
+abbrev pub next_stated : (earlier : List (List ℕ)) → Stated → Policy → Result Stated PolicyFault
+next_stated earlier s p =
+    if not (identifier p.name) then Err (fault.IllegalPolicyName p.name)
+    else if is_among p.name earlier then Err (fault.DuplicatePolicyName p.name)
+    else with_policy p s
+
+abbrev pub stated_after : (earlier : List (List ℕ)) → Stated → List Policy → Result Stated PolicyFault
+stated_after earlier s [] = Ok s
+stated_after earlier s (p ∷ ps) = next_stated earlier s p >>= λ t. stated_after (p.name ∷ earlier) t ps
+
+-- what a list of policies states, or the refusal of the first bad one
+abbrev pub stated : List Policy → Result Stated PolicyFault
+stated ps = stated_after [] nothing ps

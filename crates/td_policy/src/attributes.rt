@@ -1,0 +1,181 @@
+//! The attributes of a trader (OMG's Trading Object Service, "Attributes").
+
+ghost use Rattle.std.specs.Prelude.{◌≡◌, IfOk};
+ghost use Rattle.td_policy.specs.Attributes.{default_attributes, own_references, with_references};
+
+use std::alloc::Global;
+use td_cdr::{Memory, Octets, Text, Twin};
+use td_value::{FollowOption, Ior};
+
+/// The attributes of a trader, each by its name in the standard. What a trader's type repository
+/// tells of itself (incarnation) isn't among them.
+#[derive(Drop)]
+pub struct Attributes {
+    /// The trader's own Lookup.
+    pub lookup_if: Ior,
+    /// Its Register.
+    pub register_if: Ior,
+    /// Its Link.
+    pub link_if: Ior,
+    /// Its Proxy.
+    pub proxy_if: Ior,
+    /// Its Admin.
+    pub admin_if: Ior,
+    pub supports_modifiable_properties: bool,
+    pub supports_dynamic_properties: bool,
+    pub supports_proxy_offers: bool,
+    /// The repository of the types of its offers.
+    pub type_repos: Ior,
+    /// How many offers a query searches where it doesn't say.
+    pub def_search_card: u32,
+    /// How many offers a query searches at most.
+    pub max_search_card: u32,
+    /// How many offers a query matches where it doesn't say.
+    pub def_match_card: u32,
+    /// How many offers a query matches at most.
+    pub max_match_card: u32,
+    /// How many offers a query returns where it doesn't say.
+    pub def_return_card: u32,
+    /// How many offers a query returns at most.
+    pub max_return_card: u32,
+    /// How many items stand in a list at most, where the rest is left to an iterator.
+    pub max_list: u32,
+    /// Over how many links a query goes where it doesn't say.
+    pub def_hop_count: u32,
+    /// Over how many links a query goes at most.
+    pub max_hop_count: u32,
+    /// How far a query follows links where it doesn't say.
+    pub def_follow_policy: FollowOption,
+    /// How far a query follows links at most.
+    pub max_follow_policy: FollowOption,
+    /// How far a link may let itself be followed at most.
+    pub max_link_follow_policy: FollowOption,
+    /// How the identifiers begin that the trader gives to queries without one.
+    pub request_id_stem: Octets,
+}
+
+impl Attributes {
+    /// A copy of the references.
+    fn copy_references(&self, alloc: Global) -> Result<OwnReferences, Memory>
+        ensures { IfOk result (λ own. own ≡ own_references self.now) }
+    {
+        Ok(OwnReferences {
+            lookup: self.lookup_if.copy(alloc)?,
+            register: self.register_if.copy(alloc)?,
+            link: self.link_if.copy(alloc)?,
+            proxy: self.proxy_if.copy(alloc)?,
+            admin: self.admin_if.copy(alloc)?,
+            types: self.type_repos.copy(alloc)?,
+        })
+    }
+
+    /// The same attributes, with these references and this stem.
+    fn with(&self, own: OwnReferences, stem: Octets) -> Attributes
+        ensures { result ≡ with_references self.now own stem }
+    {
+        Attributes {
+            lookup_if: own.lookup,
+            register_if: own.register,
+            link_if: own.link,
+            proxy_if: own.proxy,
+            admin_if: own.admin,
+            supports_modifiable_properties: self.supports_modifiable_properties,
+            supports_dynamic_properties: self.supports_dynamic_properties,
+            supports_proxy_offers: self.supports_proxy_offers,
+            type_repos: own.types,
+            def_search_card: self.def_search_card,
+            max_search_card: self.max_search_card,
+            def_match_card: self.def_match_card,
+            max_match_card: self.max_match_card,
+            def_return_card: self.def_return_card,
+            max_return_card: self.max_return_card,
+            max_list: self.max_list,
+            def_hop_count: self.def_hop_count,
+            max_hop_count: self.max_hop_count,
+            def_follow_policy: self.def_follow_policy,
+            max_follow_policy: self.max_follow_policy,
+            max_link_follow_policy: self.max_link_follow_policy,
+            request_id_stem: stem,
+        }
+    }
+}
+
+impl Twin for Attributes {
+    fn copy(&self, alloc: Global) -> Result<Attributes, Memory> {
+        let own = self.copy_references(alloc)?;
+        let stem = self.request_id_stem.copy(alloc)?;
+        Ok(self.with(own, stem))
+    }
+}
+
+/// The references of a trader's own objects.
+#[derive(Drop)]
+pub struct OwnReferences {
+    pub lookup: Ior,
+    pub register: Ior,
+    pub link: Ior,
+    pub proxy: Ior,
+    pub admin: Ior,
+    /// The type repository.
+    pub types: Ior,
+}
+
+impl Twin for OwnReferences {
+    fn copy(&self, alloc: Global) -> Result<OwnReferences, Memory> {
+        Ok(OwnReferences {
+            lookup: self.lookup.copy(alloc)?,
+            register: self.register.copy(alloc)?,
+            link: self.link.copy(alloc)?,
+            proxy: self.proxy.copy(alloc)?,
+            admin: self.admin.copy(alloc)?,
+            types: self.types.copy(alloc)?,
+        })
+    }
+}
+
+/// The attributes of a new trader: all kinds of offers are supported, every rule is `always`, and
+/// the stem is the trader's name.
+///
+/// # Errors
+///
+/// `Memory` for want of memory alone; the references are then dropped.
+pub fn default_attributes(
+    alloc: Global,
+    name: &Text,
+    own: OwnReferences,
+) -> Result<Attributes, Memory>
+    ensures { IfOk result (λ a. a ≡ default_attributes name.now own) }
+{
+    let stem = Octets::from_slice(alloc, name.as_slice())?;
+    Ok(with_stem(own, stem))
+}
+
+/// The attributes of a new trader, with this stem.
+fn with_stem(own: OwnReferences, stem: Octets) -> Attributes
+    ensures { result ≡ default_attributes stem own }
+{
+    Attributes {
+        lookup_if: own.lookup,
+        register_if: own.register,
+        link_if: own.link,
+        proxy_if: own.proxy,
+        admin_if: own.admin,
+        supports_modifiable_properties: true,
+        supports_dynamic_properties: true,
+        supports_proxy_offers: true,
+        type_repos: own.types,
+        def_search_card: 10000,
+        max_search_card: 1000000,
+        def_match_card: 1000,
+        max_match_card: 1000000,
+        def_return_card: 1000,
+        max_return_card: 1000000,
+        max_list: 100,
+        def_hop_count: 5,
+        max_hop_count: 10,
+        def_follow_policy: FollowOption::Always,
+        max_follow_policy: FollowOption::Always,
+        max_link_follow_policy: FollowOption::Always,
+        request_id_stem: stem,
+    }
+}

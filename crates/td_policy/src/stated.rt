@@ -1,0 +1,51 @@
+//! The policies that an importer stated.
+
+use crate::optional::copy_optional;
+use std::alloc::Global;
+use td_cdr::{List, Memory, Octets, Text, Twin};
+use td_value::FollowOption;
+
+/// The values of an importer's policies, each absent where it isn't stated.
+#[derive(Drop)]
+pub struct Stated {
+    /// Whether subtypes are left out (exact_type_match).
+    pub exact: Option<bool>,
+    /// Over how many links a query goes at most (hop_count).
+    pub hops: Option<u32>,
+    /// How far links are followed (link_follow_rule).
+    pub follow: Option<FollowOption>,
+    /// How many offers are matched at most (match_card).
+    pub match_card: Option<u32>,
+    /// How many offers are returned at most (return_card).
+    pub return_card: Option<u32>,
+    /// How many offers are searched at most (search_card).
+    pub search_card: Option<u32>,
+    /// The names of the links that lead to the trader where the query starts (starting_trader).
+    pub start: Option<List<Text>>,
+    /// Whether offers with dynamic properties are considered (use_dynamic_properties).
+    pub use_dynamic: Option<bool>,
+    /// Whether offers with modifiable properties are considered (use_modifiable_properties).
+    pub use_modifiable: Option<bool>,
+    /// Whether proxy offers are considered (use_proxy_offers).
+    pub use_proxy: Option<bool>,
+    /// The identifier of the query (request_id).
+    pub request_id: Option<Octets>,
+}
+
+impl Twin for Stated {
+    fn copy(&self, alloc: Global) -> Result<Stated, Memory> {
+        Ok(Stated {
+            exact: self.exact,
+            hops: self.hops,
+            follow: self.follow,
+            match_card: self.match_card,
+            return_card: self.return_card,
+            search_card: self.search_card,
+            start: copy_optional(alloc, &self.start)?,
+            use_dynamic: self.use_dynamic,
+            use_modifiable: self.use_modifiable,
+            use_proxy: self.use_proxy,
+            request_id: copy_optional(alloc, &self.request_id)?,
+        })
+    }
+}
