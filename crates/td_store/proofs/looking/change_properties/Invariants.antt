@@ -1,0 +1,4 @@
+use Rattle.td_store.proofs.looking.change_properties.Given as goal
+
+abbrev pub ghosts-counted_change : goal.ghosts-counted_change
+ghosts-counted_change a = record { name = a.blank.name; parts = a.blank.parts }

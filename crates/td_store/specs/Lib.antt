@@ -1,0 +1,12 @@
+pub mod Homes
+pub mod Kept
+pub mod Lends
+pub mod LinkLists
+pub mod LinkNames
+pub mod OfferLists
+pub mod OfferPlaces
+pub mod Puts
+pub mod Rings
+pub mod Slabs
+pub mod Slots
+pub mod Walks

@@ -1,0 +1,111 @@
+//! The links of a trader.
+
+ghost use Rattle.std.specs.Prelude.{◌≡◌, [], ◌∷◌, ◌++◌, Ok, None, length, map, IfOk, OnOk, OnErr, option_copied};
+ghost use Rattle.td_store.specs.LinkLists.{most_links, link_of, without_link};
+ghost use Rattle.td_store.specs.OfferLists.{IsLimited};
+
+use crate::fault::StoreFault;
+use crate::record::LinkRecord;
+use indexmap::IndexMap;
+use std::alloc::Global;
+use std::marker::Model;
+use td_cdr::{List, Memory, Text, Twin};
+
+/// How many links there are at most.
+const MOST_LINKS: usize = 1024;
+
+/// The links in the order of adding, each found by its name.
+#[derive(Drop)]
+pub struct Links {
+    named: IndexMap<Vec<u8>, LinkRecord>,
+}
+
+impl Model for Links {
+    ghost use Rattle.std.specs.Prelude.{List};
+    ghost use Rattle.std.specs.Coded.{codes};
+    ghost use Rattle.indexmap.specs.IndexMap.{values};
+    ghost use Rattle.td_store.specs.LinkNames.{AreNamed};
+    ghost use Rattle.td_store.specs.declared.record.LinkRecord.{LinkRecord as a_link};
+
+    ghost Value = { List a_link };
+
+    ghost coded = { Prim.hlevel codes };
+
+    ghost view = { λ l. values l.named };
+
+    ghost invariant = { λ l. AreNamed l.named.entries };
+}
+
+impl Links {
+    /// No links. Takes no memory.
+    pub fn new(alloc: Global) -> Result<Links, Memory>
+        ensures { result ≡ Ok [] }
+    {
+        Ok(Links {
+            named: IndexMap::new(alloc),
+        })
+    }
+
+    /// Adds a link of a new name.
+    ///
+    /// # Errors
+    ///
+    /// `Full` exactly where there are as many as may be; `Memory` for want of memory. The links are
+    /// then as before, and this one is dropped.
+    pub fn insert(&mut self, alloc: Global, link: LinkRecord) -> Result<(), StoreFault>
+        requires fresh { link_of self.old link.name ≡ None }
+        ensures added { OnOk result (self.new ≡ self.old ++ link ∷ []) }
+        ensures unchanged { OnErr result (self.new ≡ self.old) }
+        ensures full { IsLimited most_links (length self.old) result }
+    {
+        if self.named.len() >= MOST_LINKS {
+            return Err(StoreFault::Full);
+        }
+        let name = link.name.copy(alloc)?;
+        match self.named.insert(name.into_vec(), link) {
+            Ok(_) => Ok(()),
+            Err(_) => Err(StoreFault::Memory),
+        }
+    }
+
+    /// Takes the link of a name away. The others stay in their order. Takes no memory.
+    pub fn remove(&mut self, name: &Text) -> Option<LinkRecord>
+        ensures value { result ≡ link_of self.old name.now }
+        ensures others { self.new ≡ without_link name.now self.old }
+    {
+        self.named.shift_remove(name.as_slice())
+    }
+
+    /// The link of a name. Takes no memory.
+    pub fn get(&self, name: &Text) -> Option<&LinkRecord>
+        ensures { option_copied result ≡ link_of self.now name.now }
+    {
+        self.named.get(name.as_slice())
+    }
+
+    /// The names of the links, in the order of adding.
+    ///
+    /// # Errors
+    ///
+    /// `Memory` for want of memory alone.
+    pub fn names(&self, alloc: Global) -> Result<List<Text>, Memory>
+        ensures { IfOk result (λ names. names ≡ map (λ l. l.name) self.now) }
+    {
+        names_of(alloc, self.named.values().as_slice())
+    }
+}
+
+/// The names of these links.
+///
+/// # Errors
+///
+/// `Memory` for want of memory alone.
+fn names_of(alloc: Global, links: &[LinkRecord]) -> Result<List<Text>, Memory>
+    ensures { IfOk result (λ names. names ≡ map (λ l. l.name) links.now) }
+{
+    let mut names = List::new(alloc);
+    for link in links {
+        names.push(link.name.copy(alloc)?)?;
+    }
+    Ok(names)
+}

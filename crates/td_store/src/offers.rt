@@ -1,0 +1,146 @@
+//! The offers of a trader.
+
+ghost use Rattle.std.specs.Prelude.{◌≡◌, ◌<◌, [], ◌∷◌, ◌++◌, length, map, filter, is_some, IfOk, OnOk, OnErr, option_copied};
+ghost use Rattle.std.specs.List.{AllByRecursion};
+ghost use Rattle.td_store.specs.OfferLists.{most_offers, IsLimited, offer_of, without_offer, with_properties, is_of_kind};
+
+use crate::fault::StoreFault;
+use crate::gathering::numbers_on;
+use crate::inserting::{chain_for, put_offer};
+use crate::looking::{change_properties, look};
+use crate::record::OfferRecord;
+use crate::slab::Slab;
+use std::alloc::Global;
+use std::collections::BTreeMap;
+use std::marker::Model;
+use td_cdr::{List, Memory};
+use td_value::Property;
+
+/// How many offers there are at most.
+const MOST_OFFERS: usize = 1000000;
+
+/// The offers by rising number. Each stands on the chain of its type's incarnation and on that of its
+/// kind, ordinary or proxy.
+#[derive(Drop)]
+pub struct Offers {
+    slab: Slab<OfferRecord>,
+    /// From an offer's number to its place.
+    numbers: BTreeMap<u32, u32>,
+    /// From an incarnation to the chain of that type's offers.
+    chains: BTreeMap<u64, u32>,
+    /// The chain of the ordinary offers.
+    ordinary: u32,
+    /// The chain of the proxy offers.
+    proxies: u32,
+}
+
+impl Model for Offers {
+    ghost use Rattle.std.specs.Prelude.{List};
+    ghost use Rattle.std.specs.Coded.{codes};
+    ghost use Rattle.td_codes.specs.contracts.code.TypeCode as code;
+    ghost use Rattle.td_codes.specs.contracts.code.Value as value;
+    ghost use Rattle.td_store.specs.declared.record.OfferRecord.{OfferRecord as an_offer};
+    ghost use Rattle.td_store.specs.Homes.{offers_in, HoldsOffers};
+
+    ghost Value = { List an_offer };
+
+    ghost coded = { Prim.hlevel (codes, code.the_row.coded, value.the_row.coded) };
+
+    ghost view = { λ o. offers_in o.slab o.numbers.entries };
+
+    ghost invariant = { λ o. HoldsOffers o.slab o.numbers.entries o.chains o.ordinary o.proxies };
+}
+
+impl Offers {
+    /// No offers.
+    ///
+    /// # Errors
+    ///
+    /// `Memory` for want of memory alone.
+    pub fn new(alloc: Global) -> Result<Offers, Memory>
+        ensures { IfOk result (λ o. o ≡ []) }
+    {
+        let mut slab = Slab::new(alloc)?;
+        let ordinary = slab.add_chain()?;
+        let proxies = slab.add_chain()?;
+        Ok(Offers {
+            slab,
+            numbers: BTreeMap::new(alloc),
+            chains: BTreeMap::new(alloc),
+            ordinary,
+            proxies,
+        })
+    }
+
+    /// Adds an offer, whose number is above all others.
+    ///
+    /// # Errors
+    ///
+    /// `Full` exactly where there are as many as may be; `Memory` for want of memory. The offers are
+    /// then as before, and this one is dropped.
+    pub fn insert(&mut self, offer: OfferRecord) -> Result<(), StoreFault>
+        requires above { AllByRecursion (λ o. o.number < offer.number) self.old }
+        ensures added { OnOk result (self.new ≡ self.old ++ offer ∷ []) }
+        ensures unchanged { OnErr result (self.new ≡ self.old) }
+        ensures full { IsLimited most_offers (length self.old) result }
+    {
+        if self.numbers.len() >= MOST_OFFERS {
+            return Err(StoreFault::Full);
+        }
+        let of_kind = if offer.proxy.is_some() {
+            self.proxies
+        } else {
+            self.ordinary
+        };
+        let of_type = chain_for(&mut self.slab, &mut self.chains, offer.incarnation)?;
+        put_offer(&mut self.slab, &mut self.numbers, of_type, of_kind, offer)?;
+        Ok(())
+    }
+
+    /// Takes the offer of a number away. Takes no memory.
+    pub fn remove(&mut self, number: u32) -> Option<OfferRecord>
+        ensures value { result ≡ offer_of self.old number }
+        ensures others { self.new ≡ without_offer number self.old }
+    {
+        match self.numbers.remove(&number) {
+            None => None,
+            Some(place) => self.slab.take(place),
+        }
+    }
+
+    /// The offer of a number. Takes no memory.
+    pub fn get(&self, number: u32) -> Option<&OfferRecord>
+        ensures { option_copied result ≡ offer_of self.now number }
+    {
+        match self.numbers.get(&number) {
+            None => None,
+            Some(place) => look(&self.slab, *place),
+        }
+    }
+
+    /// Gives the offer of a number other properties, and answers whether there is one. Takes no memory.
+    pub fn modify(&mut self, number: u32, properties: List<Property>) -> bool
+        ensures there { result ≡ is_some (offer_of self.old number) }
+        ensures changed { self.new ≡ with_properties number properties self.old }
+    {
+        match self.numbers.get(&number).copied() {
+            None => false,
+            Some(place) => {
+                change_properties(&mut self.slab, place, properties);
+                true
+            }
+        }
+    }
+
+    /// The numbers of the ordinary offers or of the proxy offers, rising.
+    ///
+    /// # Errors
+    ///
+    /// `Memory` for want of memory alone.
+    pub fn ids(&self, alloc: Global, proxies: bool) -> Result<List<u32>, Memory>
+        ensures { IfOk result (λ numbers. numbers ≡ map (λ o. o.number) (filter (is_of_kind proxies) self.now)) }
+    {
+        let chain = if proxies { self.proxies } else { self.ordinary };
+        numbers_on(alloc, &self.slab, chain)
+    }
+}

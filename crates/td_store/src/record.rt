@@ -1,0 +1,90 @@
+//! What is kept of an offer and of a link.
+
+ghost use Rattle.std.specs.Prelude.{◌≡◌, IfOk};
+
+use std::alloc::Global;
+use td_cdr::{List, Memory, Text, Twin};
+use td_value::{FollowOption, Ior, Policy, Property};
+
+/// An offer with its number, and the incarnation that its type had when it was exported (module
+/// CosTrading, interface Register).
+#[derive(Drop)]
+pub struct OfferRecord {
+    /// The offer's number at this trader.
+    pub number: u32,
+    /// The object that is offered; of a proxy offer, the Lookup to which queries are passed on.
+    pub reference: Ior,
+    pub service_type: Text,
+    pub incarnation: u64,
+    pub properties: List<Property>,
+    /// What a proxy offer has besides.
+    pub proxy: Option<ProxyPart>,
+}
+
+/// What a proxy offer has besides an offer (module CosTrading, interface Proxy).
+#[derive(Drop)]
+pub struct ProxyPart {
+    pub if_match_all: bool,
+    pub recipe: Text,
+    pub policies: List<Policy>,
+}
+
+/// A link to another trader (module CosTrading, interface Link).
+#[derive(Drop)]
+pub struct LinkRecord {
+    pub name: Text,
+    /// The Lookup of the other trader.
+    pub target: Ior,
+    /// The Register of the other trader.
+    pub register: Ior,
+    pub def_pass_on: FollowOption,
+    pub limiting: FollowOption,
+}
+
+impl Twin for OfferRecord {
+    fn copy(&self, alloc: Global) -> Result<OfferRecord, Memory> {
+        let reference = self.reference.copy(alloc)?;
+        let service_type = self.service_type.copy(alloc)?;
+        let properties = self.properties.copy(alloc)?;
+        let proxy = copy_proxy(alloc, &self.proxy)?;
+        Ok(OfferRecord {
+            number: self.number,
+            reference,
+            service_type,
+            incarnation: self.incarnation,
+            properties,
+            proxy,
+        })
+    }
+}
+
+fn copy_proxy(alloc: Global, proxy: &Option<ProxyPart>) -> Result<Option<ProxyPart>, Memory>
+    ensures { IfOk result (λ twin. twin ≡ proxy.now) }
+{
+    match proxy {
+        None => Ok(None),
+        Some(part) => Ok(Some(part.copy(alloc)?)),
+    }
+}
+
+impl Twin for ProxyPart {
+    fn copy(&self, alloc: Global) -> Result<ProxyPart, Memory> {
+        Ok(ProxyPart {
+            if_match_all: self.if_match_all,
+            recipe: self.recipe.copy(alloc)?,
+            policies: self.policies.copy(alloc)?,
+        })
+    }
+}
+
+impl Twin for LinkRecord {
+    fn copy(&self, alloc: Global) -> Result<LinkRecord, Memory> {
+        Ok(LinkRecord {
+            name: self.name.copy(alloc)?,
+            target: self.target.copy(alloc)?,
+            register: self.register.copy(alloc)?,
+            def_pass_on: self.def_pass_on,
+            limiting: self.limiting,
+        })
+    }
+}
