@@ -10,8 +10,8 @@ use Rattle.std.proofs.lemmas.List.Quantifiers.{position-Some}
 use Rattle.td_cdr.specs.Names.{identifier, is_letter, is_word}
 use Rattle.td_lang.specs.declared.expr.Part.{Part}
 use Rattle.td_lang.specs.declared.expr.Part.TheVariants as part
-use Rattle.td_lang.proofs.Both.{and-left, and-right}
-use Rattle.td_lang.specs.Recipes.{SpellsPart, Begins, SpellsParts, IsRefusedAt, part_in_front, escaped, replaced, property_part, named_part}
+use Rattle.td_lang.proofs.Conjunction.{and-left, and-right}
+use Rattle.td_lang.specs.Recipes.{SpellsPart, Begins, SpellsParts, IsRefusedAt, part_in_front, escape_part, dollar_part, property_part, named_part}
 
 -- ---- what stands in front is spelled
 
@@ -33,14 +33,14 @@ front_same : (bytes : List ℕ) (p q : Part) (m n : ℕ) → found p m ≡ Some 
 front_same bytes p q m n e h = subst (λ (x : Part). Front bytes x n) (part-is p q m n e) (subst (λ (x : ℕ). Front bytes p x) (size-is p q m n e) h)
 
 -- what a choice between two answers gives
-chosen : (t : Bool) (x y : Option (Part × ℕ)) (p : Part) (size : ℕ) → (if t then x else y) ≡ Some (p, size) → ((t ≡ true) × (x ≡ Some (p, size))) ⊎ ((t ≡ false) × (y ≡ Some (p, size)))
-chosen true x y p size e = inl (refl, e)
-chosen false x y p size e = inr (refl, e)
+tape_preference : (t : Bool) (x y : Option (Part × ℕ)) (p : Part) (size : ℕ) → (if t then x else y) ≡ Some (p, size) → ((t ≡ true) × (x ≡ Some (p, size))) ⊎ ((t ≡ false) × (y ≡ Some (p, size)))
+tape_preference true x y p size e = inl (refl, e)
+tape_preference false x y p size e = inr (refl, e)
 
 unequal : (b n : ℕ) → nat_eq b n ≡ false → b ≢ n
 unequal b n e = grind (arith, nat_tests)
 
-escaped-front : (more : List ℕ) (p : Part) (size : ℕ) → escaped more ≡ Some (p, size) → Front (92 ∷ more) p size
+escaped-front : (more : List ℕ) (p : Part) (size : ℕ) → escape_part more ≡ Some (p, size) → Front (92 ∷ more) p size
 escaped-front [] p size e = absurd cc
 escaped-front (b ∷ more) p size e = front_same (92 ∷ b ∷ more) (part.Byte b) p 2 size e (record { spells = inr refl; some = omega arith; within = omega arith })
 
@@ -56,7 +56,7 @@ named-front more n p size at e =
     let text : List ℕ = 36 ∷ 40 ∷ (take n more ++ 41 ∷ []) in
     let long : n + 3 ≡ length text = omega (arith, length-append (take n more) (41 ∷ []), length-take-le n more (omega (arith, h.0))) in
     let front : take (n + 3) (36 ∷ 40 ∷ more) ≡ text = ap (λ (x : List ℕ). take (n + 3) (36 ∷ 40 ∷ x)) (whole ∙ sym (append_assoc (take n more) (41 ∷ []) (drop (n + 1) more))) ∙ take_at text (drop (n + 1) more) (n + 3) (sym long) in
-    elim (chosen (identifier (take n more)) _ _ p size e) [
+    elim (tape_preference (identifier (take n more)) _ _ p size e) [
       | inl k ↦ front_same (36 ∷ 40 ∷ more) (part.Property (take n more)) p (n + 3) size k.1 (record { spells = (k.0, front); some = omega arith; within = omega (arith, h.0) })
       | inr k ↦ absurd cc
     ]
@@ -69,12 +69,12 @@ property-front more p size e = by_place (position is_end more) refl e
     by_place (Some n) at h = named-front more n p size at h
     by_place None at h = absurd cc
 
-replaced-front : (more : List ℕ) (p : Part) (size : ℕ) → replaced more ≡ Some (p, size) → Front (36 ∷ more) p size
+replaced-front : (more : List ℕ) (p : Part) (size : ℕ) → dollar_part more ≡ Some (p, size) → Front (36 ∷ more) p size
 replaced-front [] p size e = absurd cc
 replaced-front (b ∷ more) p size e =
-    elim (chosen (nat_eq b 42) _ _ p size e) [
+    elim (tape_preference (nat_eq b 42) _ _ p size e) [
       | inl h ↦ subst (λ (x : ℕ). Front (36 ∷ x ∷ more) p size) (sym (eqb-true b 42 h.0)) (front_same (36 ∷ 42 ∷ more) part.Constraint p 2 size h.1 (record { spells = refl; some = omega arith; within = omega arith }))
-      | inr h ↦ elim (chosen (nat_eq b 40) _ _ p size h.1) [
+      | inr h ↦ elim (tape_preference (nat_eq b 40) _ _ p size h.1) [
         | inl k ↦ subst (λ (x : ℕ). Front (36 ∷ x ∷ more) p size) (sym (eqb-true b 40 k.0)) (property-front more p size k.1)
         | inr k ↦ absurd cc
       ]
@@ -83,9 +83,9 @@ replaced-front (b ∷ more) p size e =
 pub front-found : (bytes : List ℕ) (p : Part) (size : ℕ) → part_in_front bytes ≡ Some (p, size) → Front bytes p size
 front-found [] p size e = absurd cc
 front-found (b ∷ more) p size e =
-    elim (chosen (nat_eq b 92) _ _ p size e) [
+    elim (tape_preference (nat_eq b 92) _ _ p size e) [
       | inl h ↦ subst (λ (x : ℕ). Front (x ∷ more) p size) (sym (eqb-true b 92 h.0)) (escaped-front more p size h.1)
-      | inr h ↦ elim (chosen (nat_eq b 36) _ _ p size h.1) [
+      | inr h ↦ elim (tape_preference (nat_eq b 36) _ _ p size h.1) [
         | inl k ↦ subst (λ (x : ℕ). Front (x ∷ more) p size) (sym (eqb-true b 36 k.0)) (replaced-front more p size k.1)
         | inr k ↦ front_same (b ∷ more) (part.Byte b) p 1 size k.1 (record { spells = inl (unequal b 36 k.0, unequal b 92 h.0, refl); some = omega arith; within = omega arith })
       ]
@@ -110,15 +110,15 @@ all-words (b ∷ others) e =
     let letter = and-left (is_letter b) (nat_le (length others) 255) (and-left (is_letter b && nat_le (length others) 255) (list_all is_word others) e) in
     rw (word-letter b letter) (and-right (is_letter b && nat_le (length others) 255) (list_all is_word others) e)
 
-placed : (xs : List ℕ) (i : ℕ) → position_or_len is_end xs ≡ i → i < length xs → position is_end xs ≡ Some i
-placed xs i e h = ap (λ (n : ℕ). if nat_lt n (length xs) then (let o : Option ℕ = Some n in o) else None) e ∙ ap (λ (t : Bool). if t then (let o : Option ℕ = Some i in o) else None) (lt-ltb i (length xs) h)
+at_place : (xs : List ℕ) (i : ℕ) → position_or_len is_end xs ≡ i → i < length xs → position is_end xs ≡ Some i
+at_place xs i e h = ap (λ (n : ℕ). if nat_lt n (length xs) then (let o : Option ℕ = Some n in o) else None) e ∙ ap (λ (t : Bool). if t then (let o : Option ℕ = Some i in o) else None) (lt-ltb i (length xs) h)
 
 property-only : (name more : List ℕ) → identifier name ≡ true → property_part (name ++ 41 ∷ more) ≡ Some (part.Property name, length name + 3)
 unfolding property_part
 property-only name more e =
     let whole : List ℕ = name ++ 41 ∷ more in
     let lt : length name < length whole = omega (arith, length-append name (41 ∷ more)) in
-    let place = placed whole (length name) (end-place name more (all-words name e)) lt in
+    let place = at_place whole (length name) (end-place name more (all-words name e)) lt in
     let front : take (length name) whole ≡ name = take_at name (41 ∷ more) (length name) refl in
     ap (λ (o : Option ℕ). option_and_then (named_part whole) o) place
     ∙ ap (λ (x : List ℕ). if identifier x then found (part.Property x) (length name + 3) else None) front

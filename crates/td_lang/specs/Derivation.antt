@@ -1,6 +1,6 @@
 -- Trading Object Service, appendix "OMG Constraint Language BNF", "The Constraint Language BNF".
--- The grammar of expressions, a rule for each production: the tokens of each kind, and their tree. What departs from the appendix: a number has
--- neither a fraction nor an exponent, and a name may follow a `\`.
+-- The grammar of expressions, a rule for each production: the tokens of each kind, and their tree. What
+-- departs from the appendix: a number has neither a fraction nor an exponent.
 use Rattle.std.specs.Prelude.{◌≡◌, pos, neg_ℤ, ℕ, Bool, List, [], ◌∷◌, ◌++◌}
 use Rattle.td_lang.specs.declared.expr.Op.{Op}
 use Rattle.td_lang.specs.declared.expr.Op.TheVariants as op
@@ -27,26 +27,40 @@ abbrev pub between : List Token → Op → List Token → List Token
 between xs o ys = xs ++ token.Operator o ∷ ys
 
 pub data Derives : Kind → List Token → Expr → Type 0 where
-  or_more : (xs ys : List Token) (a b : Expr) → Derives Or xs a → Derives And ys b → Derives Or (between xs op.Or ys) (expr.Binary op.Or a b)
+  or_more : (xs ys : List Token) (a b : Expr)
+      → Derives Or xs a → Derives And ys b → Derives Or (between xs op.Or ys) (expr.Binary op.Or a b)
   or_one : (xs : List Token) (a : Expr) → Derives And xs a → Derives Or xs a
-  and_more : (xs ys : List Token) (a b : Expr) → Derives And xs a → Derives Compare ys b → Derives And (between xs op.And ys) (expr.Binary op.And a b)
+  and_more : (xs ys : List Token) (a b : Expr)
+      → Derives And xs a → Derives Compare ys b → Derives And (between xs op.And ys) (expr.Binary op.And a b)
   and_one : (xs : List Token) (a : Expr) → Derives Compare xs a → Derives And xs a
-  equal : (xs ys : List Token) (a b : Expr) → Derives In xs a → Derives In ys b → Derives Compare (between xs op.Eq ys) (expr.Binary op.Eq a b)
-  unequal : (xs ys : List Token) (a b : Expr) → Derives In xs a → Derives In ys b → Derives Compare (between xs op.Ne ys) (expr.Binary op.Ne a b)
-  less : (xs ys : List Token) (a b : Expr) → Derives In xs a → Derives In ys b → Derives Compare (between xs op.Lt ys) (expr.Binary op.Lt a b)
-  less_or_equal : (xs ys : List Token) (a b : Expr) → Derives In xs a → Derives In ys b → Derives Compare (between xs op.Le ys) (expr.Binary op.Le a b)
-  greater : (xs ys : List Token) (a b : Expr) → Derives In xs a → Derives In ys b → Derives Compare (between xs op.Gt ys) (expr.Binary op.Gt a b)
-  greater_or_equal : (xs ys : List Token) (a b : Expr) → Derives In xs a → Derives In ys b → Derives Compare (between xs op.Ge ys) (expr.Binary op.Ge a b)
+  equal : (xs ys : List Token) (a b : Expr)
+      → Derives In xs a → Derives In ys b → Derives Compare (between xs op.Eq ys) (expr.Binary op.Eq a b)
+  unequal : (xs ys : List Token) (a b : Expr)
+      → Derives In xs a → Derives In ys b → Derives Compare (between xs op.Ne ys) (expr.Binary op.Ne a b)
+  less : (xs ys : List Token) (a b : Expr)
+      → Derives In xs a → Derives In ys b → Derives Compare (between xs op.Lt ys) (expr.Binary op.Lt a b)
+  less_or_equal : (xs ys : List Token) (a b : Expr)
+      → Derives In xs a → Derives In ys b → Derives Compare (between xs op.Le ys) (expr.Binary op.Le a b)
+  greater : (xs ys : List Token) (a b : Expr)
+      → Derives In xs a → Derives In ys b → Derives Compare (between xs op.Gt ys) (expr.Binary op.Gt a b)
+  greater_or_equal : (xs ys : List Token) (a b : Expr)
+      → Derives In xs a → Derives In ys b → Derives Compare (between xs op.Ge ys) (expr.Binary op.Ge a b)
   compare_one : (xs : List Token) (a : Expr) → Derives In xs a → Derives Compare xs a
-  in_list : (xs : List Token) (a : Expr) (name : List ℕ) → Derives Twiddle xs a → Derives In (xs ++ token.Within ∷ token.Name name ∷ []) (expr.Within a name)
+  in_list : (xs : List Token) (a : Expr) (name : List ℕ)
+      → Derives Twiddle xs a → Derives In (xs ++ token.Within ∷ token.Name name ∷ []) (expr.Within a name)
   in_one : (xs : List Token) (a : Expr) → Derives Twiddle xs a → Derives In xs a
-  occurs : (xs ys : List Token) (a b : Expr) → Derives Sum xs a → Derives Sum ys b → Derives Twiddle (between xs op.Twiddle ys) (expr.Binary op.Twiddle a b)
+  occurs : (xs ys : List Token) (a b : Expr)
+      → Derives Sum xs a → Derives Sum ys b → Derives Twiddle (between xs op.Twiddle ys) (expr.Binary op.Twiddle a b)
   twiddle_one : (xs : List Token) (a : Expr) → Derives Sum xs a → Derives Twiddle xs a
-  plus : (xs ys : List Token) (a b : Expr) → Derives Sum xs a → Derives Term ys b → Derives Sum (between xs op.Add ys) (expr.Binary op.Add a b)
-  minus : (xs ys : List Token) (a b : Expr) → Derives Sum xs a → Derives Term ys b → Derives Sum (between xs op.Sub ys) (expr.Binary op.Sub a b)
+  plus : (xs ys : List Token) (a b : Expr)
+      → Derives Sum xs a → Derives Term ys b → Derives Sum (between xs op.Add ys) (expr.Binary op.Add a b)
+  minus : (xs ys : List Token) (a b : Expr)
+      → Derives Sum xs a → Derives Term ys b → Derives Sum (between xs op.Sub ys) (expr.Binary op.Sub a b)
   sum_one : (xs : List Token) (a : Expr) → Derives Term xs a → Derives Sum xs a
-  times : (xs ys : List Token) (a b : Expr) → Derives Term xs a → Derives NotFactor ys b → Derives Term (between xs op.Mul ys) (expr.Binary op.Mul a b)
-  divided : (xs ys : List Token) (a b : Expr) → Derives Term xs a → Derives NotFactor ys b → Derives Term (between xs op.Div ys) (expr.Binary op.Div a b)
+  times : (xs ys : List Token) (a b : Expr)
+      → Derives Term xs a → Derives NotFactor ys b → Derives Term (between xs op.Mul ys) (expr.Binary op.Mul a b)
+  divided : (xs ys : List Token) (a b : Expr)
+      → Derives Term xs a → Derives NotFactor ys b → Derives Term (between xs op.Div ys) (expr.Binary op.Div a b)
   term_one : (xs : List Token) (a : Expr) → Derives NotFactor xs a → Derives Term xs a
   denied : (xs : List Token) (a : Expr) → Derives Factor xs a → Derives NotFactor (token.Not ∷ xs) (expr.Not a)
   not_factor_one : (xs : List Token) (a : Expr) → Derives Factor xs a → Derives NotFactor xs a
@@ -59,7 +73,7 @@ pub data Derives : Kind → List Token → Expr → Type 0 where
   truth : (b : Bool) → Derives Factor (token.Truth b ∷ []) (expr.Truth b)
 
 -- some phrase of the level has these tokens and this tree
-pub record Made (l : ℕ) (ts : List Token) (e : Expr) : Type 0 where
+pub record HasPhrase (l : ℕ) (ts : List Token) (e : Expr) : Type 0 where
   pub phrase : Phrase
   pub fits : Fits l phrase
   pub spelled : tokens phrase ≡ ts

@@ -20,13 +20,20 @@ abbrev pub lead : (ℕ → Bool) → List ℕ → ℕ
 lead p [] = 0
 lead p (b ∷ bs) = if p b then lead p bs + 1 else 0
 
--- the words that begin a preference, and the truth values; any other word is a name
+-- the truth values; any other word is a name
+abbrev pub truth_word : List ℕ → Token
+truth_word w =
+    if bytes_eq w (codes "TRUE") then token.Truth true
+    else if bytes_eq w (codes "FALSE") then token.Truth false else token.Name w
+
+-- the words that begin a preference
 abbrev pub plain_word : List ℕ → Token
 plain_word w =
-    if bytes_eq w (codes "min") then token.Keyword keyword.Min else if bytes_eq w (codes "max") then token.Keyword keyword.Max
-    else if bytes_eq w (codes "first") then token.Keyword keyword.First else if bytes_eq w (codes "random") then token.Keyword keyword.Random
-    else if bytes_eq w (codes "with") then token.Keyword keyword.With else if bytes_eq w (codes "TRUE") then token.Truth true
-    else if bytes_eq w (codes "FALSE") then token.Truth false else token.Name w
+    if bytes_eq w (codes "min") then token.Keyword keyword.Min
+    else if bytes_eq w (codes "max") then token.Keyword keyword.Max
+    else if bytes_eq w (codes "first") then token.Keyword keyword.First
+    else if bytes_eq w (codes "random") then token.Keyword keyword.Random
+    else if bytes_eq w (codes "with") then token.Keyword keyword.With else truth_word w
 
 -- a word that isn't reserved is a name
 abbrev pub word_token : List ℕ → Token
@@ -55,8 +62,8 @@ own_name_at place text =
     if not (is_letter (byte_at text 1)) then Err (fault.Syntax place) else if nat_lt 256 size then Err (fault.Syntax place) else Ok (token.Name (take size name), size + 1)
 
 -- a value with one digit more behind it, none from 2 ^ 63 on
-abbrev pub grown : ℕ → ℕ → Option ℕ
-grown n b = if nat_lt (n * 10 + (b - 48)) (2 ^ 63) then Some (n * 10 + (b - 48)) else None
+abbrev pub with_digit : ℕ → ℕ → Option ℕ
+with_digit n b = if nat_lt (n * 10 + (b - 48)) (2 ^ 63) then Some (n * 10 + (b - 48)) else None
 
 abbrev pub onward : Option ℕ → (ℕ → Option ℕ) → Option ℕ
 onward None f = None
@@ -65,7 +72,7 @@ onward (Some n) f = f n
 -- the value of digits that stand behind those of n
 abbrev pub value_of : ℕ → List ℕ → Option ℕ
 value_of n [] = Some n
-value_of n (b ∷ bs) = onward (grown n b) (λ m. value_of m bs)
+value_of n (b ∷ bs) = onward (with_digit n b) (λ m. value_of m bs)
 
 abbrev pub number_of : ℕ → ℕ → Option ℕ → Taken
 number_of place size (Some n) = Ok (token.Number n, size)

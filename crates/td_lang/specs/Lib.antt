@@ -1,12 +1,12 @@
-pub mod Asked
+pub mod Constraints
 pub mod Derivation
-pub mod First
+pub mod FirstFaults
 pub mod Grammar
 pub mod Levels
 pub mod Lexing
 pub mod Machine
-pub mod Preferred
-pub mod Printed
+pub mod Preferences
+pub mod PrintedTexts
 pub mod Printing
 pub mod Reading
 pub mod Recipes

@@ -1,7 +1,7 @@
 -- Trading Object Service, appendix "OMG Constraint Language BNF", as the reader of this crate goes through it; what it finds is told by the grammar in
--- `Asked`.
+-- `Constraints`.
 -- Reading token by token: what was begun, the last on top, and what may come next.
-use Rattle.std.specs.Prelude.{◌<◌, ◌^◌, pos, neg_ℤ, ◌≡◌, Bool, true, false, ℕ, ◌+◌, ◌-◌, nat_lt, if◌then◌else◌, List, [], ◌∷◌, Result, Ok, Err}
+use Rattle.std.specs.Prelude.{◌<◌, ◌^◌, pos, neg_ℤ, ◌≡◌, Bool, true, false, ℕ, ◌+◌, ◌-◌, nat_lt, if◌then◌else◌, List, [], ◌∷◌, reverse, Result, Ok, Err}
 use Rattle.td_lang.specs.declared.expr.Op.{Op}
 use Rattle.td_lang.specs.declared.expr.Op.TheVariants as op
 use Rattle.td_lang.specs.declared.expr.Expr.{Expr}
@@ -17,11 +17,11 @@ use Rattle.td_lang.specs.declared.machine.Stop.TheVariants as stop
 use Rattle.td_lang.specs.Levels.{level, left, right}
 
 -- what is finished before something of level n follows: the frames below, the level of the operand, and the operand
-abbrev pub settled : ℕ → List Frame → ℕ → Expr → List Frame × ℕ × Expr
-settled n [] m e = ([], m, e)
-settled n (frame.Binary o a ∷ st) m e = if nat_lt n (right o) then settled n st (level o) (expr.Binary o a e) else (frame.Binary o a ∷ st, m, e)
-settled n (frame.Not ∷ st) m e = settled n st 8 (expr.Not e)
-settled n (frame.Open ∷ st) m e = (frame.Open ∷ st, m, e)
+abbrev pub reduction : ℕ → List Frame → ℕ → Expr → List Frame × ℕ × Expr
+reduction n [] m e = ([], m, e)
+reduction n (frame.Binary o a ∷ st) m e = if nat_lt n (right o) then reduction n st (level o) (expr.Binary o a e) else (frame.Binary o a ∷ st, m, e)
+reduction n (frame.Not ∷ st) m e = reduction n st 8 (expr.Not e)
+reduction n (frame.Open ∷ st) m e = (frame.Open ∷ st, m, e)
 
 -- the parentheses that are open, the frames, and what may come next
 pub record Stand : Type 0 where
@@ -34,6 +34,13 @@ Step = Result Stand Stop
 
 abbrev pub stand : ℕ → List Frame → State → Stand
 stand d st s = record { depth = d; stack = st; state = s }
+
+-- the same with frames of which the last is on top
+abbrev pub standing : List Frame → ℕ × State → Stand
+standing frames r = stand r.0 (reverse frames) r.1
+
+abbrev pub operand_on : List Frame → ℕ × Expr → List Frame × ℕ × Expr
+operand_on frames r = (reverse frames, r.0, r.1)
 
 -- the top frame's operand may be a `not`
 abbrev pub takes_not : List Frame → Bool
@@ -57,8 +64,8 @@ operand d st token.Open = if nat_lt d 64 then Ok (stand (d + 1) (frame.Open ∷ 
 operand d st t = Err stop.Refused
 
 abbrev pub name_of : ℕ → List Frame → (List ℕ → State) → Token → Step
-name_of d st done (token.Name name) = Ok (stand d st (done name))
-name_of d st done t = Err (refusal d t)
+name_of d st holding (token.Name name) = Ok (stand d st (holding name))
+name_of d st holding t = Err (refusal d t)
 
 abbrev pub size_of : ℕ → List Frame → Token → Step
 size_of d st (token.Number n) = Ok (stand d st (state.Done 9 (expr.Number (neg_ℤ (pos n)))))
@@ -68,28 +75,28 @@ abbrev pub IsSmall : Token → Type 0
 IsSmall (token.Number n) = n < 2 ^ 63
 IsSmall t = Unit {0}
 
-abbrev pub joined : ℕ → Op → List Frame × ℕ × Expr → Step
-joined d o s = if nat_lt s.1 (left o) then Err stop.Refused else Ok (stand d (frame.Binary o s.2 ∷ s.0) state.Operand)
+abbrev pub operator_step : ℕ → Op → List Frame × ℕ × Expr → Step
+operator_step d o s = if nat_lt s.1 (left o) then Err stop.Refused else Ok (stand d (frame.Binary o s.2 ∷ s.0) state.Operand)
 
-abbrev pub looked_in : ℕ → List Frame × ℕ × Expr → Step
-looked_in d s = if nat_lt s.1 5 then Err stop.Refused else Ok (stand d s.0 (state.AfterIn s.2))
+abbrev pub within_step : ℕ → List Frame × ℕ × Expr → Step
+within_step d s = if nat_lt s.1 5 then Err stop.Refused else Ok (stand d s.0 (state.AfterIn s.2))
 
-abbrev pub closed : ℕ → List Frame → Expr → Step
-closed d (frame.Open ∷ st) e = Ok (stand (d - 1) st (state.Done 9 e))
-closed d st e = Err stop.Refused
+abbrev pub close_step : ℕ → List Frame → Expr → Step
+close_step d (frame.Open ∷ st) e = Ok (stand (d - 1) st (state.Done 9 e))
+close_step d st e = Err stop.Refused
 
-abbrev pub done : ℕ → List Frame → ℕ → Expr → Token → Step
-done d st m e (token.Operator o) = joined d o (settled (level o) st m e)
-done d st m e token.Within = looked_in d (settled 4 st m e)
-done d st m e token.Close = closed d (settled 0 st m e).0 (settled 0 st m e).2
-done d st m e t = Err (refusal d t)
+abbrev pub suffix : ℕ → List Frame → ℕ → Expr → Token → Step
+suffix d st m e (token.Operator o) = operator_step d o (reduction (level o) st m e)
+suffix d st m e token.Within = within_step d (reduction 4 st m e)
+suffix d st m e token.Close = close_step d (reduction 0 st m e).0 (reduction 0 st m e).2
+suffix d st m e t = Err (refusal d t)
 
 abbrev pub step_of : ℕ → List Frame → State → Token → Step
 step_of d st state.Operand t = operand d st t
 step_of d st state.AfterExist t = name_of d st (λ name. state.Done 9 (expr.Exist name)) t
 step_of d st state.AfterMinus t = size_of d st t
 step_of d st (state.AfterIn e) t = name_of d st (λ name. state.Done 4 (expr.Within e name)) t
-step_of d st (state.Done m e) t = done d st m e t
+step_of d st (state.Done m e) t = suffix d st m e t
 
 abbrev pub step : Stand → Token → Step
 step s t = step_of s.depth s.stack s.state t
@@ -100,7 +107,7 @@ whole ([], m, e) = Ok e
 whole (st, m, e) = Err stop.Refused
 
 abbrev pub end_of : List Frame → State → Result Expr Stop
-end_of st (state.Done m e) = whole (settled 0 st m e)
+end_of st (state.Done m e) = whole (reduction 0 st m e)
 end_of st s = Err stop.Refused
 
 -- What a call answered is what the definition gives, unless memory ran out.

@@ -4,30 +4,31 @@
 use Rattle.std.specs.Prelude.{ℤ, pos, negsuc, suc, Bool, true, false, ◌&&◌, ℕ, ◌^◌, ◌<◌, nat_lt, if◌then◌else◌, List, [], ◌∷◌, ◌++◌, codes, IsTrue}
 use Rattle.std.specs.Fmt.{decimal}
 use Rattle.td_cdr.specs.Names.{identifier}
+use Rattle.td_lang.specs.declared.expr.Op.{Op}
 use Rattle.td_lang.specs.declared.expr.Expr.{Expr, fold-Expr, Expr-F}
 use Rattle.td_lang.specs.declared.expr.Expr.TheOpen as layer
 use Rattle.td_lang.specs.declared.token.Token.{Token}
 use Rattle.td_lang.specs.declared.token.Token.TheVariants as token
 use Rattle.td_lang.specs.Levels.{level, left, right}
-use Rattle.td_lang.specs.Spelling.{operator_word, preference_word, reserved, inside_quotes}
-use Rattle.td_lang.specs.Grammar.{Phrase, Joined, Within, Denied, Exists, Named, Counted, Opposed, Quoted, Truth, Enclosed, tokens, Fits, Shallow}
+use Rattle.td_lang.specs.Spelling.{operator_word, preference_word, is_reserved, inside_quotes}
+use Rattle.td_lang.specs.Grammar.{Phrase, Operation, Within, Negation, Existence, PropertyName, Numeral, Negative, Quoted, Truth, Parenthesis, tokens, Fits, Shallow}
 
 -- ---- the phrase of a tree
 
 -- a phrase of level m where the grammar has something of level l
 abbrev pub at_level : ℕ → ℕ → Phrase → Phrase
-at_level l m c = if nat_lt m l then Enclosed c else c
+at_level l m c = if nat_lt m l then Parenthesis c else c
 
 abbrev pub number_phrase : ℤ → Phrase
-number_phrase (pos n) = Counted n
-number_phrase (negsuc n) = Opposed (suc n)
+number_phrase (pos n) = Numeral n
+number_phrase (negsuc n) = Negative (suc n)
 
 abbrev pub phrase_layer : Expr-F (ℕ → Phrase) → ℕ → Phrase
-phrase_layer (layer.Binary o a b) l = at_level l (level o) (Joined o (a (left o)) (b (right o)))
+phrase_layer (layer.Binary o a b) l = at_level l (level o) (Operation o (a (left o)) (b (right o)))
 phrase_layer (layer.Within a name) l = at_level l 4 (Within (a 5) name)
-phrase_layer (layer.Not a) l = at_level l 8 (Denied (a 9))
-phrase_layer (layer.Exist name) l = Exists name
-phrase_layer (layer.Name name) l = Named name
+phrase_layer (layer.Not a) l = at_level l 8 (Negation (a 9))
+phrase_layer (layer.Exist name) l = Existence name
+phrase_layer (layer.Name name) l = PropertyName name
 phrase_layer (layer.Number n) l = number_phrase n
 phrase_layer (layer.Str t) l = Quoted t
 phrase_layer (layer.Truth b) l = Truth b
@@ -44,7 +45,7 @@ truth_word false = codes "FALSE"
 
 -- a reserved name has a `\` in front
 abbrev pub name_bytes : List ℕ → List ℕ
-name_bytes name = if reserved name then 92 ∷ name else name
+name_bytes name = if is_reserved name then 92 ∷ name else name
 
 abbrev pub bytes_of : Token → List ℕ
 bytes_of (token.Operator o) = operator_word o
@@ -62,26 +63,34 @@ bytes_of (token.Keyword k) = preference_word k
 -- ---- the text of tokens
 
 -- bytes behind a text, with a space between
-abbrev pub spaced : List ℕ → List ℕ → List ℕ
-spaced [] bytes = bytes
-spaced (x ∷ xs) bytes = (x ∷ xs) ++ 32 ∷ bytes
+abbrev pub with_space : List ℕ → List ℕ → List ℕ
+with_space [] bytes = bytes
+with_space (x ∷ xs) bytes = (x ∷ xs) ++ 32 ∷ bytes
 
 unfoldable pub put : List ℕ → Token → List ℕ
-put text t = spaced text (bytes_of t)
+put text t = with_space text (bytes_of t)
 
 abbrev pub put_all : List ℕ → List Token → List ℕ
 put_all text [] = text
 put_all text (t ∷ ts) = put_all (put text t) ts
 
 -- a tree behind a text, where the grammar has something of level l
-abbrev pub printed : List ℕ → Expr → ℕ → List ℕ
-printed text e l = put_all text (tokens (phrase_of e l))
+abbrev pub expr_text : List ℕ → Expr → ℕ → List ℕ
+expr_text text e l = put_all text (tokens (phrase_of e l))
 
 abbrev pub open_if : Bool → List ℕ → List ℕ
 open_if b text = if b then put text token.Open else text
 
 abbrev pub close_if : Bool → List ℕ → List ℕ
 close_if b text = if b then put text token.Close else text
+
+-- the left operand and its operator, where the grammar has something of level l
+abbrev pub left_text : List ℕ → Expr → Op → ℕ → List ℕ
+left_text text a o l = put (expr_text (open_if (nat_lt (level o) l) text) a (left o)) (token.Operator o)
+
+-- the right operand
+abbrev pub right_text : List ℕ → Expr → Op → ℕ → List ℕ
+right_text text b o l = close_if (nat_lt (level o) l) (expr_text text b (right o))
 
 -- ---- the trees whose texts are read again: names are identifiers, and numbers lie above -2^63 and below 2^63
 
@@ -113,13 +122,13 @@ CanBeRead e = IsPlain e × Shallow 64 (phrase_of e 1)
 
 -- where the grammar has something of level l, no pair of parentheses could be left out, and no `-` stands before 0
 abbrev pub IsTight : ℕ → Phrase → Type 0
-IsTight l (Joined o a b) = IsTight (left o) a × IsTight (right o) b
+IsTight l (Operation o a b) = IsTight (left o) a × IsTight (right o) b
 IsTight l (Within a name) = IsTight 5 a
-IsTight l (Denied a) = IsTight 9 a
-IsTight l (Exists name) = Unit {0}
-IsTight l (Named name) = Unit {0}
-IsTight l (Counted n) = Unit {0}
-IsTight l (Opposed n) = 0 < n
+IsTight l (Negation a) = IsTight 9 a
+IsTight l (Existence name) = Unit {0}
+IsTight l (PropertyName name) = Unit {0}
+IsTight l (Numeral n) = Unit {0}
+IsTight l (Negative n) = 0 < n
 IsTight l (Quoted t) = Unit {0}
 IsTight l (Truth b) = Unit {0}
-IsTight l (Enclosed a) = (Fits l a → ⊥) × IsTight 1 a
+IsTight l (Parenthesis a) = (Fits l a → ⊥) × IsTight 1 a

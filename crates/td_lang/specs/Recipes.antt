@@ -27,6 +27,10 @@ abbrev pub SpellsParts : List Part → List ℕ → Type 0
 SpellsParts [] text = text ≡ []
 SpellsParts (p ∷ parts) text = (rest : List ℕ) × Begins text p rest × SpellsParts parts rest
 
+-- the bytes begin with no part
+abbrev pub BeginsNone : List ℕ → Type 0
+BeginsNone bytes = (p : Part) (rest : List ℕ) → Begins bytes p rest → ⊥
+
 -- up to this place the text is spellings of parts, and no part begins there
 pub record IsRefusedAt (text : List ℕ) (place : ℕ) : Type 0 where
   pub front : List ℕ
@@ -36,7 +40,7 @@ pub record IsRefusedAt (text : List ℕ) (place : ℕ) : Type 0 where
   pub whole : text ≡ front ++ rest
   pub there : place ≡ length front
   pub goes_on : rest ≢ []
-  pub none : (p : Part) (more : List ℕ) → Begins rest p more → ⊥
+  pub none : BeginsNone rest
 
 -- What a reader of recipes answers: the parts that the text spells, or the fault.
 abbrev pub ReadsRecipe : List ℕ → Result Recipe LangFault → Type 0
@@ -48,9 +52,9 @@ ReadsRecipe text (Err e) = ⊥
 
 -- ---- the part that stands in front, and how many bytes it takes
 
-abbrev pub escaped : List ℕ → Option (Part × ℕ)
-escaped [] = None
-escaped (b ∷ more) = Some (part.Byte b, 2)
+abbrev pub escape_part : List ℕ → Option (Part × ℕ)
+escape_part [] = None
+escape_part (b ∷ more) = Some (part.Byte b, 2)
 
 abbrev pub named_part : List ℕ → ℕ → Option (Part × ℕ)
 named_part more size = if identifier (take size more) then Some (part.Property (take size more), size + 3) else None
@@ -59,10 +63,10 @@ named_part more size = if identifier (take size more) then Some (part.Property (
 unfoldable pub property_part : List ℕ → Option (Part × ℕ)
 property_part more = option_and_then (named_part more) (position (λ b. nat_eq b 41) more)
 
-abbrev pub replaced : List ℕ → Option (Part × ℕ)
-replaced [] = None
-replaced (b ∷ more) = if nat_eq b 42 then Some (part.Constraint, 2) else if nat_eq b 40 then property_part more else None
+abbrev pub dollar_part : List ℕ → Option (Part × ℕ)
+dollar_part [] = None
+dollar_part (b ∷ more) = if nat_eq b 42 then Some (part.Constraint, 2) else if nat_eq b 40 then property_part more else None
 
 abbrev pub part_in_front : List ℕ → Option (Part × ℕ)
 part_in_front [] = None
-part_in_front (b ∷ more) = if nat_eq b 92 then escaped more else if nat_eq b 36 then replaced more else Some (part.Byte b, 1)
+part_in_front (b ∷ more) = if nat_eq b 92 then escape_part more else if nat_eq b 36 then dollar_part more else Some (part.Byte b, 1)

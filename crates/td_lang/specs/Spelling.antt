@@ -38,11 +38,18 @@ preference_word keyword.Min = codes "min"
 preference_word keyword.Max = codes "max"
 preference_word keyword.With = codes "with"
 
+abbrev pub operator_words : List (List ℕ)
+operator_words = codes "and" ∷ codes "or" ∷ codes "not" ∷ codes "in" ∷ codes "exist" ∷ []
+
+abbrev pub preference_words : List (List ℕ)
+preference_words = codes "min" ∷ codes "max" ∷ codes "first" ∷ codes "random" ∷ codes "with" ∷ []
+
+abbrev pub truth_words : List (List ℕ)
+truth_words = codes "TRUE" ∷ codes "FALSE" ∷ []
+
 -- the reserved words, which are no names
-abbrev pub reserved : List ℕ → Bool
-reserved w =
-    list_any (bytes_eq w)
-    (codes "and" ∷ codes "or" ∷ codes "not" ∷ codes "in" ∷ codes "exist" ∷ codes "min" ∷ codes "max" ∷ codes "first" ∷ codes "random" ∷ codes "with" ∷ codes "TRUE" ∷ codes "FALSE" ∷ [])
+abbrev pub is_reserved : List ℕ → Bool
+is_reserved w = list_any (bytes_eq w) (operator_words ++ (preference_words ++ truth_words))
 
 -- a `\` stands before a quote and before a `\`
 abbrev pub needs_backslash : ℕ → Bool
@@ -60,7 +67,7 @@ Spells token.Not bs = bs ≡ codes "not"
 Spells token.Exist bs = bs ≡ codes "exist"
 Spells token.Open bs = bs ≡ codes "("
 Spells token.Close bs = bs ≡ codes ")"
-Spells (token.Name n) bs = IsIdentifier n × ((bs ≡ 92 ∷ n) ⊎ ((bs ≡ n) × (reserved n ≡ false)))
+Spells (token.Name n) bs = IsIdentifier n × ((bs ≡ 92 ∷ n) ⊎ ((bs ≡ n) × (is_reserved n ≡ false)))
 Spells (token.Number n) bs = (0 < length bs) × AllDigits 10 bs × (digits_value 10 bs ≡ n) × (n < 2 ^ 63)
 Spells (token.Quoted t) bs = bs ≡ 39 ∷ (inside_quotes t ++ 39 ∷ [])
 Spells (token.Truth true) bs = bs ≡ codes "TRUE"
@@ -96,7 +103,8 @@ pub record Front (t : Token) (text : List ℕ) : Type 0 where
 abbrev pub is_float : List ℕ → Bool
 is_float text =
     let next = byte_at text (lead is_digit text) in
-    (is_digit (byte_at text 0) && ((next == 46) || ((next == 101) || (next == 69)))) || ((byte_at text 0 == 46) && is_digit (byte_at text 1))
+    (is_digit (byte_at text 0) && ((next == 46) || ((next == 101) || (next == 69))))
+    || ((byte_at text 0 == 46) && is_digit (byte_at text 1))
 
 -- the fault of a text whose first byte is at place, and that no token stands in front of
 abbrev pub token_fault : ℕ → List ℕ → LangFault
@@ -119,4 +127,6 @@ abbrev pub Written : ℕ → List ℕ → Tape → Type 0
 Written place text (Over end) = IsTrue (list_all is_blank text) × (end ≡ place + length text)
 Written place text (Broken f) = Halts place text f
 Written place text (Spot at t rest) =
-    (gap : List ℕ) × (behind : List ℕ) × (text ≡ gap ++ behind) × IsTrue (list_all is_blank gap) × (at ≡ place + length gap) × (front : Front t behind) × Written (at + length front.spelling) front.more rest
+    (gap : List ℕ) × (behind : List ℕ) × (text ≡ gap ++ behind)
+    × IsTrue (list_all is_blank gap) × (at ≡ place + length gap)
+    × (front : Front t behind) × Written (at + length front.spelling) front.more rest

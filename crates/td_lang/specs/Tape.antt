@@ -1,6 +1,6 @@
 -- Trading Object Service, appendix "OMG Constraint Language BNF", "Lexical Tokens".
 -- A text's tokens with their places, and how it is read.
-use Rattle.std.specs.Prelude.{◌≡◌, ℕ, zero, suc, ◌+◌, ◌-◌, if◌then◌else◌, List, [], ◌∷◌, Result, Ok, Err}
+use Rattle.std.specs.Prelude.{◌≡◌, ℕ, zero, suc, ◌+◌, ◌-◌, if◌then◌else◌, List, [], ◌∷◌, drop, Result, Ok, Err}
 use Rattle.td_lang.specs.declared.expr.Expr.{Expr}
 use Rattle.td_lang.specs.declared.token.Token.{Token}
 use Rattle.td_lang.specs.declared.machine.Stop.{Stop}
@@ -26,11 +26,11 @@ tape skip place [] = Over place
 tape (suc skip) place (b ∷ bs) = tape skip (place + 1) bs
 tape zero place (b ∷ bs) = if is_blank b then tape 0 (place + 1) bs else spot place (token_at place (b ∷ bs)) (λ k. tape k (place + 1) bs)
 
-abbrev pub placed : {A : Type 0} → ℕ → Result A Stop → Result A LangFault
-placed place (Ok x) = Ok x
-placed place (Err stop.Memory) = Err fault.Memory
-placed place (Err stop.Refused) = Err (fault.Syntax place)
-placed place (Err stop.Deep) = Err (fault.Depth place)
+abbrev pub at_place : {A : Type 0} → ℕ → Result A Stop → Result A LangFault
+at_place place (Ok x) = Ok x
+at_place place (Err stop.Memory) = Err fault.Memory
+at_place place (Err stop.Refused) = Err (fault.Syntax place)
+at_place place (Err stop.Deep) = Err (fault.Depth place)
 
 infixl 10 ◌>>=◌
 abbrev pub ◌>>=◌ : {A B : Type 0} → Result A LangFault → (A → Result B LangFault) → Result B LangFault
@@ -39,9 +39,13 @@ abbrev pub ◌>>=◌ : {A B : Type 0} → Result A LangFault → (A → Result B
 
 -- the tree, or the first fault in reading order
 abbrev pub read_tape : Stand → Tape → Result Expr LangFault
-read_tape s (Over place) = placed place (end_of s.stack s.state)
+read_tape s (Over place) = at_place place (end_of s.stack s.state)
 read_tape s (Broken f) = Err f
-read_tape s (Spot place t rest) = placed place (step s t) >>= λ next. read_tape next rest
+read_tape s (Spot place t rest) = at_place place (step s t) >>= λ next. read_tape next rest
+
+-- the same from a place of a text on
+abbrev pub read_at : List ℕ → ℕ → Stand → Result Expr LangFault
+read_at text place s = read_tape s (tape 0 place (drop place text))
 
 -- Where one turn of the reader leads: the rest is read from there, or it is the fault.
 abbrev pub Turns : {X : Type 0} → (X → Result Expr LangFault) → Result X LangFault → Result Expr LangFault → Type 0

@@ -1,7 +1,7 @@
 //! Reading constraints.
 
 ghost use Rattle.std.specs.Prelude.{◌≡◌, ◌≤◌, length};
-ghost use Rattle.td_lang.specs.Asked.{Says, constraint_of, Answered};
+ghost use Rattle.td_lang.specs.Constraints.{Says, constraint_of, UnlessMemory};
 ghost use Rattle.td_lang.specs.Lexing.{GivesFault, is_blank, lead};
 
 use crate::expr::Constraint;
@@ -26,15 +26,15 @@ pub const LONGEST: usize = 4096;
 /// `TooLong` above 4,096 bytes. Otherwise the first fault in reading order: `Float` at a number with a
 /// fraction or an exponent, `Depth` at the 65th open parenthesis, `Syntax` at the first token that no
 /// constraint has there, or at the length where the text ends early. `Memory` for want of memory alone.
-#[tactic(auto, using(crate::proofs::Decided::said))]
+#[tactic(auto, using(crate::proofs::Uniqueness::said))]
 pub fn read_constraint(alloc: Global, text: &[u8]) -> Result<Constraint, LangFault>
-    ensures says { Answered (Says text.now) result }
+    ensures says { UnlessMemory (Says text.now) result }
     ensures gives { GivesFault (λ c. c) result (constraint_of text.now) }
 {
     find_constraint(alloc, text)
 }
 
-#[tactic(auto, using(crate::proofs::Begun::blank_tape, crate::proofs::Begun::asked_behind))]
+#[tactic(auto, using(crate::proofs::FirstToken::blank_tape, crate::proofs::FirstToken::asked_behind))]
 fn find_constraint(alloc: Global, text: &[u8]) -> Result<Constraint, LangFault>
     ensures { GivesFault (λ c. c) result (constraint_of text.now) }
 {

@@ -1,10 +1,11 @@
 //! Copies of the languages' trees, equal to what they are made from.
 
-ghost use Rattle.std.specs.Prelude.{◌≡◌, Ok};
+ghost use Rattle.std.specs.Prelude.{◌≡◌, Ok, IfOk};
+ghost use Rattle.td_lang.specs.declared.expr.Expr.TheVariants as expr;
 
 use crate::expr::{Constraint, Expr, Op, Part, Preference, Recipe};
 use std::alloc::Global;
-use td_cdr::{Boxed, Memory, Twin};
+use td_cdr::{Boxed, Memory, Text, Twin};
 
 // A copy of an operator takes no memory, and so always succeeds.
 impl Twin for Op {
@@ -16,21 +17,15 @@ impl Twin for Op {
 }
 
 impl Twin for Expr {
+    #[cycle(copy)]
     fn copy(&self, alloc: Global) -> Result<Expr, Memory> {
         match self {
             Expr::Binary(op, first, second) => {
-                let first = Boxed::new(alloc, first.get().copy(alloc)?)?;
-                let second = Boxed::new(alloc, second.get().copy(alloc)?)?;
-                Ok(Expr::Binary(*op, first, second))
+                let first = boxed_copy(alloc, first.get())?;
+                Ok(Expr::Binary(*op, first, boxed_copy(alloc, second.get())?))
             }
-            Expr::Within(item, name) => {
-                let item = Boxed::new(alloc, item.get().copy(alloc)?)?;
-                Ok(Expr::Within(item, name.copy(alloc)?))
-            }
-            Expr::Not(denied) => {
-                let denied = Boxed::new(alloc, denied.get().copy(alloc)?)?;
-                Ok(Expr::Not(denied))
-            }
+            Expr::Within(item, name) => within_copy(alloc, item.get(), name),
+            Expr::Not(denied) => Ok(Expr::Not(boxed_copy(alloc, denied.get())?)),
             Expr::Exist(name) => Ok(Expr::Exist(name.copy(alloc)?)),
             Expr::Name(name) => Ok(Expr::Name(name.copy(alloc)?)),
             Expr::Number(n) => Ok(Expr::Number(*n)),
@@ -38,6 +33,21 @@ impl Twin for Expr {
             Expr::Truth(truth) => Ok(Expr::Truth(*truth)),
         }
     }
+}
+
+#[cycle(copy)]
+fn boxed_copy(alloc: Global, e: &Expr) -> Result<Boxed<Expr>, Memory>
+    ensures { IfOk result (λ twin. twin ≡ e.now) }
+{
+    Boxed::new(alloc, e.copy(alloc)?)
+}
+
+#[cycle(copy)]
+fn within_copy(alloc: Global, item: &Expr, name: &Text) -> Result<Expr, Memory>
+    ensures { IfOk result (λ twin. twin ≡ expr.Within item.now name.now) }
+{
+    let item = boxed_copy(alloc, item)?;
+    Ok(Expr::Within(item, name.copy(alloc)?))
 }
 
 impl Twin for Constraint {

@@ -5,20 +5,20 @@ ghost use Rattle.td_lang.specs.declared.expr.Constraint.{Constraint};
 ghost use Rattle.td_lang.specs.declared.expr.Expr.{Expr};
 ghost use Rattle.td_lang.specs.declared.fault.LangFault.{LangFault};
 ghost use Rattle.td_lang.specs.declared.token.Token.{Token};
-ghost use Rattle.td_lang.specs.Asked.{Says, constraint_of};
-ghost use Rattle.td_lang.specs.Derivation.{Derives, Made, Or};
+ghost use Rattle.td_lang.specs.Constraints.{Says, constraint_of};
+ghost use Rattle.td_lang.specs.Derivation.{Derives, HasPhrase, Or};
 ghost use Rattle.td_lang.specs.Grammar.{Phrase, Fits, Sentence, tokens, tree};
 ghost use Rattle.td_lang.specs.Spelling.{Written};
 ghost use Rattle.td_lang.specs.Tape.{Tape, tape};
 
 /// Each text is a constraint or has a first fault, by the grammar, and `read_constraint` finds it.
-#[tactic(auto, using(crate::proofs::Decided::says_so))]
+#[tactic(auto, using(crate::proofs::Uniqueness::says_so))]
 pub fn reads_the_grammar()
     ensures { (text : List ℕ) → Says text (constraint_of text) }
 {}
 
 /// No text has two trees, a tree and a fault, or two first faults.
-#[tactic(auto, using(crate::proofs::Decided::one_said))]
+#[tactic(auto, using(crate::proofs::Uniqueness::one_said))]
 pub fn one_answer()
     ensures { (text : List ℕ) (r q : Result Constraint LangFault) → Says text r → Says text q → r ≡ q }
 {}
@@ -31,11 +31,11 @@ pub fn one_tree()
 /// The phrases that fit are the derivations by the grammar's productions.
 pub fn phrases_are_derivations()
     ensures derived { (c : Phrase) → Fits 1 c → Derives Or (tokens c) (tree c) }
-    ensures made { (ts : List Token) (e : Expr) → Derives Or ts e → Made 1 ts e }
+    ensures made { (ts : List Token) (e : Expr) → Derives Or ts e → HasPhrase 1 ts e }
 {}
 
 /// Each text has one list of tokens: their spellings, with blanks between them, are the text.
-#[tactic(auto, using(crate::proofs::OneTape::written, crate::proofs::OneTape::only))]
+#[tactic(auto, using(crate::proofs::TapeUniqueness::written, crate::proofs::TapeUniqueness::only))]
 pub fn one_list_of_tokens()
     ensures written { (text : List ℕ) → Written 0 text (tape 0 0 text) }
     ensures only { (text : List ℕ) (ts : Tape) → Written 0 text ts → ts ≡ tape 0 0 text }

@@ -2,7 +2,7 @@
 
 ghost use Rattle.std.specs.Prelude.{◌≡◌, ◌+◌, ◌^◌, ◌<◌, ◌≤◌, [], false, take, drop, length, IfOk, IfSome, IsTrue, option_map};
 ghost use Rattle.td_cdr.specs.Names.{is_letter, is_digit, is_word};
-ghost use Rattle.td_lang.specs.Lexing.{is_blank, lead, plain_word, word_token, value_of, grown, byte_at, word_at, own_name_at, number_at, quoted_from, quoted_at, with_equal, comparison_at, sign_at, token_at, GivesFault};
+ghost use Rattle.td_lang.specs.Lexing.{is_blank, lead, truth_word, plain_word, word_token, value_of, with_digit, byte_at, word_at, own_name_at, number_at, quoted_from, quoted_at, with_equal, comparison_at, sign_at, token_at, GivesFault};
 ghost use Rattle.td_lang.specs.Machine.{IsSmall};
 
 use crate::expr::Op;
@@ -95,7 +95,17 @@ fn plain_word(alloc: Global, word: &[u8]) -> Result<Token, Memory>
         Ok(Token::Keyword(Keyword::Random))
     } else if word == b"with".as_slice() {
         Ok(Token::Keyword(Keyword::With))
-    } else if word == b"TRUE".as_slice() {
+    } else {
+        truth_word(alloc, word)
+    }
+}
+
+/// A word that begins no preference either.
+fn truth_word(alloc: Global, word: &[u8]) -> Result<Token, Memory>
+    ensures token { IfOk result (λ t. t ≡ truth_word word.now) }
+    ensures small { IfOk result IsSmall }
+{
+    if word == b"TRUE".as_slice() {
         Ok(Token::Truth(true))
     } else if word == b"FALSE".as_slice() {
         Ok(Token::Truth(false))
@@ -164,7 +174,7 @@ fn value_of(digits: &[u8]) -> Option<u64>
 {
     let mut value: u64 = 0;
     for b in digits {
-        match grown(value, *b) {
+        match with_digit(value, *b) {
             Some(more) => value = more,
             None => return None,
         }
@@ -173,8 +183,8 @@ fn value_of(digits: &[u8]) -> Option<u64>
 }
 
 /// A value with one digit more behind it.
-fn grown(value: u64, digit: u8) -> Option<u64>
-    ensures value { result ≡ grown value digit }
+fn with_digit(value: u64, digit: u8) -> Option<u64>
+    ensures value { result ≡ with_digit value digit }
     ensures small { IfSome result (λ n. n < 2 ^ 63) }
 {
     let next = (value as u128) * 10 + digit.saturating_sub(b'0') as u128;

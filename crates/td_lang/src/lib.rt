@@ -25,10 +25,3 @@ pub use fault::LangFault;
 pub use preference::read_preference;
 pub use print::{print_constraint, print_preference};
 pub use recipe::read_recipe;
-
-#[cfg(test)]
-mod print_tests;
-#[cfg(test)]
-mod recipe_tests;
-#[cfg(test)]
-mod tests;

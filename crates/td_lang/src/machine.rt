@@ -3,8 +3,12 @@
 //! Nothing here recurses. The machine's stack has at most eight frames for each of the 64 parentheses
 //! that may be open, and seven more.
 
-ghost use Rattle.std.specs.Prelude.{◌≡◌, ◌+◌, ◌<◌, ◌≤◌, length, reverse, Ok, IfOk};
-ghost use Rattle.td_lang.specs.Machine.{IsSmall, settled, waits, takes_not, step_of, stand, end_of, Gives, refusal, operand, done};
+ghost use Rattle.std.specs.Prelude.{◌≡◌, ◌+◌, ◌<◌, ◌≤◌, List, length, reverse, Ok, IfOk};
+ghost use Rattle.td_lang.specs.declared.machine.Frame.{Frame};
+ghost use Rattle.td_lang.specs.declared.machine.State.TheVariants.{AfterExist, AfterMinus, AfterIn};
+ghost use Rattle.td_lang.specs.declared.token.Token.TheVariants.{Operator, Within, Not, Open, Close};
+ghost use Rattle.td_lang.specs.declared.expr.Expr.TheVariants.{Binary};
+ghost use Rattle.td_lang.specs.Machine.{IsSmall, reduction, waits, takes_not, step_of, stand, standing, operand_on, end_of, Gives, refusal, operand, suffix, whole};
 ghost use Rattle.td_lang.specs.Levels.{level, left, right};
 
 use crate::expr::{Expr, Op};
@@ -16,7 +20,7 @@ use td_cdr::{Boxed, Memory};
 pub const DEPTH: u32 = 64;
 
 /// What was begun and waits for its last operand.
-#[derive(Debug, Drop)]
+#[derive(Drop)]
 pub enum Frame {
     Binary(Op, Expr),
     Not,
@@ -24,7 +28,7 @@ pub enum Frame {
 }
 
 /// What may come next.
-#[derive(Debug, Drop)]
+#[derive(Drop)]
 pub enum State {
     Operand,
     AfterExist,
@@ -34,7 +38,7 @@ pub enum State {
 }
 
 /// Why a token is not taken.
-#[derive(Debug, Drop)]
+#[derive(Drop)]
 pub enum Stop {
     Memory,
     Refused,
@@ -106,29 +110,42 @@ fn settle(
     alloc: Global,
     stack: &mut Vec<Frame>,
     level_of: u8,
-    operand: Expr,
+    e: Expr,
     next: u8,
 ) -> Result<(u8, Expr), Stop>
-    ensures { Gives (λ r. (reverse stack.new.items, r.0, r.1)) result (Ok (settled next (reverse stack.old.items) level_of operand)) }
+    ensures { Gives (operand_on stack.new.items) result (Ok (reduction next (reverse stack.old.items) level_of e)) }
 {
     let mut reached = level_of;
-    let mut found = operand;
+    let mut found = e;
     'frames: while waits(stack.as_slice(), next) {
         match stack.pop() {
             Some(Frame::Binary(op, first)) => {
-                let first = Boxed::new(alloc, first)?;
-                let second = Boxed::new(alloc, found)?;
-                found = Expr::Binary(op, first, second);
+                found = binary(alloc, op, first, found)?;
                 reached = level(op);
             }
             Some(Frame::Not) => {
                 found = Expr::Not(Boxed::new(alloc, found)?);
                 reached = 8;
             }
-            _ => return Err(Stop::Refused),
+            _ => {
+                drop(found);
+                return Err(Stop::Refused);
+            }
         }
     }
     Ok((reached, found))
+}
+
+fn binary(alloc: Global, op: Op, first: Expr, second: Expr) -> Result<Expr, Memory>
+    ensures { IfOk result (λ e. e ≡ Binary op first second) }
+{
+    match Boxed::new(alloc, first) {
+        Ok(first) => Ok(Expr::Binary(op, first, Boxed::new(alloc, second)?)),
+        Err(memory) => {
+            drop(second);
+            Err(memory)
+        }
+    }
 }
 
 /// The last frame is finished before something of this level follows.
@@ -152,27 +169,55 @@ pub fn step(
 ) -> Result<(u32, State), Stop>
     requires depth { depth ≤ 64 }
     requires small { IsSmall token }
-    ensures gives { Gives (λ r. stand r.0 (reverse stack.new.items) r.1) result (step_of depth (reverse stack.old.items) state token) }
+    ensures gives { Gives (standing stack.new.items) result (step_of depth (reverse stack.old.items) state token) }
     ensures depth { IfOk result (λ r. r.0 ≤ 64) }
 {
     match state {
         State::Operand => operand(stack, depth, token),
-        State::AfterExist => match token {
-            Token::Name(name) => Ok((depth, State::Done(9, Expr::Exist(name)))),
-            other => Err(refusal(depth, &other)),
+        State::AfterExist => after_exist(depth, token),
+        State::AfterMinus => after_minus(depth, token),
+        State::AfterIn(left) => after_in(alloc, depth, left, token),
+        State::Done(reached, found) => suffix(alloc, stack, depth, reached, found, token),
+    }
+}
+
+fn after_exist(depth: u32, token: Token) -> Result<(u32, State), Stop>
+    requires depth { depth ≤ 64 }
+    ensures gives { (st : List Frame) → Gives (λ r. stand r.0 st r.1) result (step_of depth st AfterExist token) }
+    ensures depth { IfOk result (λ r. r.0 ≤ 64) }
+{
+    match token {
+        Token::Name(name) => Ok((depth, State::Done(9, Expr::Exist(name)))),
+        other => Err(refusal(depth, &other)),
+    }
+}
+
+fn after_minus(depth: u32, token: Token) -> Result<(u32, State), Stop>
+    requires depth { depth ≤ 64 }
+    requires small { IsSmall token }
+    ensures gives { (st : List Frame) → Gives (λ r. stand r.0 st r.1) result (step_of depth st AfterMinus token) }
+    ensures depth { IfOk result (λ r. r.0 ≤ 64) }
+{
+    match token {
+        Token::Number(size) => Ok((depth, State::Done(9, Expr::Number(-(size as i64))))),
+        other => Err(refusal(depth, &other)),
+    }
+}
+
+fn after_in(alloc: Global, depth: u32, item: Expr, token: Token) -> Result<(u32, State), Stop>
+    requires depth { depth ≤ 64 }
+    ensures gives { (st : List Frame) → Gives (λ r. stand r.0 st r.1) result (step_of depth st (AfterIn item) token) }
+    ensures depth { IfOk result (λ r. r.0 ≤ 64) }
+{
+    match token {
+        Token::Name(name) => match Boxed::new(alloc, item) {
+            Ok(item) => Ok((depth, State::Done(4, Expr::Within(item, name)))),
+            Err(_) => Err(Stop::Memory),
         },
-        State::AfterMinus => match token {
-            Token::Number(size) => Ok((depth, State::Done(9, Expr::Number(-(size as i64))))),
-            other => Err(refusal(depth, &other)),
-        },
-        State::AfterIn(left) => match token {
-            Token::Name(name) => Ok((
-                depth,
-                State::Done(4, Expr::Within(Boxed::new(alloc, left)?, name)),
-            )),
-            other => Err(refusal(depth, &other)),
-        },
-        State::Done(reached, found) => done(alloc, stack, depth, reached, found, token),
+        other => {
+            drop(item);
+            Err(refusal(depth, &other))
+        }
     }
 }
 
@@ -188,7 +233,7 @@ fn refusal(depth: u32, token: &Token) -> Stop
 fn operand(stack: &mut Vec<Frame>, depth: u32, token: Token) -> Result<(u32, State), Stop>
     requires depth { depth ≤ 64 }
     requires small { IsSmall token }
-    ensures gives { Gives (λ r. stand r.0 (reverse stack.new.items) r.1) result (operand depth (reverse stack.old.items) token) }
+    ensures gives { Gives (standing stack.new.items) result (operand depth (reverse stack.old.items) token) }
     ensures depth { IfOk result (λ r. r.0 ≤ 64) }
 {
     match token {
@@ -198,22 +243,36 @@ fn operand(stack: &mut Vec<Frame>, depth: u32, token: Token) -> Result<(u32, Sta
         Token::Truth(truth) => Ok((depth, State::Done(9, Expr::Truth(truth)))),
         Token::Operator(Op::Sub) => Ok((depth, State::AfterMinus)),
         Token::Exist => Ok((depth, State::AfterExist)),
-        Token::Not => {
-            if !takes_not(stack.as_slice()) {
-                return Err(Stop::Refused);
-            }
-            stack.push(Frame::Not)?;
-            Ok((depth, State::Operand))
-        }
-        Token::Open => {
-            if depth == DEPTH {
-                return Err(Stop::Deep);
-            }
-            stack.push(Frame::Open)?;
-            Ok((depth + 1, State::Operand))
-        }
+        Token::Not => deny(stack, depth),
+        Token::Open => open(stack, depth),
         _ => Err(Stop::Refused),
     }
+}
+
+/// Takes a `not` where an operand may stand.
+fn deny(stack: &mut Vec<Frame>, depth: u32) -> Result<(u32, State), Stop>
+    requires depth { depth ≤ 64 }
+    ensures gives { Gives (standing stack.new.items) result (operand depth (reverse stack.old.items) Not) }
+    ensures depth { IfOk result (λ r. r.0 ≤ 64) }
+{
+    if !takes_not(stack.as_slice()) {
+        return Err(Stop::Refused);
+    }
+    stack.push(Frame::Not)?;
+    Ok((depth, State::Operand))
+}
+
+/// Takes a `(` where an operand may stand.
+fn open(stack: &mut Vec<Frame>, depth: u32) -> Result<(u32, State), Stop>
+    requires depth { depth ≤ 64 }
+    ensures gives { Gives (standing stack.new.items) result (operand depth (reverse stack.old.items) Open) }
+    ensures depth { IfOk result (λ r. r.0 ≤ 64) }
+{
+    if depth == DEPTH {
+        return Err(Stop::Deep);
+    }
+    stack.push(Frame::Open)?;
+    Ok((depth + 1, State::Operand))
 }
 
 fn takes_not(stack: &[Frame]) -> bool
@@ -222,59 +281,115 @@ fn takes_not(stack: &[Frame]) -> bool
     !matches!(stack.last(), Some(Frame::Not))
 }
 
-fn done(
+/// Takes a token behind an operand.
+fn suffix(
     alloc: Global,
     stack: &mut Vec<Frame>,
     depth: u32,
     reached: u8,
-    found: Expr,
+    e: Expr,
     token: Token,
 ) -> Result<(u32, State), Stop>
     requires { depth ≤ 64 }
-    ensures gives { Gives (λ r. stand r.0 (reverse stack.new.items) r.1) result (done depth (reverse stack.old.items) reached found token) }
+    ensures gives { Gives (standing stack.new.items) result (suffix depth (reverse stack.old.items) reached e token) }
     ensures depth { IfOk result (λ r. r.0 ≤ 64) }
 {
     match token {
-        Token::Operator(op) => {
-            let (reached, found) = settle(alloc, stack, reached, found, level(op))?;
-            if reached < left(op) {
-                return Err(Stop::Refused);
-            }
-            stack.push(Frame::Binary(op, found))?;
-            Ok((depth, State::Operand))
+        Token::Operator(op) => join(alloc, stack, depth, reached, e, op),
+        Token::Within => look_in(alloc, stack, depth, reached, e),
+        Token::Close => close(alloc, stack, depth, reached, e),
+        other => {
+            drop(e);
+            Err(refusal(depth, &other))
         }
-        Token::Within => {
-            let (reached, found) = settle(alloc, stack, reached, found, 4)?;
-            if reached < 5 {
-                return Err(Stop::Refused);
-            }
-            Ok((depth, State::AfterIn(found)))
-        }
-        Token::Close => {
-            let (_, found) = settle(alloc, stack, reached, found, 0)?;
-            match stack.pop() {
-                Some(Frame::Open) => Ok((depth.saturating_sub(1), State::Done(9, found))),
-                _ => Err(Stop::Refused),
-            }
-        }
-        other => Err(refusal(depth, &other)),
     }
+}
+
+/// Takes an operator behind an operand.
+fn join(
+    alloc: Global,
+    stack: &mut Vec<Frame>,
+    depth: u32,
+    reached: u8,
+    e: Expr,
+    op: Op,
+) -> Result<(u32, State), Stop>
+    requires { depth ≤ 64 }
+    ensures gives { Gives (standing stack.new.items) result
+        (suffix depth (reverse stack.old.items) reached e (Operator op)) }
+    ensures depth { IfOk result (λ r. r.0 ≤ 64) }
+{
+    let (reached, found) = settle(alloc, stack, reached, e, level(op))?;
+    if reached < left(op) {
+        drop(found);
+        return Err(Stop::Refused);
+    }
+    stack.push(Frame::Binary(op, found))?;
+    Ok((depth, State::Operand))
+}
+
+/// Takes the word `in` behind an operand.
+fn look_in(
+    alloc: Global,
+    stack: &mut Vec<Frame>,
+    depth: u32,
+    reached: u8,
+    e: Expr,
+) -> Result<(u32, State), Stop>
+    requires { depth ≤ 64 }
+    ensures gives { Gives (standing stack.new.items) result (suffix depth (reverse stack.old.items) reached e Within) }
+    ensures depth { IfOk result (λ r. r.0 ≤ 64) }
+{
+    let (reached, found) = settle(alloc, stack, reached, e, 4)?;
+    if reached < 5 {
+        drop(found);
+        return Err(Stop::Refused);
+    }
+    Ok((depth, State::AfterIn(found)))
+}
+
+/// Takes a `)` behind an operand.
+fn close(
+    alloc: Global,
+    stack: &mut Vec<Frame>,
+    depth: u32,
+    reached: u8,
+    e: Expr,
+) -> Result<(u32, State), Stop>
+    requires { depth ≤ 64 }
+    ensures gives { Gives (standing stack.new.items) result (suffix depth (reverse stack.old.items) reached e Close) }
+    ensures depth { IfOk result (λ r. r.0 ≤ 64) }
+{
+    let (_, found) = settle(alloc, stack, reached, e, 0)?;
+    if !matches!(stack.last(), Some(Frame::Open)) {
+        drop(found);
+        return Err(Stop::Refused);
+    }
+    stack.pop();
+    Ok((depth.saturating_sub(1), State::Done(9, found)))
 }
 
 /// What was read, where the text ends.
 pub fn end(alloc: Global, stack: Vec<Frame>, state: State) -> Result<Expr, Stop>
     ensures { Gives (λ e. e) result (end_of (reverse stack.items) state) }
 {
-    let mut stack = stack;
     match state {
-        State::Done(reached, found) => {
-            let (_, found) = settle(alloc, &mut stack, reached, found, 0)?;
-            if stack.is_empty() {
-                Ok(found)
-            } else {
-                Err(Stop::Refused)
-            }
+        State::Done(reached, found) => whole(alloc, stack, reached, found),
+        other => {
+            drop(other);
+            Err(Stop::Refused)
         }
-        _ => Err(Stop::Refused),
     }
+}
+
+fn whole(alloc: Global, stack: Vec<Frame>, reached: u8, e: Expr) -> Result<Expr, Stop>
+    ensures { Gives (λ e. e) result (whole (reduction 0 (reverse stack.items) reached e)) }
+{
+    let mut stack = stack;
+    let (_, found) = settle(alloc, &mut stack, reached, e, 0)?;
+    if !stack.is_empty() {
+        drop(found);
+        return Err(Stop::Refused);
+    }
+    Ok(found)
 }

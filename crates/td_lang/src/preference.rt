@@ -1,9 +1,10 @@
 //! Reading preferences.
 
 ghost use Rattle.std.specs.Prelude.{◌≡◌, ◌≤◌, drop, length, IfOk, IfSome};
-ghost use Rattle.td_lang.specs.Asked.{Answered};
+ghost use Rattle.td_lang.specs.declared.expr.Preference.{Preference};
+ghost use Rattle.td_lang.specs.Constraints.{UnlessMemory};
 ghost use Rattle.td_lang.specs.Lexing.{GivesFault};
-ghost use Rattle.td_lang.specs.Preferred.{Prefers, Looks, preference_of, chosen, spotted, behind, alone};
+ghost use Rattle.td_lang.specs.Preferences.{Prefers, Looks, preference_of, tape_preference, spot_preference, behind, alone};
 ghost use Rattle.td_lang.specs.Tape.{tape};
 
 use crate::constraint::LONGEST;
@@ -22,9 +23,9 @@ use std::alloc::Global;
 /// `TooLong` above 4,096 bytes. Otherwise the first fault in reading order: `Float` at a number with a
 /// fraction or an exponent, `Depth` at the 65th open parenthesis, `Syntax` at the first token that no
 /// preference has there, or at the length where the text ends early. `Memory` for want of memory alone.
-#[tactic(auto, using(crate::proofs::Preferring::said))]
+#[tactic(auto, using(crate::proofs::PreferenceReading::said))]
 pub fn read_preference(alloc: Global, text: &[u8]) -> Result<Preference, LangFault>
-    ensures says { Answered (Prefers text.now) result }
+    ensures says { UnlessMemory (Prefers text.now) result }
     ensures gives { GivesFault (λ p. p) result (preference_of text.now) }
 {
     find_preference(alloc, text)
@@ -41,7 +42,7 @@ fn find_preference(alloc: Global, text: &[u8]) -> Result<Preference, LangFault>
 
 fn choose(alloc: Global, text: &[u8]) -> Result<Preference, LangFault>
     requires { length text.now ≤ 4096 }
-    ensures { GivesFault (λ p. p) result (chosen (tape 0 0 text.now)) }
+    ensures { GivesFault (λ p. p) result (tape_preference (tape 0 0 text.now)) }
 {
     match next_token(alloc, text, 0)? {
         None => Ok(Preference::Empty),
@@ -81,27 +82,28 @@ fn behind(alloc: Global, text: &[u8], word: Keyword, place: u32) -> Result<Prefe
     ensures { GivesFault (λ p. p) result (behind word (tape 0 place (drop place text.now))) }
 {
     match word {
-        Keyword::First => alone(alloc, text, Preference::First, place),
-        Keyword::Random => alone(alloc, text, Preference::Random, place),
+        Keyword::First => match end_at(alloc, text, place) {
+            Ok(()) => Ok(Preference::First),
+            Err(fault) => Err(fault),
+        },
+        Keyword::Random => match end_at(alloc, text, place) {
+            Ok(()) => Ok(Preference::Random),
+            Err(fault) => Err(fault),
+        },
         Keyword::Min => Ok(Preference::Min(read_from(alloc, text, place)?)),
         Keyword::Max => Ok(Preference::Max(read_from(alloc, text, place)?)),
         Keyword::With => Ok(Preference::With(read_from(alloc, text, place)?)),
     }
 }
 
-/// The preference, where no token follows.
-fn alone(
-    alloc: Global,
-    text: &[u8],
-    preference: Preference,
-    place: u32,
-) -> Result<Preference, LangFault>
+/// Refuses a token from a place on.
+fn end_at(alloc: Global, text: &[u8], place: u32) -> Result<(), LangFault>
     requires short { length text.now ≤ 4096 }
     requires place { place ≤ length text.now }
-    ensures { GivesFault (λ p. p) result (alone preference (tape 0 place (drop place text.now))) }
+    ensures { (p : Preference) → GivesFault (λ _. p) result (alone p (tape 0 place (drop place text.now))) }
 {
     match next_token(alloc, text, place)? {
-        None => Ok(preference),
+        None => Ok(()),
         Some((other, _token, _next)) => Err(LangFault::Syntax(other)),
     }
 }

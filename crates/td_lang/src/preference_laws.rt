@@ -4,7 +4,7 @@ ghost use Rattle.std.specs.Prelude.{◌≡◌, ℕ, List, Result};
 ghost use Rattle.td_lang.specs.declared.expr.Preference.{Preference};
 ghost use Rattle.td_lang.specs.declared.fault.LangFault.{LangFault};
 ghost use Rattle.td_lang.specs.declared.token.Token.{Token};
-ghost use Rattle.td_lang.specs.Preferred.{IsPreference, Prefers, preference_of};
+ghost use Rattle.td_lang.specs.Preferences.{IsPreference, Prefers, preference_of};
 
 /// Each text is a preference or has a first fault, by the grammar, and `read_preference` finds it. No text
 /// has two of these, and no list of tokens is two preferences.

@@ -1,8 +1,8 @@
 //! Printing constraints and preferences.
 
 ghost use Rattle.std.specs.Prelude.{◌≡◌, [], IfOk, OnOk};
-ghost use Rattle.td_lang.specs.Printing.{printed, put};
-ghost use Rattle.td_lang.specs.Printed.{printed_constraint, printed_preference};
+ghost use Rattle.td_lang.specs.Printing.{expr_text, put};
+ghost use Rattle.td_lang.specs.PrintedTexts.{constraint_text, preference_text};
 
 use crate::expr::{Constraint, Preference};
 use crate::printer::{print, put_keyword};
@@ -19,7 +19,7 @@ use td_cdr::{Memory, Text};
 ///
 /// `Memory` for want of memory alone.
 pub fn print_constraint(alloc: Global, constraint: &Constraint) -> Result<Text, Memory>
-    ensures { IfOk result (λ text. text ≡ printed_constraint constraint.now) }
+    ensures { IfOk result (λ text. text ≡ constraint_text constraint.now) }
 {
     let mut out = Vec::new(alloc);
     if let Constraint::Is(e) = constraint {
@@ -34,7 +34,7 @@ pub fn print_constraint(alloc: Global, constraint: &Constraint) -> Result<Text, 
 ///
 /// `Memory` for want of memory alone.
 pub fn print_preference(alloc: Global, preference: &Preference) -> Result<Text, Memory>
-    ensures { IfOk result (λ text. text ≡ printed_preference preference.now) }
+    ensures { IfOk result (λ text. text ≡ preference_text preference.now) }
 {
     let mut out = Vec::new(alloc);
     put_preference(alloc, &mut out, preference)?;
@@ -43,7 +43,7 @@ pub fn print_preference(alloc: Global, preference: &Preference) -> Result<Text, 
 
 fn put_preference(alloc: Global, out: &mut Vec<u8>, preference: &Preference) -> Result<(), Memory>
     requires { out.old.items ≡ [] }
-    ensures { OnOk result (out.new.items ≡ printed_preference preference.now) }
+    ensures { OnOk result (out.new.items ≡ preference_text preference.now) }
 {
     match preference {
         Preference::Empty => Ok(()),

@@ -1,20 +1,20 @@
 //! What holds of all that is printed, as functions that do nothing: each one's contract is the law.
 
-ghost use Rattle.std.specs.Prelude.{◌≡◌, ℕ, ◌≤◌, List, [], length, Ok};
+ghost use Rattle.std.specs.Prelude.{◌≡◌, ℕ, List, [], Ok};
 ghost use Rattle.td_lang.specs.declared.expr.Expr.{Expr};
 ghost use Rattle.td_lang.specs.declared.expr.Constraint.{Constraint};
 ghost use Rattle.td_lang.specs.declared.expr.Preference.{Preference};
-ghost use Rattle.td_lang.specs.Asked.{constraint_of};
+ghost use Rattle.td_lang.specs.Constraints.{constraint_of};
 ghost use Rattle.td_lang.specs.Grammar.{Phrase, Fits, Shallow, tree};
-ghost use Rattle.td_lang.specs.Preferred.{preference_of};
-ghost use Rattle.td_lang.specs.Printed.{printed_constraint, printed_preference, ConstraintCanBeRead, PreferenceCanBeRead};
+ghost use Rattle.td_lang.specs.Preferences.{preference_of};
+ghost use Rattle.td_lang.specs.PrintedTexts.{constraint_text, preference_text, IsReadAs, ConstraintCanBeRead, PreferenceCanBeRead};
 ghost use Rattle.td_lang.specs.Printing.{phrase_of, IsTight};
 
 /// What is printed is read as the same tree, where it is short, its names are identifiers, its numbers
 /// have a size below 2^63, and few enough parentheses are open. Each tree that was read is such a tree.
 pub fn printed_is_read()
-    ensures constraint { (c : Constraint) → ConstraintCanBeRead c → length (printed_constraint c) ≤ 4096 → constraint_of (printed_constraint c) ≡ Ok c }
-    ensures preference { (p : Preference) → PreferenceCanBeRead p → length (printed_preference p) ≤ 4096 → preference_of (printed_preference p) ≡ Ok p }
+    ensures constraint { (c : Constraint) → ConstraintCanBeRead c → IsReadAs constraint_of (constraint_text c) c }
+    ensures preference { (p : Preference) → PreferenceCanBeRead p → IsReadAs preference_of (preference_text p) p }
     ensures read_constraint { (text : List ℕ) (c : Constraint) → constraint_of text ≡ Ok c → ConstraintCanBeRead c }
     ensures read_preference { (text : List ℕ) (p : Preference) → preference_of text ≡ Ok p → PreferenceCanBeRead p }
 {}

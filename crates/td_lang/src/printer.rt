@@ -1,11 +1,14 @@
 //! Printing an expression.
 
+ghost use Rattle.std.specs.List.{list_any};
+ghost use Rattle.std.specs.Str.{bytes_eq};
 ghost use Rattle.std.specs.Prelude.{◌≡◌, [], ◌++◌, ◌∷◌, ◌||◌, ◌≤◌, OnOk, IfOk, if◌then◌else◌};
 ghost use Rattle.td_lang.specs.declared.token.Token.TheVariants.{Operator, Within, Not, Exist, Open, Close, Name, Number, Quoted, Truth, Keyword as keyword};
+ghost use Rattle.td_lang.specs.declared.expr.Expr.TheVariants as expr;
 ghost use Rattle.td_lang.specs.Levels.{level, left, right};
 ghost use Rattle.td_lang.specs.Grammar.{tokens};
-ghost use Rattle.td_lang.specs.Printing.{number_phrase, put, put_all, printed, spaced, open_if, close_if};
-ghost use Rattle.td_lang.specs.Spelling.{operator_word, reserved, needs_backslash, inside_quotes};
+ghost use Rattle.td_lang.specs.Printing.{number_phrase, put, put_all, expr_text, left_text, right_text, with_space, open_if, close_if};
+ghost use Rattle.td_lang.specs.Spelling.{operator_word, is_reserved, operator_words, preference_words, truth_words, needs_backslash, inside_quotes};
 
 use crate::expr::{Expr, Op};
 use crate::machine::{left, level, right};
@@ -15,7 +18,7 @@ use td_cdr::Memory;
 
 /// Puts a piece behind the text, with a space between.
 fn put(out: &mut Vec<u8>, piece: &[u8]) -> Result<(), Memory>
-    ensures { OnOk result (out.new.items ≡ spaced out.old.items piece.now) }
+    ensures { OnOk result (out.new.items ≡ with_space out.old.items piece.now) }
 {
     if !out.is_empty() {
         out.push(b' ')?;
@@ -52,20 +55,35 @@ fn put_sign(out: &mut Vec<u8>, op: Op) -> Result<(), Memory>
 }
 
 fn is_reserved(word: &[u8]) -> bool
-    ensures { result ≡ reserved word.now }
+    ensures { result ≡ is_reserved word.now }
+{
+    is_operator_word(word) || is_preference_word(word) || is_truth_word(word)
+}
+
+fn is_operator_word(word: &[u8]) -> bool
+    ensures { result ≡ list_any (bytes_eq word.now) operator_words }
 {
     word == b"and".as_slice()
         || word == b"or".as_slice()
         || word == b"not".as_slice()
         || word == b"in".as_slice()
         || word == b"exist".as_slice()
-        || word == b"min".as_slice()
+}
+
+fn is_preference_word(word: &[u8]) -> bool
+    ensures { result ≡ list_any (bytes_eq word.now) preference_words }
+{
+    word == b"min".as_slice()
         || word == b"max".as_slice()
         || word == b"first".as_slice()
         || word == b"random".as_slice()
         || word == b"with".as_slice()
-        || word == b"TRUE".as_slice()
-        || word == b"FALSE".as_slice()
+}
+
+fn is_truth_word(word: &[u8]) -> bool
+    ensures { result ≡ list_any (bytes_eq word.now) truth_words }
+{
+    word == b"TRUE".as_slice() || word == b"FALSE".as_slice()
 }
 
 #[tactic(auto, unfolding(crate::specs::Printing::put))]
@@ -210,34 +228,18 @@ fn close_if(out: &mut Vec<u8>, wanted: bool) -> Result<(), Memory>
 
 /// Prints an operand behind a text, where the grammar has something of the level `place`. It recurses as
 /// deep as the tree is.
-#[tactic(auto, using(crate::proofs::Row::printed_binary, crate::proofs::Row::printed_within, crate::proofs::Row::printed_not, crate::proofs::Row::printed_exist, crate::proofs::Row::printed_name, crate::proofs::Row::printed_number, crate::proofs::Row::printed_quoted, crate::proofs::Row::printed_truth))]
+#[tactic(auto, using(crate::proofs::PrintSteps::printed_binary, crate::proofs::PrintSteps::printed_exist, crate::proofs::PrintSteps::printed_name, crate::proofs::PrintSteps::printed_number, crate::proofs::PrintSteps::printed_quoted, crate::proofs::PrintSteps::printed_truth))]
+#[cycle(print)]
 pub(crate) fn print(alloc: Global, out: &mut Vec<u8>, e: &Expr, place: u8) -> Result<(), Memory>
-    ensures { OnOk result (out.new.items ≡ printed out.old.items e.now place) }
+    ensures { OnOk result (out.new.items ≡ expr_text out.old.items e.now place) }
 {
     match e {
         Expr::Binary(op, a, b) => {
-            let wanted = level(*op) < place;
-            open_if(out, wanted)?;
-            print(alloc, out, a.get(), left(*op))?;
-            put_sign(out, *op)?;
-            print(alloc, out, b.get(), right(*op))?;
-            close_if(out, wanted)
+            print_left(alloc, out, a.get(), *op, place)?;
+            print_right(alloc, out, b.get(), *op, place)
         }
-        Expr::Within(a, name) => {
-            let wanted = 4 < place;
-            open_if(out, wanted)?;
-            print(alloc, out, a.get(), 5)?;
-            put_within(out)?;
-            put_name(alloc, out, name.as_slice())?;
-            close_if(out, wanted)
-        }
-        Expr::Not(a) => {
-            let wanted = 8 < place;
-            open_if(out, wanted)?;
-            put_not(out)?;
-            print(alloc, out, a.get(), 9)?;
-            close_if(out, wanted)
-        }
+        Expr::Within(a, name) => print_within(alloc, out, a.get(), name.as_slice(), place),
+        Expr::Not(a) => print_not(alloc, out, a.get(), place),
         Expr::Exist(name) => {
             put_exist(out)?;
             put_name(alloc, out, name.as_slice())
@@ -247,4 +249,54 @@ pub(crate) fn print(alloc: Global, out: &mut Vec<u8>, e: &Expr, place: u8) -> Re
         Expr::Str(text) => put_quoted(alloc, out, text.as_slice()),
         Expr::Truth(truth) => put_truth(out, *truth),
     }
+}
+
+/// The left operand and its operator, in the place of such an expression.
+#[cycle(print)]
+fn print_left(alloc: Global, out: &mut Vec<u8>, a: &Expr, op: Op, place: u8) -> Result<(), Memory>
+    ensures { OnOk result (out.new.items ≡ left_text out.old.items a.now op place) }
+{
+    open_if(out, level(op) < place)?;
+    print(alloc, out, a, left(op))?;
+    put_sign(out, op)
+}
+
+/// The right operand, in the place of such an expression.
+#[cycle(print)]
+fn print_right(alloc: Global, out: &mut Vec<u8>, b: &Expr, op: Op, place: u8) -> Result<(), Memory>
+    ensures { OnOk result (out.new.items ≡ right_text out.old.items b.now op place) }
+{
+    print(alloc, out, b, right(op))?;
+    close_if(out, level(op) < place)
+}
+
+#[tactic(auto, using(crate::proofs::PrintSteps::printed_within))]
+#[cycle(print)]
+fn print_within(
+    alloc: Global,
+    out: &mut Vec<u8>,
+    a: &Expr,
+    name: &[u8],
+    place: u8,
+) -> Result<(), Memory>
+    ensures { OnOk result (out.new.items ≡ expr_text out.old.items (expr.Within a.now name.now) place) }
+{
+    let wanted = 4 < place;
+    open_if(out, wanted)?;
+    print(alloc, out, a, 5)?;
+    put_within(out)?;
+    put_name(alloc, out, name)?;
+    close_if(out, wanted)
+}
+
+#[tactic(auto, using(crate::proofs::PrintSteps::printed_not))]
+#[cycle(print)]
+fn print_not(alloc: Global, out: &mut Vec<u8>, a: &Expr, place: u8) -> Result<(), Memory>
+    ensures { OnOk result (out.new.items ≡ expr_text out.old.items (expr.Not a.now) place) }
+{
+    let wanted = 8 < place;
+    open_if(out, wanted)?;
+    put_not(out)?;
+    print(alloc, out, a, 9)?;
+    close_if(out, wanted)
 }

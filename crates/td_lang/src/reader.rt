@@ -2,9 +2,9 @@
 
 ghost use Rattle.std.specs.Prelude.{◌≡◌, [], ◌+◌, ◌<◌, ◌≤◌, take, drop, reverse, length, ℕ, Ok, Err, IfOk};
 ghost use Rattle.td_lang.specs.Lexing.{GivesFault, is_blank};
-ghost use Rattle.td_lang.specs.Machine.{IsSmall, stand, step_of, Gives};
+ghost use Rattle.td_lang.specs.Machine.{IsSmall, standing, step_of, Gives};
 ghost use Rattle.td_lang.specs.Reading.{start};
-ghost use Rattle.td_lang.specs.Tape.{tape, read_tape, placed, Turns};
+ghost use Rattle.td_lang.specs.Tape.{read_at, at_place, Turns};
 
 use crate::expr::Expr;
 use crate::fault::LangFault;
@@ -15,7 +15,7 @@ use std::alloc::Global;
 
 /// Where a refusal stands.
 fn fault_at(place: u32, stop: Stop) -> LangFault
-    ensures { placed {A = ℕ} place (Err stop) ≡ Err result }
+    ensures { at_place {A = ℕ} place (Err stop) ≡ Err result }
 {
     match stop {
         Stop::Memory => LangFault::Memory,
@@ -35,7 +35,8 @@ fn step_at(
 ) -> Result<(u32, State), LangFault>
     requires depth { depth ≤ 64 }
     requires small { IsSmall token }
-    ensures gives { GivesFault (λ r. stand r.0 (reverse stack.new.items) r.1) result (placed place (step_of depth (reverse stack.old.items) state token)) }
+    ensures gives { GivesFault (standing stack.new.items) result
+        (at_place place (step_of depth (reverse stack.old.items) state token)) }
     ensures depth { IfOk result (λ r. r.0 ≤ 64) }
 {
     match step(alloc, stack, depth, state, token) {
@@ -56,8 +57,8 @@ fn turn(
     requires depth { depth ≤ 64 }
     requires place { place < length text.now }
     requires short { length text.now ≤ 4096 }
-    ensures turns { Turns (λ r. read_tape (stand r.0 (reverse stack.new.items) r.1) (tape 0 r.2 (drop r.2 text.now))) result
-        (read_tape (stand depth (reverse stack.old.items) state) (tape 0 place (drop place text.now))) }
+    ensures turns { Turns (λ r. read_at text.now r.2 (standing stack.new.items (r.0, r.1))) result
+        (read_at text.now place (standing stack.old.items (depth, state))) }
     ensures depth { IfOk result (λ r. r.0 ≤ 64) }
     ensures place { IfOk result (λ r. (place < r.2) × (r.2 ≤ length text.now)) }
 {
@@ -65,16 +66,23 @@ fn turn(
         return Ok((depth, state, place + 1));
     }
     let (_, rest) = text.split_at(place as usize);
-    let (token, size) = token_at(alloc, place, rest)?;
-    let (depth, state) = step_at(alloc, stack, depth, state, place, token)?;
-    Ok((depth, state, place + size as u32))
+    match token_at(alloc, place, rest) {
+        Ok((token, size)) => match step_at(alloc, stack, depth, state, place, token) {
+            Ok((depth, state)) => Ok((depth, state, place + size as u32)),
+            Err(fault) => Err(fault),
+        },
+        Err(fault) => {
+            drop(state);
+            Err(fault)
+        }
+    }
 }
 
 /// The expression that stands in a text from a place on, up to its end.
 pub fn read_from(alloc: Global, text: &[u8], from: u32) -> Result<Expr, LangFault>
     requires short { length text.now ≤ 4096 }
     requires place { from ≤ length text.now }
-    ensures { GivesFault (λ e. e) result (read_tape start (tape 0 from (drop from text.now))) }
+    ensures { GivesFault (λ e. e) result (read_at text.now from start) }
 {
     let mut stack = Vec::new(alloc);
     let mut depth = 0;

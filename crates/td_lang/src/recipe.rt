@@ -2,7 +2,7 @@
 
 ghost use Rattle.std.specs.Prelude.{◌≡◌, ◌<◌, ◌≤◌, nat_eq, length, IfOk, OnSome, IfSome};
 ghost use Rattle.std.specs.List.{position};
-ghost use Rattle.td_lang.specs.Recipes.{ReadsRecipe, part_in_front, escaped, replaced, property_part, named_part};
+ghost use Rattle.td_lang.specs.Recipes.{ReadsRecipe, part_in_front, escape_part, dollar_part, property_part, named_part};
 
 use crate::constraint::LONGEST;
 use crate::expr::{Part, Recipe};
@@ -45,23 +45,23 @@ fn part_in_front(alloc: Global, bytes: &[u8]) -> Result<Option<(Part, usize)>, M
         return Ok(None);
     };
     match *first {
-        b'\\' => Ok(escaped(more)),
-        b'$' => replaced(alloc, more),
+        b'\\' => Ok(escape_part(more)),
+        b'$' => dollar_part(alloc, more),
         byte => Ok(Some((Part::Byte(byte), 1))),
     }
 }
 
 /// The part of a backslash before these bytes.
-fn escaped(more: &[u8]) -> Option<(Part, usize)>
-    ensures { result ≡ escaped more.now }
+fn escape_part(more: &[u8]) -> Option<(Part, usize)>
+    ensures { result ≡ escape_part more.now }
 {
     let byte = more.first()?;
     Some((Part::Byte(*byte), 2))
 }
 
 /// The part of a `$` before these bytes.
-fn replaced(alloc: Global, more: &[u8]) -> Result<Option<(Part, usize)>, Memory>
-    ensures { IfOk result (λ found. found ≡ replaced more.now) }
+fn dollar_part(alloc: Global, more: &[u8]) -> Result<Option<(Part, usize)>, Memory>
+    ensures { IfOk result (λ found. found ≡ dollar_part more.now) }
 {
     let Some((first, more)) = more.split_first() else {
         return Ok(None);

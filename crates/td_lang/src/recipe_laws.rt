@@ -2,13 +2,13 @@
 
 ghost use Rattle.std.specs.Prelude.{◌≡◌, ◌≢◌, ◌⊎◌, ℕ, [], ◌∷◌, List, get_or};
 ghost use Rattle.td_lang.specs.declared.expr.Part.{Part};
-ghost use Rattle.td_lang.specs.Recipes.{Begins, SpellsParts, IsRefusedAt};
+ghost use Rattle.td_lang.specs.Recipes.{BeginsNone, SpellsParts, IsRefusedAt};
 
 /// No text has two recipes, or is refused at two places, or both; and where no part begins, there is a
 /// `\` that ends the text, or a `$`.
 pub fn recipes_are_read()
     ensures one_recipe { (ps qs : List Part) (text : List ℕ) → SpellsParts ps text → SpellsParts qs text → ps ≡ qs }
-    ensures one_place { (text : List ℕ) (place other : ℕ) → IsRefusedAt text place → IsRefusedAt text other → place ≡ other }
+    ensures one_place { (text : List ℕ) (m n : ℕ) → IsRefusedAt text m → IsRefusedAt text n → m ≡ n }
     ensures not_both { (text : List ℕ) (place : ℕ) (ps : List Part) → IsRefusedAt text place → SpellsParts ps text → ⊥ }
-    ensures byte { (rest : List ℕ) → rest ≢ [] → ((p : Part) (more : List ℕ) → Begins rest p more → ⊥) → (rest ≡ 92 ∷ []) ⊎ (get_or rest 0 0 ≡ 36) }
+    ensures byte { (rest : List ℕ) → rest ≢ [] → BeginsNone rest → (rest ≡ 92 ∷ []) ⊎ (get_or rest 0 0 ≡ 36) }
 {}

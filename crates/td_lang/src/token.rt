@@ -4,7 +4,7 @@ use crate::expr::Op;
 use td_cdr::Text;
 
 /// A word that begins a preference. An expression has none of them.
-#[derive(Clone, Copy, Debug, PartialEq, Eq)]
+#[derive(Clone, Copy)]
 pub enum Keyword {
     First,
     Random,
@@ -14,7 +14,7 @@ pub enum Keyword {
 }
 
 /// A token.
-#[derive(Debug, Drop)]
+#[derive(Drop)]
 pub enum Token {
     /// An operator between two operands; `-` before a number is one too.
     Operator(Op),

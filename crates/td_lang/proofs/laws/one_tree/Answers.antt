@@ -1,4 +1,4 @@
-use Rattle.td_lang.proofs.Complete.{one_tree}
+use Rattle.td_lang.proofs.Completeness.{one_tree}
 use Rattle.td_lang.proofs.laws.one_tree.Goals as goal
 
 pub returns : goal.returns

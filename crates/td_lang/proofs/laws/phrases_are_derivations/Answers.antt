@@ -1,5 +1,5 @@
 use Rattle.td_lang.specs.Derivation.{Or}
-use Rattle.td_lang.proofs.Derived.{derives, made}
+use Rattle.td_lang.proofs.Derivations.{derives, made}
 use Rattle.td_lang.proofs.laws.phrases_are_derivations.Goals as goal
 
 pub returns : goal.returns

@@ -1,5 +1,5 @@
 use Rattle.std.proofs.Common.{◌+◌, ◌<◌, length, refl, arith}
-use Rattle.td_lang.proofs.Ahead.{none_ahead, token_ahead, fault_ahead}
+use Rattle.td_lang.proofs.NextToken.{none_ahead, token_ahead, fault_ahead}
 use Rattle.td_lang.proofs.preference.next_token.Goals as goal
 
 pub returns-then-blanks-rest-clause-looks : goal.returns-then-blanks-rest-clause-looks

@@ -1,4 +1,4 @@
-use Rattle.td_lang.proofs.Preferring.{prefers_so, one_said, one_preference}
+use Rattle.td_lang.proofs.PreferenceReading.{prefers_so, one_said, one_preference}
 use Rattle.td_lang.proofs.preference_laws.preferences_are_read.Goals as goal
 
 pub returns : goal.returns

@@ -1,6 +1,6 @@
 use Rattle.std.proofs.Common.{arith}
-use Rattle.td_lang.proofs.Printed.{again, least}
-use Rattle.td_lang.proofs.Tight.{tight, only}
+use Rattle.td_lang.proofs.PrintedPhrases.{again, least}
+use Rattle.td_lang.proofs.Parentheses.{tight, only}
 use Rattle.td_lang.proofs.print_laws.printed_has_least.Goals as goal
 
 pub returns : goal.returns

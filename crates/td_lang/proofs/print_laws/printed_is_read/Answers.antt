@@ -1,4 +1,4 @@
-use Rattle.td_lang.proofs.Back.{constraint_back, preference_back, constraint_can, preference_can}
+use Rattle.td_lang.proofs.PrintedConstraints.{constraint_back, preference_back, constraint_can, preference_can}
 use Rattle.td_lang.proofs.print_laws.printed_is_read.Goals as goal
 
 pub returns : goal.returns

@@ -1,0 +1,152 @@
+//! Constraints and the trees that they are read as.
+
+use crate::support::{constraint_fault, constraint_of, copy_of, has_tree, repeated};
+use std::alloc::Global;
+use std::process::Abort;
+use std::test::Fail;
+use td_lang::Constraint;
+
+/// A constraint of each production, from the weakest, and its tree: operators before operands in parentheses.
+const PRODUCTIONS: &str = "a or b => (or a b)
+a and b => (and a b)
+a == b => (== a b)
+a != b => (!= a b)
+a < b => (< a b)
+a <= b => (<= a b)
+a > b => (> a b)
+a >= b => (>= a b)
+a in b => (in a b)
+a ~ b => (~ a b)
+a + b => (+ a b)
+a - b => (- a b)
+a * b => (* a b)
+a / b => (/ a b)
+not a => (not a)
+(a) => a
+exist a => (exist a)
+a => a
+7 => 7
+-7 => -7
+'las' => 'las'
+TRUE => TRUE
+FALSE => FALSE";
+
+/// Operators of one level in a row.
+const ROWS: &str = "a or b or c => (or (or a b) c)
+a and b and c => (and (and a b) c)
+a - b + c - d => (- (+ (- a b) c) d)
+a / b * c / d => (/ (* (/ a b) c) d)
+a - (b - c) => (- a (- b c))";
+
+/// The stronger operator first.
+const STRENGTHS: &str = "a or b and c => (or a (and b c))
+a and b or c => (or (and a b) c)
+a and b == c => (and a (== b c))
+a == b and c => (and (== a b) c)
+a == b in c => (== a (in b c))
+a in b == c => (== (in a b) c)
+a ~ b in c => (in (~ a b) c)
+a + b ~ c => (~ (+ a b) c)
+a ~ b + c => (~ a (+ b c))
+a + b * c => (+ a (* b c))
+a * b + c => (+ (* a b) c)
+not a * b => (* (not a) b)
+a * not b => (* a (not b))
+a + not b => (+ a (not b))
+not (not a) => (not (not a))
+(a or b) and c => (and (or a b) c)
+not exist a => (not (exist a))";
+
+/// A sign before a number.
+const SIGNS: &str = "a - 3 => (- a 3)
+a - -3 => (- a -3)
+2--3 => (- 2 -3)
+-0 => 0
+not -3 < 2 => (< (not -3) 2)";
+
+/// Names, with and without a `\`.
+const NAMES: &str = r"\and and \TRUE => (and and TRUE)
+exist \not => (exist not)
+a in \first => (in a first)
+True or and_1 => (or True and_1)
+\a => a";
+
+/// Numbers up to the largest.
+const NUMBERS: &str = "9223372036854775807 => 9223372036854775807
+-9223372036854775807 => -9223372036854775807
+0009223372036854775807 => 9223372036854775807";
+
+/// Texts in quotes.
+const QUOTED: &str = r"'' => ''
+'it\'s a \\' => 'it's a \'
+'or ( 1.5' => 'or ( 1.5'
+'a'~b => (~ 'a' b)";
+
+/// Whole constraints of importers.
+const WHOLE: &str = "Cost < 10 and Floor == 3 => (and (< Cost 10) (== Floor 3))
+Cost / 3 < 2 and exist Color or 'las' ~ Kind => (or (and (< (/ Cost 3) 2) (exist Color)) (~ 'las' Kind))";
+
+/// A line's text is read as a constraint of its tree, and so is its copy.
+fn tree_line(rt: &impl Abort, alloc: Global, line: &str) -> Result<(), Fail> {
+    let (text, tree) = line.split_once(" => ").ok_or("a tree")?;
+    is_read(rt, alloc, text.as_bytes(), tree)
+}
+
+fn is_read(rt: &impl Abort, alloc: Global, text: &[u8], tree: &str) -> Result<(), Fail> {
+    let found = constraint_of(alloc, text)?;
+    agrees(rt, alloc, found.get(), tree)?;
+    let twin = copy_of(alloc, found.get())?;
+    agrees(rt, alloc, twin.get(), tree)
+}
+
+fn agrees(rt: &impl Abort, alloc: Global, constraint: &Constraint, tree: &str) -> Result<(), Fail> {
+    assert!(rt; has_tree(alloc, constraint, tree)?, "at {tree}");
+    Ok(())
+}
+
+#[test]
+fn trees(rt: HostRuntime) -> Result<(), Fail> {
+    let alloc = rt.alloc();
+    for table in [
+        PRODUCTIONS,
+        ROWS,
+        STRENGTHS,
+        SIGNS,
+        NAMES,
+        NUMBERS,
+        QUOTED,
+        WHOLE,
+    ] {
+        for line in table.lines() {
+            tree_line(&rt, alloc, line)?;
+        }
+    }
+    Ok(())
+}
+
+/// Blanks alone are the empty constraint; others stand anywhere between tokens.
+#[test]
+fn blanks(rt: HostRuntime) -> Result<(), Fail> {
+    let alloc = rt.alloc();
+    is_read(&rt, alloc, b"".as_slice(), "")?;
+    is_read(&rt, alloc, b" \t\r\n".as_slice(), "")?;
+    is_read(&rt, alloc, b" a\t\r\n".as_slice(), "a")?;
+    is_read(&rt, alloc, b"- \t5".as_slice(), "-5")
+}
+
+/// The longest name, text, row of operators and number.
+#[test]
+fn long_texts(rt: HostRuntime) -> Result<(), Fail> {
+    let alloc = rt.alloc();
+    for (before, piece, count, behind) in [
+        (b"".as_slice(), b"n".as_slice(), 256, b"".as_slice()),
+        (b"\\".as_slice(), b"n".as_slice(), 256, b"".as_slice()),
+        (b"".as_slice(), b" ".as_slice(), 4096, b"".as_slice()),
+        (b"".as_slice(), b"a+".as_slice(), 2047, b"a".as_slice()),
+        (b"".as_slice(), b"0".as_slice(), 4096, b"".as_slice()),
+    ] {
+        let text = repeated(alloc, before, piece, count, behind)?;
+        assert_eq!(rt; constraint_fault(alloc, text.as_slice()), None);
+    }
+    Ok(())
+}

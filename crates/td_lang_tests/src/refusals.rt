@@ -1,0 +1,154 @@
+//! Texts that are no constraints, with their first faults.
+
+use crate::support::{constraint_fault, fault_of, repeated};
+use std::alloc::Global;
+use std::process::Abort;
+use std::test::Fail;
+use td_lang::LangFault;
+
+/// Whole constraints with one fault: where it stands.
+const SPOILT: &str = "Cost < 1.5 => Float 7
+Cost < 10 and Floor == 3 4 => Syntax 25";
+
+/// A token that the grammar doesn't allow there.
+const TOKENS: &str = r#"a b => Syntax 2
+a == b == c => Syntax 7
+a < b > c => Syntax 6
+a in b in c => Syntax 7
+a in b + c => Syntax 7
+a in (b) => Syntax 5
+a ~ b ~ c => Syntax 6
+not not a => Syntax 4
+a - - b => Syntax 6
+-a => Syntax 1
+--3 => Syntax 1
+-(3) => Syntax 1
+exist 3 => Syntax 6
+exist (a) => Syntax 6
+a or or b => Syntax 5
+* a => Syntax 0
+() => Syntax 1
+(a)) => Syntax 3
+a ) => Syntax 2
+a = b => Syntax 2
+a ! b => Syntax 2
+a # b => Syntax 2
+a == "b" => Syntax 5"#;
+
+/// A text that ends early.
+const EARLY: &str = "a +   => Syntax 5
+(a => Syntax 2
+not => Syntax 3
+exist => Syntax 5
+a in => Syntax 4
+- => Syntax 1";
+
+/// Reserved words are no names.
+const RESERVED: &str = r"and => Syntax 0
+a == min => Syntax 5
+max => Syntax 0
+first => Syntax 0
+random => Syntax 0
+exist with => Syntax 6
+a in TRUE => Syntax 5
+a or \ => Syntax 5
+a or \1 => Syntax 5";
+
+/// Numbers with a fraction or an exponent, too large, or with a letter behind.
+const NUMBERS: &str = "a 1.5 => Float 2
+a ) 1.5 => Syntax 2
+a < .5 => Float 4
+a < . => Syntax 4
+12. => Float 0
+12e => Float 0
+1E3 => Float 0
+9223372036854775808.5 => Float 0
+9223372036854775808 => Syntax 0
+-9223372036854775808 => Syntax 1
+a < 3x => Syntax 4
+a < 3_ => Syntax 4";
+
+/// Texts in quotes.
+const QUOTED: &str = r"a == 'b => Syntax 5
+a == 'b\n' => Syntax 5";
+
+/// A piece, how many times it stands, what follows, and the fault of the whole.
+const LONG: &str = "(|65||Depth 64
+(|64||Syntax 64
+(|64|a (|Depth 66
+a or (|65||Depth 389
+(|63|a (|Syntax 65
+n|257||Syntax 0
+n|257|.5|Syntax 0
+ |4097||TooLong
+(|4097||TooLong
+(|4096||Depth 64
+a+|2048||Syntax 4096
+'|4095||Syntax 2";
+
+/// A line's text has its fault.
+fn fault_line(rt: &impl Abort, alloc: Global, line: &str) -> Result<(), Fail> {
+    let (text, fault) = line.split_once(" => ").ok_or("a fault")?;
+    let found = constraint_fault(alloc, text.as_bytes());
+    assert_eq!(rt; found, Some(fault_of(fault)?), "at {line}");
+    Ok(())
+}
+
+#[test]
+fn faults(rt: HostRuntime) -> Result<(), Fail> {
+    let alloc = rt.alloc();
+    for table in [SPOILT, TOKENS, EARLY, RESERVED, NUMBERS, QUOTED] {
+        for line in table.lines() {
+            fault_line(&rt, alloc, line)?;
+        }
+    }
+    Ok(())
+}
+
+fn long_line(rt: &impl Abort, alloc: Global, line: &str) -> Result<(), Fail> {
+    let (piece, rest) = line.split_once('|').ok_or("a piece")?;
+    let (count, rest) = rest.split_once('|').ok_or("a count")?;
+    let (behind, fault) = rest.split_once('|').ok_or("a fault")?;
+    let count = count.parse::<usize>()?;
+    let fault = fault_of(fault)?;
+    let found = long_fault(alloc, piece.as_bytes(), count, behind.as_bytes())?;
+    assert_eq!(rt; found, Some(fault), "at {line}");
+    Ok(())
+}
+
+fn long_fault(
+    alloc: Global,
+    piece: &[u8],
+    count: usize,
+    behind: &[u8],
+) -> Result<Option<LangFault>, Fail> {
+    let text = repeated(alloc, b"".as_slice(), piece, count, behind)?;
+    Ok(constraint_fault(alloc, text.as_slice()))
+}
+
+#[test]
+fn long_faults(rt: HostRuntime) -> Result<(), Fail> {
+    let alloc = rt.alloc();
+    for line in LONG.lines() {
+        long_line(&rt, alloc, line)?;
+    }
+    Ok(())
+}
+
+/// A name of 257 bytes behind a `\`.
+#[test]
+fn long_name(rt: HostRuntime) -> Result<(), Fail> {
+    let alloc = rt.alloc();
+    let text = repeated(
+        alloc,
+        b"\\".as_slice(),
+        b"n".as_slice(),
+        257,
+        b"".as_slice(),
+    )?;
+    assert_eq!(rt;
+        constraint_fault(alloc, text.as_slice()),
+        Some(LangFault::Syntax(0))
+    );
+    Ok(())
+}
