@@ -1,3 +1,4 @@
 pub mod Finding
 pub mod Moving
 pub mod Steps
+pub mod WordsLeft

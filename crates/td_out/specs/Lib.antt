@@ -3,3 +3,4 @@ pub mod Texts
 pub mod Calls
 pub mod InMemory
 pub mod Over
+pub mod RandomWords

@@ -1,9 +1,9 @@
 //! Texts in files.
 
-ghost use Rattle.std.specs.Prelude.{◌≡◌, ◌≤◌, ◌<◌, ℕ, length, Option, None, IfOk, IfSome, IsErrOf};
+ghost use Rattle.std.specs.Prelude.{◌≡◌, ◌≤◌, ◌<◌, ◌+◌, ◌++◌, ℕ, length, Option, None, Err, OnOk, IfOk, IfSome, IsErrOf};
 ghost use Rattle.std.specs.Io.KnownBytes.{Consumes, IsAtEnd};
 ghost use Rattle.td_out.specs.Texts.{longest_text};
-ghost use Rattle.td_out.specs.declared.fault.TextFault.TheVariants.{TooLong as of_length};
+ghost use Rattle.td_out.specs.declared.fault.TextFault.TheVariants.{TooLong as of_length, Failed as of_failure};
 
 use crate::fault::TextFault;
 use crate::std_source::read_some;
@@ -14,6 +14,9 @@ use std::io::Read;
 use std::marker::Model;
 use std::rt::Files;
 use td_cdr::Octets;
+
+/// How many bytes one read asks for at most.
+const PIECE_SIZE: usize = 4096;
 
 /// The texts of files, named by their paths. It tells nothing of their content.
 #[derive(Drop)]
@@ -77,17 +80,30 @@ fn read_text<R: Read>(alloc: Global, reader: &mut R) -> Result<Octets, TextFault
     ensures too_long { IsErrOf result of_length → IfSome (R.remaining reader.old) (λ all. longest_text < length all) }
 {
     let mut text = Vec::new(alloc);
-    let mut piece = [0u8; 4096];
+    let mut piece = [0u8; PIECE_SIZE];
     loop {
         let room = (LONGEST_TEXT + 1 - text.len()).min(piece.len());
         let size = read_some(reader, &mut piece[..room])?;
         if size == 0 {
             return Ok(Octets::from_vec(text));
         }
-        if size > LONGEST_TEXT - text.len() {
-            return Err(TextFault::TooLong);
-        }
-        text.extend_from_slice(&piece[..size])
-            .map_err(|_| TextFault::Memory)?;
+        add_piece(&mut text, &piece[..size])?;
+    }
+}
+
+/// Adds a piece to a text, where the text is then not too long.
+fn add_piece(text: &mut Vec<u8>, piece: &[u8]) -> Result<(), TextFault>
+    requires { length text.old.items ≤ longest_text }
+    ensures added { OnOk result (text.new.items ≡ text.old.items ++ piece.now) }
+    ensures short { OnOk result (length text.new.items ≤ longest_text) }
+    ensures too_long { IsErrOf result of_length → longest_text < length text.old.items + length piece.now }
+    ensures not_failed { result ≡ Err of_failure → ⊥ }
+{
+    if piece.len() > LONGEST_TEXT - text.len() {
+        return Err(TextFault::TooLong);
+    }
+    match text.extend_from_slice(piece) {
+        Ok(()) => Ok(()),
+        Err(_) => Err(TextFault::Memory),
     }
 }
