@@ -1,0 +1,12 @@
+pub mod Comparing
+pub mod Expansion
+pub mod Fractions
+pub mod Kinds
+pub mod Mentioning
+pub mod Operands
+pub mod Properties
+pub mod Putting
+pub mod Ranking
+pub mod Ranks
+pub mod Values
+pub mod Reading

@@ -1,0 +1,36 @@
+//! Whether an offer's properties are what a constraint asks for (Trading Object Service, "The Constraint
+//! Language").
+
+ghost use Rattle.std.specs.Prelude.{◌≡◌, Ok};
+ghost use Rattle.td_eval.specs.Operands.{view};
+ghost use Rattle.td_eval.specs.Values.{matching};
+
+use crate::evaluation::evaluate;
+use crate::simple::Operand;
+use std::alloc::Global;
+use td_cdr::{List, Memory};
+use td_lang::Constraint;
+use td_value::Property;
+
+/// Whether the constraint matches: it is empty, or its value is TRUE. It takes no memory.
+pub fn matches(
+    _alloc: Global,
+    constraint: &Constraint,
+    map: &List<Property>,
+) -> Result<bool, Memory>
+    ensures { result ≡ Ok (matching map.now constraint.now) }
+{
+    Ok(is_matching(constraint, map.as_slice()))
+}
+
+fn is_matching(constraint: &Constraint, map: &[Property]) -> bool
+    ensures { result ≡ matching map.now constraint.now }
+{
+    match constraint {
+        Constraint::Empty => true,
+        Constraint::Is(asked) => match evaluate(asked, map) {
+            Some(Operand::Truth(truth)) => truth,
+            _ => false,
+        },
+    }
+}
