@@ -6,7 +6,8 @@ use Rattle.std.specs.Str.Lines.{lines}
 use Rattle.std.proofs.lemmas.List.Elements.{All-push}
 use Rattle.std.proofs.lemmas.List.Folds.{list_all-append}
 use Rattle.td_types.specs.Adding.{new_type}
-use Rattle.td_types.specs.Repository.{Repository, ServiceType}
+use Rattle.td_types.specs.Repository.{Repository}
+use Rattle.td_types.specs.declared.entry.ServiceType.{ServiceType}
 use Rattle.td_session.specs.declared.store.FirstOffer.{FirstOffer}
 use Rattle.td_session.specs.declared.store.FirstStore.{FirstStore}
 use Rattle.td_first.specs.declared.fault.FirstFault.{FirstFault}

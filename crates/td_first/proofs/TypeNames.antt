@@ -5,7 +5,8 @@ use Rattle.std.proofs.lemmas.Slice.Eq.{bytes_eq-Decides}
 use Rattle.std.proofs.lemmas.Bool.{false≢true}
 use Rattle.td_types.specs.Adding.{new_type, with_type, passes_limit}
 use Rattle.td_types.specs.Calls.{Comes, unless, add_fault, add_type}
-use Rattle.td_types.specs.Repository.{Repository, ServiceType, type_named, incarnation_in, incarnation_of}
+use Rattle.td_types.specs.Repository.{Repository, type_named, incarnation_in, incarnation_of}
+use Rattle.td_types.specs.declared.entry.ServiceType.{ServiceType}
 use Rattle.td_types.specs.declared.fault.RepoFault.{RepoFault}
 use Rattle.td_types.specs.declared.fault.TypesFault.TheVariants.{Full}
 use Rattle.td_types.specs.declared.reply.TypesReply.{TypesReply}

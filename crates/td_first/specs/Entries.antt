@@ -3,7 +3,8 @@ use Rattle.std.specs.Prelude.{codes, ◌≡◌, ℕ, nat_eq, nat_lt, is_some, Bo
 use Rattle.std.specs.Str.{bytes_eq}
 use Rattle.td_cdr.specs.Names.{trader_name}
 use Rattle.td_types.specs.Calls.{Comes, add_type}
-use Rattle.td_types.specs.Repository.{ServiceType, type_named, incarnation_of}
+use Rattle.td_types.specs.Repository.{type_named, incarnation_of}
+use Rattle.td_types.specs.declared.entry.ServiceType.{ServiceType}
 use Rattle.td_types.specs.declared.fault.TypesFault.{TypesFault}
 use Rattle.td_types.specs.declared.fault.TypesFault.TheVariants.{User, Full}
 use Rattle.td_types.specs.declared.fault.TypesFault.TheVariants as fault

@@ -4,7 +4,8 @@ use Rattle.std.specs.List.{filter, list_all, list_any}
 use Rattle.std.specs.Str.Lines.{lines}
 use Rattle.td_cdr.specs.Names.{trader_name}
 use Rattle.td_types.specs.Calls.{add_type}
-use Rattle.td_types.specs.Repository.{Repository, ServiceType, type_named}
+use Rattle.td_types.specs.Repository.{Repository, type_named}
+use Rattle.td_types.specs.declared.entry.ServiceType.{ServiceType}
 use Rattle.td_types.specs.declared.reply.TypesReply.{TypesReply}
 use Rattle.td_session.specs.declared.store.Address.{Address}
 use Rattle.td_session.specs.declared.store.FirstOffer.{FirstOffer}

@@ -1,7 +1,7 @@
 -- Stores that can be written: their texts have no NUL, so that a string can spell them.
 use Rattle.std.specs.Prelude.{◌≡◌, ℕ, true, List, []}
 use Rattle.std.specs.List.{All, list_all}
-use Rattle.td_types.specs.Repository.{ServiceType}
+use Rattle.td_types.specs.declared.entry.ServiceType.{ServiceType}
 use Rattle.td_session.specs.declared.store.FirstOffer.{FirstOffer}
 use Rattle.td_session.specs.declared.store.FirstStore.{FirstStore}
 use Rattle.td_first.specs.Line.{is_text_byte}

@@ -13,8 +13,6 @@ mod law;
 mod line;
 mod port;
 mod reference;
-#[cfg(test)]
-mod tests;
 mod words;
 
 pub use fault::FirstFault;

@@ -8,7 +8,8 @@ use Rattle.td_ops.specs.declared.outcome.Outcome.{Outcome}
 use Rattle.td_ops.specs.declared.outcome.Outcome.TheVariants.{Done}
 use Rattle.td_types.specs.Adding.{new_type, with_type, passes_limit}
 use Rattle.td_types.specs.Calls.{Comes, Answers, AnswersFreely, refuse, unless, known, act_on, add_fault, add_type, sub_type, remove_unless, remove_type, mask_type, unmask_type, set_mask}
-use Rattle.td_types.specs.Repository.{Repository, ServiceType, type_named}
+use Rattle.td_types.specs.Repository.{Repository, type_named}
+use Rattle.td_types.specs.declared.entry.ServiceType.{ServiceType}
 use Rattle.td_types.specs.declared.fault.RepoFault.{RepoFault}
 use Rattle.td_types.specs.declared.fault.RepoFault.TheVariants as fault
 use Rattle.td_types.specs.declared.fault.TypesFault.TheVariants.{User as Raises, Full, Memory}

@@ -3,7 +3,7 @@
 use Rattle.std.specs.Prelude.{◌≡◌, ℕ, ◌≤◌, List, [], ◌∷◌, ◌++◌, length, Result, OnOk}
 use Rattle.td_cdr.specs.declared.order.Order.{Order}
 use Rattle.td_cdr.specs.Writing.{Draft, written_number, written_octets}
-use Rattle.td_value.specs.Writing.{Piece}
+use Rattle.td_cdr.specs.Format.{Piece}
 
 -- the bytes with the part, of the bytes before it
 abbrev pub Part : Type 0

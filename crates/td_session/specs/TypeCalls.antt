@@ -5,8 +5,8 @@ use Rattle.std.specs.Str.{bytes_eq}
 use Rattle.td_cdr.specs.Place.{At}
 use Rattle.td_cdr.specs.declared.memory.Memory.{Memory as Wanting}
 use Rattle.td_value.specs.declared.structures.IncarnationNumber.{IncarnationNumber}
-use Rattle.td_value.specs.declared.structures.SpecifiedServiceTypes.{SpecifiedServiceTypes}
-use Rattle.td_value.specs.declared.structures.SpecifiedServiceTypes.TheVariants as listed
+use Rattle.td_value.specs.declared.unions.SpecifiedServiceTypes.{SpecifiedServiceTypes}
+use Rattle.td_value.specs.declared.unions.SpecifiedServiceTypes.TheVariants as listed
 use Rattle.td_types.specs.Calls.{Comes, add_type, remove_type, mask_type, unmask_type, describe_type, fully_describe_type, list_types}
 use Rattle.td_types.specs.Repository.{Repository, halves}
 use Rattle.td_types.specs.declared.fault.RepoFault.{RepoFault}
@@ -18,6 +18,7 @@ use Rattle.td_ops.specs.declared.call.Call.{Call}
 use Rattle.td_ops.specs.declared.call.Call.TheVariants as call
 use Rattle.td_ops.specs.declared.call.Change.TheVariants as change
 use Rattle.td_ops.specs.declared.call.Look.TheVariants as look
+use Rattle.td_ops.specs.declared.attribute.Attribute.TheVariants.{Incarnation}
 use Rattle.td_ops.specs.declared.fault.OpsFault.{OpsFault}
 use Rattle.td_ops.specs.declared.fault.OpsFault.TheVariants as ops
 use Rattle.td_ops.specs.declared.outcome.Outcome.{Outcome}
@@ -26,8 +27,8 @@ use Rattle.td_ops.specs.declared.outcome.Reply.{Reply}
 use Rattle.td_ops.specs.declared.outcome.Reply.TheVariants as reply
 use Rattle.td_ops.specs.declared.outcome.SystemKind.{SystemKind}
 use Rattle.td_ops.specs.declared.outcome.SystemKind.TheVariants.{Marshal, NoImplement, BadOperation, ImpLimit, NoMemory}
-use Rattle.td_ops.specs.declared.outcome.UserException.{UserException}
-use Rattle.td_ops.specs.declared.outcome.UserException.TheVariants as user
+use Rattle.td_exceptions.specs.declared.exception.UserException.{UserException}
+use Rattle.td_exceptions.specs.declared.exception.UserException.TheVariants as user
 use Rattle.td_ops.specs.Outcomes.{is_short}
 
 -- a system exception of a call that wasn't done: completion NO
@@ -86,7 +87,7 @@ since (listed.Since i) = Some (number_of i)
 abbrev pub is_types_interface : List ℕ → Bool
 is_types_interface id = bytes_eq id (codes "IDL:omg.org/CosTradingRepos/ServiceTypeRepository:1.0") || bytes_eq id (codes "IDL:omg.org/CORBA/Object:1.0")
 
--- what a call of the type repository comes to
+-- what a call of the type repository comes to; a request to it spells no other call
 unfoldable pub perform : Repository → Call → Performed
 perform r (call.Change (change.AddType name if_name props super_types)) = performs r (add_type r name if_name props super_types)
 perform r (call.Change (change.RemoveType name)) = performs r (remove_type r name)
@@ -95,9 +96,10 @@ perform r (call.Change (change.UnmaskType name)) = performs r (unmask_type r nam
 perform r (call.Look (look.ListTypes which)) = performs r (list_types r (since which))
 perform r (call.Look (look.DescribeType name)) = performs r (describe_type r name)
 perform r (call.Look (look.FullyDescribeType name)) = performs r (fully_describe_type r name)
-perform r (call.Look look.TypesIncarnation) = performed (Done (reply.Incarnation (halves r.last))) r
+perform r (call.Look (look.Get Incarnation)) = performed (Done (reply.Incarnation (halves r.last))) r
 perform r (call.IsA id) = performed (Done (reply.Truth (is_types_interface id))) r
 perform r call.NonExistent = performed (Done (reply.Truth false)) r
+perform r c = performed (system NoImplement 0) r
 
 -- An operation that the repository doesn't have is BAD_OPERATION; parameters that aren't in the grammar are MARSHAL, with
 -- the place of their first fault, or NO_IMPLEMENT for a kind of value that isn't supported.

@@ -3,6 +3,7 @@
 ghost use Rattle.std.specs.Prelude.{◌≡◌, ◌⊎◌, ◌≤◌, ◌<◌, true, IsTrue, [], length, OnOk, IsOk, IfOk, MatchResult, Ok, Err};
 ghost use Rattle.td_giop.specs.Heads.{Request, request_at, locate_at, behind_header};
 ghost use Rattle.td_giop.specs.Written.{sealed, reply_start};
+ghost use Rattle.td_ops.specs.declared.outcome.Outcome.TheVariants.{Done};
 ghost use Rattle.td_ops.specs.declared.outcome.SystemKind.TheVariants.{NoMemory};
 ghost use Rattle.td_session.specs.Answers.{is_live, is_lookup, is_types, is_object, names, answer_of, live_answer, query_answer, reply, reply_with, outcome_reply, request_reply, unserved, locate_reply, IsReplied};
 ghost use Rattle.td_ops.specs.Outcomes.{is_short};
@@ -25,6 +26,9 @@ use td_ops::{Outcome, Reply, SystemKind, status_of, write_outcome};
 
 /// The reply status of a result.
 const NO_EXCEPTION: u32 = 0;
+
+/// How many bytes an id or a stem has at most that fits in the reserved bytes.
+const SHORT_LENGTH: usize = 64;
 
 /// What a Request comes to.
 #[derive(Drop)]
@@ -136,7 +140,10 @@ pub(crate) fn answer_request(
     ensures { IsReplied store.old store.new order (asked_of head.now) head.now.body (reply_in room.new) }
 {
     match perform_request(alloc, store, head) {
-        Ok(answer) => reply_to(alloc, store, room, order, head, &answer),
+        Ok(answer) => {
+            reply_to(alloc, store, room, order, head, &answer);
+            drop(answer);
+        }
         Err(_) => refuse_memory(alloc, room, order, head),
     }
 }
@@ -241,9 +248,25 @@ fn is_short(outcome: &Outcome) -> bool
     ensures { result ≡ is_short outcome.now }
 {
     match outcome {
-        Outcome::Done(Reply::Nothing | Reply::Truth(_) | Reply::Incarnation(_)) => true,
-        Outcome::Done(Reply::Names(_) | Reply::Typed(_)) | Outcome::User(_) => false,
+        Outcome::Done(reply) => is_short_reply(reply),
+        Outcome::User(_) => false,
         Outcome::System { .. } => true,
+    }
+}
+
+/// Whether a result fits in the reserved bytes.
+fn is_short_reply(reply: &Reply) -> bool
+    ensures { result ≡ is_short (Done reply.now) }
+{
+    match reply {
+        Reply::Nothing
+        | Reply::Number(_)
+        | Reply::Truth(_)
+        | Reply::Follow(_)
+        | Reply::Incarnation(_) => true,
+        Reply::Id(id) => id.as_slice().len() <= SHORT_LENGTH,
+        Reply::Stem(stem) => stem.as_slice().len() <= SHORT_LENGTH,
+        _ => false,
     }
 }
 
@@ -303,7 +326,10 @@ fn refuse_memory(alloc: Global, room: &mut Room, order: Order, head: &RequestHea
 fn write_no_memory(alloc: Global, room: &mut Room, order: Order, id: u32)
     ensures { reply_in room.new ≡ outcome_reply order id (system NoMemory 0) }
 {
-    write_outcome_reply(alloc, room, order, id, &system(SystemKind::NoMemory, 0)).unwrap()
+    let outcome = system(SystemKind::NoMemory, 0);
+    let written = write_outcome_reply(alloc, room, order, id, &outcome);
+    drop(outcome);
+    written.unwrap()
 }
 
 /// Leaves a LocateReply in the room, for which there is always room.

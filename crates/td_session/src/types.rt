@@ -15,7 +15,9 @@ ghost use Rattle.td_session.specs.TypeCalls.{Performs, Keeps, performs, perform,
 
 use std::alloc::Global;
 use td_cdr::{Memory, Reader};
-use td_ops::{Call, Change, Look, OpsFault, Outcome, Reply, SystemKind, UserException, read_call};
+use td_ops::{
+    Attribute, Call, Change, Look, OpsFault, Outcome, Reply, SystemKind, UserException, read_call,
+};
 use td_types::{RepoFault, Types, TypesFault, TypesReply, halves};
 use td_value::{IncarnationNumber, Kind, SpecifiedServiceTypes};
 
@@ -77,6 +79,10 @@ fn perform(alloc: Global, types: &mut Types, call: Call) -> Result<Outcome, Memo
         Call::Look(look) => perform_look(types, &look),
         Call::IsA(id) => Ok(Outcome::Done(Reply::Truth(is_types_interface(&id)))),
         Call::NonExistent => Ok(Outcome::Done(Reply::Truth(false))),
+        other => {
+            drop(other);
+            Ok(system(SystemKind::NoImplement, 0))
+        }
     }
 }
 
@@ -104,6 +110,10 @@ fn perform_change(alloc: Global, types: &mut Types, change: Change) -> Result<Ou
         Change::RemoveType { name } => outcome_of(types.remove(&name)),
         Change::MaskType { name } => outcome_of(types.mask(&name)),
         Change::UnmaskType { name } => outcome_of(types.unmask(&name)),
+        other => {
+            drop(other);
+            Ok(system(SystemKind::NoImplement, 0))
+        }
     }
 }
 
@@ -116,9 +126,10 @@ fn perform_look(types: &Types, look: &Look) -> Result<Outcome, Memory>
         Look::ListTypes { which } => outcome_of(types.list(since(which))),
         Look::DescribeType { name } => outcome_of(types.describe(name)),
         Look::FullyDescribeType { name } => outcome_of(types.fully_describe(name)),
-        Look::TypesIncarnation => Ok(Outcome::Done(Reply::Incarnation(halves(
+        Look::Get(Attribute::Incarnation) => Ok(Outcome::Done(Reply::Incarnation(halves(
             types.incarnation(),
         )))),
+        _ => Ok(system(SystemKind::NoImplement, 0)),
     }
 }
 
