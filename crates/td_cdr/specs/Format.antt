@@ -1,6 +1,7 @@
 -- Formats of CORBA's common data representation: of each kind of value how it is read, which bytes
 -- spell it, which values have a spelling, and what is written.
-use Rattle.std.specs.Prelude.{◌≡◌, true, false, ℕ, ℤ, zero, suc, ◌+◌, ◌<◌, ◌^◌, Bool, IsTrue, if◌then◌else◌, List, [], ◌∷◌, ◌++◌, length, map, take, Result, Ok, Err, OnErr, OnOk, IfOk, Option, Some, None}
+use Rattle.std.specs.Prelude.{◌≡◌, true, false, ℕ, ℤ, zero, suc, ◌+◌, ◌<◌, ◌^◌, Bool, IsTrue, if◌then◌else◌, List, []}
+use Rattle.std.specs.Prelude.{◌∷◌, ◌++◌, length, map, take, Result, Ok, Err, OnErr, OnOk, IfOk, Option, Some, None}
 use Rattle.std.specs.Int.{Width, from_bool, cast_unsigned}
 use Rattle.std.specs.Int.RustNames.{FitsSigned}
 use Rattle.std.specs.Str.{bytes_eq}
@@ -8,9 +9,11 @@ use Rattle.td_cdr.specs.declared.order.Order.{Order}
 use Rattle.td_cdr.specs.declared.fault.CdrFault.{CdrFault}
 use Rattle.td_cdr.specs.Gap.{flag}
 use Rattle.td_cdr.specs.Place.{At}
+pub use Rattle.td_cdr.specs.Reading.{◌>>=◌}
 use Rattle.td_cdr.specs.Reading.{number_at, signed_at, boolean_at, octets_at, string_at, encapsulation_at}
 use Rattle.td_cdr.specs.Text.{HasNoNul}
-use Rattle.td_cdr.specs.Spelling.{SpellsNumber, SpellsSigned, SpellsBoolean, SpellsOctets, SpellsString, SpellsThen, SpellsWithin}
+use Rattle.td_cdr.specs.Spelling.{SpellsNumber, SpellsSigned, SpellsBoolean, SpellsOctets, SpellsString, SpellsThen}
+use Rattle.td_cdr.specs.Spelling.{SpellsWithin}
 use Rattle.td_cdr.specs.Writing.{Draft, written_number, written_octets}
 
 -- bytes in an order, from a place on
@@ -33,11 +36,6 @@ abbrev pub ◌then◌ : Piece → Piece → Piece
 abbrev pub Read : Type 0 → Type 0 → Type 0
 Read F Y = Result (Y × At) F
 
-infixl 10 ◌>>=◌
-abbrev pub ◌>>=◌ : {F A B : Type 0} → Result A F → (A → Result B F) → Result B F
-(Ok x) >>= f = f x
-(Err e) >>= f = Err e
-
 -- F: the faults, Y: the values
 pub record Format (F Y : Type 0) : Type 1 where
   -- the value and where the reader then stands, or the first fault
@@ -53,7 +51,12 @@ pub record Format (F Y : Type 0) : Type 1 where
 
 -- an unsigned number of so many bytes
 abbrev pub number : ℕ → Format CdrFault ℕ
-number size = record { reads = number_at size; spells = SpellsNumber size; admits = λ v. v < 256 ^ size; writes = λ v order place. written_number size order place v }
+number size = record {
+  reads = number_at size;
+  spells = SpellsNumber size;
+  admits = λ v. v < 256 ^ size;
+  writes = λ v order place. written_number size order place v;
+}
 
 -- a signed number of so many bytes, in two's complement
 abbrev pub signed : Width → ℕ → Format CdrFault ℤ
@@ -66,15 +69,30 @@ signed width size = record {
 
 -- an octet that is 0 or 1
 abbrev pub boolean : Format CdrFault Bool
-boolean = record { reads = boolean_at; spells = SpellsBoolean; admits = λ v. Unit {0}; writes = λ v order place. written_number 1 order place (from_bool v) }
+boolean = record {
+  reads = boolean_at;
+  spells = SpellsBoolean;
+  admits = λ v. Unit {0};
+  writes = λ v order place. written_number 1 order place (from_bool v);
+}
 
 -- octets behind their number
 abbrev pub octets : Format CdrFault (List ℕ)
-octets = record { reads = octets_at; spells = SpellsOctets; admits = λ v. Unit {0}; writes = λ v order place. written_octets order place v }
+octets = record {
+  reads = octets_at;
+  spells = SpellsOctets;
+  admits = λ v. Unit {0};
+  writes = λ v order place. written_octets order place v;
+}
 
 -- a string
 abbrev pub text : Format CdrFault (List ℕ)
-text = record { reads = string_at; spells = SpellsString; admits = λ v. HasNoNul v; writes = λ v order place. written_octets order place (v ++ 0 ∷ []) }
+text = record {
+  reads = string_at;
+  spells = SpellsString;
+  admits = λ v. HasNoNul v;
+  writes = λ v order place. written_octets order place (v ++ 0 ∷ []);
+}
 
 -- ---- ways to build a format
 
@@ -84,7 +102,12 @@ as_fault f (Ok x) = Ok x
 as_fault f (Err e) = Err (f e)
 
 abbrev pub with_fault : {E F Y : Type 0} → (E → F) → Format E Y → Format F Y
-with_fault {Y = Y} f g = record { reads = λ a. as_fault f (g.reads a); spells = g.spells; admits = g.admits; writes = g.writes }
+with_fault {Y = Y} f g = record {
+  reads = λ a. as_fault f (g.reads a);
+  spells = g.spells;
+  admits = g.admits;
+  writes = g.writes;
+}
 
 -- one after another, the second of which may depend on the first
 abbrev pub dependent_pair : {F X Y : Type 0} → Format F X → (X → Format F Y) → Format F (X × Y)
@@ -142,7 +165,12 @@ placeholder_format {F = F} {X = X} x g = record {
 
 -- no value
 abbrev pub failure_format : {F X : Type 0} → (At → F) → Format F X
-failure_format {F = F} {X = X} bad = record { reads = λ a. Err (bad a); spells = λ order place y b. ⊥; admits = λ y. ⊥; writes = λ y. none }
+failure_format {F = F} {X = X} bad = record {
+  reads = λ a. Err (bad a);
+  spells = λ order place y b. ⊥;
+  admits = λ y. ⊥;
+  writes = λ y. none;
+}
 
 -- a value of the format that the tag before it chooses
 abbrev pub union_format : {F K Y : Type 0} → Format F K → (Y → K) → (K → Format F Y) → Format F Y
@@ -219,13 +247,20 @@ other_writing w g = record { reads = g.reads; spells = g.spells; admits = g.admi
 
 -- a sequence: values behind their number
 abbrev pub sequence_format : {F X : Type 0} → (CdrFault → F) → Format F X → Format F (List X)
-sequence_format c g = other_writing (λ xs. (number 4).writes (length xs) then row (map g.writes xs)) (union_format (with_fault c (number 4)) length (array_format g))
+sequence_format c g =
+    other_writing (λ xs. (number 4).writes (length xs) then row (map g.writes xs))
+    (union_format (with_fault c (number 4)) length (array_format g))
 
 -- ---- what a call of a reader or a writer answers
 
 abbrev pub Unless : Bool → Type 0 → Type 0
 Unless true P = Unit {0}
 Unless false P = P
+
+-- What a call answered, seen by view, is what this comes to; a fault that is want of memory tells nothing
+abbrev pub Computes : {F X Y : Type 0} → (F → Bool) → (X → Y) → Result X F → Result Y F → Type 0
+Computes is_memory view (Ok x) comes = comes ≡ Ok (view x)
+Computes is_memory view (Err e) comes = Unless (is_memory e) (comes ≡ Err e)
 
 -- What a call answered, seen by view, is what reading gives: for what is lent from the bytes, and takes no memory
 abbrev pub Shows : {F X Y : Type 0} → (X → Y) → At → Result X F → Read F Y → Type 0
@@ -244,7 +279,8 @@ pub record Puts {E : Type 0} (piece : Piece) (old new : Draft) (result : Result 
   pub kept : OnErr result (take (length old.bytes) new.bytes ≡ old.bytes)
 
 -- A whole call answers what the format says, and a value that has a spelling. The reader is unchanged where it refuses.
-pub record Reads {F Y : Type 0} (is_memory : F → Bool) (f : Format F Y) (old new : At) (result : Result Y F) : Type 0 where
+pub record Reads {F Y : Type 0} (is_memory : F → Bool) (f : Format F Y) (old new : At) (result : Result Y F) : Type
+    0 where
   pub gives : Gives is_memory new result (f.reads old)
   pub unchanged : OnErr result (new ≡ old)
   pub admitted : IfOk result (λ y. f.admits y)

@@ -1,5 +1,7 @@
 -- What is read of the other items is spelled so, and what is spelled so is read.
-use Rattle.std.proofs.Common.{◌≡◌, ℕ, ℤ, zero, suc, ◌+◌, ◌-◌, ◌<◌, ◌≤◌, Bool, true, false, not, cond, eqb, get_or, List, [], ◌∷◌, ◌++◌, length, take, drop, Result, Ok, Err, refl, sym, ap, subst, ◌∙◌, append_assoc, arith, length-append}
+use Rattle.std.proofs.Common.{◌≡◌, ℕ, ℤ, zero, suc, ◌+◌, ◌-◌, ◌<◌, ◌≤◌, Bool, true, false, not, cond, eqb, get_or, List}
+use Rattle.std.proofs.Common.{[], ◌∷◌, ◌++◌, length, take, drop, Result, Ok, Err, refl, sym, ap, subst, ◌∙◌}
+use Rattle.std.proofs.Common.{append_assoc, arith, length-append}
 use Rattle.std.proofs.lemmas.Bool.{eqb-true, eqb-false, ne_eqb, and_parts, not-true}
 use Rattle.std.proofs.lemmas.List.{take_at, drop_at, get_or_at, take_more, take_all, nil_from_length}
 use Rattle.std.specs.Int.{Width, cast_signed}
@@ -11,13 +13,16 @@ use Rattle.td_cdr.specs.Text.{text_of, has_nul, HasNoNul, ends_in_nul, front}
 use Rattle.td_cdr.specs.Gap.{gap}
 use Rattle.td_cdr.specs.Place.{At}
 use Rattle.td_cdr.specs.Reading.{after, aligned, number, ◌>>=◌, number_at, signed_at, boolean_at, octets_at, string_at}
-use Rattle.td_cdr.specs.Spelling.{SpellsSigned, SpellsBoolean, SpellsString, IsText, closed, absent, SpellsThen, IsFlag, Found, Joins}
+use Rattle.td_cdr.specs.Spelling.{SpellsSigned, SpellsBoolean, SpellsString, IsText, closed, absent, SpellsThen, IsFlag}
+use Rattle.td_cdr.specs.Spelling.{Found, Joins}
 use Rattle.td_cdr.specs.Items.{read_then}
-use Rattle.td_cdr.specs.Joined.{bind_ok, ok_is, number-found, number-only, octets-found, octets-only, moved-place, after-after, Found-then}
+use Rattle.td_cdr.specs.Joined.{bind_ok, ok_is, number-found, number-only, octets-found, octets-only, moved-place}
+use Rattle.td_cdr.specs.Joined.{after-after, Found-then}
 
 -- ---- signed numbers
 
-signed-found : (width : Width) (size : ℕ) (a : At) (v : ℤ) (next : At) → signed_at width size a ≡ Ok (v, next) → Found (SpellsSigned width size) a v next
+signed-found : (width : Width) (size : ℕ) (a : At) (v : ℤ) (next : At) → signed_at width size a ≡ Ok (v, next)
+    → Found (SpellsSigned width size) a v next
 unfolding signed_at
 signed-found width size a v next e =
     let made : ℤ × At = (v, next) in
@@ -29,9 +34,12 @@ signed-found width size a v next e =
       parts = f.parts;
       moved = f.moved;
     } in
-    subst (λ (p : ℤ × At). Found (SpellsSigned width size) a p.0 p.1) (ok_is (cast_signed width n.0.0, n.0.1) made n.2) here
+    subst (λ (p : ℤ × At). Found (SpellsSigned width size) a p.0 p.1) (ok_is (cast_signed width n.0.0, n.0.1) made n.2)
+    here
 
-signed-only : (width : Width) (size : ℕ) (a : At) (v : ℤ) (b rest : List ℕ) → SpellsSigned width size a.order (a.place - a.origin) v b → a.rest ≡ b ++ rest → signed_at width size a ≡ Ok (v, after (length b) a)
+signed-only : (width : Width) (size : ℕ) (a : At) (v : ℤ) (b rest : List ℕ)
+    → SpellsSigned width size a.order (a.place - a.origin) v b → a.rest ≡ b ++ rest
+    → signed_at width size a ≡ Ok (v, after (length b) a)
 unfolding signed_at
 signed-only width size a v b rest s e =
     let n = number a.order size (drop (gap size (a.place - a.origin)) b) in
@@ -39,7 +47,10 @@ signed-only width size a v b rest s e =
     rw (one, s.value) refl
 
 pub signed-joins : (width : Width) (size : ℕ) → Joins (SpellsSigned width size) (signed_at width size)
-signed-joins width size = record { found = λ a v next _ e. signed-found width size a v next e; only = λ a v b rest _ s e. signed-only width size a v b rest s e }
+signed-joins width size = record {
+  found = λ a v next _ e. signed-found width size a v next e;
+  only = λ a v b rest _ s e. signed-only width size a v b rest s e;
+}
 
 -- ---- booleans
 
@@ -67,7 +78,8 @@ boolean-found a v next e =
     } in
     subst (λ (p : Bool × At). Found SpellsBoolean a p.0 p.1) (ok_is (t.0, n.0.1) made t.2) here
 
-boolean-only : (a : At) (v : Bool) (b rest : List ℕ) → SpellsBoolean a.order (a.place - a.origin) v b → a.rest ≡ b ++ rest → boolean_at a ≡ Ok (v, after (length b) a)
+boolean-only : (a : At) (v : Bool) (b rest : List ℕ) → SpellsBoolean a.order (a.place - a.origin) v b
+    → a.rest ≡ b ++ rest → boolean_at a ≡ Ok (v, after (length b) a)
 unfolding boolean_at
 boolean-only a v b rest s e =
     let one = number-only 1 a s.flag b rest s.octet e in
@@ -75,7 +87,10 @@ boolean-only a v b rest s e =
     rw (one, two) refl
 
 pub boolean-joins : Joins SpellsBoolean boolean_at
-boolean-joins = record { found = λ a v next _ e. boolean-found a v next e; only = λ a v b rest _ s e. boolean-only a v b rest s e }
+boolean-joins = record {
+  found = λ a v next _ e. boolean-found a v next e;
+  only = λ a v b rest _ s e. boolean-only a v b rest s e;
+}
 
 -- ---- strings
 
@@ -90,26 +105,32 @@ ends_in_nul-closed text free =
 pub text_of-closed : (place : ℕ) (text : List ℕ) → HasNoNul text → text_of place (text ++ 0 ∷ []) ≡ Ok text
 text_of-closed place text free =
     let long : length (text ++ 0 ∷ []) - 1 ≡ length text = omega (arith, length-append text (0 ∷ [])) in
-    let some : eqb (length (text ++ 0 ∷ [])) 0 ≡ false = ne_eqb _ _ (λ e. absurd (omega (arith, length-append text (0 ∷ [])))) in
+    let some : eqb (length (text ++ 0 ∷ [])) 0 ≡ false =
+    ne_eqb _ _ (λ e. absurd (omega (arith, length-append text (0 ∷ [])))) in
     let before : take (length text) (text ++ 0 ∷ []) ≡ text = take_at text (0 ∷ []) (length text) refl in
     rw (some, ends_in_nul-closed text free, long, before) refl
 
 -- bytes that end in a NUL are those before it and the NUL
-pub closed-ends_in_nul : (kept : List ℕ) → 0 < length kept → ends_in_nul kept ≡ true → HasNoNul (front kept) × (kept ≡ front kept ++ 0 ∷ [])
+pub closed-ends_in_nul : (kept : List ℕ) → 0 < length kept → ends_in_nul kept ≡ true
+    → HasNoNul (front kept) × (kept ≡ front kept ++ 0 ∷ [])
 closed-ends_in_nul kept some e =
     let both = and_parts (eqb (get_or kept (length kept - 1) 0) 0) (not (has_nul (front kept))) e in
     let last : get_or kept (length kept - 1) 0 ≡ 0 = eqb-true _ _ both.0 in
-    let split : take (length kept - 1 + 1) kept ≡ take (length kept - 1) kept ++ get_or kept (length kept - 1) 0 ∷ [] = take_more kept (length kept - 1) 0 (omega arith) in
+    let split : take (length kept - 1 + 1) kept ≡ take (length kept - 1) kept ++ get_or kept (length kept - 1) 0 ∷ [] =
+    take_more kept (length kept - 1) 0 (omega arith) in
     let whole : take (length kept - 1 + 1) kept ≡ kept = take_all (length kept - 1 + 1) kept (omega arith) in
     (not-true (has_nul (front kept)) both.1, sym whole ∙ split ∙ ap (λ (x : ℕ). front kept ++ x ∷ []) last)
 
-text-found-some : (place : ℕ) (kept text : List ℕ) (t : Bool) → t ≡ ends_in_nul kept → 0 < length kept → cond t (Ok (front kept)) (Err (BadString place)) ≡ Ok text → IsText text kept
+text-found-some : (place : ℕ) (kept text : List ℕ) (t : Bool) → t ≡ ends_in_nul kept → 0 < length kept
+    → cond t (Ok (front kept)) (Err (BadString place)) ≡ Ok text → IsText text kept
 text-found-some place kept text true is some e =
     let both = closed-ends_in_nul kept some (sym is) in
     subst (λ (x : List ℕ). IsText x kept) (ok_is (front kept) text e) (closed both.0 both.1)
 text-found-some place kept text false is some e = absurd cc
 
-text-found-at : (place : ℕ) (kept text : List ℕ) (empty : Bool) → empty ≡ eqb (length kept) 0 → cond empty (Ok []) (cond (ends_in_nul kept) (Ok (front kept)) (Err (BadString place))) ≡ Ok text → IsText text kept
+text-found-at : (place : ℕ) (kept text : List ℕ) (empty : Bool) → empty ≡ eqb (length kept) 0
+    → cond empty (Ok []) (cond (ends_in_nul kept) (Ok (front kept)) (Err (BadString place))) ≡ Ok text
+    → IsText text kept
 text-found-at place kept text true is e = absent (sym (ok_is [] text e)) (nil_from_length kept (eqb-true _ _ (sym is)))
 text-found-at place kept text false is e =
     let some : 0 < length kept = omega (arith, eqb-false _ _ (sym is)) in
@@ -122,7 +143,8 @@ pub text-only : (place : ℕ) (kept text : List ℕ) → IsText text kept → te
 text-only place kept text (closed free is) = rw is (text_of-closed place text free)
 text-only place kept text (absent none is) = rw (is, none) refl
 
-string-found : (a : At) (v : List ℕ) (next : At) → a.origin ≤ a.place → string_at a ≡ Ok (v, next) → Found SpellsString a v next
+string-found : (a : At) (v : List ℕ) (next : At) → a.origin ≤ a.place → string_at a ≡ Ok (v, next)
+    → Found SpellsString a v next
 unfolding string_at
 string-found a v next h e =
     let made : List ℕ × At = (v, next) in
@@ -137,7 +159,8 @@ string-found a v next h e =
     } in
     subst (λ (p : List ℕ × At). Found SpellsString a p.0 p.1) (ok_is (t.0, o.0.1) made t.2) here
 
-string-only : (a : At) (v b rest : List ℕ) → a.origin ≤ a.place → SpellsString a.order (a.place - a.origin) v b → a.rest ≡ b ++ rest → string_at a ≡ Ok (v, after (length b) a)
+string-only : (a : At) (v b rest : List ℕ) → a.origin ≤ a.place → SpellsString a.order (a.place - a.origin) v b
+    → a.rest ≡ b ++ rest → string_at a ≡ Ok (v, after (length b) a)
 unfolding string_at
 string-only a v b rest h s e =
     let one = octets-only a s.kept b rest h s.octets e in
@@ -151,7 +174,9 @@ string-joins = record { found = string-found; only = string-only }
 
 module _ {X Y : Type 0} (first : Order → ℕ → X → List ℕ → Type 0) (second : X → Order → ℕ → Y → List ℕ → Type 0)
     (read_first : At → Result (X × At) CdrFault) (read_second : X → At → Result (Y × At) CdrFault) where
-  then-found : Joins first read_first → ((x : X) → Joins (second x) (read_second x)) → (a : At) (v : X × Y) (next : At) → a.origin ≤ a.place → read_then read_first read_second a ≡ Ok (v, next) → Found (SpellsThen first second) a v next
+  then-found : Joins first read_first → ((x : X) → Joins (second x) (read_second x)) → (a : At) (v : X × Y) (next : At)
+      → a.origin ≤ a.place → read_then read_first read_second a ≡ Ok (v, next)
+      → Found (SpellsThen first second) a v next
   then-found j k a v next h e =
       let made : (X × Y) × At = (v, next) in
       let x = bind_ok (read_first a) (λ v. read_second v.0 v.1 >>= λ w. Ok ((v.0, w.0), w.1)) made e in
@@ -160,18 +185,27 @@ module _ {X Y : Type 0} (first : Order → ℕ → X → List ℕ → Type 0) (s
       let on : x.0.1.origin ≤ x.0.1.place = rw f.moved (omega arith) in
       let g = (k x.0.0).found x.0.1 y.0.0 y.0.1 on y.1 in
       let here = Found-then first second a x.0.1 y.0.1 x.0.0 y.0.0 h f g in
-      subst (λ (p : (X × Y) × At). Found (SpellsThen first second) a p.0 p.1) (ok_is ((x.0.0, y.0.0), y.0.1) made y.2) here
+      subst (λ (p : (X × Y) × At). Found (SpellsThen first second) a p.0 p.1) (ok_is ((x.0.0, y.0.0), y.0.1) made y.2)
+      here
 
-  then-only : Joins first read_first → ((x : X) → Joins (second x) (read_second x)) → (a : At) (v : X × Y) (b rest : List ℕ) → a.origin ≤ a.place → SpellsThen first second a.order (a.place - a.origin) v b → a.rest ≡ b ++ rest → read_then read_first read_second a ≡ Ok (v, after (length b) a)
+  then-only : Joins first read_first → ((x : X) → Joins (second x) (read_second x))
+      → (a : At) (v : X × Y) (b rest : List ℕ) → a.origin ≤ a.place
+      → SpellsThen first second a.order (a.place - a.origin) v b → a.rest ≡ b ++ rest
+      → read_then read_first read_second a ≡ Ok (v, after (length b) a)
   then-only j k a v b rest h s e =
       let next = after (length s.front) a in
-      let whole : a.rest ≡ s.front ++ (s.back ++ rest) = e ∙ ap (λ (x : List ℕ). x ++ rest) s.parts ∙ append_assoc s.front s.back rest in
+      let whole : a.rest ≡ s.front ++ (s.back ++ rest) =
+      e ∙ ap (λ (x : List ℕ). x ++ rest) s.parts ∙ append_assoc s.front s.back rest in
       let one : read_first a ≡ Ok (v.0, next) = j.only a v.0 s.front (s.back ++ rest) h s.spelled whole in
       let left : next.rest ≡ s.back ++ rest = rw whole (drop_at s.front (s.back ++ rest) (length s.front) refl) in
-      let spelled : second v.0 next.order (next.place - next.origin) v.1 s.back = rw (moved-place (length s.front) a h) s.then_spelled in
-      let two : read_second v.0 next ≡ Ok (v.1, after (length s.back) next) = (k v.0).only next v.1 s.back rest (omega arith) spelled left in
-      let long : length s.front + length s.back ≡ length b = sym (ap (length {A = ℕ}) s.parts ∙ length-append s.front s.back) in
+      let spelled : second v.0 next.order (next.place - next.origin) v.1 s.back =
+      rw (moved-place (length s.front) a h) s.then_spelled in
+      let two : read_second v.0 next ≡ Ok (v.1, after (length s.back) next) =
+      (k v.0).only next v.1 s.back rest (omega arith) spelled left in
+      let long : length s.front + length s.back ≡ length b =
+      sym (ap (length {A = ℕ}) s.parts ∙ length-append s.front s.back) in
       rw (one, two, after-after (length s.front) (length s.back) a, long) refl
 
-  pub then-joins : Joins first read_first → ((x : X) → Joins (second x) (read_second x)) → Joins (SpellsThen first second) (read_then read_first read_second)
+  pub then-joins : Joins first read_first → ((x : X) → Joins (second x) (read_second x))
+      → Joins (SpellsThen first second) (read_then read_first read_second)
   then-joins j k = record { found = then-found j k; only = then-only j k }

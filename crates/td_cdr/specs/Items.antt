@@ -1,12 +1,14 @@
--- CORBA, General Inter-ORB Protocol, "CDR Transfer Syntax": every item that the calls of a reader and a writer make up: the primitives, strings, sequences of
--- octets, one item after another, and encapsulations of any of them, to any depth.
+-- CORBA, General Inter-ORB Protocol, "CDR Transfer Syntax": every item that the calls of a reader and a writer make up:
+-- the primitives, strings, sequences of octets, one item after another, and encapsulations of any of them, to any
+-- depth.
 use Rattle.std.specs.Prelude.{ℕ, ℤ, Bool, List, Result, Ok}
 use Rattle.std.specs.Int.{w16, w32, w64}
 use Rattle.td_cdr.specs.declared.order.Order.{Order}
 use Rattle.td_cdr.specs.declared.fault.CdrFault.{CdrFault}
 use Rattle.td_cdr.specs.Place.{At}
 use Rattle.td_cdr.specs.Reading.{◌>>=◌, number_at, signed_at, boolean_at, octets_at, string_at, within}
-use Rattle.td_cdr.specs.Spelling.{SpellsNumber, SpellsSigned, SpellsBoolean, SpellsOctets, SpellsString, SpellsThen, SpellsWithin}
+use Rattle.td_cdr.specs.Spelling.{SpellsNumber, SpellsSigned, SpellsBoolean, SpellsOctets, SpellsString, SpellsThen}
+use Rattle.td_cdr.specs.Spelling.{SpellsWithin}
 use Rattle.td_cdr.specs.Faults.{NumberFault, BooleanFault, OctetsFault, StringFault, ThenFault, WithinFault}
 
 -- the names are those of OMG IDL; octets is a sequence of octet, and pair any two members of a struct
@@ -48,7 +50,8 @@ Spells (pair first second) = SpellsThen (Spells first) (λ _. Spells second)
 Spells (encapsulated inner) = SpellsWithin (Spells inner)
 
 -- one reading after another
-abbrev pub read_then : {X Y : Type 0} → (At → Result (X × At) CdrFault) → (X → At → Result (Y × At) CdrFault) → At → Result ((X × Y) × At) CdrFault
+abbrev pub read_then : {X Y : Type 0} → (At → Result (X × At) CdrFault) → (X → At → Result (Y × At) CdrFault) → At
+    → Result ((X × Y) × At) CdrFault
 read_then first second a = first a >>= λ v. second v.0 v.1 >>= λ w. Ok ((v.0, w.0), w.1)
 
 -- how the item is read

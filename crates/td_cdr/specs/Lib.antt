@@ -14,6 +14,7 @@ pub mod Place
 pub mod Reading
 pub mod Refused
 pub mod RefusedFormats
+pub mod Seen
 pub mod Sound
 pub mod Spelling
 pub mod Text

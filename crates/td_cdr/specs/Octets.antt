@@ -36,11 +36,17 @@ number-lt : (order : Order) (n : ℕ) (xs : List ℕ) → AreOctets xs → numbe
 number-lt Big n xs o = big_from-lt 0 n xs o.each
 number-lt Little n xs o = little_from-lt 0 n xs o.each
 
-pub number-admitted : (size : ℕ) (order : Order) (place v : ℕ) (b : List ℕ) → AreOctets b → SpellsNumber size order place v b → v < 256 ^ size
-number-admitted size order place v b o s = subst (λ (n : ℕ). n < 256 ^ size) s.value (number-lt order size (drop (gap size place) b) (octets-drop (gap size place) b o))
+pub number-admitted : (size : ℕ) (order : Order) (place v : ℕ) (b : List ℕ) → AreOctets b
+    → SpellsNumber size order place v b → v < 256 ^ size
+number-admitted size order place v b o s =
+    subst (λ (n : ℕ). n < 256 ^ size) s.value
+    (number-lt order size (drop (gap size place) b) (octets-drop (gap size place) b o))
 
-pub signed-admitted : (width : Width) (size : ℕ) → 256 ^ size ≤ 2 ^ bits width → (order : Order) (place : ℕ) (v : ℤ) (b : List ℕ) → AreOctets b → SpellsSigned width size order place v b → FitsSigned width v
+pub signed-admitted : (width : Width) (size : ℕ) → 256 ^ size ≤ 2 ^ bits width
+    → (order : Order) (place : ℕ) (v : ℤ) (b : List ℕ) → AreOctets b → SpellsSigned width size order place v b
+    → FitsSigned width v
 signed-admitted width size fits order place v b o s =
     let n = number order size (drop (gap size place) b) in
     let low : n < 256 ^ size = number-lt order size (drop (gap size place) b) (octets-drop (gap size place) b o) in
-    subst (λ (z : ℤ). FitsSigned width z) s.value (sfits_to_z {w = width} {n = n} (Fits-of_lt {w = width} {n = n} (omega arith)))
+    subst (λ (z : ℤ). FitsSigned width z) s.value
+    (sfits_to_z {w = width} {n = n} (Fits-of_lt {w = width} {n = n} (omega arith)))

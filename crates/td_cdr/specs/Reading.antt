@@ -1,5 +1,6 @@
 -- CORBA, General Inter-ORB Protocol, "CDR Transfer Syntax": how what stands at a place is read.
-use Rattle.std.specs.Prelude.{◌≡◌, ℕ, ℤ, suc, ◌+◌, ◌-◌, ◌^◌, min, Bool, nat_lt, if◌then◌else◌, List, [], ◌∷◌, length, take, drop, Result, Ok, Err}
+use Rattle.std.specs.Prelude.{◌≡◌, ℕ, ℤ, suc, ◌+◌, ◌-◌, ◌^◌, min, Bool, nat_lt, if◌then◌else◌, List, [], ◌∷◌, length}
+use Rattle.std.specs.Prelude.{take, drop, Result, Ok, Err}
 use Rattle.std.specs.Int.{Width, cast_signed}
 use Rattle.byteorder.specs.Endian.{big_number, little_number}
 use Rattle.td_cdr.specs.declared.order.Order.{Order}
@@ -13,7 +14,7 @@ use Rattle.td_cdr.specs.Gap.{gap}
 
 -- one reading, and then another where the first was not refused
 infixl 10 ◌>>=◌
-abbrev pub ◌>>=◌ : {A B : Type 0} → Result A CdrFault → (A → Result B CdrFault) → Result B CdrFault
+abbrev pub ◌>>=◌ : {F A B : Type 0} → Result A F → (A → Result B F) → Result B F
 (Ok x) >>= f = f x
 (Err e) >>= f = Err e
 
@@ -74,7 +75,8 @@ string_at a = do
   text ← text_of (aligned 4 a) bytes.0
   Ok (text, bytes.1)
 
--- Encapsulation: a reader over octets that end at a place, the first of which tells the order. It counts alignment from there
+-- Encapsulation: a reader over octets that end at a place, the first of which tells the order. It counts alignment from
+-- there
 abbrev pub inside : ℕ → ℕ → List ℕ → Result At CdrFault
 inside short end [] = Err (Short short)
 inside short end (flag ∷ bytes) = do
@@ -93,6 +95,6 @@ abbrev pub within : {Y : Type 0} → (At → Result (Y × At) CdrFault) → At �
 within reading a = encapsulation_at a >>= λ e. reading e.0 >>= λ v. Ok (v.0, e.1)
 
 -- What a call of a reader answered, seen by view, is what reading gives. A refused reader is unchanged.
-abbrev pub Gives : {X Y : Type 0} → (X → Y) → At → At → Result X CdrFault → Result (Y × At) CdrFault → Type 0
-Gives view old new (Ok x) reading = reading ≡ Ok (view x, new)
-Gives view old new (Err e) reading = (reading ≡ Err e) × (new ≡ old)
+abbrev pub GivesOrStays : {X Y : Type 0} → (X → Y) → At → At → Result X CdrFault → Result (Y × At) CdrFault → Type 0
+GivesOrStays view old new (Ok x) reading = reading ≡ Ok (view x, new)
+GivesOrStays view old new (Err e) reading = (reading ≡ Err e) × (new ≡ old)

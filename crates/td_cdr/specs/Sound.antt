@@ -7,13 +7,30 @@ use mir.Val.{bits}
 use Rattle.td_cdr.specs.declared.order.Order.{Order}
 use Rattle.td_cdr.specs.Place.{At}
 use Rattle.td_cdr.specs.Reading.{aligned}
-use Rattle.td_cdr.specs.Format.{Format, Piece, row, ◌then◌, number as a_number, signed as a_signed, boolean as a_boolean, octets as some_octets, text as a_text, with_fault, dependent_pair, ◌&◌ as ◌and◌, structure_format, variant_format, constant_format, placeholder_format, failure_format, restriction_format, encapsulation_format, array_format, union_format, nth, upwards, partial_format, enumeration_format, value_named, other_writing as otherwise_written, sequence_format}
+use Rattle.td_cdr.specs.Format.{Format, Piece, row, ◌then◌, number as a_number, signed as a_signed}
+use Rattle.td_cdr.specs.Format.{boolean as a_boolean, octets as some_octets, text as a_text, with_fault, dependent_pair}
+use Rattle.td_cdr.specs.Format.{◌&◌ as ◌and◌, structure_format, variant_format, constant_format, placeholder_format}
+use Rattle.td_cdr.specs.Format.{failure_format, restriction_format, encapsulation_format, array_format, union_format}
+use Rattle.td_cdr.specs.Format.{nth, upwards, partial_format, enumeration_format, value_named}
+use Rattle.td_cdr.specs.Format.{other_writing as otherwise_written, sequence_format}
 use Rattle.td_cdr.specs.Lawful.{Lawful}
-use Rattle.td_cdr.specs.LawfulFormats.{number-lawful, signed-lawful, boolean-lawful, octets-lawful, text-lawful, with_fault-lawful, dependent_pair-lawful, ◌&&&◌, structure_format-lawful, variant_format-lawful, constant_format-lawful, placeholder_format-lawful, failure_format-lawful, restriction_format-lawful, encapsulation_format-lawful, array_format-lawful, union_format-lawful, partial_format-lawful, enumeration_format-lawful, value_named-name, other_writing-lawful, times-length, times-row, sequence_format-lawful}
-use Rattle.td_cdr.specs.Faults.{NumberFault, BooleanFault, OctetsFault, StringFault, OuterFault, WithinFault, ThenFault, Refuses}
-use Rattle.td_cdr.specs.FormatFaults.{Faults, no_fault, each_fault, RestrictionFault, PartialFault, ArrayFault, SequenceFault}
+use Rattle.td_cdr.specs.LawfulFormats.{number-lawful, signed-lawful, boolean-lawful, octets-lawful, text-lawful}
+use Rattle.td_cdr.specs.LawfulFormats.{with_fault-lawful, dependent_pair-lawful, ◌&&&◌, structure_format-lawful}
+use Rattle.td_cdr.specs.LawfulFormats.{variant_format-lawful, constant_format-lawful, placeholder_format-lawful}
+use Rattle.td_cdr.specs.LawfulFormats.{failure_format-lawful, restriction_format-lawful, encapsulation_format-lawful}
+use Rattle.td_cdr.specs.LawfulFormats.{array_format-lawful, union_format-lawful, partial_format-lawful}
+use Rattle.td_cdr.specs.LawfulFormats.{enumeration_format-lawful, value_named-name, other_writing-lawful, times-length}
+use Rattle.td_cdr.specs.LawfulFormats.{times-row, sequence_format-lawful}
+use Rattle.td_cdr.specs.Faults.{NumberFault, BooleanFault, OctetsFault, StringFault, OuterFault, WithinFault, ThenFault}
+use Rattle.td_cdr.specs.Faults.{Refuses}
+use Rattle.td_cdr.specs.FormatFaults.{Faults, no_fault, each_fault, RestrictionFault, PartialFault, ArrayFault}
+use Rattle.td_cdr.specs.FormatFaults.{SequenceFault}
 use Rattle.td_cdr.specs.Refused.{number-refuses, signed-refuses, boolean-refuses, octets-refuses, string-refuses}
-use Rattle.td_cdr.specs.RefusedFormats.{with_fault-refuses, dependent_pair-refuses, union_format-refuses, structure_format-refuses, variant_format-refuses, placeholder_format-refuses, constant_format-refuses, failure_format-refuses, restriction_format-refuses, partial_format-refuses, encapsulation_format-refuses, array_format-refuses, sequence_format-refuses}
+use Rattle.td_cdr.specs.RefusedFormats.{with_fault-refuses, dependent_pair-refuses, union_format-refuses}
+use Rattle.td_cdr.specs.RefusedFormats.{structure_format-refuses, variant_format-refuses, placeholder_format-refuses}
+use Rattle.td_cdr.specs.RefusedFormats.{constant_format-refuses, failure_format-refuses, restriction_format-refuses}
+use Rattle.td_cdr.specs.RefusedFormats.{partial_format-refuses, encapsulation_format-refuses, array_format-refuses}
+use Rattle.td_cdr.specs.RefusedFormats.{sequence_format-refuses}
 use Rattle.td_cdr.specs.declared.value_fault.ValueFault.{ValueFault}
 use Rattle.td_cdr.specs.declared.value_fault.ValueFault.TheVariants.{Cdr, BadValue}
 
@@ -114,7 +131,8 @@ j & k = record {
   format = j.format and k.format;
   lawful = j.lawful &&& k.lawful;
   faults = ThenFault j.format.spells j.faults (λ _. k.faults);
-  refuses = dependent_pair-refuses j.format (λ _. k.format) j.faults (λ _. k.faults) j.lawful j.refuses (λ _. k.refuses);
+  refuses =
+      dependent_pair-refuses j.format (λ _. k.format) j.faults (λ _. k.faults) j.lawful j.refuses (λ _. k.refuses);
 }
 
 -- one after another, the second of which depends on the first
@@ -123,11 +141,14 @@ pair_on first second = record {
   format = dependent_pair first.format (λ x. (second x).format);
   lawful = dependent_pair-lawful first.format (λ x. (second x).format) first.lawful (λ x. (second x).lawful);
   faults = ThenFault first.format.spells first.faults (λ x. (second x).faults);
-  refuses = dependent_pair-refuses first.format (λ x. (second x).format) first.faults (λ x. (second x).faults) first.lawful first.refuses (λ x. (second x).refuses);
+  refuses =
+      dependent_pair-refuses first.format (λ x. (second x).format) first.faults (λ x. (second x).faults) first.lawful
+      first.refuses (λ x. (second x).refuses);
 }
 
 -- a structure, from its members and to them
-abbrev pub structure : {F X Y : Type 0} (to : X → Y) (from : Y → X) → ((x : X) → from (to x) ≡ x) → ((y : Y) → to (from y) ≡ y) → Sound F X → Sound F Y
+abbrev pub structure : {F X Y : Type 0} (to : X → Y) (from : Y → X) → ((x : X) → from (to x) ≡ x)
+    → ((y : Y) → to (from y) ≡ y) → Sound F X → Sound F Y
 structure to from back forth g = record {
   format = structure_format to from g.format;
   lawful = structure_format-lawful to from g.format back forth g.lawful;
@@ -139,7 +160,8 @@ structure to from back forth g = record {
 abbrev pub bad_value : ℕ → At → ValueFault
 bad_value n a = BadValue (aligned 4 a)
 
-abbrev pub enumeration : {Y : Type 0} (ys : List Y) (number_of : Y → ℕ) → ((y : Y) → nth ys (number_of y) ≡ Some y) → map number_of ys ≡ upwards 0 (length ys) → Sound ValueFault Y
+abbrev pub enumeration : {Y : Type 0} (ys : List Y) (number_of : Y → ℕ) → ((y : Y) → nth ys (number_of y) ≡ Some y)
+    → map number_of ys ≡ upwards 0 (length ys) → Sound ValueFault Y
 enumeration ys number_of forth all = record {
   format = enumeration_format ys number_of bad_value ulong.format;
   lawful = enumeration_format-lawful ys number_of bad_value ulong.format forth all ulong.lawful;
@@ -148,10 +170,12 @@ enumeration ys number_of forth all = record {
 }
 
 -- the values that a text names
-abbrev pub name_table : {F K : Type 0} (ks : List K) (name_of : K → List ℕ) (bad : List ℕ → At → F) → ((k : K) → value_named name_of ks (name_of k) ≡ Some k) → Sound F (List ℕ) → Sound F K
+abbrev pub name_table : {F K : Type 0} (ks : List K) (name_of : K → List ℕ) (bad : List ℕ → At → F)
+    → ((k : K) → value_named name_of ks (name_of k) ≡ Some k) → Sound F (List ℕ) → Sound F K
 name_table ks name_of bad forth g = record {
   format = partial_format (value_named name_of ks) name_of bad g.format;
-  lawful = partial_format-lawful (value_named name_of ks) name_of bad g.format forth (value_named-name name_of ks) g.lawful;
+  lawful =
+      partial_format-lawful (value_named name_of ks) name_of bad g.format forth (value_named-name name_of ks) g.lawful;
   faults = PartialFault g.format.spells (value_named name_of ks) bad g.faults;
   refuses = partial_format-refuses (value_named name_of ks) name_of bad g.format g.faults g.lawful g.refuses;
 }
@@ -167,7 +191,12 @@ restriction good bad g = record {
 
 -- no value
 abbrev pub failure : {F X : Type 0} → (At → F) → Sound F X
-failure bad = record { format = failure_format bad; lawful = failure_format-lawful bad; faults = each_fault bad; refuses = failure_format-refuses bad }
+failure bad = record {
+  format = failure_format bad;
+  lawful = failure_format-lawful bad;
+  faults = each_fault bad;
+  refuses = failure_format-refuses bad;
+}
 
 -- any value of g is passed over; x is written
 abbrev pub placeholder : {F X : Type 0} (x : X) (g : Sound F X) → g.format.admits x → Sound F (Unit {0})
@@ -179,7 +208,8 @@ placeholder x g ok = record {
 }
 
 -- the values of one variant
-abbrev pub variant : {F X Y : Type 0} (to : X → Y) (from : Y → Option X) → ((x : X) → from (to x) ≡ Some x) → Sound F X → Sound F Y
+abbrev pub variant : {F X Y : Type 0} (to : X → Y) (from : Y → Option X) → ((x : X) → from (to x) ≡ Some x) → Sound F X
+    → Sound F Y
 variant to from back g = record {
   format = variant_format to from g.format;
   lawful = variant_format-lawful to from g.format back g.lawful;
@@ -189,7 +219,12 @@ variant to from back g = record {
 
 -- one value, with no bytes
 abbrev pub constant : {F Y : Type 0} → Y → Sound F Y
-constant y = record { format = constant_format y; lawful = constant_format-lawful y; faults = no_fault; refuses = constant_format-refuses y }
+constant y = record {
+  format = constant_format y;
+  lawful = constant_format-lawful y;
+  faults = no_fault;
+  refuses = constant_format-refuses y;
+}
 
 -- ---- unions
 
@@ -203,7 +238,8 @@ pub record Arm (F K Y : Type 0) (tag_of : Y → K) : Type 1 where
   pub told : (order : Order) (place : ℕ) (y : Y) (b : List ℕ) → format.spells order place y b → tag ≡ tag_of y
 
 -- those of one variant, by its members
-abbrev pub arm : {F K X Y : Type 0} {tag_of : Y → K} (k : K) (to : X → Y) (from : Y → Option X) → ((x : X) → from (to x) ≡ Some x) → ((x : X) → k ≡ tag_of (to x)) → Sound F X → Arm F K Y tag_of
+abbrev pub arm : {F K X Y : Type 0} {tag_of : Y → K} (k : K) (to : X → Y) (from : Y → Option X)
+    → ((x : X) → from (to x) ≡ Some x) → ((x : X) → k ≡ tag_of (to x)) → Sound F X → Arm F K Y tag_of
 arm {tag_of = tag_of} k to from back told g = record {
   format = variant_format to from g.format;
   lawful = variant_format-lawful to from g.format back g.lawful;
@@ -229,22 +265,30 @@ abbrev pub IsTable : {F K Y : Type 0} {tag_of : Y → K} → (K → Arm F K Y ta
 IsTable {K = K} arms = (k : K) → (arms k).tag ≡ k
 
 -- a union: its discriminator, and then the arm that this chooses
-abbrev pub union : {F K Y : Type 0} → Sound F K → (tag_of : Y → K) → (arms : K → Arm F K Y tag_of) → IsTable arms → Sound F Y
+abbrev pub union : {F K Y : Type 0} → Sound F K → (tag_of : Y → K) → (arms : K → Arm F K Y tag_of) → IsTable arms
+    → Sound F Y
 union tag tag_of arms table = record {
   format = union_format tag.format tag_of (λ k. (arms k).format);
-  lawful = union_format-lawful tag.format tag_of (λ k. (arms k).format) tag.lawful (λ k. (arms k).lawful) (λ k order place y b s. sym (table k) ∙ (arms k).told order place y b s);
+  lawful =
+      union_format-lawful tag.format tag_of (λ k. (arms k).format) tag.lawful (λ k. (arms k).lawful)
+      (λ k order place y b s. sym (table k) ∙ (arms k).told order place y b s);
   faults = ThenFault tag.format.spells tag.faults (λ k. (arms k).faults);
-  refuses = union_format-refuses tag.format tag_of (λ k. (arms k).format) tag.faults (λ k. (arms k).faults) tag.lawful tag.refuses (λ k. (arms k).refuses);
+  refuses =
+      union_format-refuses tag.format tag_of (λ k. (arms k).format) tag.faults (λ k. (arms k).faults) tag.lawful
+      tag.refuses (λ k. (arms k).refuses);
 }
 
 -- a value of the format that the value before it selects, where the value tells which that was
 abbrev pub selection : {F K Y : Type 0} (tag : Sound F K) (tag_of : Y → K) (arms : K → Sound F Y)
-    → ((k : K) (order : Order) (place : ℕ) (y : Y) (b : List ℕ) → (arms k).format.spells order place y b → k ≡ tag_of y) → Sound F Y
+    → ((k : K) (order : Order) (place : ℕ) (y : Y) (b : List ℕ) → (arms k).format.spells order place y b → k ≡ tag_of y)
+    → Sound F Y
 selection tag tag_of arms told = record {
   format = union_format tag.format tag_of (λ k. (arms k).format);
   lawful = union_format-lawful tag.format tag_of (λ k. (arms k).format) tag.lawful (λ k. (arms k).lawful) told;
   faults = ThenFault tag.format.spells tag.faults (λ k. (arms k).faults);
-  refuses = union_format-refuses tag.format tag_of (λ k. (arms k).format) tag.faults (λ k. (arms k).faults) tag.lawful tag.refuses (λ k. (arms k).refuses);
+  refuses =
+      union_format-refuses tag.format tag_of (λ k. (arms k).format) tag.faults (λ k. (arms k).faults) tag.lawful
+      tag.refuses (λ k. (arms k).refuses);
 }
 
 -- ---- choices that no byte tells
@@ -262,7 +306,8 @@ constant_or None g = g
 -- ---- the same bytes, written in another way
 
 abbrev pub other_writing : {F Y : Type 0} (w : Y → Piece) (g : Sound F Y)
-    → ((y : Y) (order : Order) (place : ℕ) → g.format.admits y → g.format.writes y order place ≡ w y order place) → Sound F Y
+    → ((y : Y) (order : Order) (place : ℕ) → g.format.admits y → g.format.writes y order place ≡ w y order place)
+    → Sound F Y
 other_writing w g same = record {
   format = otherwise_written w g.format;
   lawful = other_writing-lawful w g.format g.lawful same;
@@ -273,5 +318,7 @@ other_writing w g same = record {
 -- values behind their number, which is spelled by a format of its own
 abbrev pub sequence_with : {F X : Type 0} → Sound F ℕ → Sound F X → Sound F (List X)
 sequence_with count g =
-    other_writing (λ xs. count.format.writes (length xs) then row (map g.format.writes xs)) (selection count length (array g) (times-length g.format))
-    (λ xs order place ok. let number = count.format.writes (length xs) order place in ap (λ (b : List ℕ). number ++ b) (times-row g.format xs order (place + length number)))
+    other_writing (λ xs. count.format.writes (length xs) then row (map g.format.writes xs))
+    (selection count length (array g) (times-length g.format))
+    (λ xs order place ok. let number = count.format.writes (length xs) order place in
+    ap (λ (b : List ℕ). number ++ b) (times-row g.format xs order (place + length number)))

@@ -1,6 +1,7 @@
--- CORBA, General Inter-ORB Protocol, "CDR Transfer Syntax": which bytes spell which value at a place, as a relation of whole
--- values and whole byte lists. The place counts from where alignment counts from.
-use Rattle.std.specs.Prelude.{◌≡◌, ℕ, ℤ, ◌+◌, ◌-◌, ◌≤◌, Bool, true, false, List, [], ◌∷◌, ◌++◌, length, drop, Result, Ok}
+-- CORBA, General Inter-ORB Protocol, "CDR Transfer Syntax": which bytes spell which value at a place, as a relation of
+-- whole values and whole byte lists. The place counts from where alignment counts from.
+use Rattle.std.specs.Prelude.{◌≡◌, ℕ, ℤ, ◌+◌, ◌-◌, ◌≤◌, Bool, true, false, List, [], ◌∷◌, ◌++◌, length, drop, Result}
+use Rattle.std.specs.Prelude.{Ok}
 use Rattle.std.specs.Int.{Width, cast_signed}
 use Rattle.td_cdr.specs.declared.order.Order.{Order}
 use Rattle.td_cdr.specs.Truth.{order_of}
@@ -48,7 +49,8 @@ pub record SpellsString (order : Order) (place : ℕ) (v : List ℕ) (b : List �
   pub octets : SpellsOctets order place kept b
 
 -- OMG IDL Constructed Types: two items, the second at the place where the first ended
-pub record SpellsThen {X Y : Type 0} (first : Order → ℕ → X → List ℕ → Type 0) (second : X → Order → ℕ → Y → List ℕ → Type 0)
+pub record SpellsThen {X Y : Type 0} (first : Order → ℕ → X → List ℕ → Type 0)
+    (second : X → Order → ℕ → Y → List ℕ → Type 0)
     (order : Order) (place : ℕ) (v : X × Y) (b : List ℕ) : Type 0 where
   pub front : List ℕ
   pub back : List ℕ
@@ -56,8 +58,10 @@ pub record SpellsThen {X Y : Type 0} (first : Order → ℕ → X → List ℕ �
   pub spelled : first order place v.0 front
   pub then_spelled : second v.0 order (place + length front) v.1 back
 
--- Encapsulation: octets, the first of which tells the order for the value that is spelled from place 1 on; bytes may follow it
-pub record SpellsWithin {Y : Type 0} (inner : Order → ℕ → Y → List ℕ → Type 0) (order : Order) (place : ℕ) (v : Y) (b : List ℕ) : Type 0 where
+-- Encapsulation: octets, the first of which tells the order for the value that is spelled from place 1 on; bytes may
+-- follow it
+pub record SpellsWithin {Y : Type 0} (inner : Order → ℕ → Y → List ℕ → Type 0) (order : Order) (place : ℕ) (v : Y)
+    (b : List ℕ) : Type 0 where
   pub little : Bool
   pub flag : ℕ
   pub body : List ℕ
@@ -74,6 +78,8 @@ pub record Found {Y : Type 0} (spells : Order → ℕ → Y → List ℕ → Typ
   pub moved : next ≡ after (length bytes) a
 
 -- what is read is spelled so, and what is spelled so is read whatever follows
-pub record Joins {F Y : Type 0} (spells : Order → ℕ → Y → List ℕ → Type 0) (reading : At → Result (Y × At) F) : Type 0 where
+pub record Joins {F Y : Type 0} (spells : Order → ℕ → Y → List ℕ → Type 0) (reading : At → Result (Y × At) F) : Type
+    0 where
   pub found : (a : At) (v : Y) (next : At) → a.origin ≤ a.place → reading a ≡ Ok (v, next) → Found spells a v next
-  pub only : (a : At) (v : Y) (b rest : List ℕ) → a.origin ≤ a.place → spells a.order (a.place - a.origin) v b → a.rest ≡ b ++ rest → reading a ≡ Ok (v, after (length b) a)
+  pub only : (a : At) (v : Y) (b rest : List ℕ) → a.origin ≤ a.place → spells a.order (a.place - a.origin) v b
+      → a.rest ≡ b ++ rest → reading a ≡ Ok (v, after (length b) a)

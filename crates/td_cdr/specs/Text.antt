@@ -1,6 +1,7 @@
--- CORBA, General Inter-ORB Protocol, "CDR Transfer Syntax", "Strings and Wide Strings": bytes of which the last is a NUL and no other. That no bytes at all are
--- an empty string is a leniency of this reader.
-use Rattle.std.specs.Prelude.{◌≡◌, ◌-◌, ◌&&◌, nat_eq, if◌then◌else◌, take, Bool, false, not, ℕ, length, List, [], Result, Ok, Err}
+-- CORBA, General Inter-ORB Protocol, "CDR Transfer Syntax", "Strings and Wide Strings": bytes of which the last is a
+-- NUL and no other. That no bytes at all are an empty string is a leniency of this reader.
+use Rattle.std.specs.Prelude.{◌≡◌, ◌-◌, ◌&&◌, nat_eq, if◌then◌else◌, take, Bool, false, not, ℕ, length, List, []}
+use Rattle.std.specs.Prelude.{Result, Ok, Err}
 use Rattle.std.specs.List.{slice_index, list_any}
 use Rattle.td_cdr.specs.declared.fault.CdrFault.{CdrFault}
 use Rattle.td_cdr.specs.declared.fault.CdrFault.TheVariants.{BadString}
@@ -23,4 +24,5 @@ ends_in_nul bytes = nat_eq (slice_index bytes (length bytes - 1)) 0 && not (has_
 
 -- what a string's bytes, its length at place, say: no bytes are no text
 abbrev pub text_of : ℕ → List ℕ → Result (List ℕ) CdrFault
-text_of place bytes = if nat_eq (length bytes) 0 then Ok [] else if ends_in_nul bytes then Ok (front bytes) else Err (BadString place)
+text_of place bytes =
+    if nat_eq (length bytes) 0 then Ok [] else if ends_in_nul bytes then Ok (front bytes) else Err (BadString place)

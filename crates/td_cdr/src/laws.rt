@@ -30,15 +30,25 @@ pub fn is_read()
 /// octets, of a text without NUL, of one item after another, and of an encapsulation of what is
 /// spelled in an order of its own behind the octet that tells it.
 pub fn is_written()
-    ensures number { (size : ℕ) (order : Order) (place v : ℕ) → v < 256 ^ size → SpellsNumber size order place v (written_number size order place v) }
-    ensures short { (order : Order) (place : ℕ) (v : ℤ) → FitsSigned w16 v → SpellsSigned w16 2 order place v (written_number 2 order place (cast_unsigned w16 v)) }
-    ensures long { (order : Order) (place : ℕ) (v : ℤ) → FitsSigned w32 v → SpellsSigned w32 4 order place v (written_number 4 order place (cast_unsigned w32 v)) }
-    ensures longlong { (order : Order) (place : ℕ) (v : ℤ) → FitsSigned w64 v → SpellsSigned w64 8 order place v (written_number 8 order place (cast_unsigned w64 v)) }
-    ensures boolean { (order : Order) (place : ℕ) (v : Bool) → SpellsBoolean order place v (written_number 1 order place (from_bool v)) }
-    ensures octets { (order : Order) (place : ℕ) (v : List ℕ) → length v < 2 ^ 32 → SpellsOctets order place v (written_octets order place v) }
-    ensures string { (order : Order) (place : ℕ) (v : List ℕ) → HasNoNul v → length v + 1 < 2 ^ 32 → SpellsString order place v (written_octets order place (v ++ 0 ∷ [])) }
-    ensures pair { (first second : Item) (order : Order) (place : ℕ) (v : ValueOf first) (w : ValueOf second) (front back : List ℕ)
-        → Spells first order place v front → Spells second order (place + length front) w back → Spells (pair first second) order place (v, w) (front ++ back) }
+    ensures number { (size : ℕ) (order : Order) (place v : ℕ) → v < 256 ^ size
+        → SpellsNumber size order place v (written_number size order place v) }
+    ensures short { (order : Order) (place : ℕ) (v : ℤ) → FitsSigned w16 v
+        → SpellsSigned w16 2 order place v (written_number 2 order place (cast_unsigned w16 v)) }
+    ensures long { (order : Order) (place : ℕ) (v : ℤ) → FitsSigned w32 v
+        → SpellsSigned w32 4 order place v (written_number 4 order place (cast_unsigned w32 v)) }
+    ensures longlong { (order : Order) (place : ℕ) (v : ℤ) → FitsSigned w64 v
+        → SpellsSigned w64 8 order place v (written_number 8 order place (cast_unsigned w64 v)) }
+    ensures boolean { (order : Order) (place : ℕ) (v : Bool)
+        → SpellsBoolean order place v (written_number 1 order place (from_bool v)) }
+    ensures octets { (order : Order) (place : ℕ) (v : List ℕ) → length v < 2 ^ 32
+        → SpellsOctets order place v (written_octets order place v) }
+    ensures string { (order : Order) (place : ℕ) (v : List ℕ) → HasNoNul v → length v + 1 < 2 ^ 32
+        → SpellsString order place v (written_octets order place (v ++ 0 ∷ [])) }
+    ensures pair { (first second : Item) (order : Order) (place : ℕ) (v : ValueOf first) (w : ValueOf second)
+        (front back : List ℕ)
+        → Spells first order place v front → Spells second order (place + length front) w back
+        → Spells (pair first second) order place (v, w) (front ++ back) }
     ensures encapsulated { (item : Item) (order inner : Order) (place : ℕ) (v : ValueOf item) (body : List ℕ)
-        → Spells item inner 1 v body → length body + 1 < 2 ^ 32 → Spells (encapsulated item) order place v (written_octets order place (flag inner ∷ body)) }
+        → Spells item inner 1 v body → length body + 1 < 2 ^ 32
+        → Spells (encapsulated item) order place v (written_octets order place (flag inner ∷ body)) }
 {}

@@ -1,6 +1,7 @@
 //! A vector that contracts see as the list of its elements.
 
-ghost use Rattle.std.specs.Prelude.{◌≡◌, ◌<◌, [], ◌∷◌, ◌++◌, ◌↔◌, length, take, IsTrue, OnOk, OnErr, OnSome, IfOk, MatchOption, slice_get, option_copied};
+ghost use Rattle.std.specs.Prelude.{◌≡◌, ◌<◌, [], ◌∷◌, ◌++◌, ◌↔◌, length, take, IsTrue, OnOk, OnErr, OnSome, IfOk};
+ghost use Rattle.std.specs.Prelude.{MatchOption, slice_get, option_copied};
 
 use crate::memory::Memory;
 use crate::twin::Twin;

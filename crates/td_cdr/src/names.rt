@@ -2,7 +2,8 @@
 
 ghost use Rattle.std.specs.Prelude.{◌≡◌, ◌&&◌, nat_le, length};
 ghost use Rattle.std.specs.List.{list_all};
-ghost use Rattle.td_cdr.specs.Names.{is_letter, is_word, is_printing, is_trader_byte, word_name, identifier, trader_name};
+ghost use Rattle.td_cdr.specs.Names.{is_letter, is_word, is_printing, is_trader_byte, word_name, identifier};
+ghost use Rattle.td_cdr.specs.Names.{trader_name};
 
 /// Whether these bytes are a word name: 1 to 256 bytes, each from `!` to `~`. Service types and links
 /// have such names.

@@ -3,6 +3,7 @@
 ghost use Rattle.std.specs.Prelude.{◌≡◌, ◌+◌, ◌^◌, ◌<◌, ◌≤◌, length, drop, MatchResult};
 ghost use Rattle.td_cdr.specs.Truth.{truth, order_of};
 ghost use Rattle.td_cdr.specs.Text.{text_of};
+ghost use Rattle.td_cdr.specs.Lawful.{AreOctets};
 
 use crate::fault::CdrFault;
 use crate::order::Order;
@@ -36,7 +37,9 @@ impl<'a> Model for Reader<'a> {
 impl<'a> Reader<'a> {
     ghost use Rattle.std.specs.Prelude.{IfOk, MatchResult, ◌*◌, take, ◌≡◌, ◌+◌, ◌≤◌, ◌<◌, ◌^◌, length, drop};
     ghost use Rattle.std.specs.Int.{w16, w32, w64};
-    ghost use Rattle.td_cdr.specs.Reading.{inside, aligned, Gives, cell_at, number_at, signed_at, boolean_at, octets_at, string_at, encapsulation_at};
+    ghost use Rattle.td_cdr.specs.Lawful.{AreOctets};
+    ghost use Rattle.td_cdr.specs.Reading.{inside, aligned, GivesOrStays, cell_at, number_at, signed_at, boolean_at};
+    ghost use Rattle.td_cdr.specs.Reading.{octets_at, string_at, encapsulation_at};
 
     /// A reader of a message's bytes from this place on. `place` counts from their first byte, from which
     /// alignment counts too.
@@ -73,7 +76,7 @@ impl<'a> Reader<'a> {
     fn cell(&mut self, size: u32) -> Result<&'a [u8], CdrFault>
         requires low { 0 < size }
         requires high { size ≤ 8 }
-        ensures gives { Gives (λ b. b.now) self.old self.new result (cell_at size self.old) }
+        ensures gives { GivesOrStays (λ b. b.now) self.old self.new result (cell_at size self.old) }
         ensures size { IfOk result (λ b. length b.now ≡ size) }
         ensures place { IfOk result (λ b. self.new.place ≡ aligned size self.old + size) }
         ensures order { self.new.order ≡ self.old.order }
@@ -96,7 +99,7 @@ impl<'a> Reader<'a> {
     /// `Short` where no byte is left.
     #[tactic(auto, unfolding(crate::specs::Reading::number_at))]
     pub fn octet(&mut self) -> Result<u8, CdrFault>
-        ensures { Gives (λ v. v) self.old self.new result (number_at 1 self.old) }
+        ensures { GivesOrStays (λ v. v) self.old self.new result (number_at 1 self.old) }
     {
         let cell = self.cell(1)?;
         Ok(cell[0])
@@ -109,7 +112,7 @@ impl<'a> Reader<'a> {
     /// `Short` where its padding or bytes run past the end.
     #[tactic(auto, unfolding(crate::specs::Reading::number_at))]
     pub fn u16(&mut self) -> Result<u16, CdrFault>
-        ensures { Gives (λ v. v) self.old self.new result (number_at 2 self.old) }
+        ensures { GivesOrStays (λ v. v) self.old self.new result (number_at 2 self.old) }
     {
         let cell = self.cell(2)?;
         Ok(match self.order {
@@ -125,7 +128,7 @@ impl<'a> Reader<'a> {
     /// `Short` where its padding or bytes run past the end.
     #[tactic(auto, unfolding(crate::specs::Reading::number_at))]
     pub fn u32(&mut self) -> Result<u32, CdrFault>
-        ensures gives { Gives (λ v. v) self.old self.new result (number_at 4 self.old) }
+        ensures gives { GivesOrStays (λ v. v) self.old self.new result (number_at 4 self.old) }
         ensures place { IfOk result (λ v. self.new.place ≡ aligned 4 self.old + 4) }
     {
         let cell = self.cell(4)?;
@@ -142,7 +145,7 @@ impl<'a> Reader<'a> {
     /// `Short` where its padding or bytes run past the end.
     #[tactic(auto, unfolding(crate::specs::Reading::number_at))]
     pub fn u64(&mut self) -> Result<u64, CdrFault>
-        ensures { Gives (λ v. v) self.old self.new result (number_at 8 self.old) }
+        ensures { GivesOrStays (λ v. v) self.old self.new result (number_at 8 self.old) }
     {
         let cell = self.cell(8)?;
         Ok(match self.order {
@@ -158,7 +161,7 @@ impl<'a> Reader<'a> {
     /// As `u16`.
     #[tactic(auto, unfolding(crate::specs::Reading::signed_at))]
     pub fn i16(&mut self) -> Result<i16, CdrFault>
-        ensures { Gives (λ v. v) self.old self.new result (signed_at w16 2 self.old) }
+        ensures { GivesOrStays (λ v. v) self.old self.new result (signed_at w16 2 self.old) }
     {
         Ok(self.u16()?.cast_signed())
     }
@@ -170,7 +173,7 @@ impl<'a> Reader<'a> {
     /// As `u32`.
     #[tactic(auto, unfolding(crate::specs::Reading::signed_at))]
     pub fn i32(&mut self) -> Result<i32, CdrFault>
-        ensures { Gives (λ v. v) self.old self.new result (signed_at w32 4 self.old) }
+        ensures { GivesOrStays (λ v. v) self.old self.new result (signed_at w32 4 self.old) }
     {
         Ok(self.u32()?.cast_signed())
     }
@@ -182,7 +185,7 @@ impl<'a> Reader<'a> {
     /// As `u64`.
     #[tactic(auto, unfolding(crate::specs::Reading::signed_at))]
     pub fn i64(&mut self) -> Result<i64, CdrFault>
-        ensures { Gives (λ v. v) self.old self.new result (signed_at w64 8 self.old) }
+        ensures { GivesOrStays (λ v. v) self.old self.new result (signed_at w64 8 self.old) }
     {
         Ok(self.u64()?.cast_signed())
     }
@@ -194,7 +197,7 @@ impl<'a> Reader<'a> {
     /// `Short` where no byte is left; `BadBoolean` where the octet is above 1.
     #[tactic(auto, unfolding(crate::specs::Reading::boolean_at))]
     pub fn boolean(&mut self) -> Result<bool, CdrFault>
-        ensures { Gives (λ v. v) self.old self.new result (boolean_at self.old) }
+        ensures { GivesOrStays (λ v. v) self.old self.new result (boolean_at self.old) }
     {
         let mut next = self.copied();
         let value = truth_of(next.octet()?, self.place)?;
@@ -210,7 +213,7 @@ impl<'a> Reader<'a> {
     /// have the number's place.
     #[tactic(auto, unfolding(crate::specs::Reading::octets_at))]
     pub fn octets(&mut self) -> Result<&'a [u8], CdrFault>
-        ensures gives { Gives (λ b. b.now) self.old self.new result (octets_at self.old) }
+        ensures gives { GivesOrStays (λ b. b.now) self.old self.new result (octets_at self.old) }
         ensures passed { IfOk result (λ b. length b.now ≤ self.new.place) }
     {
         let mut next = self.copied();
@@ -234,7 +237,7 @@ impl<'a> Reader<'a> {
     /// it is. All have the length's place.
     #[tactic(auto, unfolding(crate::specs::Reading::string_at))]
     pub fn string(&mut self) -> Result<&'a [u8], CdrFault>
-        ensures { Gives (λ b. b.now) self.old self.new result (string_at self.old) }
+        ensures { GivesOrStays (λ b. b.now) self.old self.new result (string_at self.old) }
     {
         let mut next = self.copied();
         let bytes = next.octets()?;
@@ -243,12 +246,15 @@ impl<'a> Reader<'a> {
         Ok(text)
     }
 
-    /// A reader at the same place.
+    /// A reader at the same place. What is left is octets, as a slice's type says, and no reader stands
+    /// before the byte from which its alignment counts.
     pub fn copied(&self) -> Reader<'a>
-        ensures { result ≡ self.now }
+        ensures same { result ≡ self.now }
+        ensures inside { self.now.origin ≤ self.now.place }
+        ensures octets { AreOctets self.now.rest }
     {
         Reader {
-            rest: self.rest,
+            rest: as_octets(self.rest),
             place: self.place,
             origin: self.origin,
             order: self.order,
@@ -274,7 +280,7 @@ impl<'a> Reader<'a> {
     /// place; `BadBoolean` at the octet that tells the order where it is above 1.
     #[tactic(auto, unfolding(crate::specs::Reading::encapsulation_at))]
     pub fn encapsulation(&mut self) -> Result<Reader<'a>, CdrFault>
-        ensures { Gives (λ r. r) self.old self.new result (encapsulation_at self.old) }
+        ensures { GivesOrStays (λ r. r) self.old self.new result (encapsulation_at self.old) }
     {
         let mut next = self.copied();
         let bytes = next.octets()?;
@@ -287,7 +293,8 @@ impl<'a> Reader<'a> {
     fn inside(bytes: &'a [u8], place: u32, end: u32) -> Result<Reader<'a>, CdrFault>
         requires before { length bytes.now ≤ end }
         requires in_range { end < 2 ^ 32 }
-        ensures { MatchResult result (λ r. inside place end bytes.now ≡ Ok r) (λ e. inside place end bytes.now ≡ Err e) }
+        ensures { MatchResult result (λ r. inside place end bytes.now ≡ Ok r)
+            (λ e. inside place end bytes.now ≡ Err e) }
     {
         let Some((flag, rest)) = bytes.split_first() else {
             return Err(CdrFault::Short(place));
@@ -301,6 +308,14 @@ impl<'a> Reader<'a> {
             order,
         })
     }
+}
+
+/// The same bytes: the contract says what a slice's type says, which is known of a parameter alone.
+fn as_octets(bytes: &[u8]) -> &[u8]
+    ensures same { result.now ≡ bytes.now }
+    ensures octets { AreOctets bytes.now }
+{
+    bytes
 }
 
 /// The truth value that a byte stands for.

@@ -3,8 +3,10 @@
 ghost use Rattle.std.specs.Prelude.{◌≡◌};
 ghost use Rattle.td_cdr.specs.Format.{Format, Gives, Puts, number, with_fault, text, boolean, octets, ◌&◌};
 ghost use Rattle.td_cdr.specs.Lawful.{Lawful};
-ghost use Rattle.td_cdr.specs.LawfulFormats.{number-lawful, text-lawful, boolean-lawful, octets-lawful, with_fault-lawful, ◌&&&◌};
-ghost use Rattle.td_cdr.specs.Faults.{NumberFault, BooleanFault, OctetsFault, StringFault, OuterFault, ThenFault, Refuses};
+ghost use Rattle.td_cdr.specs.LawfulFormats.{number-lawful, text-lawful, boolean-lawful, octets-lawful};
+ghost use Rattle.td_cdr.specs.LawfulFormats.{with_fault-lawful, ◌&&&◌};
+ghost use Rattle.td_cdr.specs.Faults.{NumberFault, BooleanFault, OctetsFault, StringFault, OuterFault, ThenFault};
+ghost use Rattle.td_cdr.specs.Faults.{Refuses};
 ghost use Rattle.td_cdr.specs.FormatFaults.{Faults};
 ghost use Rattle.td_cdr.specs.Refused.{number-refuses, boolean-refuses, octets-refuses, string-refuses};
 ghost use Rattle.td_cdr.specs.RefusedFormats.{with_fault-refuses, dependent_pair-refuses};

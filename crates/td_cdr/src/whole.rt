@@ -4,7 +4,7 @@ ghost use Rattle.std.specs.Prelude.{◌≡◌};
 ghost use Rattle.td_cdr.specs.Format.{Reads, Appends};
 ghost use Rattle.td_cdr.specs.Faults.{Refuses};
 ghost use Rattle.td_cdr.specs.ValueFaults.{is_memory};
-ghost use Rattle.td_cdr.specs.Lawful.{AreOctets, Lawful};
+ghost use Rattle.td_cdr.specs.Lawful.{Lawful};
 
 use crate::memory::Memory;
 use crate::reader::Reader;
@@ -21,18 +21,10 @@ use std::alloc::Global;
 pub fn read_whole<T: Spelled + Drop>(alloc: Global, r: &mut Reader) -> Result<T, ValueFault>
     ensures { Reads is_memory T.format r.old r.new result }
 {
-    see_octets(r.left());
     let mut next = r.copied();
     let value = T::read(alloc, &mut next)?;
     *r = next;
     Ok(value)
-}
-
-/// Nothing is done: the contract says what a slice's type says.
-fn see_octets(bytes: &[u8])
-    ensures { AreOctets bytes.now }
-{
-    let _count = bytes.len();
 }
 
 /// Appends the value.

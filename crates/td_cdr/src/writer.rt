@@ -29,7 +29,11 @@ impl Model for Writer {
 
     ghost Value = { Draft };
 
-    ghost view = { λ w. record { bytes = w.bytes.items; order = w.order; room = min (vec_capacity w.bytes) (2 ^ 32 - 1) } };
+    ghost view = { λ w. record {
+      bytes = w.bytes.items;
+      order = w.order;
+      room = min (vec_capacity w.bytes) (2 ^ 32 - 1);
+    } };
 
     ghost invariant = { λ w. vec_len w.bytes < 2 ^ 32 };
 }
@@ -52,7 +56,8 @@ impl Writer {
     ///
     /// `Memory` for want of memory, or where the writer would come to 2^32 bytes; it is then unchanged.
     pub fn reserve(&mut self, bytes: usize) -> Result<(), Memory>
-        ensures ok { OnOk result ((self.new.bytes ≡ self.old.bytes) × (self.new.order ≡ self.old.order) × (length self.old.bytes + bytes ≤ self.new.room) × (self.old.room ≤ self.new.room)) }
+        ensures ok { OnOk result ((self.new.bytes ≡ self.old.bytes) × (self.new.order ≡ self.old.order)
+            × (length self.old.bytes + bytes ≤ self.new.room) × (self.old.room ≤ self.new.room)) }
         ensures err { OnErr result ((self.new ≡ self.old) × (self.old.room < length self.old.bytes + bytes)) }
     {
         if bytes > (u32::MAX as usize) - self.bytes.len() {
@@ -66,7 +71,8 @@ impl Writer {
     fn put_cell(&mut self, cell: &[u8]) -> Result<(), Memory>
         requires some { 0 < length cell.now }
         requires few { length cell.now ≤ 8 }
-        ensures { Adds (replicate (gap (length cell.now) (length self.old.bytes)) 0 ++ cell.now) self.old self.new result }
+        ensures { Adds (replicate (gap (length cell.now) (length self.old.bytes)) 0 ++ cell.now) self.old self.new
+            result }
     {
         let size = cell.len();
         let held = self.bytes.len();
@@ -172,7 +178,10 @@ impl Writer {
     /// Takes no memory.
     pub fn set_u32(&mut self, place: u32, v: u32)
         requires { place + 4 ≤ length self.old.bytes }
-        ensures { self.new ≡ record self.old { bytes = take place self.old.bytes ++ bytes_of self.old.order 4 v ++ drop (place + 4) self.old.bytes } }
+        ensures { self.new ≡ record self.old {
+          bytes = take place self.old.bytes ++ bytes_of self.old.order 4 v
+              ++ drop (place + 4) self.old.bytes;
+        } }
     {
         let place = place as usize;
         let cell = &mut self.bytes[place..place + 4];
@@ -235,7 +244,8 @@ impl Writer {
     /// `Memory` for want of room; the writer is then unchanged.
     pub fn encapsulate(&mut self, inner: &Writer) -> Result<(), Memory>
         requires { BeginsWithOrder inner.now }
-        ensures { Adds (written_octets self.old.order (length self.old.bytes) inner.now.bytes) self.old self.new result }
+        ensures { Adds (written_octets self.old.order (length self.old.bytes) inner.now.bytes) self.old self.new
+            result }
     {
         self.octets(inner.bytes())
     }
@@ -260,7 +270,8 @@ impl Writer {
     ///
     /// `Memory` for want of room; the writer is then unchanged.
     pub fn string(&mut self, v: &[u8]) -> Result<(), Memory>
-        ensures { Adds (written_octets self.old.order (length self.old.bytes) (v.now ++ 0 ∷ [])) self.old self.new result }
+        ensures { Adds (written_octets self.old.order (length self.old.bytes) (v.now ++ 0 ∷ [])) self.old self.new
+            result }
     {
         let size = v.len();
         let held = self.bytes.len();

@@ -1,7 +1,8 @@
 use Rattle.std.proofs.Common.{arith}
 use Rattle.std.specs.Int.{w16, w32, w64}
 use Rattle.td_cdr.specs.Joined.{written_number-spelled, written_octets-spelled}
-use Rattle.td_cdr.specs.Written.{written_signed-spelled, written_boolean-spelled, written_string-spelled, written_within-spelled, written_pair-spelled}
+use Rattle.td_cdr.specs.Written.{written_signed-spelled, written_boolean-spelled, written_string-spelled}
+use Rattle.td_cdr.specs.Written.{written_within-spelled, written_pair-spelled}
 use Rattle.td_cdr.proofs.laws.is_written.Goals as goal
 
 pub returns-clause-number : goal.returns-clause-number

@@ -4,4 +4,5 @@ use Rattle.td_cdr.proofs.named.find_named.Given as goal
 
 -- what is left to look through finds what all of it finds
 abbrev pub invariant-loop-item : goal.invariant-loop-item
-invariant-loop-item g l = value_named g.K.Named.name_of (drop l.item-index l.all) l.name ≡ value_named g.K.Named.name_of l.all l.name
+invariant-loop-item g l =
+    value_named g.K.Named.name_of (drop l.item-index l.all) l.name ≡ value_named g.K.Named.name_of l.all l.name
