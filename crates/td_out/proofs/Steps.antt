@@ -4,7 +4,8 @@ use Rattle.std.proofs.Math.Seq.{take-add}
 use Rattle.std.specs.Io.KnownBytes.{Consumes, Appends, Keeps}
 use Rattle.td_out.specs.Causes.{Rose}
 
-pub Consumes-then : (a b c : Option (List ℕ)) (xs ys : List ℕ) → Consumes a b xs → Consumes b c ys → Consumes a c (xs ++ ys)
+pub Consumes-then : (a b c : Option (List ℕ)) (xs ys : List ℕ) → Consumes a b xs → Consumes b c ys
+    → Consumes a c (xs ++ ys)
 Consumes-then None b c xs ys p q = tt
 Consumes-then (Some u) None c xs ys p q = absurd p
 Consumes-then (Some u) (Some v) None xs ys p q = absurd q
@@ -17,7 +18,8 @@ Appends-then (Some u) (Some v) None xs ys p q = absurd q
 Appends-then (Some u) (Some v) (Some w) xs ys p q = rw (q, p) (append_assoc u xs ys)
 
 -- the next bytes of a piece, after those that were written
-pub Appends-more : (a b c : Option (List ℕ)) (piece : List ℕ) (made n : ℕ) → Appends a b (take made piece) → Appends b c (take n (drop made piece)) → Appends a c (take (made + n) piece)
+pub Appends-more : (a b c : Option (List ℕ)) (piece : List ℕ) (made n : ℕ) → Appends a b (take made piece)
+    → Appends b c (take n (drop made piece)) → Appends a c (take (made + n) piece)
 Appends-more a b c piece made n p q = rw take-add (Appends-then a b c _ _ p q)
 
 pub Appends-keeps : (a b c : Option (List ℕ)) (xs : List ℕ) → Appends a b xs → Keeps b c → Appends a c xs

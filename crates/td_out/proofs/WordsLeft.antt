@@ -1,11 +1,13 @@
 -- The first of the words that are left, and those behind it.
-use Rattle.std.proofs.Common.{◌≡◌, refl, ℕ, ◌+◌, ◌≤◌, List, length, get_or, drop, sym, ap, ◌∙◌, add_comm, add-zero, arith}
+use Rattle.std.proofs.Common.{◌≡◌, refl, ℕ, ◌+◌, ◌≤◌, List, length, get_or, drop, sym, ap, ◌∙◌, add_comm, add-zero}
+use Rattle.std.proofs.Common.{arith}
 use Rattle.std.proofs.lemmas.List.{get_or-drop, drop-drop, drop_all}
 
 pub first_word : (words : List ℕ) (place : ℕ) → get_or words place 0 ≡ get_or (drop place words) 0 0
 first_word words place = sym (get_or-drop place words 0 0 ∙ ap (λ i. get_or words i 0) (add-zero place))
 
-pub later_word : (words : List ℕ) (place k : ℕ) → get_or (drop (place + 1) words) k 0 ≡ get_or (drop place words) (k + 1) 0
+pub later_word : (words : List ℕ) (place k : ℕ)
+    → get_or (drop (place + 1) words) k 0 ≡ get_or (drop place words) (k + 1) 0
 later_word words place k =
     let same : place + 1 + k ≡ place + (k + 1) = omega arith in
     get_or-drop (place + 1) words k 0 ∙ ap (λ i. get_or words i 0) same ∙ sym (get_or-drop place words (k + 1) 0)

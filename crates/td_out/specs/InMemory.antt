@@ -1,5 +1,6 @@
 -- Sources, sinks and texts in memory.
-use Rattle.std.specs.Prelude.{◌≡◌, ℕ, ◌-◌, ◌^◌, map, min, max, nat_lt, if◌then◌else◌, List, ◌++◌, length, take, drop, Option, None, Some, Result, Ok, Err, IfOk, OnOk, OnErr, is_err, false}
+use Rattle.std.specs.Prelude.{◌≡◌, ℕ, ◌-◌, ◌^◌, map, min, max, nat_lt, if◌then◌else◌, List, ◌++◌, length, take, drop}
+use Rattle.std.specs.Prelude.{Option, None, Some, Result, Ok, Err, IfOk, OnOk, OnErr, is_err, false}
 use Rattle.std.specs.List.{slice_get}
 use Rattle.td_out.specs.declared.fault.Failed.{Failed}
 use Rattle.td_out.specs.declared.fault.TextFault.{TextFault}
@@ -41,7 +42,8 @@ pub record Kept : Type 0 where
   pub written : List ℕ
   pub calls : Calls
 
--- a write: it takes the whole piece. It fails where its number is among those that do, and for want of memory alone besides
+-- a write: it takes the whole piece. It fails where its number is among those that do, and for want of memory alone
+-- besides
 pub record Writes (old new : Kept) (piece : List ℕ) (result : Result ℕ Failed) : Type 0 where
   pub fails_as_set : OnOk result (fails old.calls ≡ false)
   pub took : IfOk result (λ n. n ≡ length piece)
@@ -59,7 +61,8 @@ abbrev pub as_given : Option (List ℕ) → Result (List ℕ) TextFault
 as_given None = Err fault.Failed
 as_given (Some text) = if nat_lt longest_text (length text) then Err fault.TooLong else Ok text
 
--- what a call answers for that name where memory is there: it fails where its number is among those that do, and for a name that isn't there
+-- what a call answers for that name where memory is there: it fails where its number is among those that do, and for a
+-- name that isn't there
 abbrev pub answer_of : Shelf → List ℕ → Result (List ℕ) TextFault
 answer_of s name = if fails s.calls then Err fault.Failed else as_given (text_named name s.texts)
 

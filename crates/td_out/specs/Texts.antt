@@ -23,7 +23,9 @@ text_named name texts = option_map (λ t. t.bytes) (find (λ t. bytes_eq t.name 
 -- the text of that name, and only one that isn't too long; that it is too long; a fault that raised the count;
 -- or want of memory.
 abbrev pub HasText : Option (List Named) → List ℕ → (before now : ℕ) → Result (List ℕ) TextFault → Type 0
-HasText told name before now (Ok text) = (length text ≤ longest_text) × IfSome told (λ texts. text_named name texts ≡ Some text)
+HasText told name before now (Ok text) =
+    (length text ≤ longest_text) × IfSome told (λ texts. text_named name texts ≡ Some text)
 HasText told name before now (Err Failed) = Rose before now
-HasText told name before now (Err TooLong) = IfSome told (λ texts. IsSomeAnd (text_named name texts) (λ text. longest_text < length text))
+HasText told name before now (Err TooLong) =
+    IfSome told (λ texts. IsSomeAnd (text_named name texts) (λ text. longest_text < length text))
 HasText told name before now (Err Memory) = ⊤

@@ -23,7 +23,10 @@ impl Model for ChaChaWords {
 
     ghost Value = { Course };
 
-    ghost view = { λ w. record { seeding = record { key = w.key; stream = w.generator.stream }; place = w.generator.word_pos } };
+    ghost view = { λ w. record {
+      seeding = record { key = w.key; stream = w.generator.stream };
+      place = w.generator.word_pos;
+    } };
 
     ghost invariant = { λ w. w.generator.key ≡ key_of w.key };
 }
@@ -63,7 +66,8 @@ impl Words for ChaChaWords {
         requires { length key.now ≡ 32 }
         ensures same { Unit {0} }
         ensures seeded { Some self.new.seeding ≡ Some (record { key = key.now; stream = stream }) }
-        ensures words { (k : ℕ) → chacha_word self.new k ≡ chacha_word (start_of (record { key = key.now; stream = stream })) k }
+        ensures words { (k : ℕ) → chacha_word self.new k
+            ≡ chacha_word (start_of (record { key = key.now; stream = stream })) k }
         ensures start { self.new ≡ start_of (record { key = key.now; stream = stream }) }
     {
         let mut bytes = [0u8; 32];

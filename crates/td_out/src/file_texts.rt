@@ -1,6 +1,7 @@
 //! Texts in files.
 
-ghost use Rattle.std.specs.Prelude.{◌≡◌, ◌≤◌, ◌<◌, ◌+◌, ◌++◌, ℕ, length, Option, None, Err, OnOk, IfOk, IfSome, IsErrOf};
+ghost use Rattle.std.specs.Prelude.{◌≡◌, ◌≤◌, ◌<◌, ◌+◌, ◌++◌, ℕ, length, Option, None, Err, OnOk, IfOk, IfSome};
+ghost use Rattle.std.specs.Prelude.{IsErrOf};
 ghost use Rattle.std.specs.Io.KnownBytes.{Consumes, IsAtEnd};
 ghost use Rattle.td_out.specs.Texts.{longest_text};
 ghost use Rattle.td_out.specs.declared.fault.TextFault.TheVariants.{TooLong as of_length, Failed as of_failure};
@@ -76,7 +77,8 @@ fn read_file<R: Files>(alloc: Global, rt: &R, path: &str) -> Result<Octets, Text
 /// All that the reader has left, and `TooLong` where that is more than a text may have.
 fn read_text<R: Read>(alloc: Global, reader: &mut R) -> Result<Octets, TextFault>
     ensures short { IfOk result (λ text. length text ≤ longest_text) }
-    ensures whole { IfOk result (λ text. Consumes (R.remaining reader.old) (R.remaining reader.new) text × IsAtEnd (R.remaining reader.new)) }
+    ensures whole { IfOk result
+        (λ text. Consumes (R.remaining reader.old) (R.remaining reader.new) text × IsAtEnd (R.remaining reader.new)) }
     ensures too_long { IsErrOf result of_length → IfSome (R.remaining reader.old) (λ all. longest_text < length all) }
 {
     let mut text = Vec::new(alloc);

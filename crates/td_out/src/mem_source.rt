@@ -38,7 +38,11 @@ impl MemSource {
     /// A size of 0 counts as 1, since a read of no bytes would look like the end. `failing` has the numbers
     /// of the calls that fail.
     pub fn new(bytes: Octets, pieces: List<usize>, failing: List<u64>) -> MemSource
-        ensures { result ≡ record { left = bytes; pieces = pieces; calls = record { failing = failing; made = 0; faults = 0 } } }
+        ensures { result ≡ record {
+          left = bytes;
+          pieces = pieces;
+          calls = record { failing = failing; made = 0; faults = 0 };
+        } }
     {
         MemSource {
             bytes,

@@ -43,7 +43,8 @@ impl MemTexts {
 
     /// What a call gives, before it is counted.
     fn found(&self, name: &[u8]) -> Result<&[u8], TextFault>
-        ensures { MatchResult result (λ text. answer_of self.now name.now ≡ Ok text.now) (λ e. answer_of self.now name.now ≡ Err e) }
+        ensures { MatchResult result (λ text. answer_of self.now name.now ≡ Ok text.now)
+            (λ e. answer_of self.now name.now ≡ Err e) }
     {
         if self.calls.fails() {
             return Err(TextFault::Failed);
@@ -97,7 +98,8 @@ impl Texts for MemTexts {
 
 /// A text as it is given.
 fn as_given(text: Option<&[u8]>) -> Result<&[u8], TextFault>
-    ensures { MatchResult result (λ given. as_given (option_map (λ t. t.now) text.entry) ≡ Ok given.now) (λ e. as_given (option_map (λ t. t.now) text.entry) ≡ Err e) }
+    ensures { MatchResult result (λ given. as_given (option_map (λ t. t.now) text.entry) ≡ Ok given.now)
+        (λ e. as_given (option_map (λ t. t.now) text.entry) ≡ Err e) }
 {
     match text {
         None => Err(TextFault::Failed),

@@ -28,7 +28,10 @@ impl Model for MemWords {
 
     ghost Value = { Drawing };
 
-    ghost view = { λ w. record { left = drop w.place w.words; seeding = option_map (λ s. record { key = s.key; stream = s.stream }) w.seeding } };
+    ghost view = { λ w. record {
+      left = drop w.place w.words;
+      seeding = option_map (λ s. record { key = s.key; stream = s.stream }) w.seeding;
+    } };
 
     ghost invariant = { λ w. w.place ≤ length w.words };
 }

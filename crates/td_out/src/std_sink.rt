@@ -50,7 +50,8 @@ impl<W: Write> Sink for StdSink<W> {
         ensures some { Takes result piece.now }
         ensures bytes { WriteAppends None None result piece.now }
         ensures cause { HasCause self.old.faults self.new.faults result }
-        ensures passed { IfOk result (λ n. Appends (W.contents self.old.inner) (W.contents self.new.inner) (take n piece.now)) }
+        ensures passed { IfOk result
+            (λ n. Appends (W.contents self.old.inner) (W.contents self.new.inner) (take n piece.now)) }
     {
         match write_through(&mut self.writer, piece) {
             Ok(size) => Ok(size),
