@@ -1,5 +1,6 @@
 -- A plain tree is printed in tokens that have a spelling, and only such a tree is read from them.
-use Rattle.std.proofs.Common.{ℤ, pos, negsuc, suc, ◌≡◌, ℕ, ◌^◌, Bool, true, false, ◌&&◌, nat_lt, if◌then◌else◌, List, [], ◌∷◌, ◌++◌, sym, ap, subst, ◌∙◌}
+use Rattle.std.proofs.Common.{ℤ, pos, negsuc, suc, ◌≡◌, ℕ, ◌^◌, Bool, true, false, ◌&&◌, nat_lt, if◌then◌else◌, List}
+use Rattle.std.proofs.Common.{[], ◌∷◌, ◌++◌, sym, ap, subst, ◌∙◌}
 use Rattle.std.proofs.lemmas.Bool.{ltb-true}
 use Rattle.td_cdr.specs.Names.{identifier}
 use Rattle.td_lang.specs.declared.expr.Op.{Op}
@@ -72,16 +73,20 @@ spells-Binary o a b pa pb l h =
     let both = sym (plain-Binary o a b) ∙ h in
     let x = pa (left o) (and-left (plain a) (plain b) both) in
     let y = pb (right o) (and-right (plain a) (plain b) both) in
-    rw (of-Binary o a b l) (spelled_if (nat_lt (level o) l) (Operation o (phrase_of a (left o)) (phrase_of b (right o))) (spelled-append (tokens (phrase_of a (left o))) (token.Operator o ∷ tokens (phrase_of b (right o))) x (tt, y)))
+    rw (of-Binary o a b l) (spelled_if (nat_lt (level o) l) (Operation o (phrase_of a (left o)) (phrase_of b (right o)))
+    (spelled-append (tokens (phrase_of a (left o))) (token.Operator o ∷ tokens (phrase_of b (right o))) x (tt, y)))
 
 spells-Within : (a : Expr) (n : List ℕ) → Spells a → Spells (expr.Within a n)
 spells-Within a n pa l h =
     let both = sym (plain-Within a n) ∙ h in
     let x = pa 5 (and-left (plain a) (identifier n) both) in
-    rw (of-Within a n l) (spelled_if (nat_lt 4 l) (Within (phrase_of a 5) n) (spelled-append (tokens (phrase_of a 5)) (token.Within ∷ token.Name n ∷ []) x (tt, (and-right (plain a) (identifier n) both, tt))))
+    rw (of-Within a n l) (spelled_if (nat_lt 4 l) (Within (phrase_of a 5) n)
+    (spelled-append (tokens (phrase_of a 5)) (token.Within ∷ token.Name n ∷ []) x
+    (tt, (and-right (plain a) (identifier n) both, tt))))
 
 spells-Not : (a : Expr) → Spells a → Spells (expr.Not a)
-spells-Not a pa l h = rw (of-Not a l) (spelled_if (nat_lt 8 l) (Negation (phrase_of a 9)) (tt, pa 9 (sym (plain-Not a) ∙ h)))
+spells-Not a pa l h =
+    rw (of-Not a l) (spelled_if (nat_lt 8 l) (Negation (phrase_of a 9)) (tt, pa 9 (sym (plain-Not a) ∙ h)))
 
 step : (y : Expr-F Kept) → Spells (roll-Expr (map-Expr Kept Expr (λ k. k.0) y))
 step (layer.Binary o a b) = rw (expr.rolls-Binary o a.0 b.0) (spells-Binary o a.0 b.0 a.1 b.1)
@@ -89,7 +94,8 @@ step (layer.Within a n) = rw (expr.rolls-Within a.0 n) (spells-Within a.0 n a.1)
 step (layer.Not a) = rw (expr.rolls-Not a.0) (spells-Not a.0 a.1)
 step (layer.Exist n) = rw (expr.rolls-Exist n) (λ l h. rw (of-Exist n l) (tt, (sym (plain-Exist n) ∙ h, tt)))
 step (layer.Name n) = rw (expr.rolls-Name n) (λ l h. rw (of-Name n l) (sym (plain-Name n) ∙ h, tt))
-step (layer.Number z) = rw (expr.rolls-Number z) (λ l h. rw (of-Number z l) (number-spelled z (sym (plain-Number z) ∙ h)))
+step (layer.Number z) =
+    rw (expr.rolls-Number z) (λ l h. rw (of-Number z l) (number-spelled z (sym (plain-Number z) ∙ h)))
 step (layer.Str t) = rw (expr.rolls-Str t) (λ l h. rw (of-Str t l) (tt, tt))
 step (layer.Truth b) = rw (expr.rolls-Truth b) (λ l h. rw (of-Truth b l) (tt, tt))
 

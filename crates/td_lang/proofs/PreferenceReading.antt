@@ -1,5 +1,6 @@
 -- A preference is read as the grammar says.
-use Rattle.std.proofs.Common.{◌≡◌, ℕ, ◌<◌, append_assoc, nat_lt, Bool, true, false, if◌then◌else◌, List, [], ◌∷◌, ◌++◌, length, inl, inr, Result, Ok, Err, refl, sym, ap, subst, ◌∙◌, arith}
+use Rattle.std.proofs.Common.{◌≡◌, ℕ, ◌<◌, append_assoc, nat_lt, Bool, true, false, if◌then◌else◌, List, [], ◌∷◌, ◌++◌}
+use Rattle.std.proofs.Common.{length, inl, inr, Result, Ok, Err, refl, sym, ap, subst, ◌∙◌, arith}
 use Rattle.std.proofs.lemmas.Bool.{ltb-true, ltb-false}
 use Rattle.std.proofs.lemmas.List.{append-nil}
 use Rattle.td_lang.specs.declared.expr.Expr.{Expr}
@@ -17,7 +18,8 @@ use Rattle.td_lang.specs.Constraints.{UnlessMemory}
 use Rattle.td_lang.specs.FirstFaults.{Viable, Whole, First, Answers, fault_of}
 use Rattle.td_lang.specs.Grammar.{Sentence}
 use Rattle.td_lang.specs.Lexing.{GivesFault, HasSpelling}
-use Rattle.td_lang.specs.Preferences.{Follows, IsPreference, ViablePreference, WholePreference, FirstFault, Chooses, Prefers, alone, behind, spot_preference, tape_preference, preference_of}
+use Rattle.td_lang.specs.Preferences.{Follows, IsPreference, ViablePreference, WholePreference, FirstFault, Chooses}
+use Rattle.td_lang.specs.Preferences.{Prefers, alone, behind, spot_preference, tape_preference, preference_of}
 use Rattle.td_lang.specs.Reading.{start, read}
 use Rattle.td_lang.specs.Reading as reading
 use Rattle.td_lang.specs.Tape.{Tape, Over, Broken, Spot, tape, read_tape, ◌>>=◌}
@@ -52,9 +54,15 @@ picks : (ts : List Token) (p : Preference) → IsPreference ts p → picked ts �
 picks ts preference.Empty h = ap picked h
 picks ts preference.First h = ap picked h
 picks ts preference.Random h = ap picked h
-picks ts (preference.Min e) h = ap picked h.front ∙ ap (λ (r : Result Expr Stop). reading.◌>>=◌ r (λ x. Ok (preference.Min x))) (reads h.rest e h.sentence)
-picks ts (preference.Max e) h = ap picked h.front ∙ ap (λ (r : Result Expr Stop). reading.◌>>=◌ r (λ x. Ok (preference.Max x))) (reads h.rest e h.sentence)
-picks ts (preference.With e) h = ap picked h.front ∙ ap (λ (r : Result Expr Stop). reading.◌>>=◌ r (λ x. Ok (preference.With x))) (reads h.rest e h.sentence)
+picks ts (preference.Min e) h =
+    ap picked h.front ∙ ap (λ (r : Result Expr Stop). reading.◌>>=◌ r (λ x. Ok (preference.Min x)))
+    (reads h.rest e h.sentence)
+picks ts (preference.Max e) h =
+    ap picked h.front ∙ ap (λ (r : Result Expr Stop). reading.◌>>=◌ r (λ x. Ok (preference.Max x)))
+    (reads h.rest e h.sentence)
+picks ts (preference.With e) h =
+    ap picked h.front ∙ ap (λ (r : Result Expr Stop). reading.◌>>=◌ r (λ x. Ok (preference.With x)))
+    (reads h.rest e h.sentence)
 
 pub one_preference : (ts : List Token) (p q : Preference) → IsPreference ts p → IsPreference ts q → p ≡ q
 one_preference ts p q h k = let both = sym (picks ts p h) ∙ picks ts q k in cc
@@ -128,10 +136,16 @@ alone_not k t low b = refused b.preference b.whole
     refused (preference.Max e) h = let n = numbered _ _ h.front in absurd (omega (arith, n, low))
     refused (preference.With e) h = let n = numbered _ _ h.front in absurd (omega (arith, n, low))
 
-chooses_alone : (k : Keyword) (p : Preference) (place : ℕ) (rest : Tape) → number_of_word k < 2 → IsPreference (token.Keyword k ∷ []) p → Chooses (Spot place (token.Keyword k) rest) (alone p rest)
+chooses_alone : (k : Keyword) (p : Preference) (place : ℕ) (rest : Tape) → number_of_word k < 2
+    → IsPreference (token.Keyword k ∷ []) p → Chooses (Spot place (token.Keyword k) rest) (alone p rest)
 chooses_alone k p place (Over end) low is = is
 chooses_alone k p place (Broken f) low is = inr (record { more = []; spelled = tt; preference = p; whole = is }, refl)
-chooses_alone k p place (Spot next t rest) low is = inr (inl (record { more = []; spelled = tt; preference = p; whole = is }, (λ b. alone_not k t low b), sym (fault_early next t)))
+chooses_alone k p place (Spot next t rest) low is =
+    inr (inl (
+      record { more = []; spelled = tt; preference = p; whole = is },
+      (λ b. alone_not k t low b),
+      sym (fault_early next t),
+    ))
 
 -- ---- a word with an expression
 
@@ -141,12 +155,14 @@ record Opens (k : Keyword) (make : Expr → Preference) : Type 0 where
   made : (ts : List Token) (p : Preference) → IsPreference (token.Keyword k ∷ ts) p → (e : Expr) × Sentence ts e
 
 follows : (k : Keyword) (ts : List Token) (e : Expr) → Follows k (token.Keyword k ∷ ts) e → Sentence ts e
-follows k ts e f = let same : ts ≡ f.rest = ap others_of f.front in subst (λ (xs : List Token). Sentence xs e) (sym same) f.sentence
+follows k ts e f =
+    let same : ts ≡ f.rest = ap others_of f.front in subst (λ (xs : List Token). Sentence xs e) (sym same) f.sentence
 
 min_opens : Opens keyword.Min (λ e. preference.Min e)
 min_opens = record { makes = λ ts e s. record { rest = ts; front = refl; sentence = s }; made = made }
   where
-    made : (ts : List Token) (p : Preference) → IsPreference (token.Keyword keyword.Min ∷ ts) p → (e : Expr) × Sentence ts e
+    made : (ts : List Token) (p : Preference) → IsPreference (token.Keyword keyword.Min ∷ ts) p
+        → (e : Expr) × Sentence ts e
     made ts preference.Empty h = absurd cc
     made ts preference.First h = let n = numbered _ _ h in absurd (omega (arith, n))
     made ts preference.Random h = let n = numbered _ _ h in absurd (omega (arith, n))
@@ -157,7 +173,8 @@ min_opens = record { makes = λ ts e s. record { rest = ts; front = refl; senten
 max_opens : Opens keyword.Max (λ e. preference.Max e)
 max_opens = record { makes = λ ts e s. record { rest = ts; front = refl; sentence = s }; made = made }
   where
-    made : (ts : List Token) (p : Preference) → IsPreference (token.Keyword keyword.Max ∷ ts) p → (e : Expr) × Sentence ts e
+    made : (ts : List Token) (p : Preference) → IsPreference (token.Keyword keyword.Max ∷ ts) p
+        → (e : Expr) × Sentence ts e
     made ts preference.Empty h = absurd cc
     made ts preference.First h = let n = numbered _ _ h in absurd (omega (arith, n))
     made ts preference.Random h = let n = numbered _ _ h in absurd (omega (arith, n))
@@ -168,7 +185,8 @@ max_opens = record { makes = λ ts e s. record { rest = ts; front = refl; senten
 with_opens : Opens keyword.With (λ e. preference.With e)
 with_opens = record { makes = λ ts e s. record { rest = ts; front = refl; sentence = s }; made = made }
   where
-    made : (ts : List Token) (p : Preference) → IsPreference (token.Keyword keyword.With ∷ ts) p → (e : Expr) × Sentence ts e
+    made : (ts : List Token) (p : Preference) → IsPreference (token.Keyword keyword.With ∷ ts) p
+        → (e : Expr) × Sentence ts e
     made ts preference.Empty h = absurd cc
     made ts preference.First h = let n = numbered _ _ h in absurd (omega (arith, n))
     made ts preference.Random h = let n = numbered _ _ h in absurd (omega (arith, n))
@@ -176,35 +194,55 @@ with_opens = record { makes = λ ts e s. record { rest = ts; front = refl; sente
     made ts (preference.Max e) h = let n = numbered _ _ h.front in absurd (omega (arith, n))
     made ts (preference.With e) h = (e, follows keyword.With ts e h)
 
-begun_so : (k : Keyword) (make : Expr → Preference) (ts : List Token) → Opens k make → Viable ts → ViablePreference (token.Keyword k ∷ ts)
-begun_so k make ts o v = record { more = v.more; spelled = v.spelled; preference = make v.expr; whole = o.makes (ts ++ v.more) v.expr v.sentence }
+begun_so : (k : Keyword) (make : Expr → Preference) (ts : List Token) → Opens k make → Viable ts
+    → ViablePreference (token.Keyword k ∷ ts)
+begun_so k make ts o v = record {
+  more = v.more;
+  spelled = v.spelled;
+  preference = make v.expr;
+  whole = o.makes (ts ++ v.more) v.expr v.sentence;
+}
 
-viable_so : (k : Keyword) (make : Expr → Preference) (ts : List Token) → Opens k make → ViablePreference (token.Keyword k ∷ ts) → Viable ts
-viable_so k make ts o b = let e = o.made (ts ++ b.more) b.preference b.whole in record { more = b.more; spelled = b.spelled; expr = e.0; sentence = e.1 }
+viable_so : (k : Keyword) (make : Expr → Preference) (ts : List Token) → Opens k make
+    → ViablePreference (token.Keyword k ∷ ts) → Viable ts
+viable_so k make ts o b =
+    let e = o.made (ts ++ b.more) b.preference b.whole in
+    record { more = b.more; spelled = b.spelled; expr = e.0; sentence = e.1 }
 
-whole_so : (k : Keyword) (make : Expr → Preference) (rest : Tape) (ts : List Token) (e : Expr) → Opens k make → Whole ts rest e → WholePreference (token.Keyword k ∷ ts) rest (make e)
+whole_so : (k : Keyword) (make : Expr → Preference) (rest : Tape) (ts : List Token) (e : Expr) → Opens k make
+    → Whole ts rest e → WholePreference (token.Keyword k ∷ ts) rest (make e)
 whole_so k make (Over place) ts e o w = o.makes ts e w
 whole_so k make (Broken f) ts e o w = w
 whole_so k make (Spot place t rest) ts e o w = whole_so k make rest (ts ++ t ∷ []) e o w
 
-first_so : (k : Keyword) (make : Expr → Preference) (rest : Tape) (ts : List Token) (f : LangFault) → Opens k make → First ts rest f → FirstFault (token.Keyword k ∷ ts) rest f
+first_so : (k : Keyword) (make : Expr → Preference) (rest : Tape) (ts : List Token) (f : LangFault) → Opens k make
+    → First ts rest f → FirstFault (token.Keyword k ∷ ts) rest f
 first_so k make (Over place) ts f o h = (begun_so k make ts o h.0, (λ p is. let e = o.made ts p is in h.1 e.0 e.1), h.2)
 first_so k make (Broken g) ts f o h = (begun_so k make ts o h.0, h.1)
-first_so k make (Spot place t rest) ts f o (inl h) = inl (begun_so k make ts o h.0, (λ b. h.1 (viable_so k make (ts ++ t ∷ []) o b)), h.2)
+first_so k make (Spot place t rest) ts f o (inl h) =
+    inl (begun_so k make ts o h.0, (λ b. h.1 (viable_so k make (ts ++ t ∷ []) o b)), h.2)
 first_so k make (Spot place t rest) ts f o (inr h) = inr (first_so k make rest (ts ++ t ∷ []) f o h)
 
-chooses_with : (k : Keyword) (make : Expr → Preference) (place : ℕ) (rest : Tape) (r : Result Expr LangFault) → Opens k make → Answers [] rest r → Chooses (Spot place (token.Keyword k) rest) (r >>= λ e. Ok (make e))
+chooses_with : (k : Keyword) (make : Expr → Preference) (place : ℕ) (rest : Tape) (r : Result Expr LangFault)
+    → Opens k make → Answers [] rest r → Chooses (Spot place (token.Keyword k) rest) (r >>= λ e. Ok (make e))
 chooses_with k make place rest (Ok e) o h = whole_so k make rest [] e o h
 chooses_with k make place rest (Err f) o h = inr (first_so k make rest [] f o h)
 
 chooses_behind : (k : Keyword) (place : ℕ) (rest : Tape) → Chooses (Spot place (token.Keyword k) rest) (behind k rest)
 chooses_behind keyword.First place rest = chooses_alone keyword.First preference.First place rest (omega arith) refl
 chooses_behind keyword.Random place rest = chooses_alone keyword.Random preference.Random place rest (omega arith) refl
-chooses_behind keyword.Min place rest = chooses_with keyword.Min (λ e. preference.Min e) place rest (read_tape start rest) min_opens (answered rest [] start refl refl)
-chooses_behind keyword.Max place rest = chooses_with keyword.Max (λ e. preference.Max e) place rest (read_tape start rest) max_opens (answered rest [] start refl refl)
-chooses_behind keyword.With place rest = chooses_with keyword.With (λ e. preference.With e) place rest (read_tape start rest) with_opens (answered rest [] start refl refl)
+chooses_behind keyword.Min place rest =
+    chooses_with keyword.Min (λ e. preference.Min e) place rest (read_tape start rest) min_opens
+    (answered rest [] start refl refl)
+chooses_behind keyword.Max place rest =
+    chooses_with keyword.Max (λ e. preference.Max e) place rest (read_tape start rest) max_opens
+    (answered rest [] start refl refl)
+chooses_behind keyword.With place rest =
+    chooses_with keyword.With (λ e. preference.With e) place rest (read_tape start rest) with_opens
+    (answered rest [] start refl refl)
 
-chooses_not : (place : ℕ) (t : Token) (rest : Tape) → is_keyword t ≡ false → Chooses (Spot place t rest) (Err (fault.Syntax place))
+chooses_not : (place : ℕ) (t : Token) (rest : Tape) → is_keyword t ≡ false
+    → Chooses (Spot place t rest) (Err (fault.Syntax place))
 chooses_not place t rest is = inl (nothing_begun, (λ b. begins_not t is b), sym (fault_early place t))
 
 chooses_spotted : (place : ℕ) (t : Token) (rest : Tape) → Chooses (Spot place t rest) (spot_preference place t rest)
@@ -229,41 +267,58 @@ chooses_so (Spot place t rest) = chooses_spotted place t rest
 pub prefers_so : (text : List ℕ) → Prefers text (preference_of text)
 prefers_so text = either (nat_lt 4096 (length text)) refl
   where
-    either : (b : Bool) → nat_lt 4096 (length text) ≡ b → Prefers text (if b then Err fault.TooLong else tape_preference (tape 0 0 text))
+    either : (b : Bool) → nat_lt 4096 (length text) ≡ b
+        → Prefers text (if b then Err fault.TooLong else tape_preference (tape 0 0 text))
     either true is = inl (ltb-true 4096 (length text) is, refl)
     either false is = inr (ltb-false 4096 (length text) is, chooses_so (tape 0 0 text))
 
-pub said : (text : List ℕ) (r : Result Preference LangFault) → GivesFault (λ p. p) r (preference_of text) → UnlessMemory (Prefers text) r
+pub said : (text : List ℕ) (r : Result Preference LangFault) → GivesFault (λ p. p) r (preference_of text)
+    → UnlessMemory (Prefers text) r
 said text r g = answered_so (λ q. Prefers text q) r (preference_of text) g (prefers_so text)
 
 -- ---- a text has one answer
 
 before_more : (ts : List Token) (t : Token) → HasSpelling t → ViablePreference (ts ++ t ∷ []) → ViablePreference ts
-before_more ts t own b = record { more = t ∷ b.more; spelled = (own, b.spelled); preference = b.preference; whole = subst (λ (xs : List Token). IsPreference xs b.preference) (append_assoc ts (t ∷ []) b.more) b.whole }
+before_more ts t own b = record {
+  more = t ∷ b.more;
+  spelled = (own, b.spelled);
+  preference = b.preference;
+  whole = subst (λ (xs : List Token). IsPreference xs b.preference) (append_assoc ts (t ∷ []) b.more) b.whole;
+}
 
-whole_begun : (rest : Tape) (ts : List Token) (p : Preference) → AllOnTape rest → WholePreference ts rest p → ViablePreference ts
-whole_begun (Over place) ts p own w = record { more = []; spelled = tt; preference = p; whole = subst (λ (xs : List Token). IsPreference xs p) (sym (append-nil ts)) w }
+whole_begun : (rest : Tape) (ts : List Token) (p : Preference) → AllOnTape rest → WholePreference ts rest p
+    → ViablePreference ts
+whole_begun (Over place) ts p own w = record {
+  more = [];
+  spelled = tt;
+  preference = p;
+  whole = subst (λ (xs : List Token). IsPreference xs p) (sym (append-nil ts)) w;
+}
 whole_begun (Broken f) ts p own w = absurd w
 whole_begun (Spot place t rest) ts p own w = before_more ts t own.0 (whole_begun rest (ts ++ t ∷ []) p own.1 w)
 
-first_begun : (rest : Tape) (ts : List Token) (f : LangFault) → AllOnTape rest → FirstFault ts rest f → ViablePreference ts
+first_begun : (rest : Tape) (ts : List Token) (f : LangFault) → AllOnTape rest → FirstFault ts rest f
+    → ViablePreference ts
 first_begun (Over place) ts f own h = h.0
 first_begun (Broken g) ts f own h = h.0
 first_begun (Spot place t rest) ts f own (inl h) = h.0
 first_begun (Spot place t rest) ts f own (inr h) = before_more ts t own.0 (first_begun rest (ts ++ t ∷ []) f own.1 h)
 
-choices : (rest : Tape) (ts : List Token) (p q : Preference) → WholePreference ts rest p → WholePreference ts rest q → p ≡ q
+choices : (rest : Tape) (ts : List Token) (p q : Preference) → WholePreference ts rest p → WholePreference ts rest q
+    → p ≡ q
 choices (Over place) ts p q h k = one_preference ts p q h k
 choices (Broken g) ts p q h k = absurd h
 choices (Spot place t rest) ts p q h k = choices rest (ts ++ t ∷ []) p q h k
 
-choice_or_fault : (rest : Tape) (ts : List Token) (p : Preference) (f : LangFault) → AllOnTape rest → WholePreference ts rest p → FirstFault ts rest f → ⊥
+choice_or_fault : (rest : Tape) (ts : List Token) (p : Preference) (f : LangFault) → AllOnTape rest
+    → WholePreference ts rest p → FirstFault ts rest f → ⊥
 choice_or_fault (Over place) ts p f own w h = h.1 p w
 choice_or_fault (Broken g) ts p f own w h = w
 choice_or_fault (Spot place t rest) ts p f own w (inl h) = h.1 (whole_begun rest (ts ++ t ∷ []) p own.1 w)
 choice_or_fault (Spot place t rest) ts p f own w (inr h) = choice_or_fault rest (ts ++ t ∷ []) p f own.1 w h
 
-faults : (rest : Tape) (ts : List Token) (f g : LangFault) → AllOnTape rest → FirstFault ts rest f → FirstFault ts rest g → f ≡ g
+faults : (rest : Tape) (ts : List Token) (f g : LangFault) → AllOnTape rest → FirstFault ts rest f
+    → FirstFault ts rest g → f ≡ g
 faults (Over place) ts f g own h k = h.2 ∙ sym k.2
 faults (Broken x) ts f g own h k = h.1 ∙ sym k.1
 faults (Spot place t rest) ts f g own (inl h) (inl k) = h.2 ∙ sym k.2
@@ -271,7 +326,8 @@ faults (Spot place t rest) ts f g own (inl h) (inr k) = absurd (h.1 (first_begun
 faults (Spot place t rest) ts f g own (inr h) (inl k) = absurd (k.1 (first_begun rest (ts ++ t ∷ []) f own.1 h))
 faults (Spot place t rest) ts f g own (inr h) (inr k) = faults rest (ts ++ t ∷ []) f g own.1 h k
 
-one_chosen : (rest : Tape) (r q : Result Preference LangFault) → AllOnTape rest → Chooses rest r → Chooses rest q → r ≡ q
+one_chosen : (rest : Tape) (r q : Result Preference LangFault) → AllOnTape rest → Chooses rest r → Chooses rest q
+    → r ≡ q
 one_chosen rest (Ok p) (Ok q) own h k = ap (λ (x : Preference). Ok x) (choices rest [] p q h k)
 one_chosen rest (Ok p) (Err g) own h k = absurd (choice_or_fault rest [] p g own h k)
 one_chosen rest (Err f) (Ok p) own h k = absurd (choice_or_fault rest [] p f own k h)

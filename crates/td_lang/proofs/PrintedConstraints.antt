@@ -1,5 +1,6 @@
 -- Constraints and preferences that are printed are read again.
-use Rattle.std.proofs.Common.{pos, neg_ℤ, zero, suc, ◌≡◌, ℕ, ◌+◌, ◌^◌, ◌<◌, ◌≤◌, true, List, [], ◌∷◌, ◌++◌, length, inl, inr, Result, Ok, refl, sym, ap, subst, ◌∙◌, arith}
+use Rattle.std.proofs.Common.{pos, neg_ℤ, zero, suc, ◌≡◌, ℕ, ◌+◌, ◌^◌, ◌<◌, ◌≤◌, true, List, [], ◌∷◌, ◌++◌, length, inl}
+use Rattle.std.proofs.Common.{inr, Result, Ok, refl, sym, ap, subst, ◌∙◌, arith}
 use Rattle.std.proofs.lemmas.Bool.{le-ltb, lt-ltb}
 use Rattle.td_lang.specs.declared.expr.Expr.{Expr}
 use Rattle.td_lang.specs.declared.expr.Constraint.{Constraint}
@@ -13,9 +14,11 @@ use Rattle.td_lang.specs.declared.token.Token.TheVariants as token
 use Rattle.td_lang.specs.declared.fault.LangFault.{LangFault}
 use Rattle.td_lang.specs.Constraints.{IsTreeOrFault, Asks, Says, tape_constraint, constraint_of}
 use Rattle.td_lang.specs.FirstFaults.{Whole}
-use Rattle.td_lang.specs.Grammar.{Phrase, Operation, Within, Negation, Existence, PropertyName, Numeral, Negative, Quoted, Truth, Parenthesis, tokens, tree, Shallow, Sentence}
+use Rattle.td_lang.specs.Grammar.{Phrase, Operation, Within, Negation, Existence, PropertyName, Numeral, Negative}
+use Rattle.td_lang.specs.Grammar.{Quoted, Truth, Parenthesis, tokens, tree, Shallow, Sentence}
 use Rattle.td_lang.specs.Lexing.{HasSpelling, AllSpelled}
-use Rattle.td_lang.specs.Preferences.{Follows, IsPreference, WholePreference, Prefers, behind, tape_preference, preference_of}
+use Rattle.td_lang.specs.Preferences.{Follows, IsPreference, WholePreference, Prefers, behind, tape_preference}
+use Rattle.td_lang.specs.Preferences.{preference_of}
 use Rattle.td_lang.specs.Printing.{bytes_of, put_all, phrase_of, plain, plain_number, IsPlain, CanBeRead}
 use Rattle.td_lang.specs.PrintedTexts.{constraint_text, preference_text, ConstraintCanBeRead, PreferenceCanBeRead}
 use Rattle.td_lang.specs.Reading.{start, read}
@@ -23,40 +26,54 @@ use Rattle.td_lang.specs.Tape.{Tape, Over, Broken, Spot, tape, read_tape, ◌>>=
 use Rattle.td_lang.proofs.Completeness.{reads}
 use Rattle.td_lang.proofs.Uniqueness.{says_so}
 use Rattle.td_lang.proofs.TapeSpelling.{AllOnTape, tape_kept}
-use Rattle.td_lang.proofs.PlainTrees.{spelled-append, spelled-front, spelled-back, plain-spelled, plain-Binary, plain-Within, plain-Not, plain-Exist, plain-Name, plain-Number, plain-Str, plain-Truth}
+use Rattle.td_lang.proofs.PlainTrees.{spelled-append, spelled-front, spelled-back, plain-spelled, plain-Binary}
+use Rattle.td_lang.proofs.PlainTrees.{plain-Within, plain-Not, plain-Exist, plain-Name, plain-Number, plain-Str}
+use Rattle.td_lang.proofs.PlainTrees.{plain-Truth}
 use Rattle.td_lang.proofs.PreferenceReading.{prefers_so}
 use Rattle.td_lang.proofs.PrintedPhrases.{is_read, least}
 use Rattle.td_lang.proofs.RoundTrip.{apart, tape_token, row_reads, put_first, put_reads}
 use Rattle.td_lang.proofs.PrintedTokens.{row_of}
 
 -- the first of printed tokens stands on the tape
-first_on : (t : Token) (ts : List Token) → HasSpelling t → tape 0 0 (put_all [] (t ∷ ts)) ≡ Spot 0 t (tape 0 (0 + length (bytes_of t)) (row_of ts))
-first_on t ts spelled = ap (λ (x : List ℕ). tape 0 0 x) (put_first t ts spelled) ∙ tape_token t (row_of ts) 0 spelled (apart ts)
+first_on : (t : Token) (ts : List Token) → HasSpelling t
+    → tape 0 0 (put_all [] (t ∷ ts)) ≡ Spot 0 t (tape 0 (0 + length (bytes_of t)) (row_of ts))
+first_on t ts spelled =
+    ap (λ (x : List ℕ). tape 0 0 x) (put_first t ts spelled) ∙ tape_token t (row_of ts) 0 spelled (apart ts)
 
 -- ---- what is printed is read
 
-asked_back : (ts : List Token) (e : Expr) → AllSpelled ts → read ts ≡ Ok e → tape_constraint (tape 0 0 (put_all [] ts)) ≡ Ok (constraint.Is e)
+asked_back : (ts : List Token) (e : Expr) → AllSpelled ts → read ts ≡ Ok e
+    → tape_constraint (tape 0 0 (put_all [] ts)) ≡ Ok (constraint.Is e)
 asked_back [] e a h = absurd (cc)
 asked_back (t ∷ ts) e a h =
     let on = first_on t ts a.0 in
-    let reads_so : read_tape start (Spot 0 t (tape 0 (0 + length (bytes_of t)) (row_of ts))) ≡ Ok e = ap (λ (x : Tape). read_tape start x) (sym on) ∙ put_reads (t ∷ ts) e a h in
-    ap (λ (x : Tape). tape_constraint x) on ∙ ap (λ (r : Result Expr LangFault). r >>= λ x. Ok (constraint.Is x)) reads_so
+    let reads_so : read_tape start (Spot 0 t (tape 0 (0 + length (bytes_of t)) (row_of ts))) ≡ Ok e =
+    ap (λ (x : Tape). read_tape start x) (sym on) ∙ put_reads (t ∷ ts) e a h in
+    ap (λ (x : Tape). tape_constraint x) on
+    ∙ ap (λ (r : Result Expr LangFault). r >>= λ x. Ok (constraint.Is x)) reads_so
 
-pub constraint_back : (c : Constraint) → ConstraintCanBeRead c → length (constraint_text c) ≤ 4096 → constraint_of (constraint_text c) ≡ Ok c
+pub constraint_back : (c : Constraint) → ConstraintCanBeRead c → length (constraint_text c) ≤ 4096
+    → constraint_of (constraint_text c) ≡ Ok c
 constraint_back constraint.Empty can short = refl
 constraint_back (constraint.Is e) can short =
     let ts = tokens (phrase_of e 1) in
-    rw (le-ltb 4096 (length (put_all [] ts)) short) (asked_back ts e (plain-spelled e 1 can.0) (reads ts e (is_read e can.1)))
+    rw (le-ltb 4096 (length (put_all [] ts)) short)
+    (asked_back ts e (plain-spelled e 1 can.0) (reads ts e (is_read e can.1)))
 
-word_alone : (k : Keyword) (p : Preference) → behind k (Over (0 + length (bytes_of (token.Keyword k)))) ≡ Ok p → tape_preference (tape 0 0 (put_all [] (token.Keyword k ∷ []))) ≡ Ok p
+word_alone : (k : Keyword) (p : Preference) → behind k (Over (0 + length (bytes_of (token.Keyword k)))) ≡ Ok p
+    → tape_preference (tape 0 0 (put_all [] (token.Keyword k ∷ []))) ≡ Ok p
 word_alone k p h = ap (λ (x : Tape). tape_preference x) (first_on (token.Keyword k) [] tt) ∙ h
 
-word_with : (k : Keyword) (e : Expr) (make : Expr → Preference) → ((rest : Tape) → behind k rest ≡ (read_tape start rest >>= λ x. Ok (make x))) → CanBeRead e → tape_preference (tape 0 0 (put_all [] (token.Keyword k ∷ tokens (phrase_of e 1)))) ≡ Ok (make e)
+word_with : (k : Keyword) (e : Expr) (make : Expr → Preference)
+    → ((rest : Tape) → behind k rest ≡ (read_tape start rest >>= λ x. Ok (make x))) → CanBeRead e
+    → tape_preference (tape 0 0 (put_all [] (token.Keyword k ∷ tokens (phrase_of e 1)))) ≡ Ok (make e)
 word_with k e make behaves can =
     let ts = tokens (phrase_of e 1) in
     let size = 0 + length (bytes_of (token.Keyword k)) in
-    let found : read_tape start (tape 0 size (row_of ts)) ≡ Ok e = row_reads ts start size e (plain-spelled e 1 can.0) (reads ts e (is_read e can.1)) in
-    ap (λ (x : Tape). tape_preference x) (first_on (token.Keyword k) ts tt) ∙ behaves (tape 0 size (row_of ts)) ∙ ap (λ (r : Result Expr LangFault). r >>= λ x. Ok (make x)) found
+    let found : read_tape start (tape 0 size (row_of ts)) ≡ Ok e =
+    row_reads ts start size e (plain-spelled e 1 can.0) (reads ts e (is_read e can.1)) in
+    ap (λ (x : Tape). tape_preference x) (first_on (token.Keyword k) ts tt) ∙ behaves (tape 0 size (row_of ts))
+    ∙ ap (λ (r : Result Expr LangFault). r >>= λ x. Ok (make x)) found
 
 chosen_back : (p : Preference) → PreferenceCanBeRead p → tape_preference (tape 0 0 (preference_text p)) ≡ Ok p
 chosen_back preference.Empty can = refl
@@ -66,7 +83,8 @@ chosen_back (preference.Min e) can = word_with keyword.Min e (λ x. preference.M
 chosen_back (preference.Max e) can = word_with keyword.Max e (λ x. preference.Max x) (λ rest. refl) can
 chosen_back (preference.With e) can = word_with keyword.With e (λ x. preference.With x) (λ rest. refl) can
 
-pub preference_back : (p : Preference) → PreferenceCanBeRead p → length (preference_text p) ≤ 4096 → preference_of (preference_text p) ≡ Ok p
+pub preference_back : (p : Preference) → PreferenceCanBeRead p → length (preference_text p) ≤ 4096
+    → preference_of (preference_text p) ≡ Ok p
 preference_back p can short = rw (le-ltb 4096 (length (preference_text p)) short) (chosen_back p can)
 
 -- ---- what was read can be printed and read again
@@ -94,8 +112,10 @@ spelled-plain (Parenthesis a) s = spelled-plain a (spelled-front (tokens a) (tok
 
 sentence_can : (ts : List Token) (e : Expr) → AllSpelled ts → Sentence ts e → CanBeRead e
 sentence_can ts e a s =
-    let own = spelled-plain s.phrase (subst AllSpelled (sym s.spelled) a) in
-    (subst IsPlain s.tree_is own, subst (λ (x : Expr). Shallow 64 (phrase_of x 1)) s.tree_is (least s.phrase 1 64 (omega arith) s.fits s.shallow))
+    let own = spelled-plain s.phrase (subst AllSpelled (sym s.spelled) a) in (
+      subst IsPlain s.tree_is own,
+      subst (λ (x : Expr). Shallow 64 (phrase_of x 1)) s.tree_is (least s.phrase 1 64 (omega arith) s.fits s.shallow),
+    )
 
 one_more : (ts : List Token) (t : Token) → AllSpelled ts → HasSpelling t → AllSpelled (ts ++ t ∷ [])
 one_more ts t a h = spelled-append ts (t ∷ []) a (h, tt)
@@ -109,7 +129,8 @@ made_can : (rest : Tape) (c : Constraint) → AllOnTape rest → IsTreeOrFault r
 made_can rest constraint.Empty own m = absurd m
 made_can rest (constraint.Is e) own m = whole_can rest [] e tt own m
 
-empty_can : (c : Constraint) (r : Result Constraint LangFault) → r ≡ Ok constraint.Empty → r ≡ Ok c → ConstraintCanBeRead c
+empty_can : (c : Constraint) (r : Result Constraint LangFault) → r ≡ Ok constraint.Empty → r ≡ Ok c
+    → ConstraintCanBeRead c
 empty_can constraint.Empty r h k = tt
 empty_can (constraint.Is e) r h k = let both = sym h ∙ k in absurd (cc)
 
@@ -126,7 +147,9 @@ pub constraint_can : (text : List ℕ) (c : Constraint) → constraint_of text �
 constraint_can text c h = says_can text c (subst (λ (r : Result Constraint LangFault). Says text r) h (says_so text))
 
 follows_can : (k : Keyword) (ts : List Token) (e : Expr) → AllSpelled ts → Follows k ts e → CanBeRead e
-follows_can k ts e a f = let own : AllSpelled (token.Keyword k ∷ f.rest) = subst AllSpelled f.front a in sentence_can f.rest e own.1 f.sentence
+follows_can k ts e a f =
+    let own : AllSpelled (token.Keyword k ∷ f.rest) = subst AllSpelled f.front a in
+    sentence_can f.rest e own.1 f.sentence
 
 preferred_can : (ts : List Token) (p : Preference) → AllSpelled ts → IsPreference ts p → PreferenceCanBeRead p
 preferred_can ts preference.Empty a h = tt
@@ -136,7 +159,8 @@ preferred_can ts (preference.Min e) a h = follows_can keyword.Min ts e a h
 preferred_can ts (preference.Max e) a h = follows_can keyword.Max ts e a h
 preferred_can ts (preference.With e) a h = follows_can keyword.With ts e a h
 
-chosen_can : (rest : Tape) (ts : List Token) (p : Preference) → AllSpelled ts → AllOnTape rest → WholePreference ts rest p → PreferenceCanBeRead p
+chosen_can : (rest : Tape) (ts : List Token) (p : Preference) → AllSpelled ts → AllOnTape rest
+    → WholePreference ts rest p → PreferenceCanBeRead p
 chosen_can (Over place) ts p a own w = preferred_can ts p a w
 chosen_can (Broken f) ts p a own w = absurd w
 chosen_can (Spot place t rest) ts p a own w = chosen_can rest (ts ++ t ∷ []) p (one_more ts t a own.0) own.1 w
@@ -146,4 +170,5 @@ prefers_can text p (inl h) = let no = h.1 in absurd (cc)
 prefers_can text p (inr h) = chosen_can (tape 0 0 text) [] p tt (tape_kept text 0 0) h.1
 
 pub preference_can : (text : List ℕ) (p : Preference) → preference_of text ≡ Ok p → PreferenceCanBeRead p
-preference_can text p h = prefers_can text p (subst (λ (r : Result Preference LangFault). Prefers text r) h (prefers_so text))
+preference_can text p h =
+    prefers_can text p (subst (λ (r : Result Preference LangFault). Prefers text r) h (prefers_so text))

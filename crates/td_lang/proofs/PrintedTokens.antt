@@ -1,5 +1,6 @@
 -- A printed token is read again.
-use Rattle.std.proofs.Common.{◌≡◌, ℕ, ◌^◌, ◌<◌, Bool, true, false, if◌then◌else◌, List, [], ◌∷◌, ◌++◌, length, Ok, inl, inr, refl, arith}
+use Rattle.std.proofs.Common.{◌≡◌, ℕ, ◌^◌, ◌<◌, Bool, true, false, if◌then◌else◌, List, [], ◌∷◌, ◌++◌, length, Ok, inl}
+use Rattle.std.proofs.Common.{inr, refl, arith}
 use Rattle.std.specs.Fmt.{decimal}
 use Rattle.std.proofs.lemmas.Fmt.{decimal_is_IsNumeral}
 use Rattle.td_cdr.specs.Names.{IsIdentifier}
@@ -61,7 +62,8 @@ apart (token.Quoted t) more h = tt
 apart (token.Truth b) more h = ends_word more h
 apart (token.Keyword k) more h = ends_word more h
 
-name_spelled : (n : List ℕ) (t : Bool) → is_reserved n ≡ t → IsIdentifier n → Spells (token.Name n) (if t then 92 ∷ n else n)
+name_spelled : (n : List ℕ) (t : Bool) → is_reserved n ≡ t → IsIdentifier n
+    → Spells (token.Name n) (if t then 92 ∷ n else n)
 name_spelled n true is i = (i, inl refl)
 name_spelled n false is i = (i, inr (refl, is))
 
@@ -83,7 +85,8 @@ spells (token.Truth true) h = refl
 spells (token.Truth false) h = refl
 spells (token.Keyword k) h = refl
 
-pub token_again : (t : Token) (place : ℕ) (rest : List ℕ) → HasSpelling t → Spaced rest → token_at place (bytes_of t ++ rest) ≡ Ok (t, length (bytes_of t))
+pub token_again : (t : Token) (place : ℕ) (rest : List ℕ) → HasSpelling t → Spaced rest
+    → token_at place (bytes_of t ++ rest) ≡ Ok (t, length (bytes_of t))
 token_again t place rest h k = respelled.token_again t place (bytes_of t) rest (spells t h) (apart t rest k)
 
 -- a printed token begins with no blank, and has at least one byte

@@ -31,7 +31,8 @@ tape_if : (c : Bool) (x y : Tape) → AllOnTape x → AllOnTape y → AllOnTape 
 tape_if true x y h k = h
 tape_if false x y h k = k
 
-spot_kept : (place : ℕ) (r : Taken) (rest : ℕ → Tape) → Kept r → ((k : ℕ) → AllOnTape (rest k)) → AllOnTape (spot place r rest)
+spot_kept : (place : ℕ) (r : Taken) (rest : ℕ → Tape) → Kept r → ((k : ℕ) → AllOnTape (rest k))
+    → AllOnTape (spot place r rest)
 spot_kept place (Ok t) rest h more = (h, more (t.1 - 1))
 spot_kept place (Err f) rest h more = tt
 
@@ -40,4 +41,7 @@ tape_kept [] skip place = tt
 tape_kept (b ∷ bs) (suc skip) place = tape_kept bs skip (place + 1)
 tape_kept (b ∷ bs) zero place =
     let rest : ℕ → Tape = λ k. tape k (place + 1) bs in
-    tape_if (is_blank b) (tape 0 (place + 1) bs) (spot place (token_at place (b ∷ bs)) rest) (tape_kept bs 0 (place + 1)) (spot_kept place (token_at place (b ∷ bs)) rest (kept place (b ∷ bs) (token_at place (b ∷ bs)) (token_found place b bs)) (λ k. tape_kept bs k (place + 1)))
+    tape_if (is_blank b) (tape 0 (place + 1) bs) (spot place (token_at place (b ∷ bs)) rest)
+    (tape_kept bs 0 (place + 1))
+    (spot_kept place (token_at place (b ∷ bs)) rest
+    (kept place (b ∷ bs) (token_at place (b ∷ bs)) (token_found place b bs)) (λ k. tape_kept bs k (place + 1)))

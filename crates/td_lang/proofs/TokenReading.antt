@@ -1,5 +1,7 @@
 -- A token that is spelled in front of a text is found there.
-use Rattle.std.proofs.Common.{◌≡◌, ℕ, ◌+◌, ◌*◌, ◌-◌, ◌^◌, ◌<◌, ◌≤◌, nat_le, Bool, true, false, ◌&&◌, ◌||◌, ◌==◌, if◌then◌else◌, List, [], ◌∷◌, ◌++◌, length, take, Option, Some, Ok, ◌⊎◌, inl, inr, refl, sym, ap, ◌∙◌, append_assoc, arith}
+use Rattle.std.proofs.Common.{◌≡◌, ℕ, ◌+◌, ◌*◌, ◌-◌, ◌^◌, ◌<◌, ◌≤◌, nat_le, Bool, true, false, ◌&&◌, ◌||◌, ◌==◌}
+use Rattle.std.proofs.Common.{if◌then◌else◌, List, [], ◌∷◌, ◌++◌, length, take, Option, Some, Ok, ◌⊎◌, inl, inr, refl}
+use Rattle.std.proofs.Common.{sym, ap, ◌∙◌, append_assoc, arith}
 use Rattle.std.specs.Prelude.{codes}
 use Rattle.std.specs.Str.{bytes_eq}
 use Rattle.std.specs.List.{list_all}
@@ -16,13 +18,16 @@ use Rattle.td_lang.specs.declared.expr.Op.TheVariants as op
 use Rattle.td_lang.specs.declared.token.Keyword.TheVariants as keyword
 use Rattle.td_lang.specs.declared.token.Token.{Token}
 use Rattle.td_lang.specs.declared.token.Token.TheVariants as token
-use Rattle.td_lang.specs.Lexing.{lead, word_token, byte_at, word_at, own_name_at, value_of, number_at, quoted_from, quoted_of, quoted_at, comparison_at, sign_at, token_at}
+use Rattle.td_lang.specs.Lexing.{lead, word_token, byte_at, word_at, own_name_at, value_of, number_at, quoted_from}
+use Rattle.td_lang.specs.Lexing.{quoted_of, quoted_at, comparison_at, sign_at, token_at}
 use Rattle.td_lang.specs.Spelling.{operator_word, is_reserved, needs_backslash, inside_quotes, Spells, EndsWord, Apart}
 
-lead_exact : (p : ℕ → Bool) (w more : List ℕ) → list_all p w ≡ true → p (byte_at more 0) ≡ false → lead p (w ++ more) ≡ length w
+lead_exact : (p : ℕ → Bool) (w more : List ℕ) → list_all p w ≡ true → p (byte_at more 0) ≡ false
+    → lead p (w ++ more) ≡ length w
 lead_exact p [] [] a h = refl
 lead_exact p [] (b ∷ more) a h = rw h refl
-lead_exact p (b ∷ w) more a h = let k = and_parts (p b) (list_all p w) a in rw k.0 (rw (lead_exact p w more k.1 h) (omega arith))
+lead_exact p (b ∷ w) more a h =
+    let k = and_parts (p b) (list_all p w) a in rw k.0 (rw (lead_exact p w more k.1 h) (omega arith))
 
 -- what an identifier consists of
 pub record PropertyName (w : List ℕ) : Type 0 where
@@ -42,16 +47,25 @@ named (b ∷ bs) i =
     let k = and_parts (is_letter b && nat_le (length bs) 255) (list_all is_word bs) i in
     let m = and_parts (is_letter b) (nat_le (length bs) 255) k.0 in
     let short : length bs ≤ 255 = leb-true (length bs) 255 m.1 in
-    record { first = b; others = bs; is = refl; letter = m.0; words = rw (word_letter b m.0) k.1; short = omega (arith, short) }
+    record {
+      first = b;
+      others = bs;
+      is = refl;
+      letter = m.0;
+      words = rw (word_letter b m.0) k.1;
+      short = omega (arith, short);
+    }
 
 letter_front : (w more : List ℕ) (n : PropertyName w) → is_letter (byte_at (w ++ more) 0) ≡ true
 letter_front w more n = ap (λ (xs : List ℕ). is_letter (byte_at (xs ++ more) 0)) n.is ∙ n.letter
 
-word_taken : (place : ℕ) (text : List ℕ) → is_letter (byte_at text 0) ≡ true → lead is_word text ≤ 256 → token_at place text ≡ Ok (word_token (take (lead is_word text) text), lead is_word text)
+word_taken : (place : ℕ) (text : List ℕ) → is_letter (byte_at text 0) ≡ true → lead is_word text ≤ 256
+    → token_at place text ≡ Ok (word_token (take (lead is_word text) text), lead is_word text)
 unfolding token_at word_at
 word_taken place text letter short = rw letter (rw (le-ltb 256 (lead is_word text) short) refl)
 
-word_again : (place : ℕ) (w more : List ℕ) → IsIdentifier w → EndsWord more → token_at place (w ++ more) ≡ Ok (word_token w, length w)
+word_again : (place : ℕ) (w more : List ℕ) → IsIdentifier w → EndsWord more
+    → token_at place (w ++ more) ≡ Ok (word_token w, length w)
 word_again place w more i ends =
     let n = named w i in
     let size : lead is_word (w ++ more) ≡ length w = lead_exact is_word w more n.words ends in
@@ -59,11 +73,13 @@ word_again place w more i ends =
     ∙ ap (λ (k : ℕ). Ok (word_token (take k (w ++ more)), k)) size
     ∙ ap (λ (xs : List ℕ). Ok (word_token xs, length w)) (take_at w more (length w) refl)
 
-own_taken : (place : ℕ) (name : List ℕ) → is_letter (byte_at name 0) ≡ true → lead is_word name ≤ 256 → token_at place (92 ∷ name) ≡ Ok (token.Name (take (lead is_word name) name), lead is_word name + 1)
+own_taken : (place : ℕ) (name : List ℕ) → is_letter (byte_at name 0) ≡ true → lead is_word name ≤ 256
+    → token_at place (92 ∷ name) ≡ Ok (token.Name (take (lead is_word name) name), lead is_word name + 1)
 unfolding token_at own_name_at
 own_taken place name letter short = rw letter (rw (le-ltb 256 (lead is_word name) short) refl)
 
-own_again : (place : ℕ) (w more : List ℕ) → IsIdentifier w → EndsWord more → token_at place (92 ∷ (w ++ more)) ≡ Ok (token.Name w, length (92 ∷ w))
+own_again : (place : ℕ) (w more : List ℕ) → IsIdentifier w → EndsWord more
+    → token_at place (92 ∷ (w ++ more)) ≡ Ok (token.Name w, length (92 ∷ w))
 own_again place w more i ends =
     let n = named w i in
     let size : lead is_word (w ++ more) ≡ length w = lead_exact is_word w more n.words ends in
@@ -73,8 +89,14 @@ own_again place w more i ends =
     ∙ ap (λ (xs : List ℕ). Ok (token.Name xs, length w + 1)) (take_at w more (length w) refl)
     ∙ ap (λ (k : ℕ). Ok (token.Name w, k)) longer
 
-none_reserved : (a b c d e f g h i j k l : Bool) (w : List ℕ) → (a || (b || (c || (d || (e || (f || (g || (h || (i || (j || (k || (l || false)))))))))))) ≡ false
-    → (if a then token.Operator op.And else if b then token.Operator op.Or else if c then token.Not else if d then token.Within else if e then token.Exist else if f then token.Keyword keyword.Min else if g then token.Keyword keyword.Max else if h then token.Keyword keyword.First else if i then token.Keyword keyword.Random else if j then token.Keyword keyword.With else if k then token.Truth true else if l then token.Truth false else token.Name w) ≡ token.Name w
+none_reserved : (a b c d e f g h i j k l : Bool) (w : List ℕ)
+    → (a || (b || (c || (d || (e || (f || (g || (h || (i || (j || (k || (l || false)))))))))))) ≡ false
+    → (if a then token.Operator op.And else if b then token.Operator op.Or else if c then token.Not
+    else if d then token.Within else if e then token.Exist else if f then token.Keyword keyword.Min
+    else if g then token.Keyword keyword.Max else if h then token.Keyword keyword.First
+    else if i then token.Keyword keyword.Random else if j then token.Keyword keyword.With
+    else if k then token.Truth true else if l then token.Truth false else token.Name w)
+    ≡ token.Name w
 none_reserved false false false false false false false false false false false false w none = refl
 none_reserved true b c d e f g h i j k l w none = absurd (cc)
 none_reserved false true c d e f g h i j k l w none = absurd (cc)
@@ -91,11 +113,17 @@ none_reserved false false false false false false false false false false false 
 
 name_token : (w : List ℕ) → is_reserved w ≡ false → word_token w ≡ token.Name w
 name_token w none =
-    none_reserved (bytes_eq w (codes "and")) (bytes_eq w (codes "or")) (bytes_eq w (codes "not")) (bytes_eq w (codes "in")) (bytes_eq w (codes "exist")) (bytes_eq w (codes "min")) (bytes_eq w (codes "max")) (bytes_eq w (codes "first")) (bytes_eq w (codes "random")) (bytes_eq w (codes "with")) (bytes_eq w (codes "TRUE")) (bytes_eq w (codes "FALSE")) w none
+    none_reserved (bytes_eq w (codes "and")) (bytes_eq w (codes "or")) (bytes_eq w (codes "not"))
+    (bytes_eq w (codes "in")) (bytes_eq w (codes "exist")) (bytes_eq w (codes "min")) (bytes_eq w (codes "max"))
+    (bytes_eq w (codes "first")) (bytes_eq w (codes "random")) (bytes_eq w (codes "with"))
+    (bytes_eq w (codes "TRUE")) (bytes_eq w (codes "FALSE")) w none
 
-name_again : (place : ℕ) (w spelling more : List ℕ) → IsIdentifier w → (spelling ≡ 92 ∷ w) ⊎ ((spelling ≡ w) × (is_reserved w ≡ false)) → EndsWord more → token_at place (spelling ++ more) ≡ Ok (token.Name w, length spelling)
+name_again : (place : ℕ) (w spelling more : List ℕ) → IsIdentifier w
+    → (spelling ≡ 92 ∷ w) ⊎ ((spelling ≡ w) × (is_reserved w ≡ false)) → EndsWord more
+    → token_at place (spelling ++ more) ≡ Ok (token.Name w, length spelling)
 name_again place w spelling more i (inl is) ends = rw is (own_again place w more i ends)
-name_again place w spelling more i (inr is) ends = rw is.0 (word_again place w more i ends ∙ ap (λ (t : Token). Ok (t, length w)) (name_token w is.1))
+name_again place w spelling more i (inr is) ends =
+    rw is.0 (word_again place w more i ends ∙ ap (λ (t : Token). Ok (t, length w)) (name_token w is.1))
 
 -- numbers
 digit_range : (c : ℕ) → digit_value c < 10 → (is_digit c ≡ true) × (is_letter c ≡ false)
@@ -109,7 +137,8 @@ grows : (ds : List ℕ) (n : ℕ) → n ≤ digits_value_after 10 n ds
 grows [] n = omega arith
 grows (c ∷ cs) n = omega (arith, grows cs (n * 10 + digit_value c))
 
-value_again : (ds : List ℕ) (n : ℕ) → AllDigits 10 ds → digits_value_after 10 n ds < 2 ^ 63 → value_of n ds ≡ Some (digits_value_after 10 n ds)
+value_again : (ds : List ℕ) (n : ℕ) → AllDigits 10 ds → digits_value_after 10 n ds < 2 ^ 63
+    → value_of n ds ≡ Some (digits_value_after 10 n ds)
 value_again [] n a h = refl
 value_again (c ∷ cs) n a h =
     let range = digit_from_value c a.0 in
@@ -118,10 +147,13 @@ value_again (c ∷ cs) n a h =
     rw (lt-ltb (n * 10 + (c - 48)) (2 ^ 63) low)
     (ap (λ (k : ℕ). value_of (n * 10 + k) cs) (sym is) ∙ value_again cs (n * 10 + digit_value c) a.1 h)
 
-number_taken : (place size next n : ℕ) (text : List ℕ) → is_letter (byte_at text 0) ≡ false → is_digit (byte_at text 0) ≡ true → lead is_digit text ≡ size → byte_at text size ≡ next → is_word next ≡ false
-    → ((next == 46) || ((next == 101) || (next == 69))) ≡ false → value_of 0 (take size text) ≡ Some n → token_at place text ≡ Ok (token.Number n, size)
+number_taken : (place size next n : ℕ) (text : List ℕ) → is_letter (byte_at text 0) ≡ false
+    → is_digit (byte_at text 0) ≡ true → lead is_digit text ≡ size → byte_at text size ≡ next → is_word next ≡ false
+    → ((next == 46) || ((next == 101) || (next == 69))) ≡ false → value_of 0 (take size text) ≡ Some n
+    → token_at place text ≡ Ok (token.Number n, size)
 unfolding token_at number_at
-number_taken place size next n text letter digit len at ends none value = rw letter (rw digit (rw len (rw at (rw none (rw ends (rw value refl))))))
+number_taken place size next n text letter digit len at ends none value =
+    rw letter (rw digit (rw len (rw at (rw none (rw ends (rw value refl))))))
 
 no_exponent : (b : ℕ) → is_word b ≡ false → (b == 46) ≡ false → ((b == 46) || ((b == 101) || (b == 69))) ≡ false
 no_exponent b h k = grind (arith, nat_tests)
@@ -133,20 +165,25 @@ next_byte (c ∷ cs) more = next_byte cs more
 digit_ends : (b : ℕ) → is_word b ≡ false → is_digit b ≡ false
 digit_ends b h = grind (arith, nat_tests)
 
-number_again : (place n : ℕ) (ds more : List ℕ) → 0 < length ds → AllDigits 10 ds → digits_value 10 ds ≡ n → n < 2 ^ 63 → EndsWord more → (byte_at more 0 == 46) ≡ false → token_at place (ds ++ more) ≡ Ok (token.Number n, length ds)
+number_again : (place n : ℕ) (ds more : List ℕ) → 0 < length ds → AllDigits 10 ds → digits_value 10 ds ≡ n → n < 2 ^ 63
+    → EndsWord more → (byte_at more 0 == 46) ≡ false → token_at place (ds ++ more) ≡ Ok (token.Number n, length ds)
 number_again place n [] more some all value small ends point = absurd (omega arith)
 number_again place n (c ∷ cs) more some all value small ends point =
     let ds = c ∷ cs in
     let range = digit_range c all.0 in
     let low : digits_value_after 10 0 ds < 2 ^ 63 = omega (arith, value, small) in
     let read : value_of 0 (take (length ds) (ds ++ more)) ≡ Some n =
-    ap (λ (xs : List ℕ). value_of 0 xs) (take_at ds more (length ds) refl) ∙ value_again ds 0 all low ∙ ap (λ (x : ℕ). Some x) value in
-    number_taken place (length ds) (byte_at more 0) n (ds ++ more) range.1 range.0 (lead_exact is_digit ds more (all_digits ds all) (digit_ends (byte_at more 0) ends)) (next_byte ds more) ends
+    ap (λ (xs : List ℕ). value_of 0 xs) (take_at ds more (length ds) refl) ∙ value_again ds 0 all low
+    ∙ ap (λ (x : ℕ). Some x) value in
+    number_taken place (length ds) (byte_at more 0) n (ds ++ more) range.1 range.0
+    (lead_exact is_digit ds more (all_digits ds all) (digit_ends (byte_at more 0) ends)) (next_byte ds more) ends
     (no_exponent (byte_at more 0) ends point) read
 
 -- texts in quotes
-byte_again : (c : Bool) (b : ℕ) (t own : List ℕ) (k n : ℕ) (more : List ℕ) → needs_backslash b ≡ c → n ≡ k + length (inside_quotes (b ∷ t)) + 1
-    → ((m : ℕ) → n ≡ m + length (inside_quotes t) + 1 → quoted_from false (own ++ b ∷ []) m (inside_quotes t ++ 39 ∷ more) ≡ Some ((own ++ b ∷ []) ++ t, n))
+byte_again : (c : Bool) (b : ℕ) (t own : List ℕ) (k n : ℕ) (more : List ℕ) → needs_backslash b ≡ c
+    → n ≡ k + length (inside_quotes (b ∷ t)) + 1
+    → ((m : ℕ) → n ≡ m + length (inside_quotes t) + 1
+    → quoted_from false (own ++ b ∷ []) m (inside_quotes t ++ 39 ∷ more) ≡ Some ((own ++ b ∷ []) ++ t, n))
     → quoted_from false own k (inside_quotes (b ∷ t) ++ 39 ∷ more) ≡ Some ((own ++ b ∷ []) ++ t, n)
 byte_again true b t own k n more is size rest =
     let spelled : inside_quotes (b ∷ t) ≡ 92 ∷ b ∷ inside_quotes t = rw is refl in
@@ -156,23 +193,32 @@ byte_again false b t own k n more is size rest =
     let spelled : inside_quotes (b ∷ t) ≡ b ∷ inside_quotes t = rw is refl in
     rw spelled (rw parts.0 (rw parts.1 (rest (k + 1) (omega (arith, size, ap (length {A = ℕ}) spelled)))))
 
-inside_again : (t own : List ℕ) (k n : ℕ) (more : List ℕ) → n ≡ k + length (inside_quotes t) + 1 → quoted_from false own k (inside_quotes t ++ 39 ∷ more) ≡ Some (own ++ t, n)
-inside_again [] own k n more size = let here : k + 1 ≡ n = omega (arith, size) in ap (λ (m : ℕ). Some (own, m)) here ∙ ap (λ (xs : List ℕ). Some (xs, n)) (sym (append-nil own))
+inside_again : (t own : List ℕ) (k n : ℕ) (more : List ℕ) → n ≡ k + length (inside_quotes t) + 1
+    → quoted_from false own k (inside_quotes t ++ 39 ∷ more) ≡ Some (own ++ t, n)
+inside_again [] own k n more size =
+    let here : k + 1 ≡ n = omega (arith, size) in
+    ap (λ (m : ℕ). Some (own, m)) here ∙ ap (λ (xs : List ℕ). Some (xs, n)) (sym (append-nil own))
 inside_again (b ∷ t) own k n more size =
-    byte_again (needs_backslash b) b t own k n more refl size (λ m is. inside_again t (own ++ b ∷ []) m n more is) ∙ ap (λ (xs : List ℕ). Some (xs, n)) (append_assoc own (b ∷ []) t)
+    byte_again (needs_backslash b) b t own k n more refl size (λ m is. inside_again t (own ++ b ∷ []) m n more is)
+    ∙ ap (λ (xs : List ℕ). Some (xs, n)) (append_assoc own (b ∷ []) t)
 
 quoted_taken : (place : ℕ) (bs : List ℕ) → token_at place (39 ∷ bs) ≡ quoted_of place (quoted_from false [] 1 bs)
 unfolding token_at quoted_at
 quoted_taken place bs = refl
 
-quoted_again : (place : ℕ) (t more : List ℕ) → token_at place ((39 ∷ (inside_quotes t ++ 39 ∷ [])) ++ more) ≡ Ok (token.Quoted t, length (39 ∷ (inside_quotes t ++ 39 ∷ [])))
+quoted_again : (place : ℕ) (t more : List ℕ)
+    → token_at place ((39 ∷ (inside_quotes t ++ 39 ∷ [])) ++ more)
+    ≡ Ok (token.Quoted t, length (39 ∷ (inside_quotes t ++ 39 ∷ [])))
 quoted_again place t more =
     let size = length (39 ∷ (inside_quotes t ++ 39 ∷ [])) in
-    ap (λ (xs : List ℕ). token_at place (39 ∷ xs)) (append_assoc (inside_quotes t) (39 ∷ []) more) ∙ quoted_taken place (inside_quotes t ++ 39 ∷ more)
-    ∙ ap (λ (o : Option (List ℕ × ℕ)). quoted_of place o) (inside_again t [] 1 size more (omega (arith, length-append (inside_quotes t) (39 ∷ []))))
+    ap (λ (xs : List ℕ). token_at place (39 ∷ xs)) (append_assoc (inside_quotes t) (39 ∷ []) more)
+    ∙ quoted_taken place (inside_quotes t ++ 39 ∷ more)
+    ∙ ap (λ (o : Option (List ℕ × ℕ)). quoted_of place o)
+    (inside_again t [] 1 size more (omega (arith, length-append (inside_quotes t) (39 ∷ []))))
 
 -- signs
-operator_again : (o : Op) (place : ℕ) (more : List ℕ) → Apart (token.Operator o) more → token_at place (operator_word o ++ more) ≡ Ok (token.Operator o, length (operator_word o))
+operator_again : (o : Op) (place : ℕ) (more : List ℕ) → Apart (token.Operator o) more
+    → token_at place (operator_word o ++ more) ≡ Ok (token.Operator o, length (operator_word o))
 unfolding token_at sign_at comparison_at
 operator_again op.Or place more h = word_again place (codes "or") more refl h
 operator_again op.And place more h = word_again place (codes "and") more refl h
@@ -197,7 +243,8 @@ unfolding token_at sign_at
 parenthesis_close place more = refl
 
 -- each token
-pub token_again : (t : Token) (place : ℕ) (spelling more : List ℕ) → Spells t spelling → Apart t more → token_at place (spelling ++ more) ≡ Ok (t, length spelling)
+pub token_again : (t : Token) (place : ℕ) (spelling more : List ℕ) → Spells t spelling → Apart t more
+    → token_at place (spelling ++ more) ≡ Ok (t, length spelling)
 token_again (token.Operator o) place spelling more s h = rw s (operator_again o place more h)
 token_again token.Within place spelling more s h = rw s (word_again place (codes "in") more refl h)
 token_again token.Not place spelling more s h = rw s (word_again place (codes "not") more refl h)
@@ -210,7 +257,8 @@ token_again (token.Quoted t) place spelling more s h = rw s (quoted_again place 
 token_again (token.Truth true) place spelling more s h = rw s (word_again place (codes "TRUE") more refl h)
 token_again (token.Truth false) place spelling more s h = rw s (word_again place (codes "FALSE") more refl h)
 token_again (token.Keyword keyword.First) place spelling more s h = rw s (word_again place (codes "first") more refl h)
-token_again (token.Keyword keyword.Random) place spelling more s h = rw s (word_again place (codes "random") more refl h)
+token_again (token.Keyword keyword.Random) place spelling more s h =
+    rw s (word_again place (codes "random") more refl h)
 token_again (token.Keyword keyword.Min) place spelling more s h = rw s (word_again place (codes "min") more refl h)
 token_again (token.Keyword keyword.Max) place spelling more s h = rw s (word_again place (codes "max") more refl h)
 token_again (token.Keyword keyword.With) place spelling more s h = rw s (word_again place (codes "with") more refl h)

@@ -1,5 +1,6 @@
 -- A text has one answer: one tree, or one first fault.
-use Rattle.std.proofs.Common.{◌≡◌, ℕ, nat_lt, Bool, true, false, if◌then◌else◌, List, [], ◌∷◌, ◌++◌, length, inl, inr, Result, Ok, Err, refl, sym, ap, subst, ◌∙◌, arith}
+use Rattle.std.proofs.Common.{◌≡◌, ℕ, nat_lt, Bool, true, false, if◌then◌else◌, List, [], ◌∷◌, ◌++◌, length, inl, inr}
+use Rattle.std.proofs.Common.{Result, Ok, Err, refl, sym, ap, subst, ◌∙◌, arith}
 use Rattle.std.proofs.lemmas.Bool.{ltb-true, ltb-false}
 use Rattle.std.proofs.lemmas.List.{append-nil}
 use Rattle.td_lang.specs.declared.expr.Expr.{Expr}
@@ -20,7 +21,12 @@ use Rattle.td_lang.proofs.TreeOrFault.{answered}
 use Rattle.td_lang.proofs.TapeSpelling.{AllOnTape, tape_kept}
 
 whole_viable : (rest : Tape) (ts : List Token) (e : Expr) → AllOnTape rest → Whole ts rest e → Viable ts
-whole_viable (Over place) ts e own w = record { more = []; spelled = tt; expr = e; sentence = subst (λ (xs : List Token). Sentence xs e) (sym (append-nil ts)) w }
+whole_viable (Over place) ts e own w = record {
+  more = [];
+  spelled = tt;
+  expr = e;
+  sentence = subst (λ (xs : List Token). Sentence xs e) (sym (append-nil ts)) w;
+}
 whole_viable (Broken f) ts e own w = absurd w
 whole_viable (Spot place t rest) ts e own w = before_more ts t own.0 (whole_viable rest (ts ++ t ∷ []) e own.1 w)
 
@@ -35,7 +41,8 @@ trees (Over place) ts e f h k = one_tree ts e f h k
 trees (Broken g) ts e f h k = absurd h
 trees (Spot place t rest) ts e f h k = trees rest (ts ++ t ∷ []) e f h k
 
-tree_or_fault : (rest : Tape) (ts : List Token) (e : Expr) (f : LangFault) → AllOnTape rest → Whole ts rest e → First ts rest f → ⊥
+tree_or_fault : (rest : Tape) (ts : List Token) (e : Expr) (f : LangFault) → AllOnTape rest → Whole ts rest e
+    → First ts rest f → ⊥
 tree_or_fault (Over place) ts e f own w h = h.1 e w
 tree_or_fault (Broken g) ts e f own w h = w
 tree_or_fault (Spot place t rest) ts e f own w (inl h) = h.1 (whole_viable rest (ts ++ t ∷ []) e own.1 w)
@@ -50,16 +57,19 @@ faults (Spot place t rest) ts f g own (inr h) (inl k) = absurd (k.1 (first_viabl
 faults (Spot place t rest) ts f g own (inr h) (inr k) = faults rest (ts ++ t ∷ []) f g own.1 h k
 
 -- tokens have one tree, or one first fault
-pub one_answer : (rest : Tape) (ts : List Token) (r q : Result Expr LangFault) → AllOnTape rest → Answers ts rest r → Answers ts rest q → r ≡ q
+pub one_answer : (rest : Tape) (ts : List Token) (r q : Result Expr LangFault) → AllOnTape rest → Answers ts rest r
+    → Answers ts rest q → r ≡ q
 one_answer rest ts (Ok e) (Ok f) own h k = ap (λ (x : Expr). Ok x) (trees rest ts e f h k)
 one_answer rest ts (Ok e) (Err g) own h k = absurd (tree_or_fault rest ts e g own h k)
 one_answer rest ts (Err f) (Ok e) own h k = absurd (tree_or_fault rest ts e f own k h)
 one_answer rest ts (Err f) (Err g) own h k = ap (λ (x : LangFault). Err x) (faults rest ts f g own h k)
 
-one_made : (rest : Tape) (r q : Result Constraint LangFault) → AllOnTape rest → IsTreeOrFault rest r → IsTreeOrFault rest q → r ≡ q
+one_made : (rest : Tape) (r q : Result Constraint LangFault) → AllOnTape rest → IsTreeOrFault rest r
+    → IsTreeOrFault rest q → r ≡ q
 one_made rest (Ok constraint.Empty) q own h k = absurd h
 one_made rest r (Ok constraint.Empty) own h k = absurd k
-one_made rest (Ok (constraint.Is e)) (Ok (constraint.Is f)) own h k = ap (λ (x : Expr). Ok (constraint.Is x)) (trees rest [] e f h k)
+one_made rest (Ok (constraint.Is e)) (Ok (constraint.Is f)) own h k =
+    ap (λ (x : Expr). Ok (constraint.Is x)) (trees rest [] e f h k)
 one_made rest (Ok (constraint.Is e)) (Err g) own h k = absurd (tree_or_fault rest [] e g own h k)
 one_made rest (Err f) (Ok (constraint.Is e)) own h k = absurd (tree_or_fault rest [] e f own k h)
 one_made rest (Err f) (Err g) own h k = ap (λ (x : LangFault). Err x) (faults rest [] f g own h k)
@@ -76,27 +86,32 @@ one_said text r q (inl h) (inr k) = absurd (omega (arith, h.0, k.0))
 one_said text r q (inr h) (inl k) = absurd (omega (arith, h.0, k.0))
 one_said text r q (inr h) (inr k) = one_asked (tape 0 0 text) r q (tape_kept text 0 0) h.1 k.1
 
-made_of : (rest : Tape) (r : Result Expr LangFault) → Answers [] rest r → IsTreeOrFault rest (r >>= λ e. Ok (constraint.Is e))
+made_of : (rest : Tape) (r : Result Expr LangFault) → Answers [] rest r
+    → IsTreeOrFault rest (r >>= λ e. Ok (constraint.Is e))
 made_of rest (Ok e) h = h
 made_of rest (Err f) h = h
 
 asks_so : (rest : Tape) → Asks rest (tape_constraint rest)
 asks_so (Over place) = refl
 asks_so (Broken f) = answered (Broken f) [] start refl refl
-asks_so (Spot place t rest) = made_of (Spot place t rest) (read_tape start (Spot place t rest)) (answered (Spot place t rest) [] start refl refl)
+asks_so (Spot place t rest) =
+    made_of (Spot place t rest) (read_tape start (Spot place t rest)) (answered (Spot place t rest) [] start refl refl)
 
 -- and the reader finds it
 pub says_so : (text : List ℕ) → Says text (constraint_of text)
 says_so text = either (nat_lt 4096 (length text)) refl
   where
-    either : (b : Bool) → nat_lt 4096 (length text) ≡ b → Says text (if b then Err fault.TooLong else tape_constraint (tape 0 0 text))
+    either : (b : Bool) → nat_lt 4096 (length text) ≡ b
+        → Says text (if b then Err fault.TooLong else tape_constraint (tape 0 0 text))
     either true is = inl (ltb-true 4096 (length text) is, refl)
     either false is = inr (ltb-false 4096 (length text) is, asks_so (tape 0 0 text))
 
-pub answered_so : {X : Type 0} (P : Result X LangFault → Type 0) (r q : Result X LangFault) → GivesFault (λ x. x) r q → P q → UnlessMemory P r
+pub answered_so : {X : Type 0} (P : Result X LangFault → Type 0) (r q : Result X LangFault) → GivesFault (λ x. x) r q
+    → P q → UnlessMemory P r
 answered_so P (Ok x) q g h = subst P g h
 answered_so P (Err fault.Memory) q g h = tt
 answered_so P (Err f) q g h = subst P g h
 
-pub said : (text : List ℕ) (r : Result Constraint LangFault) → GivesFault (λ c. c) r (constraint_of text) → UnlessMemory (Says text) r
+pub said : (text : List ℕ) (r : Result Constraint LangFault) → GivesFault (λ c. c) r (constraint_of text)
+    → UnlessMemory (Says text) r
 said text r g = answered_so (λ q. Says text q) r (constraint_of text) g (says_so text)

@@ -1,5 +1,5 @@
--- Trading Object Service, "Exceptions" of the Lookup interface: IllegalConstraint is a text that isn't in the grammar. Which fault it has, and where,
--- is this profile's.
+-- Trading Object Service, "Exceptions" of the Lookup interface: IllegalConstraint is a text that isn't in the grammar.
+-- Which fault it has, and where, is this profile's.
 -- What a reader answers, in the words of the grammar: the tree of the whole, or the first fault in reading order.
 use Rattle.std.specs.Prelude.{◌≡◌, ℕ, ◌+◌, ◌-◌, nat_lt, if◌then◌else◌, List, [], ◌∷◌, ◌++◌, ◌⊎◌, Result, Ok, Err}
 use Rattle.td_lang.specs.declared.expr.Expr.{Expr}
@@ -44,7 +44,8 @@ Whole ts (Spot place t rest) e = Whole (ts ++ t ∷ []) rest e
 abbrev pub First : List Token → Tape → LangFault → Type 0
 First ts (Over place) f = Viable ts × ((e : Expr) → Sentence ts e → ⊥) × (f ≡ fault.Syntax place)
 First ts (Broken g) f = Viable ts × (f ≡ g)
-First ts (Spot place t rest) f = (Viable ts × (Viable (ts ++ t ∷ []) → ⊥) × (f ≡ fault_of place (open_count 0 ts) t)) ⊎ First (ts ++ t ∷ []) rest f
+First ts (Spot place t rest) f =
+    (Viable ts × (Viable (ts ++ t ∷ []) → ⊥) × (f ≡ fault_of place (open_count 0 ts) t)) ⊎ First (ts ++ t ∷ []) rest f
 
 abbrev pub Answers : List Token → Tape → Result Expr LangFault → Type 0
 Answers ts rest (Ok e) = Whole ts rest e

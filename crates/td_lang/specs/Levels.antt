@@ -1,5 +1,6 @@
 -- Trading Object Service, appendix "OMG Constraint Language BNF", "The Constraint Language BNF".
--- The levels of the grammar: 1 bool_or, 2 bool_and, 3 bool_compare, 4 expr_in, 5 expr_twiddle, 6 expr, 7 term, 8 factor_not, 9 factor.
+-- The levels of the grammar: 1 bool_or, 2 bool_and, 3 bool_compare, 4 expr_in, 5 expr_twiddle, 6 expr, 7 term, 8
+-- factor_not, 9 factor.
 use Rattle.std.specs.Prelude.{ℕ}
 use Rattle.td_lang.specs.declared.expr.Op.{Op}
 use Rattle.td_lang.specs.declared.expr.Op.TheVariants as op

@@ -1,6 +1,8 @@
 -- Trading Object Service, appendix "OMG Constraint Language BNF", "Lexical Tokens".
 -- The token in front of a text, and how many bytes it takes.
-use Rattle.std.specs.Prelude.{◌≡◌, Bool, true, false, ◌&&◌, ◌||◌, ◌==◌, ℕ, ◌+◌, ◌-◌, ◌*◌, ◌^◌, ◌<◌, nat_lt, if◌then◌else◌, List, [], ◌∷◌, ◌++◌, take, drop, slice_index, not, Option, None, Some, Result, Ok, Err, codes}
+use Rattle.std.specs.Prelude.{◌≡◌, Bool, true, false, ◌&&◌, ◌||◌, ◌==◌, ℕ, ◌+◌, ◌-◌, ◌*◌, ◌^◌, ◌<◌, nat_lt}
+use Rattle.std.specs.Prelude.{if◌then◌else◌, List, [], ◌∷◌, ◌++◌, take, drop, slice_index, not, Option, None, Some}
+use Rattle.std.specs.Prelude.{Result, Ok, Err, codes}
 use Rattle.std.specs.Str.{bytes_eq}
 use Rattle.td_cdr.specs.Names.{is_letter, is_digit, is_word, IsIdentifier}
 use Rattle.td_lang.specs.declared.expr.Op.{Op}
@@ -38,8 +40,10 @@ plain_word w =
 -- a word that isn't reserved is a name
 abbrev pub word_token : List ℕ → Token
 word_token w =
-    if bytes_eq w (codes "and") then token.Operator op.And else if bytes_eq w (codes "or") then token.Operator op.Or else if bytes_eq w (codes "not") then token.Not
-    else if bytes_eq w (codes "in") then token.Within else if bytes_eq w (codes "exist") then token.Exist else plain_word w
+    if bytes_eq w (codes "and") then token.Operator op.And else if bytes_eq w (codes "or") then token.Operator op.Or
+    else if bytes_eq w (codes "not") then token.Not
+    else if bytes_eq w (codes "in") then token.Within else if bytes_eq w (codes "exist") then token.Exist
+    else plain_word w
 
 abbrev pub Taken : Type 0
 Taken = Result (Token × ℕ) LangFault
@@ -59,7 +63,8 @@ unfoldable pub own_name_at : ℕ → List ℕ → Taken
 own_name_at place text =
     let name = drop 1 text in
     let size = lead is_word name in
-    if not (is_letter (byte_at text 1)) then Err (fault.Syntax place) else if nat_lt 256 size then Err (fault.Syntax place) else Ok (token.Name (take size name), size + 1)
+    if not (is_letter (byte_at text 1)) then Err (fault.Syntax place)
+    else if nat_lt 256 size then Err (fault.Syntax place) else Ok (token.Name (take size name), size + 1)
 
 -- a value with one digit more behind it, none from 2 ^ 63 on
 abbrev pub with_digit : ℕ → ℕ → Option ℕ
@@ -83,15 +88,18 @@ unfoldable pub number_at : ℕ → List ℕ → Taken
 number_at place text =
     let size = lead is_digit text in
     let next = byte_at text size in
-    if (next == 46) || ((next == 101) || (next == 69)) then Err (fault.Float place) else if is_word next then Err (fault.Syntax place) else number_of place size (value_of 0 (take size text))
+    if (next == 46) || ((next == 101) || (next == 69)) then Err (fault.Float place)
+    else if is_word next then Err (fault.Syntax place) else number_of place size (value_of 0 (take size text))
 
--- what stands in quotes behind own, of which a `\` was the last byte or not: the text, and the bytes up to the closing quote with those of before,
--- none where another byte follows a `\` or the end is missing
+-- what stands in quotes behind own, of which a `\` was the last byte or not: the text, and the bytes up to the closing
+-- quote with those of before, none where another byte follows a `\` or the end is missing
 abbrev pub quoted_from : Bool → List ℕ → ℕ → List ℕ → Option (List ℕ × ℕ)
 quoted_from escaped own size [] = None
-quoted_from true own size (b ∷ bs) = if (b == 39) || (b == 92) then quoted_from false (own ++ b ∷ []) (size + 1) bs else None
+quoted_from true own size (b ∷ bs) =
+    if (b == 39) || (b == 92) then quoted_from false (own ++ b ∷ []) (size + 1) bs else None
 quoted_from false own size (b ∷ bs) =
-    if b == 39 then Some (own, size + 1) else if b == 92 then quoted_from true own (size + 1) bs else quoted_from false (own ++ b ∷ []) (size + 1) bs
+    if b == 39 then Some (own, size + 1) else if b == 92 then quoted_from true own (size + 1) bs
+    else quoted_from false (own ++ b ∷ []) (size + 1) bs
 
 abbrev pub quoted_of : ℕ → Option (List ℕ × ℕ) → Taken
 quoted_of place (Some r) = Ok (token.Quoted r.0, r.1)
@@ -111,15 +119,18 @@ comparison_at place text =
     let b = byte_at text 0 in
     let next = byte_at text 1 in
     if b == 60 then with_equal next op.Le op.Lt else if b == 62 then with_equal next op.Ge op.Gt
-    else if (b == 61) && (next == 61) then Ok (token.Operator op.Eq, 2) else if (b == 33) && (next == 61) then Ok (token.Operator op.Ne, 2)
+    else if (b == 61) && (next == 61) then Ok (token.Operator op.Eq, 2)
+    else if (b == 33) && (next == 61) then Ok (token.Operator op.Ne, 2)
     else if (b == 46) && is_digit next then Err (fault.Float place) else Err (fault.Syntax place)
 
 -- any other sign
 unfoldable pub sign_at : ℕ → List ℕ → Taken
 sign_at place text =
     let b = byte_at text 0 in
-    if b == 40 then Ok (token.Open, 1) else if b == 41 then Ok (token.Close, 1) else if b == 43 then Ok (token.Operator op.Add, 1)
-    else if b == 45 then Ok (token.Operator op.Sub, 1) else if b == 42 then Ok (token.Operator op.Mul, 1) else if b == 47 then Ok (token.Operator op.Div, 1)
+    if b == 40 then Ok (token.Open, 1) else if b == 41 then Ok (token.Close, 1)
+    else if b == 43 then Ok (token.Operator op.Add, 1)
+    else if b == 45 then Ok (token.Operator op.Sub, 1) else if b == 42 then Ok (token.Operator op.Mul, 1)
+    else if b == 47 then Ok (token.Operator op.Div, 1)
     else if b == 126 then Ok (token.Operator op.Twiddle, 1) else comparison_at place text
 
 -- the token in front of a text whose first byte is at place
@@ -127,7 +138,8 @@ unfoldable pub token_at : ℕ → List ℕ → Taken
 token_at place text =
     let first = byte_at text 0 in
     if is_letter first then word_at place text else if is_digit first then number_at place text
-    else if first == 92 then own_name_at place text else if first == 39 then quoted_at place text else sign_at place text
+    else if first == 92 then own_name_at place text else if first == 39 then quoted_at place text
+    else sign_at place text
 
 -- what a token may hold: names are identifiers, numbers lie below 2 ^ 63
 abbrev pub HasSpelling : Token → Type 0

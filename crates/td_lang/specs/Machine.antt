@@ -1,7 +1,8 @@
--- Trading Object Service, appendix "OMG Constraint Language BNF", as the reader of this crate goes through it; what it finds is told by the grammar in
--- `Constraints`.
+-- Trading Object Service, appendix "OMG Constraint Language BNF", as the reader of this crate goes through it; what it
+-- finds is told by the grammar in `Constraints`.
 -- Reading token by token: what was begun, the last on top, and what may come next.
-use Rattle.std.specs.Prelude.{◌<◌, ◌^◌, pos, neg_ℤ, ◌≡◌, Bool, true, false, ℕ, ◌+◌, ◌-◌, nat_lt, if◌then◌else◌, List, [], ◌∷◌, reverse, Result, Ok, Err}
+use Rattle.std.specs.Prelude.{◌<◌, ◌^◌, pos, neg_ℤ, ◌≡◌, Bool, true, false, ℕ, ◌+◌, ◌-◌, nat_lt, if◌then◌else◌, List}
+use Rattle.std.specs.Prelude.{[], ◌∷◌, reverse, Result, Ok, Err}
 use Rattle.td_lang.specs.declared.expr.Op.{Op}
 use Rattle.td_lang.specs.declared.expr.Op.TheVariants as op
 use Rattle.td_lang.specs.declared.expr.Expr.{Expr}
@@ -19,7 +20,8 @@ use Rattle.td_lang.specs.Levels.{level, left, right}
 -- what is finished before something of level n follows: the frames below, the level of the operand, and the operand
 abbrev pub reduction : ℕ → List Frame → ℕ → Expr → List Frame × ℕ × Expr
 reduction n [] m e = ([], m, e)
-reduction n (frame.Binary o a ∷ st) m e = if nat_lt n (right o) then reduction n st (level o) (expr.Binary o a e) else (frame.Binary o a ∷ st, m, e)
+reduction n (frame.Binary o a ∷ st) m e =
+    if nat_lt n (right o) then reduction n st (level o) (expr.Binary o a e) else (frame.Binary o a ∷ st, m, e)
 reduction n (frame.Not ∷ st) m e = reduction n st 8 (expr.Not e)
 reduction n (frame.Open ∷ st) m e = (frame.Open ∷ st, m, e)
 
@@ -76,7 +78,8 @@ IsSmall (token.Number n) = n < 2 ^ 63
 IsSmall t = Unit {0}
 
 abbrev pub operator_step : ℕ → Op → List Frame × ℕ × Expr → Step
-operator_step d o s = if nat_lt s.1 (left o) then Err stop.Refused else Ok (stand d (frame.Binary o s.2 ∷ s.0) state.Operand)
+operator_step d o s =
+    if nat_lt s.1 (left o) then Err stop.Refused else Ok (stand d (frame.Binary o s.2 ∷ s.0) state.Operand)
 
 abbrev pub within_step : ℕ → List Frame × ℕ × Expr → Step
 within_step d s = if nat_lt s.1 5 then Err stop.Refused else Ok (stand d s.0 (state.AfterIn s.2))

@@ -1,6 +1,8 @@
 -- Trading Object Service, "Preferences", and the appendix "OMG Constraint Language BNF".
--- A preference is empty, `first`, `random`, or `min`, `max` or `with` and an expression. What a text says as a preference.
-use Rattle.std.specs.Prelude.{◌≡◌, ℕ, ◌<◌, ◌≤◌, nat_lt, if◌then◌else◌, List, [], ◌∷◌, ◌++◌, length, drop, ◌⊎◌, Option, None, Some, Result, Ok, Err}
+-- A preference is empty, `first`, `random`, or `min`, `max` or `with` and an expression. What a text says as a
+-- preference.
+use Rattle.std.specs.Prelude.{◌≡◌, ℕ, ◌<◌, ◌≤◌, nat_lt, if◌then◌else◌, List, [], ◌∷◌, ◌++◌, length, drop, ◌⊎◌, Option}
+use Rattle.std.specs.Prelude.{None, Some, Result, Ok, Err}
 use Rattle.td_lang.specs.declared.expr.Expr.{Expr}
 use Rattle.td_lang.specs.declared.expr.Preference.{Preference}
 use Rattle.td_lang.specs.declared.expr.Preference.TheVariants as preference
@@ -46,9 +48,12 @@ WholePreference ts (Spot place t rest) p = WholePreference (ts ++ t ∷ []) rest
 
 -- after these tokens, this is the first fault: some preference begins with what stands before it, and none with it
 abbrev pub FirstFault : List Token → Tape → LangFault → Type 0
-FirstFault ts (Over place) f = ViablePreference ts × ((p : Preference) → IsPreference ts p → ⊥) × (f ≡ fault.Syntax place)
+FirstFault ts (Over place) f =
+    ViablePreference ts × ((p : Preference) → IsPreference ts p → ⊥) × (f ≡ fault.Syntax place)
 FirstFault ts (Broken g) f = ViablePreference ts × (f ≡ g)
-FirstFault ts (Spot place t rest) f = (ViablePreference ts × (ViablePreference (ts ++ t ∷ []) → ⊥) × (f ≡ fault_of place (open_count 0 ts) t)) ⊎ FirstFault (ts ++ t ∷ []) rest f
+FirstFault ts (Spot place t rest) f =
+    (ViablePreference ts × (ViablePreference (ts ++ t ∷ []) → ⊥) × (f ≡ fault_of place (open_count 0 ts) t))
+    ⊎ FirstFault (ts ++ t ∷ []) rest f
 
 abbrev pub Chooses : Tape → Result Preference LangFault → Type 0
 Chooses rest (Ok p) = WholePreference [] rest p
@@ -85,7 +90,8 @@ tape_preference (Spot place t rest) = spot_preference place t rest
 abbrev pub preference_of : List ℕ → Result Preference LangFault
 preference_of text = if nat_lt 4096 (length text) then Err fault.TooLong else tape_preference (tape 0 0 text)
 
--- What a look at a text's next token answers: none is left, or its place, the token and where the text goes on, or no token stands there.
+-- What a look at a text's next token answers: none is left, or its place, the token and where the text goes on, or no
+-- token stands there.
 abbrev pub Looks : List ℕ → Tape → Result (Option (ℕ × Token × ℕ)) LangFault → Type 0
 Looks text found (Ok None) = (place : ℕ) × (found ≡ Over place)
 Looks text found (Ok (Some t)) = found ≡ Spot t.0 t.1 (tape 0 t.2 (drop t.2 text))

@@ -1,7 +1,8 @@
 -- Trading Object Service, appendix "OMG Constraint Language BNF".
--- How a tree is printed: an operand stands in parentheses exactly where the grammar doesn't have its form in that place, and a single space stands
--- between two tokens.
-use Rattle.std.specs.Prelude.{ℤ, pos, negsuc, suc, Bool, true, false, ◌&&◌, ℕ, ◌^◌, ◌<◌, nat_lt, if◌then◌else◌, List, [], ◌∷◌, ◌++◌, codes, IsTrue}
+-- How a tree is printed: an operand stands in parentheses exactly where the grammar doesn't have its form in that
+-- place, and a single space stands between two tokens.
+use Rattle.std.specs.Prelude.{ℤ, pos, negsuc, suc, Bool, true, false, ◌&&◌, ℕ, ◌^◌, ◌<◌, nat_lt, if◌then◌else◌, List}
+use Rattle.std.specs.Prelude.{[], ◌∷◌, ◌++◌, codes, IsTrue}
 use Rattle.std.specs.Fmt.{decimal}
 use Rattle.td_cdr.specs.Names.{identifier}
 use Rattle.td_lang.specs.declared.expr.Op.{Op}
@@ -11,7 +12,8 @@ use Rattle.td_lang.specs.declared.token.Token.{Token}
 use Rattle.td_lang.specs.declared.token.Token.TheVariants as token
 use Rattle.td_lang.specs.Levels.{level, left, right}
 use Rattle.td_lang.specs.Spelling.{operator_word, preference_word, is_reserved, inside_quotes}
-use Rattle.td_lang.specs.Grammar.{Phrase, Operation, Within, Negation, Existence, PropertyName, Numeral, Negative, Quoted, Truth, Parenthesis, tokens, Fits, Shallow}
+use Rattle.td_lang.specs.Grammar.{Phrase, Operation, Within, Negation, Existence, PropertyName, Numeral, Negative}
+use Rattle.td_lang.specs.Grammar.{Quoted, Truth, Parenthesis, tokens, Fits, Shallow}
 
 -- ---- the phrase of a tree
 

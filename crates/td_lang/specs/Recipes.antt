@@ -1,7 +1,8 @@
 -- Trading Object Service, "Proxy": the recipe by which a proxy offer makes the constraint that it
 -- passes on. `$*` is the importer's constraint, `$(name)` the property of that name, `\c` the byte c, and
 -- any other byte itself.
-use Rattle.std.specs.Prelude.{◌≡◌, ◌≢◌, ℕ, ◌+◌, ◌<◌, ◌≤◌, nat_eq, List, [], ◌∷◌, ◌++◌, ◌⊎◌, length, take, if◌then◌else◌, codes, Option, None, Some, Result, Ok, Err, option_and_then}
+use Rattle.std.specs.Prelude.{◌≡◌, ◌≢◌, ℕ, ◌+◌, ◌<◌, ◌≤◌, nat_eq, List, [], ◌∷◌, ◌++◌, ◌⊎◌, length, take, if◌then◌else◌}
+use Rattle.std.specs.Prelude.{codes, Option, None, Some, Result, Ok, Err, option_and_then}
 use Rattle.std.specs.List.{position}
 use Rattle.td_cdr.specs.Names.{identifier, IsIdentifier}
 use Rattle.td_lang.specs.declared.expr.Part.{Part}
@@ -65,8 +66,10 @@ property_part more = option_and_then (named_part more) (position (λ b. nat_eq b
 
 abbrev pub dollar_part : List ℕ → Option (Part × ℕ)
 dollar_part [] = None
-dollar_part (b ∷ more) = if nat_eq b 42 then Some (part.Constraint, 2) else if nat_eq b 40 then property_part more else None
+dollar_part (b ∷ more) =
+    if nat_eq b 42 then Some (part.Constraint, 2) else if nat_eq b 40 then property_part more else None
 
 abbrev pub part_in_front : List ℕ → Option (Part × ℕ)
 part_in_front [] = None
-part_in_front (b ∷ more) = if nat_eq b 92 then escape_part more else if nat_eq b 36 then dollar_part more else Some (part.Byte b, 1)
+part_in_front (b ∷ more) =
+    if nat_eq b 92 then escape_part more else if nat_eq b 36 then dollar_part more else Some (part.Byte b, 1)

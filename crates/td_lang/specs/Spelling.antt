@@ -1,6 +1,7 @@
 -- Trading Object Service, appendix "OMG Constraint Language BNF", "Lexical Tokens".
 -- How a token may be spelled, and which tokens a text consists of.
-use Rattle.std.specs.Prelude.{◌≡◌, ℕ, ◌+◌, ◌^◌, ◌<◌, Bool, true, false, ◌&&◌, ◌||◌, ◌==◌, if◌then◌else◌, List, [], ◌∷◌, ◌++◌, length, ◌⊎◌, IsTrue, codes}
+use Rattle.std.specs.Prelude.{◌≡◌, ℕ, ◌+◌, ◌^◌, ◌<◌, Bool, true, false, ◌&&◌, ◌||◌, ◌==◌, if◌then◌else◌, List, [], ◌∷◌}
+use Rattle.std.specs.Prelude.{◌++◌, length, ◌⊎◌, IsTrue, codes}
 use Rattle.std.specs.List.{list_all, list_any}
 use Rattle.std.specs.Str.{bytes_eq}
 use Rattle.std.specs.Str.Parse.{AllDigits, digits_value}
@@ -77,8 +78,8 @@ Spells (token.Keyword k) bs = bs ≡ preference_word k
 abbrev pub EndsWord : List ℕ → Type 0
 EndsWord more = is_word (byte_at more 0) ≡ false
 
--- what may follow a spelling at once: a word ends where no letter, digit or `_` follows, a number where no `.` follows either, and `<` and `>`
--- where no `=` follows
+-- what may follow a spelling at once: a word ends where no letter, digit or `_` follows, a number where no `.` follows
+-- either, and `<` and `>` where no `=` follows
 abbrev pub Apart : Token → List ℕ → Type 0
 Apart (token.Operator op.Or) more = EndsWord more
 Apart (token.Operator op.And) more = EndsWord more
@@ -121,8 +122,8 @@ pub record Halts (place : ℕ) (text : List ℕ) (f : LangFault) : Type 0 where
   pub none : (t : Token) → Front t (first ∷ others) → ⊥
   pub fault_is : f ≡ token_fault (place + length gap) (first ∷ others)
 
--- the text, whose first byte is at place, is spellings of these tokens at their places, with blanks before, between and behind them, up to its end
--- or to a fault
+-- the text, whose first byte is at place, is spellings of these tokens at their places, with blanks before, between and
+-- behind them, up to its end or to a fault
 abbrev pub Written : ℕ → List ℕ → Tape → Type 0
 Written place text (Over end) = IsTrue (list_all is_blank text) × (end ≡ place + length text)
 Written place text (Broken f) = Halts place text f

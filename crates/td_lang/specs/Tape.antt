@@ -24,7 +24,8 @@ spot place (Err f) rest = Broken f
 abbrev pub tape : ℕ → ℕ → List ℕ → Tape
 tape skip place [] = Over place
 tape (suc skip) place (b ∷ bs) = tape skip (place + 1) bs
-tape zero place (b ∷ bs) = if is_blank b then tape 0 (place + 1) bs else spot place (token_at place (b ∷ bs)) (λ k. tape k (place + 1) bs)
+tape zero place (b ∷ bs) =
+    if is_blank b then tape 0 (place + 1) bs else spot place (token_at place (b ∷ bs)) (λ k. tape k (place + 1) bs)
 
 abbrev pub at_place : {A : Type 0} → ℕ → Result A Stop → Result A LangFault
 at_place place (Ok x) = Ok x

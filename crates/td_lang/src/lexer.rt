@@ -1,8 +1,11 @@
 //! The token in front of a text.
 
-ghost use Rattle.std.specs.Prelude.{◌≡◌, ◌+◌, ◌^◌, ◌<◌, ◌≤◌, [], false, take, drop, length, IfOk, IfSome, IsTrue, option_map};
+ghost use Rattle.std.specs.Prelude.{◌≡◌, ◌+◌, ◌^◌, ◌<◌, ◌≤◌, [], false, take, drop, length, IfOk, IfSome, IsTrue};
+ghost use Rattle.std.specs.Prelude.{option_map};
 ghost use Rattle.td_cdr.specs.Names.{is_letter, is_digit, is_word};
-ghost use Rattle.td_lang.specs.Lexing.{is_blank, lead, truth_word, plain_word, word_token, value_of, with_digit, byte_at, word_at, own_name_at, number_at, quoted_from, quoted_at, with_equal, comparison_at, sign_at, token_at, GivesFault};
+ghost use Rattle.td_lang.specs.Lexing.{is_blank, lead, truth_word, plain_word, word_token, value_of, with_digit};
+ghost use Rattle.td_lang.specs.Lexing.{byte_at, word_at, own_name_at, number_at, quoted_from, quoted_at, with_equal};
+ghost use Rattle.td_lang.specs.Lexing.{comparison_at, sign_at, token_at, GivesFault};
 ghost use Rattle.td_lang.specs.Machine.{IsSmall};
 
 use crate::expr::Op;

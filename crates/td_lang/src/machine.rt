@@ -8,7 +8,8 @@ ghost use Rattle.td_lang.specs.declared.machine.Frame.{Frame};
 ghost use Rattle.td_lang.specs.declared.machine.State.TheVariants.{AfterExist, AfterMinus, AfterIn};
 ghost use Rattle.td_lang.specs.declared.token.Token.TheVariants.{Operator, Within, Not, Open, Close};
 ghost use Rattle.td_lang.specs.declared.expr.Expr.TheVariants.{Binary};
-ghost use Rattle.td_lang.specs.Machine.{IsSmall, reduction, waits, takes_not, step_of, stand, standing, operand_on, end_of, Gives, refusal, operand, suffix, whole};
+ghost use Rattle.td_lang.specs.Machine.{IsSmall, reduction, waits, takes_not, step_of, stand, standing, operand_on};
+ghost use Rattle.td_lang.specs.Machine.{end_of, Gives, refusal, operand, suffix, whole};
 ghost use Rattle.td_lang.specs.Levels.{level, left, right};
 
 use crate::expr::{Expr, Op};

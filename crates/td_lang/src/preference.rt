@@ -4,7 +4,8 @@ ghost use Rattle.std.specs.Prelude.{◌≡◌, ◌≤◌, drop, length, IfOk, If
 ghost use Rattle.td_lang.specs.declared.expr.Preference.{Preference};
 ghost use Rattle.td_lang.specs.Constraints.{UnlessMemory};
 ghost use Rattle.td_lang.specs.Lexing.{GivesFault};
-ghost use Rattle.td_lang.specs.Preferences.{Prefers, Looks, preference_of, tape_preference, spot_preference, behind, alone};
+ghost use Rattle.td_lang.specs.Preferences.{Prefers, Looks, preference_of, tape_preference, spot_preference, behind};
+ghost use Rattle.td_lang.specs.Preferences.{alone};
 ghost use Rattle.td_lang.specs.Tape.{tape};
 
 use crate::constraint::LONGEST;

@@ -7,7 +7,8 @@ ghost use Rattle.td_lang.specs.declared.expr.Preference.{Preference};
 ghost use Rattle.td_lang.specs.Constraints.{constraint_of};
 ghost use Rattle.td_lang.specs.Grammar.{Phrase, Fits, Shallow, tree};
 ghost use Rattle.td_lang.specs.Preferences.{preference_of};
-ghost use Rattle.td_lang.specs.PrintedTexts.{constraint_text, preference_text, IsReadAs, ConstraintCanBeRead, PreferenceCanBeRead};
+ghost use Rattle.td_lang.specs.PrintedTexts.{constraint_text, preference_text, IsReadAs, ConstraintCanBeRead};
+ghost use Rattle.td_lang.specs.PrintedTexts.{PreferenceCanBeRead};
 ghost use Rattle.td_lang.specs.Printing.{phrase_of, IsTight};
 
 /// What is printed is read as the same tree, where it is short, its names are identifiers, its numbers

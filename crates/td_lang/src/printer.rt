@@ -3,12 +3,15 @@
 ghost use Rattle.std.specs.List.{list_any};
 ghost use Rattle.std.specs.Str.{bytes_eq};
 ghost use Rattle.std.specs.Prelude.{◌≡◌, [], ◌++◌, ◌∷◌, ◌||◌, ◌≤◌, OnOk, IfOk, if◌then◌else◌};
-ghost use Rattle.td_lang.specs.declared.token.Token.TheVariants.{Operator, Within, Not, Exist, Open, Close, Name, Number, Quoted, Truth, Keyword as keyword};
+ghost use Rattle.td_lang.specs.declared.token.Token.TheVariants.{Operator, Within, Not, Exist, Open, Close, Name};
+ghost use Rattle.td_lang.specs.declared.token.Token.TheVariants.{Number, Quoted, Truth, Keyword as keyword};
 ghost use Rattle.td_lang.specs.declared.expr.Expr.TheVariants as expr;
 ghost use Rattle.td_lang.specs.Levels.{level, left, right};
 ghost use Rattle.td_lang.specs.Grammar.{tokens};
-ghost use Rattle.td_lang.specs.Printing.{number_phrase, put, put_all, expr_text, left_text, right_text, with_space, open_if, close_if};
-ghost use Rattle.td_lang.specs.Spelling.{operator_word, is_reserved, operator_words, preference_words, truth_words, needs_backslash, inside_quotes};
+ghost use Rattle.td_lang.specs.Printing.{number_phrase, put, put_all, expr_text, left_text, right_text, with_space};
+ghost use Rattle.td_lang.specs.Printing.{open_if, close_if};
+ghost use Rattle.td_lang.specs.Spelling.{operator_word, is_reserved, operator_words, preference_words, truth_words};
+ghost use Rattle.td_lang.specs.Spelling.{needs_backslash, inside_quotes};
 
 use crate::expr::{Expr, Op};
 use crate::machine::{left, level, right};

@@ -2,7 +2,8 @@
 
 ghost use Rattle.std.specs.Prelude.{◌≡◌, ◌<◌, ◌≤◌, nat_eq, length, IfOk, OnSome, IfSome};
 ghost use Rattle.std.specs.List.{position};
-ghost use Rattle.td_lang.specs.Recipes.{ReadsRecipe, part_in_front, escape_part, dollar_part, property_part, named_part};
+ghost use Rattle.td_lang.specs.Recipes.{ReadsRecipe, part_in_front, escape_part, dollar_part, property_part};
+ghost use Rattle.td_lang.specs.Recipes.{named_part};
 
 use crate::constraint::LONGEST;
 use crate::expr::{Part, Recipe};

@@ -4,7 +4,10 @@ use Rattle.td_cdr.specs.Names.{is_digit}
 use Rattle.td_lang.proofs.lexer.digit_length.Given as goal
 
 abbrev pub invariant-loop-n : goal.invariant-loop-n
-invariant-loop-n l = record { in_range : l.n ≤ length l.text; so_far : lead is_digit l.text ≡ lead is_digit (drop l.n l.text) + l.n }
+invariant-loop-n l = record {
+  in_range : l.n ≤ length l.text;
+  so_far : lead is_digit l.text ≡ lead is_digit (drop l.n l.text) + l.n;
+}
 
 abbrev pub decreases-loop-n : goal.decreases-loop-n
 decreases-loop-n l = length l.text - l.n

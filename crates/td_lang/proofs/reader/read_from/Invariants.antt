@@ -8,7 +8,8 @@ abbrev pub invariant-turns : goal.invariant-turns
 invariant-turns l = record {
   shallow : l.depth ≤ 64;
   within : l.place ≤ length l.text;
-  so_far : read_tape start (tape 0 l.from (drop l.from l.text)) ≡ read_tape (stand l.depth (reverse l.stack.items) l.state) (tape 0 l.place (drop l.place l.text));
+  so_far : read_tape start (tape 0 l.from (drop l.from l.text))
+      ≡ read_tape (stand l.depth (reverse l.stack.items) l.state) (tape 0 l.place (drop l.place l.text));
 }
 
 abbrev pub decreases-turns : goal.decreases-turns
