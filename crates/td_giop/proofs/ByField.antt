@@ -43,21 +43,27 @@ abbrev onto : List ℕ → Piece → Order → List ℕ
 onto b p order = b ++ p order (length b)
 
 onto-then : (p q : Piece) (order : Order) (b : List ℕ) → onto b (p then q) order ≡ onto (onto b p order) q order
-onto-then p q order b = rw (length-append b (p order (length b))) (sym (append_assoc b (p order (length b)) (q order (length b + length (p order (length b))))))
+onto-then p q order b =
+    rw (length-append b (p order (length b)))
+    (sym (append_assoc b (p order (length b)) (q order (length b + length (p order (length b))))))
 
-three_onto : (p q r : Piece) (order : Order) (b : List ℕ) → onto b (p then q then r) order ≡ onto (onto (onto b p order) q order) r order
+three_onto : (p q r : Piece) (order : Order) (b : List ℕ)
+    → onto b (p then q then r) order ≡ onto (onto (onto b p order) q order) r order
 three_onto p q r order b = onto-then p (q then r) order b ∙ onto-then q r order (onto b p order)
 
 six_onto : (p q r s t u : Piece) (order : Order) (b : List ℕ)
-    → onto b (p then q then r then s then t then u) order ≡ onto (onto (onto (onto (onto (onto b p order) q order) r order) s order) t order) u order
+    → onto b (p then q then r then s then t then u) order
+    ≡ onto (onto (onto (onto (onto (onto b p order) q order) r order) s order) t order) u order
 six_onto p q r s t u order b =
     let c = onto b p order in
     let d = onto c q order in
     let e = onto d r order in
-    onto-then p (q then r then s then t then u) order b ∙ onto-then q (r then s then t then u) order c ∙ onto-then r (s then t then u) order d ∙ three_onto s t u order e
+    onto-then p (q then r then s then t then u) order b ∙ onto-then q (r then s then t then u) order c
+    ∙ onto-then r (s then t then u) order d ∙ three_onto s t u order e
 
 -- no contexts are their number alone
-no_row : (order : Order) (b : List ℕ) → onto b (ulong.format.writes 0 then row []) order ≡ onto b (ulong.format.writes 0) order
+no_row : (order : Order) (b : List ℕ)
+    → onto b (ulong.format.writes 0 then row []) order ≡ onto b (ulong.format.writes 0) order
 no_row order b = ap (λ (c : List ℕ). b ++ c) (append-nil (ulong.format.writes 0 order (length b)))
 
 pub request_is : (order : Order) (id : ℕ) (answered : Bool) (key operation : List ℕ)
@@ -66,8 +72,12 @@ unfolding request_start
 request_is order id answered key operation =
     let head = header_written order REQUEST in
     let rest : List ℕ → List ℕ = λ c.
-    onto (onto (onto (onto (onto c (ulong.format.writes id) order) (boolean.format.writes answered) order) (octets.format.writes key) order) (text.format.writes operation) order) (octets.format.writes []) order in
-    sym (six_onto (ulong.format.writes 0 then row []) (ulong.format.writes id) (boolean.format.writes answered) (octets.format.writes key) (text.format.writes operation) (octets.format.writes []) order head
+    onto (onto (onto (onto (onto c (ulong.format.writes id) order) (boolean.format.writes answered) order)
+    (octets.format.writes key) order)
+    (text.format.writes operation) order)
+    (octets.format.writes []) order in
+    sym (six_onto (ulong.format.writes 0 then row []) (ulong.format.writes id) (boolean.format.writes answered)
+    (octets.format.writes key) (text.format.writes operation) (octets.format.writes []) order head
     ∙ ap rest (no_row order head))
 
 pub reply_is : (order : Order) (id status : ℕ) → reply_by_field order id status ≡ reply_start order id status
@@ -75,12 +85,16 @@ unfolding reply_start
 reply_is order id status =
     let head = header_written order REPLY in
     sym (three_onto (ulong.format.writes 0 then row []) (ulong.format.writes id) (ulong.format.writes status) order head
-    ∙ ap (λ (c : List ℕ). onto (onto c (ulong.format.writes id) order) (ulong.format.writes status) order) (no_row order head))
+    ∙ ap (λ (c : List ℕ). onto (onto c (ulong.format.writes id) order) (ulong.format.writes status) order)
+    (no_row order head))
 
 pub locate_is : (order : Order) (id : ℕ) (key : List ℕ) → locate_by_field order id key ≡ locate_written order id key
 unfolding locate_written
-locate_is order id key = sym (onto-then (ulong.format.writes id) (octets.format.writes key) order (header_written order LOCATE_REQUEST))
+locate_is order id key =
+    sym (onto-then (ulong.format.writes id) (octets.format.writes key) order (header_written order LOCATE_REQUEST))
 
-pub locate_reply_is : (order : Order) (id status : ℕ) → locate_reply_by_field order id status ≡ locate_reply_written order id status
+pub locate_reply_is : (order : Order) (id status : ℕ)
+    → locate_reply_by_field order id status ≡ locate_reply_written order id status
 unfolding locate_reply_written
-locate_reply_is order id status = sym (onto-then (ulong.format.writes id) (ulong.format.writes status) order (header_written order LOCATE_REPLY))
+locate_reply_is order id status =
+    sym (onto-then (ulong.format.writes id) (ulong.format.writes status) order (header_written order LOCATE_REPLY))

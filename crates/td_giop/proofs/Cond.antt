@@ -2,7 +2,8 @@
 use Rattle.std.proofs.Common.{◌≡◌, Bool, true, false, cond, ◌&&◌, refl}
 
 -- what holds of either side of a choice holds of the choice
-pub cond_case : {R : Type 0} (P : R → Type 0) (b : Bool) (x y : R) → (b ≡ true → P x) → (b ≡ false → P y) → P (cond b x y)
+pub cond_case : {R : Type 0} (P : R → Type 0) (b : Bool) (x y : R) → (b ≡ true → P x) → (b ≡ false → P y)
+    → P (cond b x y)
 cond_case P true x y f g = f refl
 cond_case P false x y f g = g refl
 

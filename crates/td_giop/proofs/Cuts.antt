@@ -1,5 +1,7 @@
 -- Streams as messages and a rest.
-use Rattle.std.proofs.Common.{◌≡◌, ℕ, zero, suc, ◌+◌, ◌-◌, ◌<◌, ◌≤◌, List, [], ◌∷◌, ◌++◌, length, take, drop, Option, Some, None, Result, Ok, Err, refl, sym, ap, subst, ◌∙◌, append_assoc, arith, length-append, length-drop}
+use Rattle.std.proofs.Common.{◌≡◌, ℕ, zero, suc, ◌+◌, ◌-◌, ◌<◌, ◌≤◌, List, [], ◌∷◌, ◌++◌, length, take, drop, Option}
+use Rattle.std.proofs.Common.{Some, None, Result, Ok, Err, refl, sym, ap, subst, ◌∙◌, append_assoc, arith}
+use Rattle.std.proofs.Common.{length-append, length-drop}
 use Rattle.std.specs.List.{concat}
 use Rattle.std.proofs.lemmas.List.{take-append-drop, take_at, drop-append-le, take-append-le, length-take-le}
 use Rattle.td_giop.specs.declared.fault.FrameFault.{FrameFault}
@@ -22,7 +24,7 @@ no_front limit border rest m ends front =
 no_front limit inside rest m ends front = cc (ends.0, front.size)
 no_front limit (bad fault) rest m ends front = cc (ends, front.size)
 
-same_front : (limit : ℕ) (s m n : List ℕ) → Front limit s m → Front limit s n → m ≡ n
+pub same_front : (limit : ℕ) (s m n : List ℕ) → Front limit s m → Front limit s n → m ≡ n
 same_front limit s m n p q =
     let e = same_size (length m) (length n) (sym p.size ∙ q.size) in
     p.bytes ∙ ap (λ (k : ℕ). take k s) e ∙ sym q.bytes
@@ -39,9 +41,11 @@ not_empty limit f rest e b =
 
 same_ending : (limit : ℕ) (e f : Ending) (rest : List ℕ) → EndsSo limit e rest → EndsSo limit f rest → e ≡ f
 same_ending limit border border rest p q = refl
-same_ending limit border inside rest p q = let none : length rest ≡ 0 = ap (length {A = ℕ}) p in absurd (omega (arith, none, q.1))
+same_ending limit border inside rest p q =
+    let none : length rest ≡ 0 = ap (length {A = ℕ}) p in absurd (omega (arith, none, q.1))
 same_ending limit border (bad f) rest p q = absurd (not_empty limit f rest p q)
-same_ending limit inside border rest p q = let none : length rest ≡ 0 = ap (length {A = ℕ}) q in absurd (omega (arith, none, p.1))
+same_ending limit inside border rest p q =
+    let none : length rest ≡ 0 = ap (length {A = ℕ}) q in absurd (omega (arith, none, p.1))
 same_ending limit inside inside rest p q = refl
 same_ending limit inside (bad f) rest p q = absurd (cc (p.0, q))
 same_ending limit (bad e) border rest p q = absurd (not_empty limit e rest q p)
@@ -49,15 +53,23 @@ same_ending limit (bad e) inside rest p q = absurd (cc (p, q.0))
 same_ending limit (bad e) (bad f) rest p q = let both : bad_size e ≡ bad_size f = sym p ∙ q in cc
 
 one_fronts : (limit : ℕ) (s : List ℕ) (ms ns : List (List ℕ)) (rest other : List ℕ) (e f : Ending)
-    → Fronts limit s ms rest → EndsSo limit e rest → Fronts limit s ns other → EndsSo limit f other → SameCut ms ns rest other e f
+    → Fronts limit s ms rest → EndsSo limit e rest → Fronts limit s ns other → EndsSo limit f other
+    → SameCut ms ns rest other e f
 one_fronts limit s [] [] rest other e f p ends q also =
     let same : rest ≡ other = sym p ∙ q in
-    record { messages = refl; rest = same; ending = same_ending limit e f other (subst (EndsSo limit e) same ends) also }
-one_fronts limit s [] (n ∷ ns) rest other e f p ends q also = absurd (no_front limit e rest n ends (subst (λ (x : List ℕ). Front limit x n) p q.0))
-one_fronts limit s (m ∷ ms) [] rest other e f p ends q also = absurd (no_front limit f other m also (subst (λ (x : List ℕ). Front limit x m) q p.0))
+    record {
+      messages = refl;
+      rest = same;
+      ending = same_ending limit e f other (subst (EndsSo limit e) same ends) also;
+    }
+one_fronts limit s [] (n ∷ ns) rest other e f p ends q also =
+    absurd (no_front limit e rest n ends (subst (λ (x : List ℕ). Front limit x n) p q.0))
+one_fronts limit s (m ∷ ms) [] rest other e f p ends q also =
+    absurd (no_front limit f other m also (subst (λ (x : List ℕ). Front limit x m) q p.0))
 one_fronts limit s (m ∷ ms) (n ∷ ns) rest other e f p ends q also =
     let mn = same_front limit s m n p.0 q.0 in
-    let there : Fronts limit (drop (length m) s) ns other = subst (λ (x : List ℕ). Fronts limit (drop (length x) s) ns other) (sym mn) q.1 in
+    let there : Fronts limit (drop (length m) s) ns other =
+    subst (λ (x : List ℕ). Fronts limit (drop (length x) s) ns other) (sym mn) q.1 in
     let ih = one_fronts limit (drop (length m) s) ms ns rest other e f p.1 ends there also in
     record { messages = cc (mn, ih.messages); rest = ih.rest; ending = ih.ending }
 
@@ -76,7 +88,8 @@ front_fed limit s p m front = record {
   bytes = front.bytes ∙ sym (take-append-le (length m) s p (front_within limit s m front).1);
 }
 
-pub fronts_fed : (limit : ℕ) (s p : List ℕ) (ms : List (List ℕ)) (rest : List ℕ) → Fronts limit s ms rest → Fronts limit (s ++ p) ms (rest ++ p)
+pub fronts_fed : (limit : ℕ) (s p : List ℕ) (ms : List (List ℕ)) (rest : List ℕ) → Fronts limit s ms rest
+    → Fronts limit (s ++ p) ms (rest ++ p)
 fronts_fed limit s p [] rest f = ap (λ (x : List ℕ). x ++ p) f
 fronts_fed limit s p (m ∷ ms) rest f =
     let ih = fronts_fed limit (drop (length m) s) p ms rest f.1 in
@@ -85,8 +98,8 @@ fronts_fed limit s p (m ∷ ms) rest f =
 
 -- ---- one message more
 
-pub fronts_more : (limit : ℕ) (s : List ℕ) (ms : List (List ℕ)) (rest m : List ℕ) → Fronts limit s ms rest → Front limit rest m
-    → Fronts limit s (ms ++ m ∷ []) (drop (length m) rest)
+pub fronts_more : (limit : ℕ) (s : List ℕ) (ms : List (List ℕ)) (rest m : List ℕ) → Fronts limit s ms rest
+    → Front limit rest m → Fronts limit s (ms ++ m ∷ []) (drop (length m) rest)
 fronts_more limit s [] rest m f front = (subst (λ (x : List ℕ). Front limit x m) (sym f) front, ap (drop (length m)) f)
 fronts_more limit s (n ∷ ns) rest m f front = (f.0, fronts_more limit (drop (length n) s) ns rest m f.1 front)
 
@@ -95,7 +108,8 @@ fronts_none limit s = refl
 
 -- ---- nothing is lost
 
-pub fronts_joined : (limit : ℕ) (s : List ℕ) (ms : List (List ℕ)) (rest : List ℕ) → Fronts limit s ms rest → concat ms ++ rest ≡ s
+pub fronts_joined : (limit : ℕ) (s : List ℕ) (ms : List (List ℕ)) (rest : List ℕ) → Fronts limit s ms rest
+    → concat ms ++ rest ≡ s
 fronts_joined limit s [] rest f = sym f
 fronts_joined limit s (m ∷ ms) rest f =
     append_assoc m (concat ms) rest ∙ ap (λ (x : List ℕ). m ++ x) (fronts_joined limit (drop (length m) s) ms rest f.1)
@@ -111,24 +125,42 @@ front_taken limit s n e =
 
 no_more : (limit : ℕ) (s : List ℕ) → first_at limit s ≡ Ok None → HasCut limit s
 no_more limit [] e = record { messages = []; rest = []; ending = border; cut = record { fronts = refl; ends = refl } }
-no_more limit (b ∷ s) e = record { messages = []; rest = b ∷ s; ending = inside; cut = record { fronts = refl; ends = (e, omega arith) } }
+no_more limit (b ∷ s) e = record {
+  messages = [];
+  rest = b ∷ s;
+  ending = inside;
+  cut = record { fronts = refl; ends = (e, omega arith) };
+}
 
 one_more : (limit : ℕ) (s : List ℕ) (n : ℕ) → first_at limit s ≡ Ok (Some n) → HasCut limit (drop n s) → HasCut limit s
 one_more limit s n e c =
     let w = whole limit s n e in
     let long : length (take n s) ≡ n = length-take-le n s w.within in
     let there : Fronts limit (drop (length (take n s)) s) c.messages c.rest = rw long c.cut.fronts in
-    record { messages = take n s ∷ c.messages; rest = c.rest; ending = c.ending; cut = record { fronts = (front_taken limit s n e, there); ends = c.cut.ends } }
+    record {
+      messages = take n s ∷ c.messages;
+      rest = c.rest;
+      ending = c.ending;
+      cut = record { fronts = (front_taken limit s n e, there); ends = c.cut.ends };
+    }
 
-cut_case : (limit : ℕ) (s : List ℕ) (r : Result (Option ℕ) FrameFault) → first_at limit s ≡ r → ((n : ℕ) → first_at limit s ≡ Ok (Some n) → HasCut limit (drop n s)) → HasCut limit s
-cut_case limit s (Err f) e more = record { messages = []; rest = s; ending = bad f; cut = record { fronts = refl; ends = e } }
+cut_case : (limit : ℕ) (s : List ℕ) (r : Result (Option ℕ) FrameFault) → first_at limit s ≡ r
+    → ((n : ℕ) → first_at limit s ≡ Ok (Some n) → HasCut limit (drop n s)) → HasCut limit s
+cut_case limit s (Err f) e more = record {
+  messages = [];
+  rest = s;
+  ending = bad f;
+  cut = record { fronts = refl; ends = e };
+}
 cut_case limit s (Ok None) e more = no_more limit s e
 cut_case limit s (Ok (Some n)) e more = one_more limit s n e (more n e)
 
 cut_within : (bound limit : ℕ) (s : List ℕ) → length s < bound → HasCut limit s
 cut_within zero limit s h = absurd (omega arith)
-cut_within (suc bound) limit s h = cut_case limit s (first_at limit s) refl (λ (n : ℕ) (e : first_at limit s ≡ Ok (Some n)).
-    let w = whole limit s n e in cut_within bound limit (drop n s) (omega (arith, h, w.size, w.within, length-drop n s)))
+cut_within (suc bound) limit s h =
+    cut_case limit s (first_at limit s) refl (λ (n : ℕ) (e : first_at limit s ≡ Ok (Some n)).
+    let w = whole limit s n e in
+    cut_within bound limit (drop n s) (omega (arith, h, w.size, w.within, length-drop n s)))
 
 pub has_cut : (limit : ℕ) (s : List ℕ) → HasCut limit s
 has_cut limit s = cut_within (suc (length s)) limit s (omega arith)
@@ -139,11 +171,17 @@ pub front_message : (limit : ℕ) (s m : List ℕ) → Front limit s m → IsMes
 front_message limit s m front =
     let w = whole limit s (length m) front.size in
     let long : 12 ≤ length m = omega (arith, w.size) in
-    let parts : s ≡ m ++ drop (length m) s = sym (take-append-drop (length m) s) ∙ ap (λ (x : List ℕ). x ++ drop (length m) s) (sym front.bytes) in
-    let alone : header_at limit m ≡ Ok (Some w.header) = sym (header_at-append limit m (drop (length m) s) long) ∙ ap (header_at limit) (sym parts) ∙ w.was in
+    let parts : s ≡ m ++ drop (length m) s =
+    sym (take-append-drop (length m) s) ∙ ap (λ (x : List ℕ). x ++ drop (length m) s) (sym front.bytes) in
+    let alone : header_at limit m ≡ Ok (Some w.header) =
+    sym (header_at-append limit m (drop (length m) s) long) ∙ ap (header_at limit) (sym parts) ∙ w.was in
     let good = subst (Judged limit m) alone (judged limit m) in
     let size : w.header.size ≡ length m - 12 = omega (arith, w.size) in
-    record { order = w.header.order; kind = w.header.kind; good = subst (GoodHeader limit m w.header.order w.header.kind) size good }
+    record {
+      order = w.header.order;
+      kind = w.header.kind;
+      good = subst (GoodHeader limit m w.header.order w.header.kind) size good;
+    }
 
 abbrev told_size : ℕ → Result (Option ℕ) FrameFault
 told_size n = Ok (Some n)
@@ -153,7 +191,9 @@ message_front limit m rest i =
     let long = i.good.whole in
     let there = header_at-append limit m rest long ∙ good_at limit m i.order i.kind (length m - 12) i.good in
     let size : 12 + (length m - 12) ≡ length m = omega arith in
-    let first = first_of limit (m ++ rest) (record { kind = i.kind; order = i.order; size = length m - 12 }) there (omega (arith, length-append m rest)) in
+    let first =
+    first_of limit (m ++ rest) (record { kind = i.kind; order = i.order; size = length m - 12 }) there
+    (omega (arith, length-append m rest)) in
     record { size = first ∙ ap (λ (n : ℕ). told_size n) size; bytes = sym (take_at m rest (length m) refl) }
 
 -- ---- what a framer lends
@@ -161,15 +201,21 @@ message_front limit m rest i =
 pub raw_front : (s : Stream) (m : Raw) → IsRaw s m → Front s.limit s.rest m.bytes.now
 raw_front s m r = record { size = r.whole; bytes = r.bytes }
 
-pub raw_good : (s : Stream) (m : Raw) → IsRaw s m → GoodHeader s.limit m.bytes.now m.order m.kind (length m.bytes.now - 12)
+pub raw_good : (s : Stream) (m : Raw) → IsRaw s m
+    → GoodHeader s.limit m.bytes.now m.order m.kind (length m.bytes.now - 12)
 raw_good s m r =
     let bytes = m.bytes.now in
-    let parts : s.rest ≡ bytes ++ drop (length bytes) s.rest = sym (take-append-drop (length bytes) s.rest) ∙ ap (λ (x : List ℕ). x ++ drop (length bytes) s.rest) (sym r.bytes) in
-    let alone : header_at s.limit bytes ≡ Ok (Some (record { kind = m.kind; order = m.order; size = length bytes - 12 })) =
-    sym (header_at-append s.limit bytes (drop (length bytes) s.rest) r.least) ∙ ap (header_at s.limit) (sym parts) ∙ r.header in
+    let parts : s.rest ≡ bytes ++ drop (length bytes) s.rest =
+    sym (take-append-drop (length bytes) s.rest)
+    ∙ ap (λ (x : List ℕ). x ++ drop (length bytes) s.rest) (sym r.bytes) in
+    let alone : header_at s.limit bytes
+    ≡ Ok (Some (record { kind = m.kind; order = m.order; size = length bytes - 12 })) =
+    sym (header_at-append s.limit bytes (drop (length bytes) s.rest) r.least) ∙ ap (header_at s.limit) (sym parts)
+    ∙ r.header in
     subst (Judged s.limit bytes) alone (judged s.limit bytes)
 
 -- ---- a whole cut
 
-pub fronts_cut : (limit : ℕ) (s : List ℕ) (ms : List (List ℕ)) (rest : List ℕ) (e : Ending) → Fronts limit s ms rest → EndsSo limit e rest → Cut limit s ms rest e
+pub fronts_cut : (limit : ℕ) (s : List ℕ) (ms : List (List ℕ)) (rest : List ℕ) (e : Ending) → Fronts limit s ms rest
+    → EndsSo limit e rest → Cut limit s ms rest e
 fronts_cut limit s ms rest e f ends = record { fronts = f; ends = ends }

@@ -1,6 +1,8 @@
 -- The whole message in front of a stream.
 use Rattle.std.specs.Global.{Vec}
-use Rattle.std.proofs.Common.{vec_capacity, ◌⊎◌, inl, inr, ◌^◌, min, ◌≡◌, ℕ, ◌+◌, ◌-◌, ◌<◌, ◌≤◌, ltb, List, ◌++◌, length, take, slice_index, Option, Some, None, Result, Ok, Err, refl, sym, ap, subst, ◌∙◌, arith, length-append, append_assoc}
+use Rattle.std.proofs.Common.{vec_capacity, ◌⊎◌, inl, inr, ◌^◌, min, ◌≡◌, ℕ, ◌+◌, ◌-◌, ◌<◌, ◌≤◌, ltb, List, ◌++◌}
+use Rattle.std.proofs.Common.{length, take, slice_index, Option, Some, None, Result, Ok, Err, refl, sym, ap, subst, ◌∙◌}
+use Rattle.std.proofs.Common.{arith, length-append, append_assoc}
 use Rattle.std.proofs.lemmas.Bool.{ltb-false, le-ltb}
 use Rattle.std.proofs.lemmas.List.{take_at}
 use Rattle.std.proofs.Math.Seq.{take-length}
@@ -56,10 +58,17 @@ pub whole : (limit : ℕ) (s : List ℕ) (n : ℕ) → first_at limit s ≡ Ok (
 unfolding first_at
 whole limit s n e =
     let w = sized (length s) n (header_at limit s) e in
-    record { header = w.header; was = w.was; good = subst (Judged limit s) w.was (judged limit s); size = w.size; within = w.within }
+    record {
+      header = w.header;
+      was = w.was;
+      good = subst (Judged limit s) w.was (judged limit s);
+      size = w.size;
+      within = w.within;
+    }
 
 -- where a header and so many bytes are there, the size is told
-pub first_of : (limit : ℕ) (s : List ℕ) (h : Header) → header_at limit s ≡ Ok (Some h) → 12 + h.size ≤ length s → first_at limit s ≡ Ok (Some (12 + h.size))
+pub first_of : (limit : ℕ) (s : List ℕ) (h : Header) → header_at limit s ≡ Ok (Some h) → 12 + h.size ≤ length s
+    → first_at limit s ≡ Ok (Some (12 + h.size))
 unfolding first_at
 first_of limit s h e fits = rw (e, le-ltb (length s) (12 + h.size) fits) refl
 
@@ -67,7 +76,8 @@ bad_case : (held : ℕ) (f : FrameFault) (r : header_result) → whole_within he
 bad_case held f (Err g) e = cc
 bad_case held f (Ok None) e = absurd cc
 bad_case held f (Ok (Some h)) e =
-    cond_case (λ (r : size_result). r ≡ Err f → Ok (Some h) ≡ Err f) (ltb held (12 + h.size)) (Ok None) (Ok (Some (12 + h.size)))
+    cond_case (λ (r : size_result). r ≡ Err f → Ok (Some h) ≡ Err f) (ltb held (12 + h.size)) (Ok None)
+    (Ok (Some (12 + h.size)))
     (λ _ x. absurd cc) (λ _ x. absurd cc) e
 
 -- a bad header was judged so
@@ -81,14 +91,16 @@ bad_first limit s f e = rw e refl
 
 -- ---- what is in front stays there, whatever follows
 
-pub first-append : (limit : ℕ) (s p : List ℕ) (n : ℕ) → first_at limit s ≡ Ok (Some n) → first_at limit (s ++ p) ≡ Ok (Some n)
+pub first-append : (limit : ℕ) (s p : List ℕ) (n : ℕ) → first_at limit s ≡ Ok (Some n)
+    → first_at limit (s ++ p) ≡ Ok (Some n)
 first-append limit s p n e =
     let w = whole limit s n e in
     let there = header_at-append limit s p w.good.whole ∙ w.was in
     let fits : 12 + w.header.size ≤ length (s ++ p) = omega (arith, w.size, w.within, length-append s p) in
     first_of limit (s ++ p) w.header there fits ∙ ap is_size (sym w.size)
 
-pub bad-append : (limit : ℕ) (s p : List ℕ) (f : FrameFault) → first_at limit s ≡ Err f → first_at limit (s ++ p) ≡ Err f
+pub bad-append : (limit : ℕ) (s p : List ℕ) (f : FrameFault) → first_at limit s ≡ Err f
+    → first_at limit (s ++ p) ≡ Err f
 bad-append limit s p f e =
     let h = bad_header limit s f e in
     let there = subst (Judged limit s) h (judged limit s) in
@@ -102,44 +114,52 @@ is_header h = Ok (Some h)
 abbrev header_of : ℕ → Order → ℕ → Header
 header_of kind order size = record { kind = kind; order = order; size = size }
 
-pub same_header : (h : Header) (kind : ℕ) (order : Order) (size : ℕ) → h.kind ≡ kind → h.order ≡ order → h.size ≡ size → h ≡ record { kind = kind; order = order; size = size }
+pub same_header : (h : Header) (kind : ℕ) (order : Order) (size : ℕ) → h.kind ≡ kind → h.order ≡ order → h.size ≡ size
+    → h ≡ record { kind = kind; order = order; size = size }
 same_header h kind order size p q r =
-    ap (λ (x : ℕ). header_of x h.order h.size) p ∙ ap (λ (x : Order). header_of kind x h.size) q ∙ ap (header_of kind order) r
+    ap (λ (x : ℕ). header_of x h.order h.size) p ∙ ap (λ (x : Order). header_of kind x h.size) q
+    ∙ ap (header_of kind order) r
 
 -- what the ring holds once a piece fitted in
-pub filled : (old kept new piece : List ℕ) (count room : ℕ) → count ≡ min (length piece) (room - length kept) → new ≡ kept ++ take count piece → kept ≡ old
-    → length old + length piece ≤ room → new ≡ old ++ piece
+pub filled : (old kept new piece : List ℕ) (count room : ℕ) → count ≡ min (length piece) (room - length kept)
+    → new ≡ kept ++ take count piece → kept ≡ old → length old + length piece ≤ room → new ≡ old ++ piece
 filled old kept new piece count room e f g fits =
     let all : count ≡ length piece = omega (arith, e, fits, ap (length {A = ℕ}) g) in
-    f ∙ ap (λ (x : List ℕ). x ++ take count piece) g ∙ ap (λ (n : ℕ). old ++ take n piece) all ∙ ap (λ (x : List ℕ). old ++ x) (take-length piece)
+    f ∙ ap (λ (x : List ℕ). x ++ take count piece) g ∙ ap (λ (n : ℕ). old ++ take n piece) all
+    ∙ ap (λ (x : List ℕ). old ++ x) (take-length piece)
 
 -- a piece goes behind what the ring held
-pub fed : (limit : ℕ) (message : Vec ℕ) (old ring piece : List ℕ) → (length message.items ≡ 0) ⊎ (first_at limit (message.items ++ old) ≡ Ok (Some (length message.items)))
+pub fed : (limit : ℕ) (message : Vec ℕ) (old ring piece : List ℕ)
+    → (length message.items ≡ 0) ⊎ (first_at limit (message.items ++ old) ≡ Ok (Some (length message.items)))
     → ring ≡ old ++ piece → length ring ≤ vec_capacity message → IsFront limit message ring
 fed limit message old ring piece (inl empty) e room = record { front = inl empty; room = room }
 fed limit message old ring piece (inr front) e room =
     let there : first_at limit (message.items ++ ring) ≡ Ok (Some (length message.items)) =
-    rw e (rw (← append_assoc message.items old piece) (first-append limit (message.items ++ old) piece (length message.items) front)) in
+    rw e (rw (← append_assoc message.items old piece)
+    (first-append limit (message.items ++ old) piece (length message.items) front)) in
     record { front = inr there; room = room }
 
-pub bounded : (start : ℕ) (message old piece kept ring : List ℕ) → kept ≡ message → ring ≡ old ++ piece → start + (length (message ++ old) + length piece) < 2 ^ 64
-    → start + length (kept ++ ring) < 2 ^ 64
+pub bounded : (start : ℕ) (message old piece kept ring : List ℕ) → kept ≡ message → ring ≡ old ++ piece
+    → start + (length (message ++ old) + length piece) < 2 ^ 64 → start + length (kept ++ ring) < 2 ^ 64
 bounded start message old piece kept ring e f h =
     let long : length (kept ++ ring) ≡ length (message ++ old) + length piece =
     rw (e, f) (rw (← append_assoc message old piece) (length-append (message ++ old) piece)) in
     omega (arith, long, h)
 
 -- what is lent is the message in front, with what its header tells
-pub is_raw : (s : Stream) (message ring : List ℕ) (m : Raw) → s.rest ≡ message ++ ring → first_at s.limit s.rest ≡ Ok (Some (length message))
-    → m.bytes.now ≡ message → m.start ≡ s.start → m.kind ≡ slice_index message 7 → m.order ≡ order_told (slice_index message 6) → IsRaw s m
+pub is_raw : (s : Stream) (message ring : List ℕ) (m : Raw) → s.rest ≡ message ++ ring
+    → first_at s.limit s.rest ≡ Ok (Some (length message)) → m.bytes.now ≡ message → m.start ≡ s.start
+    → m.kind ≡ slice_index message 7 → m.order ≡ order_told (slice_index message 6) → IsRaw s m
 is_raw s message ring m parts first bytes place kind order =
     let w = whole s.limit s.rest (length message) first in
     let long : 12 ≤ length message = omega (arith, w.size) in
     let kind_is : w.header.kind ≡ m.kind =
-    sym w.good.type_octet.0 ∙ ap (λ (x : List ℕ). slice_index x 7) parts ∙ octet-append message ring 7 long (omega arith) ∙ sym kind in
+    sym w.good.type_octet.0 ∙ ap (λ (x : List ℕ). slice_index x 7) parts
+    ∙ octet-append message ring 7 long (omega arith) ∙ sym kind in
     let order_is : w.header.order ≡ m.order =
     only_told (slice_index s.rest 6) w.header.order w.good.order_octet
-    ∙ ap (λ (x : List ℕ). order_told (slice_index x 6)) parts ∙ ap order_told (octet-append message ring 6 long (omega arith)) ∙ sym order in
+    ∙ ap (λ (x : List ℕ). order_told (slice_index x 6)) parts
+    ∙ ap order_told (octet-append message ring 6 long (omega arith)) ∙ sym order in
     let size_is : w.header.size ≡ length message - 12 = omega (arith, w.size) in
     let header_is = same_header w.header m.kind m.order (length message - 12) kind_is order_is size_is in
     record {

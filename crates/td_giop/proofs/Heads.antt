@@ -1,13 +1,17 @@
--- Heads: what is read is spelled so, what is spelled so is read, what is faulty is refused, and no reading wants memory.
-use Rattle.std.proofs.Common.{◌≡◌, ℕ, ◌≤◌, Result, Ok, Err, ap}
+-- Heads: what is read is spelled so, what is spelled so is read, what is faulty is refused, and no reading wants
+-- memory.
+use Rattle.std.proofs.Common.{◌≡◌, ◌≤◌, Result, Ok, Err, ap}
 use Rattle.td_cdr.specs.declared.fault.CdrFault.{CdrFault}
 use Rattle.td_cdr.specs.declared.fault.CdrFault.TheVariants.{Memory}
 use Rattle.td_cdr.specs.Place.{At}
 use Rattle.td_cdr.specs.Spelling.{Joins}
-use Rattle.td_cdr.specs.Faults.{NumberFault, BooleanFault, OctetsFault, StringFault, ThenFault}
+use Rattle.td_cdr.specs.Faults.{ThenFault}
+use Rattle.td_cdr.specs.Joined.{ok_is}
 use Rattle.td_cdr.specs.Sound.{Sound, ◌&◌}
 use Rattle.td_giop.specs.Fields.{ulong, boolean, octets, text, sequence}
-use Rattle.td_giop.specs.Heads.{alone, context, contexts, principal, request, reply, locate_request, locate_reply, cancel_request}
+use Rattle.td_giop.specs.Heads.{alone, context, contexts, principal, request, reply, locate_request, locate_reply}
+use Rattle.td_giop.specs.Heads.{cancel_request}
+use Rattle.td_cdr.proofs.Items.{number-takes_none, octets-takes_none, boolean-takes_none, string-takes_none}
 use Rattle.td_giop.specs.Alone.{SpellsAlone, IsReadAlone}
 
 pub joins : {Y : Type 0} (g : Sound CdrFault Y) → Joins g.format.spells g.format.reads
@@ -15,15 +19,9 @@ joins g = record { found = g.lawful.found; only = g.lawful.only }
 
 -- ---- fields alone
 
-abbrev answer : {A : Type 0} → A → Result A CdrFault
-answer x = Ok x
-
-value_is : {A : Type 0} (x y : A) → answer x ≡ answer y → x ≡ y
-value_is x y e = cc
-
 alone-ok : {Y : Type 0} (r : Result (Y × At) CdrFault) (v : Y) → alone r ≡ Ok v → (next : At) × (r ≡ Ok (v, next))
 alone-ok {Y = Y} (Ok w) v e =
-    let same : w.0 ≡ v = value_is w.0 v e in
+    let same : w.0 ≡ v = ok_is w.0 v e in
     let made : Y → Result (Y × At) CdrFault = λ y. Ok (y, w.1) in
     (w.1, ap made same)
 alone-ok (Err f) v e = absurd cc
@@ -32,7 +30,8 @@ alone-err : {Y : Type 0} (r : Result (Y × At) CdrFault) (f : CdrFault) → alon
 alone-err (Ok v) f e = absurd cc
 alone-err (Err g) f e = cc
 
-alone-found : {Y : Type 0} (g : Sound CdrFault Y) (a : At) (v : Y) → a.origin ≤ a.place → alone (g.format.reads a) ≡ Ok v → SpellsAlone g a v
+alone-found : {Y : Type 0} (g : Sound CdrFault Y) (a : At) (v : Y) → a.origin ≤ a.place
+    → alone (g.format.reads a) ≡ Ok v → SpellsAlone g a v
 alone-found g a v h e =
     let r = alone-ok (g.format.reads a) v e in
     record { next = r.0; found = g.lawful.found a v r.0 h r.1 }
@@ -51,22 +50,8 @@ read-alone {Y = Y} g = record {
 abbrev TakesNone : {Y : Type 0} → Sound CdrFault Y → Type 0
 TakesNone g = (a : At) → g.faults a Memory → ⊥
 
-number-takes_none : (size : ℕ) (a : At) → NumberFault size a Memory → ⊥
-number-takes_none size a n = cc n.fault
-
-boolean-takes_none : TakesNone boolean
-boolean-takes_none a (BooleanFault.cut n) = number-takes_none 1 a n
-boolean-takes_none a (BooleanFault.above octet next found past fault) = cc fault
-
-octets-takes_none : TakesNone octets
-octets-takes_none a (OctetsFault.cut n) = number-takes_none 4 a n
-octets-takes_none a (OctetsFault.above count next found past fault) = cc fault
-
-text-takes_none : TakesNone text
-text-takes_none a (StringFault.octets o) = octets-takes_none a o
-text-takes_none a (StringFault.unclosed kept next found some not_closed fault) = cc fault
-
-pair-takes_none : {X Y : Type 0} (f : Sound CdrFault X) (g : Sound CdrFault Y) → TakesNone f → TakesNone g → TakesNone (f & g)
+pair-takes_none : {X Y : Type 0} (f : Sound CdrFault X) (g : Sound CdrFault Y) → TakesNone f → TakesNone g
+    → TakesNone (f & g)
 pair-takes_none f g one two a (ThenFault.first d) = one a d
 pair-takes_none f g one two a (ThenFault.second v next found d) = two next d
 
@@ -83,10 +68,12 @@ request-takes_none =
     (pair-takes_none ulong (boolean & octets & text & principal) (number-takes_none 4)
     (pair-takes_none boolean (octets & text & principal) boolean-takes_none
     (pair-takes_none octets (text & principal) octets-takes_none
-    (pair-takes_none text principal text-takes_none octets-takes_none))))
+    (pair-takes_none text principal string-takes_none octets-takes_none))))
 
 pub reply-takes_none : TakesNone reply
-reply-takes_none = pair-takes_none contexts (ulong & ulong) contexts-takes_none (pair-takes_none ulong ulong (number-takes_none 4) (number-takes_none 4))
+reply-takes_none =
+    pair-takes_none contexts (ulong & ulong) contexts-takes_none
+    (pair-takes_none ulong ulong (number-takes_none 4) (number-takes_none 4))
 
 pub locate_request-takes_none : TakesNone locate_request
 locate_request-takes_none = pair-takes_none ulong octets (number-takes_none 4) octets-takes_none
@@ -97,8 +84,10 @@ locate_reply-takes_none = pair-takes_none ulong ulong (number-takes_none 4) (num
 pub cancel_request-takes_none : TakesNone cancel_request
 cancel_request-takes_none = number-takes_none 4
 
-pub reading-takes_none : {Y : Type 0} (g : Sound CdrFault Y) → TakesNone g → (a : At) → a.origin ≤ a.place → g.format.reads a ≡ Err Memory → ⊥
+pub reading-takes_none : {Y : Type 0} (g : Sound CdrFault Y) → TakesNone g → (a : At) → a.origin ≤ a.place
+    → g.format.reads a ≡ Err Memory → ⊥
 reading-takes_none g none a h e = none a (g.refuses.told a Memory h e)
 
-pub alone-takes_none : {Y : Type 0} (g : Sound CdrFault Y) → TakesNone g → (a : At) → a.origin ≤ a.place → alone (g.format.reads a) ≡ Err Memory → ⊥
+pub alone-takes_none : {Y : Type 0} (g : Sound CdrFault Y) → TakesNone g → (a : At) → a.origin ≤ a.place
+    → alone (g.format.reads a) ≡ Err Memory → ⊥
 alone-takes_none g none a h e = reading-takes_none g none a h (alone-err (g.format.reads a) Memory e)

@@ -1,5 +1,6 @@
 -- What the judging of a header says of its octets.
-use Rattle.std.proofs.Common.{◌≡◌, ℕ, ◌<◌, ◌≤◌, ◌%◌, Bool, true, false, not, ltb, eqb, List, ◌++◌, length, drop, slice_index, Some, None, Ok, Err, refl, sym, ap, subst, ◌∙◌, arith, length-append}
+use Rattle.std.proofs.Common.{◌≡◌, ℕ, ◌<◌, ◌≤◌, ◌%◌, Bool, true, false, not, ltb, eqb, List, ◌++◌, length, drop}
+use Rattle.std.proofs.Common.{slice_index, Some, None, Ok, Err, refl, sym, ap, subst, ◌∙◌, arith, length-append}
 use Rattle.std.proofs.lemmas.Bool.{ltb-true, ltb-false, lt-ltb, le-ltb, eqb-true, eq-eqb}
 use Rattle.std.proofs.lemmas.List.{get_or_append_left, drop-append-le, length-drop}
 use Rattle.byteorder.specs.Numbers.{big_from-append, little_from-append}
@@ -8,7 +9,8 @@ use Rattle.td_cdr.specs.declared.order.Order.TheVariants.{Big, Little}
 use Rattle.td_cdr.specs.Reading.{number}
 use Rattle.td_giop.specs.declared.fault.FrameFault.{FrameFault}
 use Rattle.td_giop.specs.declared.fault.FrameFault.TheVariants.{BadMagic, BadVersion, BadType, TooLarge}
-use Rattle.td_giop.specs.Header.{GoodHeader, FirstFault, HasMagic, HasVersion, TellsOrder, has_magic, has_version, order_told, size_told, header_at, Judged}
+use Rattle.td_giop.specs.Header.{GoodHeader, FirstFault, HasMagic, HasVersion, TellsOrder, has_magic, has_version}
+use Rattle.td_giop.specs.Header.{order_told, size_told, header_at, Judged}
 use Rattle.td_giop.proofs.Cond.{cond_case, both_true, and_true}
 
 -- ---- tests and what they test
@@ -21,7 +23,8 @@ magic_true bytes e =
     record { g = eqb-true _ _ p.0; i = eqb-true _ _ q.0; o = eqb-true _ _ r.0; p = eqb-true _ _ r.1 }
 
 magic_test : (bytes : List ℕ) → HasMagic bytes → has_magic bytes ≡ true
-magic_test bytes m = and_true _ _ (eq-eqb _ _ m.g) (and_true _ _ (eq-eqb _ _ m.i) (and_true _ _ (eq-eqb _ _ m.o) (eq-eqb _ _ m.p)))
+magic_test bytes m =
+    and_true _ _ (eq-eqb _ _ m.g) (and_true _ _ (eq-eqb _ _ m.i) (and_true _ _ (eq-eqb _ _ m.o) (eq-eqb _ _ m.p)))
 
 version_true : (bytes : List ℕ) → has_version bytes ≡ true → HasVersion bytes
 version_true bytes e =
@@ -67,16 +70,37 @@ judged limit bytes =
     (λ short. ltb-true _ _ short)
     (λ long. let there : 12 ≤ length bytes = ltb-false _ _ long in
     cond_case (Judged limit bytes) (not (has_magic bytes)) _ _
-    (λ e. (there, λ (m : HasMagic bytes). is_false (has_magic bytes) (magic_test bytes m) (not_true (has_magic bytes) e)))
+    (λ e. (
+      there,
+      λ (m : HasMagic bytes).
+          is_false (has_magic bytes) (magic_test bytes m) (not_true (has_magic bytes) e),
+    ))
     (λ m. let magic = magic_true bytes (not_false (has_magic bytes) m) in
     cond_case (Judged limit bytes) (not (has_version bytes)) _ _
-    (λ e. (there, (magic, λ (v : HasVersion bytes). is_false (has_version bytes) (version_test bytes v) (not_true (has_version bytes) e))))
+    (λ e. (
+      there,
+      (
+        magic,
+        λ (v : HasVersion bytes).
+            is_false (has_version bytes) (version_test bytes v) (not_true (has_version bytes) e),
+      ),
+    ))
     (λ v. let version = version_true bytes (not_false (has_version bytes) v) in
     cond_case (Judged limit bytes) (ltb 6 (slice_index bytes 7)) _ _
     (λ e. (there, (magic, version, ltb-true _ _ e)))
     (λ t. let known : slice_index bytes 7 ≤ 6 = ltb-false _ _ t in
     cond_case (Judged limit bytes) (ltb limit (size_told order bytes)) _ _
-    (λ e. (there, (magic, version, known, λ (o : Order) (h : TellsOrder (slice_index bytes 6) o). subst (λ (x : Order). limit < number x 4 (drop 8 bytes)) (sym (only_told (slice_index bytes 6) o h)) (ltb-true _ _ e))))
+    (λ e. (
+      there,
+      (
+        magic,
+        version,
+        known,
+        λ (o : Order) (h : TellsOrder (slice_index bytes 6) o).
+            subst (λ (x : Order). limit < number x 4 (drop 8 bytes)) (sym (only_told (slice_index bytes 6) o h))
+            (ltb-true _ _ e),
+      ),
+    ))
     (λ s. record {
       whole = there;
       magic = magic;
@@ -95,7 +119,8 @@ number-append Little n xs ys h = little_from-append n xs ys h
 
 pub size_told-append : (order : Order) (s p : List ℕ) → 12 ≤ length s → size_told order (s ++ p) ≡ size_told order s
 size_told-append order s p h =
-    ap (number order 4) (drop-append-le 8 s p (omega arith)) ∙ number-append order 4 (drop 8 s) p (omega (arith, length-drop 8 s))
+    ap (number order 4) (drop-append-le 8 s p (omega arith))
+    ∙ number-append order 4 (drop 8 s) p (omega (arith, length-drop 8 s))
 
 pub octet-append : (s p : List ℕ) (k : ℕ) → 12 ≤ length s → k < 12 → slice_index (s ++ p) k ≡ slice_index s k
 octet-append s p k h lt = get_or_append_left s p 0 k (omega arith)
@@ -126,7 +151,8 @@ good_at limit bytes order kind size g =
     let magic = magic_test bytes g.magic in
     let version = version_test bytes g.version in
     let known : ltb 6 kind ≡ false = le-ltb _ _ g.type_octet.1 in
-    let told_is : order_told (slice_index bytes 6) ≡ order = sym (only_told (slice_index bytes 6) order g.order_octet) in
+    let told_is : order_told (slice_index bytes 6) ≡ order =
+    sym (only_told (slice_index bytes 6) order g.order_octet) in
     let small : ltb limit size ≡ false = le-ltb _ _ g.within in
     rw (there, magic, version, g.type_octet.0, known, told_is, g.size_field, small) refl
 
@@ -138,7 +164,8 @@ true_or_false : (b : Bool) → (b ≡ true → ⊥) → b ≡ false
 true_or_false true h = absurd (h refl)
 true_or_false false h = refl
 
-pub fault_at : (limit : ℕ) (bytes : List ℕ) (f : FrameFault) → 12 ≤ length bytes → FirstFault f limit bytes → header_at limit bytes ≡ Err f
+pub fault_at : (limit : ℕ) (bytes : List ℕ) (f : FrameFault) → 12 ≤ length bytes → FirstFault f limit bytes
+    → header_at limit bytes ≡ Err f
 unfolding header_at
 fault_at limit bytes BadMagic h e =
     let there : ltb (length bytes) 12 ≡ false = le-ltb _ _ h in
@@ -160,5 +187,6 @@ fault_at limit bytes TooLarge h e =
     let magic = magic_test bytes e.0 in
     let version = version_test bytes e.1 in
     let known : ltb 6 (slice_index bytes 7) ≡ false = le-ltb _ _ e.2 in
-    let above : ltb limit (size_told (order_told (slice_index bytes 6)) bytes) ≡ true = lt-ltb _ _ (e.3 (order_told (slice_index bytes 6)) (told (slice_index bytes 6))) in
+    let above : ltb limit (size_told (order_told (slice_index bytes 6)) bytes) ≡ true =
+    lt-ltb _ _ (e.3 (order_told (slice_index bytes 6)) (told (slice_index bytes 6))) in
     rw (there, magic, version, known, above) refl

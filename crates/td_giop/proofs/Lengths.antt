@@ -1,15 +1,16 @@
 -- How long what is written is.
-use Rattle.std.proofs.Common.{◌≡◌, ℕ, ◌+◌, Bool, List, [], ◌∷◌, ◌++◌, length, replicate, arith, length-append, ap, sym, refl, ◌∙◌}
+use Rattle.std.proofs.Common.{◌≡◌, ℕ, ◌+◌, Bool, List, [], ◌∷◌, ◌++◌, length, replicate, arith, length-append, ap, sym}
+use Rattle.std.proofs.Common.{refl, ◌∙◌}
 use Rattle.std.specs.Int.{from_bool}
 use Rattle.std.proofs.lemmas.List.{length-replicate}
-use Rattle.byteorder.specs.Numbers.{length-bytes_high_first, length-bytes_low_first}
 use Rattle.td_cdr.specs.declared.order.Order.{Order}
-use Rattle.td_cdr.specs.declared.order.Order.TheVariants.{Big, Little}
 use Rattle.td_cdr.specs.Gap.{gap, bytes_of}
+use Rattle.td_cdr.specs.Joined.{length-bytes_of}
 use Rattle.td_cdr.specs.Writing.{written_number, written_octets}
 use Rattle.td_giop.specs.declared.message_type.TheConstants.{REQUEST, REPLY, LOCATE_REQUEST, LOCATE_REPLY}
 use Rattle.td_giop.specs.Fields as field
-use Rattle.td_giop.proofs.ByField.{◌▹◌, request_by_field, reply_by_field, locate_by_field, locate_reply_by_field, reply_is, locate_reply_is}
+use Rattle.td_giop.proofs.ByField.{◌▹◌, request_by_field, reply_by_field, locate_by_field, locate_reply_by_field}
+use Rattle.td_giop.proofs.ByField.{reply_is, locate_reply_is}
 use Rattle.td_giop.specs.Written.{reply_start, locate_reply_written, octets_end, request_size, header_written}
 
 abbrev ulong : Order → ℕ → ℕ → List ℕ
@@ -24,21 +25,29 @@ octets order v = field.octets.format.writes v order
 abbrev text : Order → List ℕ → ℕ → List ℕ
 text order v = field.text.format.writes v order
 
-pub length-bytes_of : (order : Order) (size v : ℕ) → length (bytes_of order size v) ≡ size
-length-bytes_of Big size v = length-bytes_high_first size v
-length-bytes_of Little size v = length-bytes_low_first 0 size v
-
-pub written_number_length : (size : ℕ) (order : Order) (place v : ℕ) → length (written_number size order place v) ≡ gap size place + size
+pub written_number_length : (size : ℕ) (order : Order) (place v : ℕ)
+    → length (written_number size order place v) ≡ gap size place + size
 written_number_length size order place v =
     let zeros : length {A = ℕ} (replicate (gap size place) 0) ≡ gap size place = length-replicate (gap size place) 0 in
-    omega (arith, length-append (replicate (gap size place) 0) (bytes_of order size v), zeros, length-bytes_of order size v)
+    omega (
+      arith,
+      length-append (replicate (gap size place) 0) (bytes_of order size v),
+      zeros,
+      length-bytes_of order size v,
+    )
 
-pub written_octets_length : (order : Order) (place : ℕ) (v : List ℕ) → length (written_octets order place v) ≡ gap 4 place + 4 + length v
+pub written_octets_length : (order : Order) (place : ℕ) (v : List ℕ)
+    → length (written_octets order place v) ≡ gap 4 place + 4 + length v
 written_octets_length order place v =
-    omega (arith, length-append (written_number 4 order place (length v)) v, written_number_length 4 order place (length v))
+    omega (
+      arith,
+      length-append (written_number 4 order place (length v)) v,
+      written_number_length 4 order place (length v),
+    )
 
 -- a ulong at a place that its bytes go to without padding
-ulong_length : (bytes : List ℕ) (order : Order) (place v : ℕ) → length bytes ≡ place → gap 4 place ≡ 0 → length (bytes ▹ ulong order v) ≡ place + 4
+ulong_length : (bytes : List ℕ) (order : Order) (place v : ℕ) → length bytes ≡ place → gap 4 place ≡ 0
+    → length (bytes ▹ ulong order v) ≡ place + 4
 ulong_length bytes order place v e aligned =
     let n = written_number_length 4 order place v in
     let here : length (ulong order v (length bytes)) ≡ 4 = rw e (omega (arith, n, aligned)) in
@@ -55,17 +64,21 @@ locate_reply_length order id status =
     let a = ulong_length (header_written order LOCATE_REPLY) order 12 id refl refl in
     ulong_length (header_written order LOCATE_REPLY ▹ ulong order id) order 16 status a refl
 
-octets_length : (bytes : List ℕ) (order : Order) (place : ℕ) (v : List ℕ) → length bytes ≡ place → length (bytes ▹ octets order v) ≡ octets_end place (length v)
+octets_length : (bytes : List ℕ) (order : Order) (place : ℕ) (v : List ℕ) → length bytes ≡ place
+    → length (bytes ▹ octets order v) ≡ octets_end place (length v)
 octets_length bytes order place v e =
-    let here : length (octets order v (length bytes)) ≡ gap 4 place + 4 + length v = rw e (written_octets_length order place v) in
+    let here : length (octets order v (length bytes)) ≡ gap 4 place + 4 + length v =
+    rw e (written_octets_length order place v) in
     omega (arith, length-append bytes (octets order v (length bytes)), here)
 
-text_length : (bytes : List ℕ) (order : Order) (place : ℕ) (v : List ℕ) → length bytes ≡ place → length (bytes ▹ text order v) ≡ octets_end place (length v + 1)
+text_length : (bytes : List ℕ) (order : Order) (place : ℕ) (v : List ℕ) → length bytes ≡ place
+    → length (bytes ▹ text order v) ≡ octets_end place (length v + 1)
 text_length bytes order place v e =
     let one : length (v ++ 0 ∷ []) ≡ length v + 1 = length-append v (0 ∷ []) in
     octets_length bytes order place (v ++ 0 ∷ []) e ∙ ap (octets_end place) one
 
-boolean_length : (bytes : List ℕ) (order : Order) (place : ℕ) (v : Bool) → length bytes ≡ place → gap 1 place ≡ 0 → length (bytes ▹ boolean order v) ≡ place + 1
+boolean_length : (bytes : List ℕ) (order : Order) (place : ℕ) (v : Bool) → length bytes ≡ place → gap 1 place ≡ 0
+    → length (bytes ▹ boolean order v) ≡ place + 1
 boolean_length bytes order place v e aligned =
     let n = written_number_length 1 order place (from_bool v) in
     let here : length (boolean order v (length bytes)) ≡ 1 = rw e (omega (arith, n, aligned)) in
@@ -85,8 +98,12 @@ request_length order id answered key operation =
     let b = ulong_length (h ▹ ulong order 0) order 16 id a refl in
     let c = boolean_length (h ▹ ulong order 0 ▹ ulong order id) order 20 answered b refl in
     let d = octets_length (h ▹ ulong order 0 ▹ ulong order id ▹ boolean order answered) order 21 key c in
-    let e = text_length (h ▹ ulong order 0 ▹ ulong order id ▹ boolean order answered ▹ octets order key) order (octets_end 21 (length key)) operation d in
-    octets_length (h ▹ ulong order 0 ▹ ulong order id ▹ boolean order answered ▹ octets order key ▹ text order operation) order
+    let e =
+    text_length (h ▹ ulong order 0 ▹ ulong order id ▹ boolean order answered ▹ octets order key) order
+    (octets_end 21 (length key)) operation d in
+    octets_length (h ▹ ulong order 0 ▹ ulong order id ▹ boolean order answered ▹ octets order key
+    ▹ text order operation)
+    order
     (octets_end (octets_end 21 (length key)) (length operation + 1)) [] e
 
 -- ---- of what is written whole
@@ -95,4 +112,5 @@ pub reply_start_length : (order : Order) (id status : ℕ) → length (reply_sta
 reply_start_length order id status = ap (length {A = ℕ}) (sym (reply_is order id status)) ∙ reply_length order id status
 
 pub locate_reply_written_length : (order : Order) (id status : ℕ) → length (locate_reply_written order id status) ≡ 20
-locate_reply_written_length order id status = ap (length {A = ℕ}) (sym (locate_reply_is order id status)) ∙ locate_reply_length order id status
+locate_reply_written_length order id status =
+    ap (length {A = ℕ}) (sym (locate_reply_is order id status)) ∙ locate_reply_length order id status

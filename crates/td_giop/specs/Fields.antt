@@ -4,7 +4,8 @@ use Rattle.std.specs.Prelude.{ℕ, Bool, List}
 use Rattle.td_cdr.specs.declared.fault.CdrFault.{CdrFault}
 use Rattle.td_cdr.specs.Format as format
 use Rattle.td_cdr.specs.Format.{sequence_format}
-use Rattle.td_cdr.specs.LawfulFormats.{number-lawful, boolean-lawful, octets-lawful, text-lawful, sequence_format-lawful}
+use Rattle.td_cdr.specs.LawfulFormats.{number-lawful, boolean-lawful, octets-lawful, text-lawful}
+use Rattle.td_cdr.specs.LawfulFormats.{sequence_format-lawful}
 use Rattle.td_cdr.specs.Faults.{NumberFault, BooleanFault, OctetsFault, StringFault}
 use Rattle.td_cdr.specs.FormatFaults.{SequenceFault}
 use Rattle.td_cdr.specs.Refused.{number-refuses, boolean-refuses, octets-refuses, string-refuses}

@@ -1,14 +1,16 @@
 -- The message header of GIOP 1.0 (chapter "General Inter-ORB Protocol", "GIOP Message Header"): the
 -- octets 'G' 'I' 'O' 'P', the major and the minor version, the octet that tells the order, the message
 -- type, and the size of what follows as an unsigned long in that order.
-use Rattle.std.specs.Prelude.{◌≡◌, ◌≤◌, ◌<◌, ◌&&◌, ◌%◌, ℕ, Bool, nat_eq, nat_lt, not, if◌then◌else◌, List, length, drop, slice_index, Option, Some, None, Result, Ok, Err}
+use Rattle.std.specs.Prelude.{◌≡◌, ◌≤◌, ◌<◌, ◌&&◌, ◌%◌, ℕ, Bool, nat_eq, nat_lt, not, if◌then◌else◌, List, length, drop}
+use Rattle.std.specs.Prelude.{slice_index, Option, Some, None, Result, Ok, Err}
 use Rattle.td_cdr.specs.declared.order.Order.{Order}
 use Rattle.td_cdr.specs.declared.order.Order.TheVariants.{Big, Little}
 use Rattle.td_cdr.specs.Reading.{number}
 use Rattle.td_giop.specs.declared.fault.FrameFault.{FrameFault}
 use Rattle.td_giop.specs.declared.fault.FrameFault.TheVariants.{BadMagic, BadVersion, BadType, TooLarge}
 use Rattle.td_giop.specs.declared.header.Header.{Header}
-use Rattle.td_giop.specs.declared.header.TheConstants.{HEADER_SIZE, MAGIC, MAJOR, MINOR, MAJOR_PLACE, MINOR_PLACE, ORDER_PLACE, TYPE_PLACE, SIZE_PLACE}
+use Rattle.td_giop.specs.declared.header.TheConstants.{HEADER_SIZE, MAGIC, MAJOR, MINOR, MAJOR_PLACE, MINOR_PLACE}
+use Rattle.td_giop.specs.declared.header.TheConstants.{ORDER_PLACE, TYPE_PLACE, SIZE_PLACE}
 use Rattle.td_giop.specs.declared.message_type.TheConstants.{MESSAGE_ERROR}
 
 -- ---- the header in the standard's words

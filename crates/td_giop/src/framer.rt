@@ -1,6 +1,7 @@
 //! Messages out of the pieces of a stream.
 
-ghost use Rattle.std.specs.Prelude.{◌≡◌, ◌+◌, ◌<◌, ◌≤◌, ◌^◌, [], ◌++◌, length, take, drop, MatchResult, MatchOption, MatchBool, OnOk, OnErr, IfOk, IfSome, SomeIff, vec_capacity};
+ghost use Rattle.std.specs.Prelude.{◌≡◌, ◌+◌, ◌<◌, ◌≤◌, ◌^◌, [], ◌++◌, length, take, drop, MatchResult, MatchOption};
+ghost use Rattle.std.specs.Prelude.{MatchBool, OnOk, OnErr, IfOk, IfSome, SomeIff, vec_capacity};
 ghost use Rattle.std.specs.Borrow.{sem};
 ghost use Rattle.td_giop.specs.Stream.{first_at, dropped, IsInside, IsFront};
 

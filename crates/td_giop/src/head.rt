@@ -3,7 +3,8 @@
 
 ghost use Rattle.std.specs.Prelude.{◌≡◌, ◌≤◌, ◌<◌, ◌^◌, length, drop, MatchResult};
 ghost use Rattle.td_cdr.specs.Format.{Shows, array_format};
-ghost use Rattle.td_giop.specs.Heads.{behind_header, passed, context, contexts, Request, request_at, Reply, reply_at, locate_at, locate_reply_at, cancel_at, IsReadable};
+ghost use Rattle.td_giop.specs.Heads.{behind_header, passed, context, contexts, Request, request_at, Reply, reply_at};
+ghost use Rattle.td_giop.specs.Heads.{locate_at, locate_reply_at, cancel_at, IsReadable};
 
 use crate::header::HEADER_SIZE;
 use crate::raw::Raw;

@@ -1,7 +1,8 @@
 //! What holds of all streams and messages, as functions that do nothing: each one's contract is the
 //! law.
 
-ghost use Rattle.std.specs.Prelude.{◌≡◌, ◌↔◌, ◌≤◌, ◌<◌, ◌^◌, ◌+◌, ◌-◌, ℕ, Bool, List, [], ◌∷◌, ◌++◌, length, drop, Option, Some, None, Result, Ok, Err};
+ghost use Rattle.std.specs.Prelude.{◌≡◌, ◌↔◌, ◌≤◌, ◌<◌, ◌^◌, ◌+◌, ◌-◌, ℕ, Bool, List, [], ◌∷◌, ◌++◌, length, drop};
+ghost use Rattle.std.specs.Prelude.{Option, Some, None, Result, Ok, Err};
 ghost use Rattle.std.specs.List.{concat};
 ghost use Rattle.td_cdr.specs.declared.order.Order.{Order};
 ghost use Rattle.td_cdr.specs.declared.fault.CdrFault.TheVariants.{Memory};
@@ -13,14 +14,17 @@ ghost use Rattle.td_giop.specs.declared.fault.FrameFault.{FrameFault};
 ghost use Rattle.td_giop.specs.declared.header.Header.{Header};
 ghost use Rattle.td_giop.specs.declared.raw.Raw.{Raw};
 ghost use Rattle.td_giop.specs.declared.header.TheConstants.{HEADER_SIZE};
-ghost use Rattle.td_giop.specs.declared.message_type.TheConstants.{REQUEST, REPLY, LOCATE_REQUEST, LOCATE_REPLY, MESSAGE_ERROR};
+ghost use Rattle.td_giop.specs.declared.message_type.TheConstants.{REQUEST, REPLY, LOCATE_REQUEST, LOCATE_REPLY};
+ghost use Rattle.td_giop.specs.declared.message_type.TheConstants.{MESSAGE_ERROR};
 ghost use Rattle.td_giop.specs.Header.{GoodHeader, IsFault, header_at};
 ghost use Rattle.td_giop.specs.Stream.{Stream};
 ghost use Rattle.td_giop.specs.FramerLends.{IsRaw};
 ghost use Rattle.td_giop.specs.Cut.{Ending, EndsSo, Front, Fronts, Cut, HasCut, SameCut, IsMessage};
-ghost use Rattle.td_giop.specs.Heads.{behind_header, request, request_at, reply, reply_at, locate_request, locate_at, locate_reply, locate_reply_at, cancel_request, cancel_at};
+ghost use Rattle.td_giop.specs.Heads.{behind_header, request, request_at, reply, reply_at, locate_request, locate_at};
+ghost use Rattle.td_giop.specs.Heads.{locate_reply, locate_reply_at, cancel_request, cancel_at};
 ghost use Rattle.td_giop.specs.Alone.{IsReadAlone};
-ghost use Rattle.td_giop.specs.Written.{header_written, request_start, reply_start, locate_written, locate_reply_written, sealed, at_body, IsSealed};
+ghost use Rattle.td_giop.specs.Written.{header_written, request_start, reply_start, locate_written};
+ghost use Rattle.td_giop.specs.Written.{locate_reply_written, sealed, at_body, IsSealed};
 
 /// A header is answered exactly where it is good, with what it tells; none exactly where fewer than 12
 /// octets are there; and a fault exactly where it is the first, in the order magic, version, type and

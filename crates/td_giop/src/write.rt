@@ -4,7 +4,8 @@
 ghost use Rattle.std.specs.Prelude.{◌≡◌, ◌+◌, ◌≤◌, ◌<◌, ◌^◌, [], ◌∷◌, ◌++◌, length, OnOk, OnErr};
 ghost use Rattle.td_cdr.specs.Gap.{flag, gap};
 ghost use Rattle.td_cdr.specs.Writing.{Adds, written_octets};
-ghost use Rattle.td_giop.specs.Written.{octets_end, request_size, header_written, request_start, reply_start, locate_written, locate_reply_written, sealed};
+ghost use Rattle.td_giop.specs.Written.{octets_end, request_size, header_written, request_start, reply_start};
+ghost use Rattle.td_giop.specs.Written.{locate_written, locate_reply_written, sealed};
 
 use crate::header::{HEADER_SIZE, MAGIC, MAJOR, MINOR, SIZE_PLACE};
 use crate::message_type::{LOCATE_REPLY, LOCATE_REQUEST, REPLY, REQUEST};

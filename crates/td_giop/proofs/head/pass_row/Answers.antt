@@ -6,6 +6,10 @@ use Rattle.td_giop.proofs.head.pass_row.Goals as goal
 
 pub loop-turn-preserved : goal.loop-turn-preserved
 loop-turn-preserved c =
-    let read : context.format.reads c.loop-turn.r ≡ Ok ((c.in_ok-_id._id, c.in_ok-_octets._octets.now), c.octets.new.self) = search rules in
-    goes_on context.format c.args.count c.loop-turn.turn c.loop-turn.r c.octets.new.self (c.in_ok-_id._id, c.in_ok-_octets._octets.now)
-    (passed ((array_format context.format c.args.count).reads c.args.r.now)) c.loop-turn-test.true read c.loop-turn.invariant
+    let read : context.format.reads c.loop-turn.r
+    ≡ Ok ((c.in_ok-_id._id, c.in_ok-_octets._octets.now), c.octets.new.self) =
+    search rules in
+    goes_on context.format c.args.count c.loop-turn.turn c.loop-turn.r c.octets.new.self
+    (c.in_ok-_id._id, c.in_ok-_octets._octets.now)
+    (passed ((array_format context.format c.args.count).reads c.args.r.now)) c.loop-turn-test.true read
+    c.loop-turn.invariant

@@ -5,4 +5,6 @@ use Rattle.td_giop.proofs.head.pass_row.Given as goal
 
 -- what is left to pass over from here is all that there was from the beginning
 abbrev pub invariant-loop-turn : goal.invariant-loop-turn
-invariant-loop-turn l = passed ((array_format context.format (l.count - l.turn)).reads l.r) ≡ passed ((array_format context.format l.count).reads l.initial.r)
+invariant-loop-turn l =
+    passed ((array_format context.format (l.count - l.turn)).reads l.r)
+    ≡ passed ((array_format context.format l.count).reads l.initial.r)

@@ -1,4 +1,5 @@
-use Rattle.td_giop.specs.Heads.{request, request_at, reply, reply_at, locate_request, locate_at, locate_reply, locate_reply_at, cancel_request, cancel_at}
+use Rattle.td_giop.specs.Heads.{request, request_at, reply, reply_at, locate_request, locate_at, locate_reply}
+use Rattle.td_giop.specs.Heads.{locate_reply_at, cancel_request, cancel_at}
 use Rattle.td_giop.proofs.Heads.{joins, read-alone}
 use Rattle.td_giop.proofs.laws.heads_are_read.Goals as goal
 

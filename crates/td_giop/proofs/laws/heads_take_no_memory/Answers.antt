@@ -1,5 +1,8 @@
-use Rattle.td_giop.specs.Heads.{request, request_at, reply, reply_at, locate_request, locate_at, locate_reply, locate_reply_at, cancel_request, cancel_at}
-use Rattle.td_giop.proofs.Heads.{request-takes_none, reply-takes_none, locate_request-takes_none, locate_reply-takes_none, cancel_request-takes_none, reading-takes_none, alone-takes_none}
+use Rattle.td_giop.specs.Heads.{request, request_at, reply, reply_at, locate_request, locate_at, locate_reply}
+use Rattle.td_giop.specs.Heads.{locate_reply_at, cancel_request, cancel_at}
+use Rattle.td_giop.proofs.Heads.{request-takes_none, reply-takes_none, locate_request-takes_none}
+use Rattle.td_giop.proofs.Heads.{locate_reply-takes_none, cancel_request-takes_none, reading-takes_none}
+use Rattle.td_giop.proofs.Heads.{alone-takes_none}
 use Rattle.td_giop.proofs.laws.heads_take_no_memory.Goals as goal
 
 pub returns-clause-request : goal.returns-clause-request

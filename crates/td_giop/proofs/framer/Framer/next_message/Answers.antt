@@ -28,12 +28,30 @@ returns c =
     let w = whole _ _ _ front in
     let long : 12 ≤ length c.settle.new.message.items = omega (arith, w.size) in
     let same = c.in_ok-settle.ensures.same in
-    let raw = is_raw (stream c.self.inside.start c.self.inside.limit (c.self.inside.message.items ++ c.self.inside.ring.items))
+    let raw =
+    is_raw (stream c.self.inside.start c.self.inside.limit
+    (c.self.inside.message.items ++ c.self.inside.ring.items))
     c.settle.new.message.items c.settle.new.ring.items
-    (record { start = c.self.inside.start; kind = c.index.result.now; order = c.order_of.result; bytes = c.as_slice.result })
+    (record {
+      start = c.self.inside.start;
+      kind = c.index.result.now;
+      order = c.order_of.result;
+      bytes = c.as_slice.result;
+    })
     (sym same) front c.as_slice.ensures.value refl
     (c.index.ensures ∙ get_or_default_zero c.settle.new.message.items 7 c.index.result.now (omega arith))
-    (c.order_of.ensures ∙ ap order_told (c.index-2.ensures ∙ get_or_default_zero c.settle.new.message.items 6 c.index-2.result.now (omega arith))) in (
+    (c.order_of.ensures ∙ ap order_told
+    (c.index-2.ensures ∙ get_or_default_zero c.settle.new.message.items 6 c.index-2.result.now (omega arith))) in (
       (refl, (λ _. tt), ap (stream c.self.inside.start c.self.inside.limit) same ∙ c.self.view_is),
-      record { stays = tt; found = subst (λ (v : Stream). IsRaw v (record { start = c.self.inside.start; kind = c.index.result.now; order = c.order_of.result; bytes = c.as_slice.result })) c.self.view_is raw },
+      record {
+        stays = tt;
+        found = subst
+            (λ (v : Stream). IsRaw v (record {
+              start = c.self.inside.start;
+              kind = c.index.result.now;
+              order = c.order_of.result;
+              bytes = c.as_slice.result;
+            }))
+            c.self.view_is raw;
+      },
     )
