@@ -8,6 +8,7 @@ pub mod Items
 pub mod Joined
 pub mod Lawful
 pub mod LawfulFormats
+pub mod Marks
 pub mod Names
 pub mod Octets
 pub mod Place

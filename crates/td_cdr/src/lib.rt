@@ -6,6 +6,7 @@ mod boxed;
 mod fault;
 pub mod laws;
 mod list;
+pub mod mark_laws;
 mod memory;
 mod named;
 mod names;

@@ -1,0 +1,42 @@
+//! What holds of the marks by which a trader remembers the identifiers of queries (Trading Object Service, "Request
+//! Id" of a query's policies), as functions that do nothing: each one's contract is the law.
+
+ghost use Rattle.std.specs.Prelude.{◌≡◌, ℕ, ◌+◌, ◌^◌, ◌<◌, ◌≤◌, ◌⊎◌, List, Some, None};
+ghost use Rattle.td_cdr.specs.Marks.{Marks, Holds, remembered, Orderly, marked, made_identifier, Later, Follows};
+
+/// An identifier is remembered under a number exactly where it is among the marks that are kept.
+#[tactic(auto, using(crate::proofs::Marking::is_held, crate::proofs::Marking::is_not_held))]
+pub fn the_kept_are_remembered()
+    ensures held { (m : Marks) (i : List ℕ) (n : ℕ) → remembered m i ≡ Some n → Holds m i n }
+    ensures not_held { (m : Marks) (i : List ℕ) → remembered m i ≡ None → (n : ℕ) → Holds m i n → ⊥ }
+{}
+
+/// A mark of an identifier that isn't remembered: the marks are later then and in order, and the mark is new.
+pub fn marks_follow()
+    ensures { (m : Marks) (i : List ℕ) (c : ℕ) → Orderly m → m.counter ≤ c → ((n : ℕ) → Holds m i n → ⊥)
+        → Follows m (marked m i c) }
+{}
+
+/// What is remembered behind one more mark: that one with the next number, no other that wasn't, and each that there
+/// is room for.
+pub fn one_more_is_remembered()
+    ensures new { (m : Marks) (i : List ℕ) (c : ℕ) → Holds (marked m i c) i (m.count + 1) }
+    ensures others { (m : Marks) (i j : List ℕ) (c n : ℕ) →
+        Holds (marked m i c) j n → Holds m j n ⊎ ((i ≡ j) × (m.count + 1 ≡ n)) }
+    ensures kept { (m : Marks) (i j : List ℕ) (c n : ℕ) →
+        Orderly m → m.count + 1 < n + m.ring → Holds m j n → Holds (marked m i c) j n }
+{}
+
+/// Marks are later than themselves, and later on is later.
+#[tactic(auto, using(crate::proofs::Marking::later_itself, crate::proofs::Marking::later_on))]
+pub fn later_marks_go_on()
+    ensures itself { (a : Marks) → Later a a }
+    ensures on { (a b c : Marks) → Later a b → Later b c → Later a c }
+{}
+
+/// Two values of a trader's counter make two identifiers.
+#[tactic(auto, using(crate::proofs::Marking::made_apart))]
+pub fn made_identifiers_differ()
+    ensures { (stem : List ℕ) (k l : ℕ) → k < 256 ^ 8 → l < 256 ^ 8 → made_identifier stem k ≡ made_identifier stem l
+        → k ≡ l }
+{}
