@@ -1,0 +1,40 @@
+use Rattle.std.proofs.Common.{arith, sym, ◌∙◌, ◌<◌, subst, ap}
+use mathlib.Core.Option.{none}
+use Rattle.atomic_table.specs.Table.{Allows, step}
+use Rattle.td_cell.specs.Rules.{Kept, Learned, meeting}
+use Rattle.td_cell.proofs.Meets.{meet_allowed, learn_allows}
+use Rattle.td_cell.proofs.Chains.{one_seen}
+use Rattle.td_cell.proofs.cell.Cell.meet.Goals as goal
+
+pub join_seat-requires : goal.join_seat-requires
+join_seat-requires g c =
+    let p = c.args.pass.now in
+    let q = c.args.told in (
+      c.requires.own.0,
+      c.requires.own.1,
+      q.empty,
+      omega (arith, c.args.self.now.three_words),
+      meet_allowed g.B.Book.later g.B.Book.size g.B.Book.remembers c.args.self.now.table.shared.key.value p.seat.id
+          q.seat.id p.seat.me.0 q.seat.me.0 c.requires.opening p.live p.rests c.requires.split_off.number q.live
+          q.rests,
+    )
+
+pub load-pass-requires : goal.load-pass-requires
+load-pass-requires g c =
+    let p = c.args.pass.now in
+    let q = c.args.told in
+    let b = g.B.Book in
+    let tab = c.args.self.now.table.shared in
+    let n = tab.table_id.slots in
+    let e = c.join_seat.ensures.2 ∙ ap (λ xs. (meeting p.seat.me.0 q.seat.me.0, xs)) p.empty in
+    let x = one_seen p.seat.me.0.seen p.knows in
+    let y = one_seen q.seat.me.0.seen q.knows in (
+      c.join_seat.ensures.0 ∙ c.requires.own.0,
+      omega (arith, c.args.self.now.three_words),
+      subst (λ m. Allows (Kept b.later b.size b.remembers tab.key.value) n c.join_seat.new.seat.id m 1 (λ n. n)
+          (Learned b.later b.size b.remembers (step n 1 0 0 none) m))
+          (sym e)
+          (learn_allows b.later b.size b.remembers tab.key.value g.met.B.Book.later_itself
+          (λ x y l. (g.met.B.Book.later_marks x y l).ring) n (meeting p.seat.me.0 q.seat.me.0)
+          c.join_seat.new.seat.id p.live p.rests x.0 y.0 x.1 y.1),
+    )

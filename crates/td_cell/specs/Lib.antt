@@ -1,0 +1,4 @@
+pub mod Lists
+pub mod OwnMarks
+pub mod Passes
+pub mod Rules

@@ -1,0 +1,32 @@
+-- The marks that were made through a pass.
+use Rattle.std.specs.Prelude.{◌≡◌, ℕ, ◌+◌, ◌-◌, ◌<◌, List, [], ◌∷◌, Some, None, nat_lt, cond, ◌⊎◌}
+use Rattle.td_cdr.specs.Marks.{Marks, NewMark, In, last_identifier}
+use Rattle.td_cell.specs.declared.pass.Mark.{Mark}
+
+-- the mark by which b has become c: the last one kept, and the counter's value where the identifier was made
+abbrev pub mark_between : Marks → Marks → Mark
+mark_between b c = record {
+  identifier = last_identifier c.kept;
+  number = c.count;
+  made = cond (nat_lt b.counter c.counter) (Some (c.counter - 1)) None;
+}
+
+-- the mark that was made between b and c, if one was
+abbrev pub marks_between : Marks → Marks → List Mark
+marks_between b c = cond (nat_lt b.count c.count) (mark_between b c ∷ []) []
+
+abbrev pub number_of : Mark → ℕ
+number_of m = m.number
+
+-- b is as it was, or has one mark more, of an identifier that wasn't remembered
+abbrev pub MarksOnce : Marks → Marks → Type 0
+MarksOnce b c = (c ≡ b) ⊎ NewMark b c
+
+-- of two marks of one identifier the later lies further on than there is room for marks, and what was made later has a
+-- greater value
+pub record Gap (ring : ℕ) (a b : Mark) : Type 0 where
+  pub numbers : a.identifier ≡ b.identifier → a.number + ring < b.number
+  pub values : (k l : ℕ) → a.made ≡ Some k → b.made ≡ Some l → k < l
+
+abbrev pub Spaced : ℕ → List Mark → Type 0
+Spaced ring ms = (a b : Mark) → In a ms → In b ms → a.number < b.number → Gap ring a b

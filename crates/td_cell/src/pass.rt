@@ -1,0 +1,60 @@
+//! What a pass knows.
+
+ghost use Rattle.std.specs.Prelude.{◌≡◌, [], false, None, IsSome};
+ghost use Rattle.std.specs.Option.{ForSome};
+
+use crate::book::Book;
+use atomic_table::Seat;
+use td_cdr::{List, Octets};
+
+/// A mark that was made through a pass. It stands in proofs alone: no value of it is made.
+pub struct Mark {
+    pub identifier: Octets,
+    /// The mark's number, from 1.
+    pub number: u64,
+    /// The value of the book's counter, where the identifier was made of it.
+    pub made: Option<u64>,
+}
+
+/// What a pass knows. It stands in proofs alone: no value of it is made.
+pub struct View<B> {
+    /// The turn is held.
+    pub holds: bool,
+    /// The pass was met, and is no more.
+    pub spent: bool,
+    /// 0 for the opening pass, k for the k-th that was split off.
+    pub number: u64,
+    /// The book as it was seen last.
+    pub seen: Option<B>,
+    /// What a pass that is being met has seen.
+    pub told: Option<B>,
+    /// The opening pass keeps for each pass that was split off whether it was met.
+    pub met: List<bool>,
+    /// How many entries the history has that was seen.
+    pub changes: u64,
+    /// How many marks were made by then.
+    pub marks: u64,
+    /// The places of the entries that were made through this pass.
+    pub own: List<u64>,
+    /// The marks that were made through this pass.
+    pub own_marks: List<Mark>,
+}
+
+/// A pass of a cell, by which one holder does acts on its book. The opening one has the number 0, and keeps which of
+/// the others have been met.
+#[derive(Drop)]
+pub struct Pass<B: Book> {
+    pub(crate) seat: Seat<B, View<B>>,
+    pub(crate) number: u64,
+    pub(crate) changes: u64,
+    pub(crate) met: Vec<bool>,
+    ghost numbered: { number ≡ seat.me.0.number },
+    ghost listed: { met.items ≡ seat.me.0.met },
+    ghost counted: { changes ≡ seat.me.0.changes },
+    ghost live: { seat.me.0.spent ≡ false },
+    ghost rests: { seat.me.0.holds ≡ false },
+    ghost knows: { IsSome seat.me.0.seen },
+    ghost sized: { ForSome seat.me.0.seen (λ b. changes ≡ B.size b) },
+    ghost quiet: { seat.me.0.told ≡ None },
+    ghost empty: { seat.me.1 ≡ [] },
+}
