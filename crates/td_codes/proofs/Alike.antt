@@ -1,5 +1,6 @@
 -- Rows of TypeCodes that are alike, one after the other.
-use Rattle.std.proofs.Common.{◌≡◌, ℕ, suc, ◌+◌, ◌<◌, ◌≤◌, Bool, true, false, ◌&&◌, List, [], ◌∷◌, length, map, drop, get_or, refl, sym, ap, ◌∙◌, arith}
+use Rattle.std.proofs.Common.{◌≡◌, ℕ, suc, ◌+◌, ◌<◌, ◌≤◌, Bool, true, false, ◌&&◌, List, [], ◌∷◌, length, map, drop}
+use Rattle.std.proofs.Common.{get_or, refl, sym, ap, ◌∙◌, arith}
 use Rattle.std.proofs.lemmas.List.{drop_more, drop_all, length-map}
 use Rattle.std.proofs.Math.Bool.{and-false}
 use Rattle.td_codes.specs.Same.{Entry, row, alike, entry_like}
@@ -15,7 +16,8 @@ module _ {X : Type 0} (entry : X → Entry) where
   here a b = alike (row (map entry a)) (row (map entry b))
 
   pub here-long : (a b : List X) → (length a ≡ length b → ⊥) → here a b ≡ false
-  here-long a b no_match = row-long (map entry a) (map entry b) (λ e. no_match (sym (length-map a entry) ∙ e ∙ length-map b entry))
+  here-long a b no_match =
+      row-long (map entry a) (map entry b) (λ e. no_match (sym (length-map a entry) ∙ e ∙ length-map b entry))
 
   here-at : (i : ℕ) (a b : List X) (m n : X) → i < length a → i < length b → m ≡ get_or a i m → n ≡ get_or b i n
       → here (drop i a) (drop i b) ≡ (entry_like (entry m) (entry n) && here (drop (i + 1) a) (drop (i + 1) b))
@@ -29,8 +31,10 @@ module _ {X : Type 0} (entry : X → Entry) where
 
   pub here-fails : (i : ℕ) (a b : List X) (m n : X) → i < length a → i < length b → m ≡ get_or a i m → n ≡ get_or b i n
       → false ≡ entry_like (entry m) (entry n) → false ≡ here (drop i a) (drop i b)
-  here-fails i a b m n la lb ma nb e = sym (here-at i a b m n la lb ma nb ∙ ap (λ (x : Bool). x && here (drop (i + 1) a) (drop (i + 1) b)) (sym e))
+  here-fails i a b m n la lb ma nb e =
+      sym (here-at i a b m n la lb ma nb ∙ ap (λ (x : Bool). x && here (drop (i + 1) a) (drop (i + 1) b)) (sym e))
 
   pub here-next : (i : ℕ) (a b : List X) (m n : X) → i < length a → i < length b → m ≡ get_or a i m → n ≡ get_or b i n
       → true ≡ entry_like (entry m) (entry n) → here (drop (i + 1) a) (drop (i + 1) b) ≡ here (drop i a) (drop i b)
-  here-next i a b m n la lb ma nb e = sym (here-at i a b m n la lb ma nb ∙ ap (λ (x : Bool). x && here (drop (i + 1) a) (drop (i + 1) b)) (sym e))
+  here-next i a b m n la lb ma nb e =
+      sym (here-at i a b m n la lb ma nb ∙ ap (λ (x : Bool). x && here (drop (i + 1) a) (drop (i + 1) b)) (sym e))

@@ -2,15 +2,10 @@
 use Rattle.std.specs.Prelude.{◌≡◌, ℕ, zero, suc, Bool, true, false, List, [], ◌∷◌, length}
 use Rattle.std.proofs.Common.{ap, ◌∙◌}
 use Rattle.td_cdr.specs.Reading.{aligned}
-use Rattle.td_cdr.specs.Writing.{written_number}
-use Rattle.td_cdr.specs.Format.{Format, Piece, array_format}
+use Rattle.td_cdr.specs.Format.{Format, array_format}
 use Rattle.td_cdr.specs.Sound.{Sound, sequence, restriction}
 use Rattle.td_cdr.specs.declared.value_fault.ValueFault.{ValueFault}
 use Rattle.td_cdr.specs.declared.value_fault.ValueFault.TheVariants as fault
-
--- an unsigned number of so many bytes, as it is written
-abbrev pub number_piece : ℕ → ℕ → Piece
-number_piece size n order place = written_number size order place n
 
 -- whether there is one at least
 abbrev pub is_some : {X : Type 0} → List X → Bool
@@ -18,8 +13,8 @@ is_some [] = false
 is_some (x ∷ xs) = true
 
 -- a sequence of at least one
-abbrev pub filled : {X : Type 0} → Sound ValueFault X → Sound ValueFault (List X)
-filled g = restriction is_some (λ xs a. fault.BadValue (aligned 4 a)) (sequence g)
+abbrev pub nonempty_sequence : {X : Type 0} → Sound ValueFault X → Sound ValueFault (List X)
+nonempty_sequence g = restriction is_some (λ xs a. fault.BadValue (aligned 4 a)) (sequence g)
 
 -- so many values as are admitted
 pub array-size : {F X : Type 0} (g : Format F X) (n : ℕ) (xs : List X) → (array_format g n).admits xs → n ≡ length xs

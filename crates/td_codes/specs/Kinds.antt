@@ -1,6 +1,7 @@
 -- The kinds of TypeCodes (CORBA's chapter on the General Inter-ORB Protocol, "TypeCode"), and where each
 -- may stand.
-use Rattle.std.specs.Prelude.{◌≡◌, ℕ, ◌==◌, nat_lt, Bool, true, false, if◌then◌else◌, List, [], ◌∷◌, Option, Some, None, refl}
+use Rattle.std.specs.Prelude.{◌≡◌, ℕ, ◌==◌, nat_lt, Bool, true, false, if◌then◌else◌, List, [], ◌∷◌, Option, Some, None}
+use Rattle.std.specs.Prelude.{refl}
 use Rattle.std.proofs.Common.{cond, sym, ap, ◌∙◌}
 use Rattle.std.proofs.lemmas.Bool.{eqb-true}
 use Rattle.td_cdr.specs.Place.{At}
@@ -43,7 +44,10 @@ number_of kind.LongLong = 23
 number_of kind.ULongLong = 24
 
 abbrev pub all_kinds : List CodeKind
-all_kinds = kind.Null ∷ kind.Void ∷ kind.Short ∷ kind.Long ∷ kind.UShort ∷ kind.ULong ∷ kind.Boolean ∷ kind.Char ∷ kind.Octet ∷ kind.AnyCode ∷ kind.Code ∷ kind.ObjRef ∷ kind.Struct ∷ kind.Union ∷ kind.Enum ∷ kind.Str ∷ kind.Sequence ∷ kind.Array ∷ kind.Alias ∷ kind.Except ∷ kind.LongLong ∷ kind.ULongLong ∷ []
+all_kinds =
+    kind.Null ∷ kind.Void ∷ kind.Short ∷ kind.Long ∷ kind.UShort ∷ kind.ULong ∷ kind.Boolean ∷ kind.Char ∷ kind.Octet
+    ∷ kind.AnyCode ∷ kind.Code ∷ kind.ObjRef ∷ kind.Struct ∷ kind.Union ∷ kind.Enum ∷ kind.Str ∷ kind.Sequence
+    ∷ kind.Array ∷ kind.Alias ∷ kind.Except ∷ kind.LongLong ∷ kind.ULongLong ∷ []
 
 -- the highest number that CORBA gives to a kind
 abbrev pub last_number : ℕ
@@ -54,9 +58,9 @@ abbrev pub indirection : ℕ
 indirection = 4294967295
 
 -- the first of these that has this number
-abbrev pub numbered : List CodeKind → ℕ → Option CodeKind
-numbered [] n = None
-numbered (k ∷ ks) n = if n == number_of k then Some k else numbered ks n
+abbrev pub kind_by_number : List CodeKind → ℕ → Option CodeKind
+kind_by_number [] n = None
+kind_by_number (k ∷ ks) n = if n == number_of k then Some k else kind_by_number ks n
 
 -- a union's discriminator is of one of these kinds, or of an alias, whose item is looked at
 abbrev pub may_switch : CodeKind → Bool
@@ -87,33 +91,36 @@ under Inner = Inner
 under Outer = Inner
 
 -- the fault of a number that is none of these kinds' where one is left out
-abbrev pub left_out : Mode → ℕ → ℕ → ValueFault
-left_out Switch n place = fault.BadValue place
-left_out Inner n place = fault.Unsupported n
-left_out Outer n place = fault.Unsupported n
+abbrev pub omission_fault : Mode → ℕ → ℕ → ValueFault
+omission_fault Switch n place = fault.BadValue place
+omission_fault Inner n place = fault.Unsupported n
+omission_fault Outer n place = fault.Unsupported n
 
 -- the fault of a number that is none of these kinds'; that of an indirection is given
 abbrev pub number_fault : (ℕ → ValueFault) → Mode → ℕ → At → ValueFault
-number_fault indirect mode n a =
-    if n == indirection then indirect (aligned 4 a)
+number_fault indirection_fault mode n a =
+    if n == indirection then indirection_fault (aligned 4 a)
     else if nat_lt last_number n then fault.BadKind (aligned 4 a)
-    else left_out mode n (aligned 4 a)
+    else omission_fault mode n (aligned 4 a)
 
 abbrev pub kind_fault : CodeKind → At → ValueFault
 kind_fault k a = fault.BadValue (aligned 4 a)
 
 -- ---- the format
 
-numbered-at : (k z : CodeKind) (n : ℕ) (rest : Option CodeKind) (b : Bool) → (n == number_of k) ≡ b → (rest ≡ Some z → number_of z ≡ n) → cond b (Some k) rest ≡ Some z → number_of z ≡ n
-numbered-at k z n rest true is later h = let same : k ≡ z = cc in sym (eqb-true n (number_of k) is ∙ ap number_of same)
-numbered-at k z n rest false is later h = later h
+kind_by_number-at : (k z : CodeKind) (n : ℕ) (rest : Option CodeKind) (b : Bool) → (n == number_of k) ≡ b
+    → (rest ≡ Some z → number_of z ≡ n) → cond b (Some k) rest ≡ Some z → number_of z ≡ n
+kind_by_number-at k z n rest true is later h =
+    let same : k ≡ z = cc in sym (eqb-true n (number_of k) is ∙ ap number_of same)
+kind_by_number-at k z n rest false is later h = later h
 
-pub numbered-number : (ks : List CodeKind) (n : ℕ) (k : CodeKind) → numbered ks n ≡ Some k → number_of k ≡ n
-numbered-number [] n k h = absurd cc
-numbered-number (l ∷ ks) n k h = numbered-at l k n (numbered ks n) (n == number_of l) refl (numbered-number ks n k) h
+pub kind_by_number-number : (ks : List CodeKind) (n : ℕ) (k : CodeKind) → kind_by_number ks n ≡ Some k → number_of k ≡ n
+kind_by_number-number [] n k h = absurd cc
+kind_by_number-number (l ∷ ks) n k h =
+    kind_by_number-at l k n (kind_by_number ks n) (n == number_of l) refl (kind_by_number-number ks n k) h
 
 -- no two kinds have one number
-pub each_numbered : (k : CodeKind) → numbered all_kinds (number_of k) ≡ Some k
+pub each_numbered : (k : CodeKind) → kind_by_number all_kinds (number_of k) ≡ Some k
 each_numbered kind.Null = refl
 each_numbered kind.Void = refl
 each_numbered kind.Short = refl
@@ -139,25 +146,30 @@ each_numbered kind.ULongLong = refl
 
 -- a kind by its number, wherever it stands
 abbrev pub any_kind : (ℕ → ValueFault) → Mode → Sound ValueFault CodeKind
-any_kind indirect mode = record {
-  format = partial_format (numbered all_kinds) number_of (number_fault indirect mode) ulong.format;
-  lawful = partial_format-lawful (numbered all_kinds) number_of (number_fault indirect mode) ulong.format each_numbered (numbered-number all_kinds) ulong.lawful;
-  faults = PartialFault ulong.format.spells (numbered all_kinds) (number_fault indirect mode) ulong.faults;
-  refuses = partial_format-refuses (numbered all_kinds) number_of (number_fault indirect mode) ulong.format ulong.faults ulong.lawful ulong.refuses;
+any_kind indirection_fault mode = record {
+  format = partial_format (kind_by_number all_kinds) number_of (number_fault indirection_fault mode) ulong.format;
+  lawful =
+      partial_format-lawful (kind_by_number all_kinds) number_of (number_fault indirection_fault mode) ulong.format
+      each_numbered (kind_by_number-number all_kinds) ulong.lawful;
+  faults =
+      PartialFault ulong.format.spells (kind_by_number all_kinds) (number_fault indirection_fault mode) ulong.faults;
+  refuses =
+      partial_format-refuses (kind_by_number all_kinds) number_of (number_fault indirection_fault mode) ulong.format
+      ulong.faults ulong.lawful ulong.refuses;
 }
 
 -- a kind that may stand there
 abbrev pub kind_in : (ℕ → ValueFault) → Mode → Sound ValueFault CodeKind
-kind_in indirect mode = restriction (may_stand mode) kind_fault (any_kind indirect mode)
+kind_in indirection_fault mode = restriction (may_stand mode) kind_fault (any_kind indirection_fault mode)
 
 -- the fault of an indirection, by whether it is one level too deep
-abbrev pub indirect : Bool → ℕ → ValueFault
-indirect true place = fault.Depth place
-indirect false place = fault.Indirection place
+abbrev pub indirection_fault : Bool → ℕ → ValueFault
+indirection_fault true place = fault.Depth place
+indirection_fault false place = fault.Indirection place
 
 abbrev pub kind_at : Mode → Sound ValueFault CodeKind
-kind_at mode = kind_in (indirect false) mode
+kind_at mode = kind_in (indirection_fault false) mode
 
 -- one level too deep: none may stand there
 abbrev pub deep_kind : Mode → Sound ValueFault CodeKind
-deep_kind mode = restriction (λ k. false) (λ k a. fault.Depth (aligned 4 a)) (kind_in (indirect true) mode)
+deep_kind mode = restriction (λ k. false) (λ k a. fault.Depth (aligned 4 a)) (kind_in (indirection_fault true) mode)

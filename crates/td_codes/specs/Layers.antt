@@ -47,29 +47,41 @@ code-code = ap out-TypeCode (sym code.rolls-Code) ∙ out-roll-TypeCode c.TypeCo
 pub code-object : (id : List ℕ) (name : List ℕ) → out-TypeCode (code.ObjRef id name) ≡ c.TypeCode::ObjRef id name
 code-object id name = ap out-TypeCode (sym (code.rolls-ObjRef id name)) ∙ out-roll-TypeCode (c.TypeCode::ObjRef id name)
 
-pub code-struct : (id : List ℕ) (name : List ℕ) (members : List Member) → out-TypeCode (code.Struct id name members) ≡ c.TypeCode::Struct id name members
-code-struct id name members = ap out-TypeCode (sym (code.rolls-Struct id name members)) ∙ out-roll-TypeCode (c.TypeCode::Struct id name members)
+pub code-struct : (id : List ℕ) (name : List ℕ) (members : List Member)
+    → out-TypeCode (code.Struct id name members) ≡ c.TypeCode::Struct id name members
+code-struct id name members =
+    ap out-TypeCode (sym (code.rolls-Struct id name members)) ∙ out-roll-TypeCode (c.TypeCode::Struct id name members)
 
-pub code-union : (id : List ℕ) (name : List ℕ) (switch : TypeCode) (default : ℤ) (arms : List Arm) → out-TypeCode (code.Union id name switch default arms) ≡ c.TypeCode::Union id name switch default arms
-code-union id name switch default arms = ap out-TypeCode (sym (code.rolls-Union id name switch default arms)) ∙ out-roll-TypeCode (c.TypeCode::Union id name switch default arms)
+pub code-union : (id : List ℕ) (name : List ℕ) (switch : TypeCode) (default : ℤ) (arms : List Arm)
+    → out-TypeCode (code.Union id name switch default arms) ≡ c.TypeCode::Union id name switch default arms
+code-union id name switch default arms =
+    ap out-TypeCode (sym (code.rolls-Union id name switch default arms))
+    ∙ out-roll-TypeCode (c.TypeCode::Union id name switch default arms)
 
-pub code-enum : (id : List ℕ) (name : List ℕ) (names : List (List ℕ)) → out-TypeCode (code.Enum id name names) ≡ c.TypeCode::Enum id name names
-code-enum id name names = ap out-TypeCode (sym (code.rolls-Enum id name names)) ∙ out-roll-TypeCode (c.TypeCode::Enum id name names)
+pub code-enum : (id : List ℕ) (name : List ℕ) (names : List (List ℕ))
+    → out-TypeCode (code.Enum id name names) ≡ c.TypeCode::Enum id name names
+code-enum id name names =
+    ap out-TypeCode (sym (code.rolls-Enum id name names)) ∙ out-roll-TypeCode (c.TypeCode::Enum id name names)
 
 pub code-str : (bound : ℕ) → out-TypeCode (code.Str bound) ≡ c.TypeCode::Str bound
 code-str bound = ap out-TypeCode (sym (code.rolls-Str bound)) ∙ out-roll-TypeCode (c.TypeCode::Str bound)
 
 pub code-sequence : (item : TypeCode) (bound : ℕ) → out-TypeCode (code.Sequence item bound) ≡ c.Sequence item bound
-code-sequence item bound = ap out-TypeCode (sym (code.rolls-Sequence item bound)) ∙ out-roll-TypeCode (c.Sequence item bound)
+code-sequence item bound =
+    ap out-TypeCode (sym (code.rolls-Sequence item bound)) ∙ out-roll-TypeCode (c.Sequence item bound)
 
 pub code-array : (item : TypeCode) (len : ℕ) → out-TypeCode (code.Array item len) ≡ c.Array item len
 code-array item len = ap out-TypeCode (sym (code.rolls-Array item len)) ∙ out-roll-TypeCode (c.Array item len)
 
-pub code-alias : (id : List ℕ) (name : List ℕ) (item : TypeCode) → out-TypeCode (code.Alias id name item) ≡ c.Alias id name item
-code-alias id name item = ap out-TypeCode (sym (code.rolls-Alias id name item)) ∙ out-roll-TypeCode (c.Alias id name item)
+pub code-alias : (id : List ℕ) (name : List ℕ) (item : TypeCode)
+    → out-TypeCode (code.Alias id name item) ≡ c.Alias id name item
+code-alias id name item =
+    ap out-TypeCode (sym (code.rolls-Alias id name item)) ∙ out-roll-TypeCode (c.Alias id name item)
 
-pub code-except : (id : List ℕ) (name : List ℕ) (members : List Member) → out-TypeCode (code.Except id name members) ≡ c.Except id name members
-code-except id name members = ap out-TypeCode (sym (code.rolls-Except id name members)) ∙ out-roll-TypeCode (c.Except id name members)
+pub code-except : (id : List ℕ) (name : List ℕ) (members : List Member)
+    → out-TypeCode (code.Except id name members) ≡ c.Except id name members
+code-except id name members =
+    ap out-TypeCode (sym (code.rolls-Except id name members)) ∙ out-roll-TypeCode (c.Except id name members)
 
 pub code-longlong : out-TypeCode code.LongLong ≡ c.TypeCode::LongLong
 code-longlong = ap out-TypeCode (sym code.rolls-LongLong) ∙ out-roll-TypeCode c.TypeCode::LongLong

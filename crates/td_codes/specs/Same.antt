@@ -42,8 +42,8 @@ row [] = empty
 row (e ∷ es) = before e (row es)
 
 -- one that has no label
-abbrev pub unlabelled : Shape → Entry
-unlabelled s = record { label = []; shape = s }
+abbrev pub entry_without_label : Shape → Entry
+entry_without_label s = record { label = []; shape = s }
 
 abbrev pub kind_shape : CodeKind → Shape
 kind_shape k = record { kind = number_of k; numbers = []; id = []; inner = empty }
@@ -59,14 +59,24 @@ abbrev pub fields_shape : CodeKind → List ℕ → List Entry → Shape
 fields_shape k id members = record { kind = number_of k; numbers = []; id = id; inner = row members }
 
 abbrev pub union_shape : List ℕ → Shape → ℤ → List Entry → Shape
-union_shape id switch default arms = record { kind = number_of kind.Union; numbers = default ∷ []; id = id; inner = row (unlabelled switch ∷ arms) }
+union_shape id switch default arms = record {
+  kind = number_of kind.Union;
+  numbers = default ∷ [];
+  id = id;
+  inner = row (entry_without_label switch ∷ arms);
+}
 
 abbrev pub enum_shape : List ℕ → ℕ → Shape
 enum_shape id count = record { kind = number_of kind.Enum; numbers = pos count ∷ []; id = id; inner = empty }
 
 -- a sequence or an array
 abbrev pub items_shape : CodeKind → Shape → ℕ → Shape
-items_shape k item size = record { kind = number_of k; numbers = pos size ∷ []; id = []; inner = row (unlabelled item ∷ []) }
+items_shape k item size = record {
+  kind = number_of k;
+  numbers = pos size ∷ [];
+  id = [];
+  inner = row (entry_without_label item ∷ []);
+}
 
 abbrev pub shape_layer : TypeCode-F Shape Label Label Entry Entry → Shape
 shape_layer c.Null = kind_shape kind.Null
@@ -96,7 +106,7 @@ abbrev pub arm_layer : Arm-F Shape Label Label Entry Entry → Entry
 arm_layer a = record { label = a.label ∷ []; shape = a.code }
 
 abbrev pub member_layer : Member-F Shape Label Label Entry Entry → Entry
-member_layer m = unlabelled m.code
+member_layer m = entry_without_label m.code
 
 abbrev pub any_layer : Any-F Shape Label Label Entry Entry → Label
 any_layer a = a.value
@@ -125,7 +135,8 @@ alike (node l k n i x xs) (node m j o h y ys) =
     (pointwise same_label l m && (nat_eq k j && (pointwise int_eq n o && (ids_agree i h && alike x y)))) && alike xs ys
 
 abbrev pub like : Shape → Shape → Bool
-like s t = nat_eq s.kind t.kind && (pointwise int_eq s.numbers t.numbers && (ids_agree s.id t.id && alike s.inner t.inner))
+like s t =
+    nat_eq s.kind t.kind && (pointwise int_eq s.numbers t.numbers && (ids_agree s.id t.id && alike s.inner t.inner))
 
 abbrev pub entry_like : Entry → Entry → Bool
 entry_like d e = pointwise same_label d.label e.label && like d.shape e.shape

@@ -1,10 +1,12 @@
 -- The format of values under a TypeCode, and of anys (CORBA's chapter on the General Inter-ORB Protocol,
 -- "CDR Transfer Syntax", on constructed types and on any).
-use Rattle.std.specs.Prelude.{◌≡◌, ℕ, ℤ, pos, negsuc, zero, suc, ◌+◌, nat_eq, nat_lt, Bool, false, not, ◌&&◌, ◌||◌, if◌then◌else◌, List, [], ◌∷◌, ◌++◌, length, map, Option, Some, None, slice_get, refl}
+use Rattle.std.specs.Prelude.{◌≡◌, ℕ, ℤ, pos, negsuc, zero, suc, ◌+◌, nat_eq, nat_lt, Bool, false, not, ◌&&◌, ◌||◌}
+use Rattle.std.specs.Prelude.{if◌then◌else◌, List, [], ◌∷◌, ◌++◌, length, map, Option, Some, None, slice_get, refl}
 use Rattle.std.proofs.Common.{sym, ap, subst, ◌∙◌}
 use Rattle.td_cdr.specs.declared.order.Order.{Order}
-use Rattle.td_cdr.specs.Format.{Piece, none, none_or, row, ◌then◌, uncons, array_format}
-use Rattle.td_cdr.specs.Sound.{Sound, Arm as Arm_of, ◌&◌, pair_on, structure, variant, constant, ulong, text, array, restriction, failure, union, other_writing, sequence_with, arm, bare_arm}
+use Rattle.td_cdr.specs.Format.{Piece, none, none_or, number, row, ◌then◌, uncons, array_format}
+use Rattle.td_cdr.specs.Sound.{Sound, Arm as Arm_of, ◌&◌, pair_on, structure, variant, constant, ulong, text, array}
+use Rattle.td_cdr.specs.Sound.{restriction, failure, union, other_writing, sequence_with, arm, bare_arm}
 use Rattle.td_cdr.specs.LawfulFormats.{times-row}
 use Rattle.td_cdr.specs.declared.value_fault.ValueFault.{ValueFault}
 use Rattle.td_cdr.specs.declared.value_fault.ValueFault.TheVariants as fault
@@ -17,9 +19,14 @@ use Rattle.td_codes.specs.declared.code.Any.{Any}
 use Rattle.td_codes.specs.declared.code.Member.{Member}
 use Rattle.td_codes.specs.declared.reference.Ior.{Ior}
 use Rattle.td_codes.specs.declared.mode.Mode.TheVariants.{Outer}
-use Rattle.td_codes.specs.Formats.{number_piece, array-size}
-use Rattle.td_codes.specs.Labels.{Layer, Held, no_value, bad_value, one_of, labels, label_of, same_label, plain_piece, short_value, long_value, ushort_value, ulong_value, longlong_value, ulonglong_value, boolean_value, char_value, octet_value}
-use Rattle.td_codes.specs.Layers.{value-str, value-any, value-code, value-object, value-struct, value-union, value-items}
+use Rattle.td_codes.specs.declared.kinds.CodeKind.TheVariants as kind
+use Rattle.td_codes.specs.Formats.{array-size}
+use Rattle.td_codes.specs.Kinds.{number_of}
+use Rattle.td_codes.specs.Labels.{Layer, Held, no_value, bad_value, one_of, labels, label_of, same_label, plain_piece}
+use Rattle.td_codes.specs.Labels.{short_value, long_value, ushort_value, ulong_value, longlong_value, ulonglong_value}
+use Rattle.td_codes.specs.Labels.{boolean_value, char_value, octet_value}
+use Rattle.td_codes.specs.Layers.{value-str, value-any, value-code, value-object, value-struct, value-union}
+use Rattle.td_codes.specs.Layers.{value-items}
 use Rattle.td_codes.specs.Codes.{codes}
 use Rattle.td_codes.specs.References.{reference}
 
@@ -45,7 +52,8 @@ is_chosen default label i arm = not (is_default default i) && same_label (label_
 -- the first arm but the default whose label this is, the arms being counted from i
 abbrev pub first_arm : Option ℕ → Value → ℕ → List Arm → Option Arm
 first_arm default label i [] = None
-first_arm default label i (arm ∷ arms) = if is_chosen default label i arm then Some arm else first_arm default label (i + 1) arms
+first_arm default label i (arm ∷ arms) =
+    if is_chosen default label i arm then Some arm else first_arm default label (i + 1) arms
 
 abbrev pub default_arm : Option ℕ → List Arm → Option Arm
 default_arm (Some d) arms = slice_get arms d
@@ -99,15 +107,16 @@ discriminator v = label_in (out-Value v)
 -- ---- values
 
 -- a string of at most so many bytes
-abbrev pub bounded : ℕ → Sound ValueFault (List ℕ)
-bounded bound = restriction (λ v. fits bound (length v)) bad_value text
+abbrev pub bounded_text : ℕ → Sound ValueFault (List ℕ)
+bounded_text bound = restriction (λ v. fits bound (length v)) bad_value text
 
 -- a count of at most so many
 abbrev pub count_within : ℕ → Sound ValueFault ℕ
 count_within bound = restriction (fits bound) bad_value ulong
 
 -- where an any, and a TypeCode, that stand inside are of one level more
-module _ (any : Sound ValueFault Any) (code : Sound ValueFault TypeCode) (inner : TypeCode → Sound ValueFault Value) where
+module _ (any : Sound ValueFault Any) (code : Sound ValueFault TypeCode)
+    (inner : TypeCode → Sound ValueFault Value) where
   abbrev pub each : List Member → Sound ValueFault (List Value)
   each [] = constant []
   each (m ∷ ms) = variant (λ p. p.0 ∷ p.1) uncons (λ _. refl) (inner m.code & each ms)
@@ -115,7 +124,10 @@ module _ (any : Sound ValueFault Any) (code : Sound ValueFault TypeCode) (inner 
   -- the unions with this label, whose branch was chosen
   abbrev pub branch : Value → Option Arm → Arm_of ValueFault Value Value discriminator
   branch label None = bare_arm (value.Union label None)
-  branch label (Some chosen) = arm label (λ v. value.Union label (Some v)) (λ v. arm_in (out-Value v)) (λ v. ap arm_in (value-union label (Some v))) (λ v. sym (ap label_in (value-union label (Some v)))) (inner chosen.code)
+  branch label (Some chosen) =
+      arm label (λ v. value.Union label (Some v)) (λ v. arm_in (out-Value v))
+      (λ v. ap arm_in (value-union label (Some v))) (λ v. sym (ap label_in (value-union label (Some v))))
+      (inner chosen.code)
 
   pub branch-label : (label : Value) (o : Option Arm) → (branch label o).tag ≡ label
   branch-label label None = ap label_in (value-union label None)
@@ -123,7 +135,9 @@ module _ (any : Sound ValueFault Any) (code : Sound ValueFault TypeCode) (inner 
 
   -- a union before it is known how it is written
   abbrev pub spelled_union : ℕ → TypeCode → Option ℕ → List Arm → Sound ValueFault Value
-  spelled_union n switch default arms = union (labels n switch) discriminator (λ label. branch label (branch_of default label arms)) (λ label. branch-label label (branch_of default label arms))
+  spelled_union n switch default arms =
+      union (labels n switch) discriminator (λ label. branch label (branch_of default label arms))
+      (λ label. branch-label label (branch_of default label arms))
 
   abbrev pub branch_piece : Option Arm → Option Value → Piece
   branch_piece None v = none
@@ -132,61 +146,96 @@ module _ (any : Sound ValueFault Any) (code : Sound ValueFault TypeCode) (inner 
 
   -- a value that is no union is written as nothing
   abbrev pub union_piece : Option ℕ → List Arm → Held → Piece
-  union_piece default arms (c.Value::Union label arm) = plain_piece label then branch_piece (branch_of default label arms) arm
+  union_piece default arms (c.Value::Union label arm) =
+      plain_piece label then branch_piece (branch_of default label arms) arm
   union_piece default arms l = none
 
-  branch-is : (label : Value) (o : Option Arm) (v : Value) → (branch label o).format.admits v → (arm : Option Value) × (value.Union label arm ≡ v)
+  branch-is : (label : Value) (o : Option Arm) (v : Value) → (branch label o).format.admits v
+      → (arm : Option Value) × (value.Union label arm ≡ v)
   branch-is label None v ok = (None, ok)
   branch-is label (Some chosen) v ok = (Some ok.0, ok.1)
 
-  branch-written : (label : Value) (o : Option Arm) (arm : Option Value) (order : Order) (place : ℕ) → (branch label o).format.writes (value.Union label arm) order place ≡ branch_piece o arm order place
+  branch-written : (label : Value) (o : Option Arm) (arm : Option Value) (order : Order) (place : ℕ)
+      → (branch label o).format.writes (value.Union label arm) order place ≡ branch_piece o arm order place
   branch-written label None arm order place = refl
   branch-written label (Some chosen) None order place = rw (value-union label None) refl
   branch-written label (Some chosen) (Some v) order place = rw (value-union label (Some v)) refl
 
-  pub union-written : (n : ℕ) (switch : TypeCode) (default : Option ℕ) (arms : List Arm) (v : Value) (order : Order) (place : ℕ) → (spelled_union n switch default arms).format.admits v
-      → (spelled_union n switch default arms).format.writes v order place ≡ union_piece default arms (out-Value v) order place
+  pub union-written : (n : ℕ) (switch : TypeCode) (default : Option ℕ) (arms : List Arm) (v : Value) (order : Order)
+      (place : ℕ)
+      → (spelled_union n switch default arms).format.admits v
+      → (spelled_union n switch default arms).format.writes v order place
+      ≡ union_piece default arms (out-Value v) order place
   union-written n switch default arms v order place ok =
       let is = branch-is (discriminator v) (branch_of default (discriminator v) arms) v ok.1 in
-      subst (λ (u : Value). (spelled_union n switch default arms).format.writes u order place ≡ union_piece default arms (out-Value u) order place) is.1
-      (let label = discriminator v in rw (value-union label is.0) (ap (λ (b : List ℕ). plain_piece label order place ++ b) (branch-written label (branch_of default label arms) is.0 order (place + length (plain_piece label order place)))))
+      subst (λ (u : Value). (spelled_union n switch default arms).format.writes u order place
+      ≡ union_piece default arms (out-Value u) order place)
+      is.1
+      (let label = discriminator v in
+      rw (value-union label is.0)
+      (ap (λ (b : List ℕ). plain_piece label order place ++ b)
+      (branch-written label (branch_of default label arms) is.0 order
+      (place + length (plain_piece label order place)))))
 
   abbrev pub union_value : ℕ → TypeCode → Option ℕ → List Arm → Sound ValueFault Value
-  union_value n switch default arms = other_writing (λ v. union_piece default arms (out-Value v)) (spelled_union n switch default arms) (union-written n switch default arms)
+  union_value n switch default arms =
+      other_writing (λ v. union_piece default arms (out-Value v)) (spelled_union n switch default arms)
+      (union-written n switch default arms)
 
   abbrev pub struct_value : List Member → Sound ValueFault Value
-  struct_value members = variant (λ vs. value.Struct vs) (λ v. struct_in (out-Value v)) (λ vs. ap struct_in (value-struct vs)) (each members)
+  struct_value members =
+      variant (λ vs. value.Struct vs) (λ v. struct_in (out-Value v)) (λ vs. ap struct_in (value-struct vs))
+      (each members)
 
   -- items behind their count, and without it; a value that holds none is written as nothing
   abbrev pub items_piece : TypeCode → List Value → Piece
   items_piece item vs = row (map (inner item).format.writes vs)
 
   abbrev pub sequence_piece : TypeCode → List Value → Piece
-  sequence_piece item vs = number_piece 4 (length vs) then items_piece item vs
+  sequence_piece item vs = (number 4).writes (length vs) then items_piece item vs
 
   abbrev pub spelled_sequence : TypeCode → ℕ → Sound ValueFault Value
-  spelled_sequence item bound = variant (λ vs. value.Items vs) (λ v. items_in (out-Value v)) (λ vs. ap items_in (value-items vs)) (sequence_with (count_within bound) (inner item))
+  spelled_sequence item bound =
+      variant (λ vs. value.Items vs) (λ v. items_in (out-Value v)) (λ vs. ap items_in (value-items vs))
+      (sequence_with (count_within bound) (inner item))
 
-  pub sequence-written : (item : TypeCode) (bound : ℕ) (v : Value) (order : Order) (place : ℕ) → (spelled_sequence item bound).format.admits v
-      → (spelled_sequence item bound).format.writes v order place ≡ none_or (sequence_piece item) (items_in (out-Value v)) order place
+  pub sequence-written : (item : TypeCode) (bound : ℕ) (v : Value) (order : Order) (place : ℕ)
+      → (spelled_sequence item bound).format.admits v
+      → (spelled_sequence item bound).format.writes v order place
+      ≡ none_or (sequence_piece item) (items_in (out-Value v)) order place
   sequence-written item bound v order place ok =
-      subst (λ (u : Value). (spelled_sequence item bound).format.writes u order place ≡ none_or (sequence_piece item) (items_in (out-Value u)) order place) ok.1
+      subst (λ (u : Value). (spelled_sequence item bound).format.writes u order place
+      ≡ none_or (sequence_piece item) (items_in (out-Value u)) order place)
+      ok.1
       (let vs = ok.0 in rw (value-items vs) refl)
 
   abbrev pub sequence_value : TypeCode → ℕ → Sound ValueFault Value
-  sequence_value item bound = other_writing (λ v. none_or (sequence_piece item) (items_in (out-Value v))) (spelled_sequence item bound) (sequence-written item bound)
+  sequence_value item bound =
+      other_writing (λ v. none_or (sequence_piece item) (items_in (out-Value v))) (spelled_sequence item bound)
+      (sequence-written item bound)
 
   abbrev pub spelled_array : TypeCode → ℕ → Sound ValueFault Value
-  spelled_array item len = variant (λ vs. value.Items vs) (λ v. items_in (out-Value v)) (λ vs. ap items_in (value-items vs)) (array (inner item) len)
+  spelled_array item len =
+      variant (λ vs. value.Items vs) (λ v. items_in (out-Value v)) (λ vs. ap items_in (value-items vs))
+      (array (inner item) len)
 
-  pub array-written : (item : TypeCode) (len : ℕ) (v : Value) (order : Order) (place : ℕ) → (spelled_array item len).format.admits v
-      → (spelled_array item len).format.writes v order place ≡ none_or (items_piece item) (items_in (out-Value v)) order place
+  pub array-written : (item : TypeCode) (len : ℕ) (v : Value) (order : Order) (place : ℕ)
+      → (spelled_array item len).format.admits v
+      → (spelled_array item len).format.writes v order place
+      ≡ none_or (items_piece item) (items_in (out-Value v)) order place
   array-written item len v order place ok =
-      subst (λ (u : Value). (spelled_array item len).format.writes u order place ≡ none_or (items_piece item) (items_in (out-Value u)) order place) ok.1
-      (let vs = ok.0 in rw (value-items vs) (ap (λ (n : ℕ). (array_format (inner item).format n).writes vs order place) (array-size (inner item).format len vs ok.2) ∙ times-row (inner item).format vs order place))
+      subst (λ (u : Value). (spelled_array item len).format.writes u order place
+      ≡ none_or (items_piece item) (items_in (out-Value u)) order place)
+      ok.1
+      (let vs = ok.0 in
+      rw (value-items vs) (ap (λ (n : ℕ). (array_format (inner item).format n).writes vs order place)
+      (array-size (inner item).format len vs ok.2)
+      ∙ times-row (inner item).format vs order place))
 
   abbrev pub array_value : TypeCode → ℕ → Sound ValueFault Value
-  array_value item len = other_writing (λ v. none_or (items_piece item) (items_in (out-Value v))) (spelled_array item len) (array-written item len)
+  array_value item len =
+      other_writing (λ v. none_or (items_piece item) (items_in (out-Value v))) (spelled_array item len)
+      (array-written item len)
 
   abbrev pub layer : ℕ → Layer → Sound ValueFault Value
   layer n c.Null = constant value.Empty
@@ -201,16 +250,19 @@ module _ (any : Sound ValueFault Any) (code : Sound ValueFault TypeCode) (inner 
   layer n c.TypeCode::LongLong = longlong_value
   layer n c.TypeCode::ULongLong = ulonglong_value
   layer n c.AnyCode = variant (λ a. value.AnyValue a) (λ v. any_in (out-Value v)) (λ a. ap any_in (value-any a)) any
-  layer n c.TypeCode::Code = variant (λ t. value.Code t) (λ v. code_in (out-Value v)) (λ t. ap code_in (value-code t)) code
-  layer n (c.TypeCode::Str bound) = variant (λ t. value.Str t) (λ v. text_in (out-Value v)) (λ t. ap text_in (value-str t)) (bounded bound)
-  layer n (c.TypeCode::ObjRef id name) = variant (λ r. value.ObjRef r) (λ v. reference_in (out-Value v)) (λ r. ap reference_in (value-object r)) reference
+  layer n c.TypeCode::Code =
+      variant (λ t. value.Code t) (λ v. code_in (out-Value v)) (λ t. ap code_in (value-code t)) code
+  layer n (c.TypeCode::Str bound) =
+      variant (λ t. value.Str t) (λ v. text_in (out-Value v)) (λ t. ap text_in (value-str t)) (bounded_text bound)
+  layer n (c.TypeCode::ObjRef id name) =
+      variant (λ r. value.ObjRef r) (λ v. reference_in (out-Value v)) (λ r. ap reference_in (value-object r)) reference
   layer n (c.TypeCode::Struct id name members) = struct_value members
   layer n (c.TypeCode::Union id name switch default arms) = union_value n switch (index_of default) arms
   layer n (c.TypeCode::Enum id name names) = one_of (length names)
   layer n (c.Sequence item bound) = sequence_value item bound
   layer n (c.Array item len) = array_value item len
   layer n (c.Alias id name item) = inner item
-  layer n (c.Except id name members) = failure (λ a. fault.Unsupported 22)
+  layer n (c.Except id name members) = failure (λ a. fault.Unsupported (number_of kind.Except))
 
 -- a value under a TypeCode of at most so many levels
 unfoldable pub values : Sound ValueFault Any → Sound ValueFault TypeCode → ℕ → TypeCode → Sound ValueFault Value
@@ -218,7 +270,9 @@ values any code zero t = failure no_value
 values any code (suc n) t = layer any code (values any code n) n (out-TypeCode t)
 
 abbrev pub any_of : Sound ValueFault TypeCode → (TypeCode → Sound ValueFault Value) → Sound ValueFault Any
-any_of code value = structure (λ p. record { code = p.0; value = p.1 }) (λ a. (a.code, a.value)) (λ _. refl) (λ _. refl) (pair_on code value)
+any_of code value =
+    structure (λ p. record { code = p.0; value = p.1 }) (λ a. (a.code, a.value)) (λ _. refl) (λ _. refl)
+    (pair_on code value)
 
 -- an any of at most so many levels
 unfoldable pub anys : ℕ → Sound ValueFault Any

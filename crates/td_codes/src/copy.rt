@@ -2,6 +2,7 @@
 
 ghost use Rattle.std.specs.Prelude.{◌≡◌, IfOk};
 ghost use Rattle.td_codes.specs.declared.code.TypeCode.TheVariants as code;
+ghost use Rattle.td_codes.specs.declared.code.Value.TheVariants as variant;
 
 use crate::code::{Any, Arm, Member, TypeCode, Value};
 use std::alloc::Global;
@@ -202,22 +203,16 @@ impl Twin for Value {
             Value::LongLong(n) => Ok(Value::LongLong(*n)),
             Value::ULongLong(n) => Ok(Value::ULongLong(*n)),
             Value::Str(text) => Ok(Value::Str(text.copy(alloc)?)),
-            Value::AnyValue(any) => {
-                let any = any.get().copy(alloc)?;
-                Ok(Value::AnyValue(Boxed::new(alloc, any)?))
-            }
-            Value::Code(code) => {
-                let code = code.get().copy(alloc)?;
-                Ok(Value::Code(Boxed::new(alloc, code)?))
-            }
+            Value::AnyValue(any) => copy_any(alloc, any.get()),
+            Value::Code(code) => Ok(Value::Code(copy_boxed(alloc, code.get())?)),
             Value::ObjRef(reference) => Ok(Value::ObjRef(reference.copy(alloc)?)),
             Value::Struct(values) => Ok(Value::Struct(copy_values(alloc, values.as_slice())?)),
             Value::Union { label, arm } => {
-                let label = Boxed::new(alloc, label.get().copy(alloc)?)?;
+                let label = copy_boxed_value(alloc, label.get())?;
                 match arm {
                     None => Ok(Value::Union { label, arm: None }),
                     Some(value) => {
-                        let value = Boxed::new(alloc, value.get().copy(alloc)?)?;
+                        let value = copy_boxed_value(alloc, value.get())?;
                         Ok(Value::Union {
                             label,
                             arm: Some(value),
@@ -229,6 +224,22 @@ impl Twin for Value {
             Value::Items(values) => Ok(Value::Items(copy_values(alloc, values.as_slice())?)),
         }
     }
+}
+
+#[cycle(copy)]
+fn copy_any(alloc: Global, any: &Any) -> Result<Value, Memory>
+    ensures { IfOk result (λ twin. twin ≡ variant.AnyValue any.now) }
+{
+    let any = any.copy(alloc)?;
+    Ok(Value::AnyValue(Boxed::new(alloc, any)?))
+}
+
+#[cycle(copy)]
+fn copy_boxed_value(alloc: Global, value: &Value) -> Result<Boxed<Value>, Memory>
+    ensures { IfOk result (λ twin. twin ≡ value.now) }
+{
+    let twin = value.copy(alloc)?;
+    Ok(Boxed::new(alloc, twin)?)
 }
 
 impl Twin for Any {

@@ -3,13 +3,14 @@
 ghost use Rattle.std.specs.Prelude.{◌≡◌};
 ghost use Rattle.td_cdr.specs.Format.{Gives};
 ghost use Rattle.td_cdr.specs.ValueFaults.{is_memory};
-ghost use Rattle.td_codes.specs.Kinds.{number_of, numbered, all_kinds, may_switch, may_stand, under, indirect, kind_in, kind_at, deep_kind};
+ghost use Rattle.td_codes.specs.Kinds.{number_of, kind_by_number, all_kinds, may_switch, may_stand, under};
+ghost use Rattle.td_codes.specs.Kinds.{indirection_fault, kind_in, kind_at, deep_kind};
 
 use crate::mode::Mode;
 use td_cdr::{Reader, ValueFault};
 
 /// The kinds of TypeCodes that this project has (CORBA, General Inter-ORB Protocol, "TypeCode").
-#[derive(Clone, Copy, Debug, PartialEq, Eq)]
+#[derive(Clone, Copy, PartialEq, Eq)]
 pub enum CodeKind {
     Null,
     Void,
@@ -100,8 +101,8 @@ impl CodeKind {
 }
 
 /// The first of these that has the number.
-fn find_numbered(kinds: &[CodeKind], number: u32) -> Option<CodeKind>
-    ensures { result ≡ numbered kinds.now number }
+fn find_kind(kinds: &[CodeKind], number: u32) -> Option<CodeKind>
+    ensures { result ≡ kind_by_number kinds.now number }
 {
     for kind in kinds {
         if number == kind.number() {
@@ -113,9 +114,9 @@ fn find_numbered(kinds: &[CodeKind], number: u32) -> Option<CodeKind>
 
 /// The kind of a number.
 pub fn kind_of_number(number: u32) -> Option<CodeKind>
-    ensures { result ≡ numbered all_kinds number }
+    ensures { result ≡ kind_by_number all_kinds number }
 {
-    find_numbered(&KINDS, number)
+    find_kind(&KINDS, number)
 }
 
 /// Whether a discriminator may have the kind, or an alias, whose item is looked at then.
@@ -162,7 +163,7 @@ pub fn under(mode: Mode) -> Mode
 /// The next kind, which may stand there; whether it is one level too deep tells the fault of an
 /// indirection.
 fn kind_in(r: &mut Reader, mode: Mode, deep: bool) -> Result<CodeKind, ValueFault>
-    ensures { Gives is_memory r.new result ((kind_in (indirect deep) mode).format.reads r.old) }
+    ensures { Gives is_memory r.new result ((kind_in (indirection_fault deep) mode).format.reads r.old) }
 {
     let place = r.aligned();
     let number = r.u32()?;

@@ -7,7 +7,7 @@ ghost use Rattle.td_codes.specs.Labels.{label_of, same_label};
 use crate::code::Value;
 
 /// The number that spells a plain value, by how many bytes it has. A signed number is that of its bits.
-#[derive(Clone, Copy, Debug, PartialEq, Eq)]
+#[derive(Clone, Copy)]
 pub enum Label {
     One(u8),
     Two(u16),

@@ -6,6 +6,9 @@ ghost use Rattle.td_cdr.specs.ValueFaults.{is_memory};
 ghost use Rattle.td_codes.specs.Labels.{labels, one_of};
 
 use crate::code::{TypeCode, Value};
+use crate::plain::{
+    boolean_at, char_at, long_at, longlong_at, short_at, ulong_at, ulonglong_at, ushort_at,
+};
 use td_cdr::{Reader, ValueFault};
 
 /// A value of a discriminator of at most so many levels.
@@ -17,14 +20,14 @@ pub fn label_at(r: &mut Reader, levels: u32, switch: &TypeCode) -> Result<Value,
         return Err(ValueFault::BadValue(r.aligned()));
     }
     match switch {
-        TypeCode::Short => Ok(Value::Short(r.i16()?)),
-        TypeCode::Long => Ok(Value::Long(r.i32()?)),
-        TypeCode::UShort => Ok(Value::UShort(r.u16()?)),
-        TypeCode::ULong => Ok(Value::ULong(r.u32()?)),
-        TypeCode::LongLong => Ok(Value::LongLong(r.i64()?)),
-        TypeCode::ULongLong => Ok(Value::ULongLong(r.u64()?)),
-        TypeCode::Boolean => Ok(Value::Boolean(r.boolean()?)),
-        TypeCode::Char => Ok(Value::Char(r.octet()?)),
+        TypeCode::Short => short_at(r),
+        TypeCode::Long => long_at(r),
+        TypeCode::UShort => ushort_at(r),
+        TypeCode::ULong => ulong_at(r),
+        TypeCode::LongLong => longlong_at(r),
+        TypeCode::ULongLong => ulonglong_at(r),
+        TypeCode::Boolean => boolean_at(r),
+        TypeCode::Char => char_at(r),
         TypeCode::Enum { labels, .. } => one_of(r, labels.len()),
         TypeCode::Alias { item, .. } => label_at(r, levels - 1, item.get()),
         _ => Err(ValueFault::BadValue(r.aligned())),

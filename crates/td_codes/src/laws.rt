@@ -8,7 +8,7 @@ ghost use Rattle.td_codes.specs.declared.code.TypeCode.{TypeCode};
 ghost use Rattle.td_codes.specs.Same.{Same};
 ghost use Rattle.td_codes.specs.Codes.{codes};
 ghost use Rattle.td_codes.specs.Values.{anys};
-ghost use Rattle.td_codes.specs.WritingCodes.{written};
+ghost use Rattle.td_codes.specs.WritingCodes.{code_piece};
 
 /// A TypeCode is read as it is spelled, whatever follows, and only so; what has a spelling is
 /// admitted. What is written for an admitted TypeCode spells it, and so is read back, in either order
@@ -17,7 +17,7 @@ ghost use Rattle.td_codes.specs.WritingCodes.{written};
 pub fn codes_are_spelled()
     ensures lawful { (levels : ℕ) (mode : Mode) → Lawful (codes levels mode).format }
     ensures refuses { (levels : ℕ) (mode : Mode) → Refuses (codes levels mode).faults (codes levels mode).format.reads }
-    ensures written { (levels : ℕ) (mode : Mode) → (codes levels mode).format.writes ≡ written }
+    ensures written { (levels : ℕ) (mode : Mode) → (codes levels mode).format.writes ≡ code_piece }
 {}
 
 /// An any is read as it is spelled, whatever follows, and only so; what has a spelling is admitted.

@@ -8,6 +8,7 @@ mod label;
 mod labels;
 mod laws;
 mod mode;
+mod plain;
 mod reading;
 mod reference;
 mod same;

@@ -7,9 +7,11 @@ ghost use Rattle.td_cdr.specs.Format.{Gives};
 ghost use Rattle.td_cdr.specs.Sound.{◌&◌, text, array, sequence};
 ghost use Rattle.td_cdr.specs.ValueFaults.{is_memory};
 ghost use Rattle.td_codes.specs.declared.mode.Mode.TheVariants.{Inner, Switch};
-ghost use Rattle.td_codes.specs.Formats.{filled};
+ghost use Rattle.td_codes.specs.Formats.{nonempty_sequence};
 ghost use Rattle.td_codes.specs.Labels.{labels};
-ghost use Rattle.td_codes.specs.Codes.{codes, header, positive, object_code, struct_code, except_code, enum_code, sequence_code, array_code, alias_code, union_code, head, counted_arms, member, arm_of, parameters, default_index, arm_count};
+ghost use Rattle.td_codes.specs.Codes.{codes, header, positive, object_code, struct_code, except_code, enum_code};
+ghost use Rattle.td_codes.specs.Codes.{sequence_code, array_code, alias_code, union_code, head, counted_arms, member};
+ghost use Rattle.td_codes.specs.Codes.{arm_of, parameters, default_index, arm_count};
 
 use crate::code::{Arm, Member, TypeCode};
 use crate::kinds::{CodeKind, deep_kind, kind_at, under};
@@ -130,7 +132,7 @@ fn enum_of(alloc: Global, r: &mut Reader) -> Result<TypeCode, ValueFault>
 
 /// One name at least.
 fn names_of(alloc: Global, r: &mut Reader) -> Result<List<Text>, ValueFault>
-    ensures { Gives is_memory r.new result ((filled text).format.reads r.old) }
+    ensures { Gives is_memory r.new result ((nonempty_sequence text).format.reads r.old) }
 {
     let place = r.aligned();
     let names = List::<Text>::read(alloc, r)?;
@@ -156,7 +158,7 @@ fn struct_of(alloc: Global, r: &mut Reader, levels: u32) -> Result<TypeCode, Val
 /// One member at least.
 #[cycle(reading)]
 fn fields_of(alloc: Global, r: &mut Reader, levels: u32) -> Result<List<Member>, ValueFault>
-    ensures { Gives is_memory r.new result ((filled (member (codes levels Inner))).format.reads r.old) }
+    ensures { Gives is_memory r.new result ((nonempty_sequence (member (codes levels Inner))).format.reads r.old) }
 {
     let place = r.aligned();
     let members = members_at(alloc, r, levels)?;
@@ -224,9 +226,9 @@ fn front_of(
     Ok((header, code))
 }
 
-/// A TypeCode that stands in another.
+/// A TypeCode that may hold so many levels, in a block of its own.
 #[cycle(reading)]
-fn boxed_at(
+pub fn boxed_at(
     alloc: Global,
     r: &mut Reader,
     levels: u32,
@@ -315,26 +317,27 @@ fn union_of(alloc: Global, r: &mut Reader, levels: u32) -> Result<TypeCode, Valu
     ensures { Gives is_memory r.new result ((union_code levels (codes levels)).format.reads r.old) }
 {
     let (header, switch) = front_of(alloc, r, levels, Mode::Switch)?;
-    let armed = armed_of(alloc, r, levels, switch.get())?;
+    let choices = choices_of(alloc, r, levels, switch.get())?;
     Ok(TypeCode::Union {
         id: header.0,
         name: header.1,
         switch,
-        default: armed.0,
-        arms: armed.1,
+        default: choices.0,
+        arms: choices.1,
     })
 }
 
 /// A union's default index and its arms.
 #[cycle(reading)]
-fn armed_of(
+fn choices_of(
     alloc: Global,
     r: &mut Reader,
     levels: u32,
     switch: &TypeCode,
 ) -> Result<(i32, List<Arm>), ValueFault>
-    ensures read { Gives is_memory r.new result ((counted_arms (arm_of (labels levels switch.now) (codes levels Inner))).format.reads r.old) }
-    ensures fits { IfOk result (λ armed. FitsSigned w32 armed.0) }
+    ensures read { Gives is_memory r.new result
+        ((counted_arms (arm_of (labels levels switch.now) (codes levels Inner))).format.reads r.old) }
+    ensures fits { IfOk result (λ choices. FitsSigned w32 choices.0) }
 {
     let head = head_of(r)?;
     let arms = arms_of(alloc, r, levels, switch, head.1)?;
@@ -349,7 +352,8 @@ fn arms_of(
     switch: &TypeCode,
     count: u32,
 ) -> Result<List<Arm>, ValueFault>
-    ensures { Gives is_memory r.new result ((array (arm_of (labels levels switch.now) (codes levels Inner)) count).format.reads r.old) }
+    ensures { Gives is_memory r.new result
+        ((array (arm_of (labels levels switch.now) (codes levels Inner)) count).format.reads r.old) }
 {
     let mut arms = List::new(alloc);
     for _ in 0..count {
@@ -361,7 +365,8 @@ fn arms_of(
 
 #[cycle(reading)]
 fn arm_at(alloc: Global, r: &mut Reader, levels: u32, switch: &TypeCode) -> Result<Arm, ValueFault>
-    ensures { Gives is_memory r.new result ((arm_of (labels levels switch.now) (codes levels Inner)).format.reads r.old) }
+    ensures { Gives is_memory r.new result
+        ((arm_of (labels levels switch.now) (codes levels Inner)).format.reads r.old) }
 {
     let label = label_at(r, levels, switch)?;
     match member_of(alloc, r, levels) {

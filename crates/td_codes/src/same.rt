@@ -3,7 +3,9 @@
 ghost use Rattle.std.specs.Prelude.{◌≡◌, ℤ, map, Bool, false, length, ◌&&◌};
 ghost use Rattle.td_codes.specs.declared.code.TypeCode.{out-TypeCode};
 ghost use Rattle.td_codes.specs.declared.kinds.CodeKind.TheVariants as kind;
-ghost use Rattle.td_codes.specs.Same.{same, like, alike, entry_like, shape, row, member_entry, arm_entry, ids_agree, is_alias, kind_shape, str_shape, object_shape, fields_shape, enum_shape, items_shape};
+ghost use Rattle.td_codes.specs.Same.{same, like, alike, entry_like, shape, row, member_entry, arm_entry, ids_agree};
+ghost use Rattle.td_codes.specs.Same.{is_alias, kind_shape, str_shape, object_shape, fields_shape, enum_shape};
+ghost use Rattle.td_codes.specs.Same.{items_shape};
 
 use crate::code::{Arm, Member, TypeCode};
 use crate::label::{label_of, same_label};

@@ -6,13 +6,21 @@ ghost use Rattle.td_cdr.specs.Sound.{array};
 ghost use Rattle.td_cdr.specs.ValueFaults.{is_memory};
 ghost use Rattle.td_codes.specs.declared.mode.Mode.TheVariants.{Outer};
 ghost use Rattle.td_codes.specs.Codes.{codes};
-ghost use Rattle.td_codes.specs.Values.{anys, values, each, branch, branch_of, bounded, count_within, struct_value, union_value, sequence_value, array_value, index_of, is_default, is_chosen, default_arm};
+ghost use Rattle.td_codes.specs.Labels.{labels};
+ghost use Rattle.td_codes.specs.Values.{anys, values, each, branch, branch_of, bounded_text, count_within};
+ghost use Rattle.td_codes.specs.Values.{struct_value, union_value, sequence_value, array_value, index_of, is_default};
+ghost use Rattle.td_codes.specs.Values.{is_chosen, default_arm};
 
 use crate::code::{Any, Arm, Member, TypeCode, Value};
+use crate::kinds::CodeKind;
 use crate::label::{label_of, same_label};
 use crate::labels::{label_at, one_of};
 use crate::mode::Mode;
-use crate::reading::code_at;
+use crate::plain::{
+    boolean_at, char_at, long_at, longlong_at, octet_at, short_at, ulong_at, ulonglong_at,
+    ushort_at,
+};
+use crate::reading::{boxed_at, code_at};
 use crate::reference::Ior;
 use std::alloc::Global;
 use td_cdr::{Boxed, List, Reader, Spelled, Text, ValueFault};
@@ -38,6 +46,16 @@ pub fn any_at(alloc: Global, r: &mut Reader, levels: u32) -> Result<Any, ValueFa
     }
 }
 
+/// An any of at most so many levels, in a block of its own.
+#[cycle(values)]
+fn boxed_any_at(alloc: Global, r: &mut Reader, levels: u32) -> Result<Boxed<Any>, ValueFault>
+    requires few { levels ≤ 16 }
+    ensures { Gives is_memory r.new result ((anys levels).format.reads r.old) }
+{
+    let any = any_at(alloc, r, levels)?;
+    Ok(Boxed::new(alloc, any)?)
+}
+
 /// A value under a TypeCode of at most `depth` levels, in which an any may have `levels` more.
 #[cycle(values)]
 #[tactic(auto, unfolding(crate::specs::Values::values))]
@@ -50,7 +68,8 @@ fn value_at(
 ) -> Result<Value, ValueFault>
     requires few { levels ≤ 16 }
     requires shallow { depth ≤ 16 }
-    ensures { Gives is_memory r.new result ((values (anys levels) (codes levels Outer) depth code.now).format.reads r.old) }
+    ensures { Gives is_memory r.new result
+        ((values (anys levels) (codes levels Outer) depth code.now).format.reads r.old) }
 {
     if depth == 0 {
         return Err(ValueFault::BadValue(r.aligned()));
@@ -59,24 +78,18 @@ fn value_at(
     match code {
         TypeCode::Null => Ok(Value::Empty),
         TypeCode::Void => Ok(Value::Empty),
-        TypeCode::Short => Ok(Value::Short(r.i16()?)),
-        TypeCode::Long => Ok(Value::Long(r.i32()?)),
-        TypeCode::UShort => Ok(Value::UShort(r.u16()?)),
-        TypeCode::ULong => Ok(Value::ULong(r.u32()?)),
-        TypeCode::Boolean => Ok(Value::Boolean(r.boolean()?)),
-        TypeCode::Char => Ok(Value::Char(r.octet()?)),
-        TypeCode::Octet => Ok(Value::Octet(r.octet()?)),
-        TypeCode::LongLong => Ok(Value::LongLong(r.i64()?)),
-        TypeCode::ULongLong => Ok(Value::ULongLong(r.u64()?)),
-        TypeCode::AnyCode => {
-            let any = any_at(alloc, r, levels)?;
-            Ok(Value::AnyValue(Boxed::new(alloc, any)?))
-        }
-        TypeCode::Code => {
-            let code = code_at(alloc, r, levels, Mode::Outer)?;
-            Ok(Value::Code(Boxed::new(alloc, code)?))
-        }
-        TypeCode::Str { bound } => Ok(Value::Str(bounded_at(alloc, r, *bound)?)),
+        TypeCode::Short => short_at(r),
+        TypeCode::Long => long_at(r),
+        TypeCode::UShort => ushort_at(r),
+        TypeCode::ULong => ulong_at(r),
+        TypeCode::Boolean => boolean_at(r),
+        TypeCode::Char => char_at(r),
+        TypeCode::Octet => octet_at(r),
+        TypeCode::LongLong => longlong_at(r),
+        TypeCode::ULongLong => ulonglong_at(r),
+        TypeCode::AnyCode => Ok(Value::AnyValue(boxed_any_at(alloc, r, levels)?)),
+        TypeCode::Code => Ok(Value::Code(boxed_at(alloc, r, levels, Mode::Outer)?)),
+        TypeCode::Str { bound } => Ok(Value::Str(bounded_text_at(alloc, r, *bound)?)),
         TypeCode::ObjRef { .. } => Ok(Value::ObjRef(Ior::read(alloc, r)?)),
         TypeCode::Struct { members, .. } => {
             struct_at(alloc, r, levels, depth, members.as_slice())
@@ -101,13 +114,13 @@ fn value_at(
         }
         TypeCode::Array { item, len } => array_at(alloc, r, levels, depth, item.get(), *len),
         TypeCode::Alias { item, .. } => value_at(alloc, r, levels, depth, item.get()),
-        TypeCode::Except { .. } => Err(ValueFault::Unsupported(22)),
+        TypeCode::Except { .. } => Err(ValueFault::Unsupported(CodeKind::Except.number())),
     }
 }
 
 /// A string of at most `bound` bytes, 0 being no bound.
-fn bounded_at(alloc: Global, r: &mut Reader, bound: u32) -> Result<Text, ValueFault>
-    ensures { Gives is_memory r.new result ((bounded bound).format.reads r.old) }
+fn bounded_text_at(alloc: Global, r: &mut Reader, bound: u32) -> Result<Text, ValueFault>
+    ensures { Gives is_memory r.new result ((bounded_text bound).format.reads r.old) }
 {
     let place = r.aligned();
     let text = Text::read(alloc, r)?;
@@ -139,7 +152,10 @@ fn struct_at(
 ) -> Result<Value, ValueFault>
     requires few { levels ≤ 16 }
     requires shallow { depth ≤ 16 }
-    ensures { Gives is_memory r.new result ((struct_value (anys levels) (codes levels Outer) (values (anys levels) (codes levels Outer) depth) members.now).format.reads r.old) }
+    ensures { Gives is_memory r.new result
+        ((struct_value (anys levels) (codes levels Outer) (values (anys levels) (codes levels Outer) depth)
+        members.now).format.reads
+        r.old) }
 {
     let values = each_at(alloc, r, levels, depth, members)?;
     Ok(Value::Struct(values))
@@ -157,10 +173,44 @@ fn union_at(
 ) -> Result<Value, ValueFault>
     requires few { levels ≤ 16 }
     requires shallow { depth ≤ 16 }
-    ensures { Gives is_memory r.new result ((union_value (anys levels) (codes levels Outer) (values (anys levels) (codes levels Outer) depth) depth switch.now default arms.now).format.reads r.old) }
+    ensures { Gives is_memory r.new result
+        ((union_value (anys levels) (codes levels Outer) (values (anys levels) (codes levels Outer) depth) depth
+        switch.now default arms.now).format.reads
+        r.old) }
 {
-    let label = label_at(r, depth, switch)?;
+    let label = boxed_label_at(alloc, r, depth, switch)?;
     branch_at(alloc, r, levels, depth, label, default, arms)
+}
+
+/// A value of a discriminator of at most so many levels, in a block of its own.
+fn boxed_label_at(
+    alloc: Global,
+    r: &mut Reader,
+    levels: u32,
+    switch: &TypeCode,
+) -> Result<Boxed<Value>, ValueFault>
+    ensures { Gives is_memory r.new result ((labels levels switch.now).format.reads r.old) }
+{
+    let label = label_at(r, levels, switch)?;
+    Ok(Boxed::new(alloc, label)?)
+}
+
+/// A value under a TypeCode, in a block of its own.
+#[cycle(values)]
+fn boxed_value_at(
+    alloc: Global,
+    r: &mut Reader,
+    levels: u32,
+    depth: u32,
+    code: &TypeCode,
+) -> Result<Boxed<Value>, ValueFault>
+    requires few { levels ≤ 16 }
+    requires shallow { depth ≤ 16 }
+    ensures { Gives is_memory r.new result
+        ((values (anys levels) (codes levels Outer) depth code.now).format.reads r.old) }
+{
+    let value = value_at(alloc, r, levels, depth, code)?;
+    Ok(Boxed::new(alloc, value)?)
 }
 
 #[cycle(values)]
@@ -174,7 +224,10 @@ fn sequence_at(
 ) -> Result<Value, ValueFault>
     requires few { levels ≤ 16 }
     requires shallow { depth ≤ 16 }
-    ensures { Gives is_memory r.new result ((sequence_value (anys levels) (codes levels Outer) (values (anys levels) (codes levels Outer) depth) item.now bound).format.reads r.old) }
+    ensures { Gives is_memory r.new result
+        ((sequence_value (anys levels) (codes levels Outer) (values (anys levels) (codes levels Outer) depth) item.now
+        bound).format.reads
+        r.old) }
 {
     let count = count_within(r, bound)?;
     let items = items_at(alloc, r, levels, depth, item, count)?;
@@ -192,7 +245,10 @@ fn array_at(
 ) -> Result<Value, ValueFault>
     requires few { levels ≤ 16 }
     requires shallow { depth ≤ 16 }
-    ensures { Gives is_memory r.new result ((array_value (anys levels) (codes levels Outer) (values (anys levels) (codes levels Outer) depth) item.now len).format.reads r.old) }
+    ensures { Gives is_memory r.new result
+        ((array_value (anys levels) (codes levels Outer) (values (anys levels) (codes levels Outer) depth) item.now
+        len).format.reads
+        r.old) }
 {
     let items = items_at(alloc, r, levels, depth, item, len)?;
     Ok(Value::Items(items))
@@ -205,25 +261,24 @@ fn branch_at(
     r: &mut Reader,
     levels: u32,
     depth: u32,
-    label: Value,
+    label: Boxed<Value>,
     default: Option<usize>,
     arms: &[Arm],
 ) -> Result<Value, ValueFault>
     requires few { levels ≤ 16 }
     requires shallow { depth ≤ 16 }
-    ensures { Gives is_memory r.new result ((branch (anys levels) (codes levels Outer) (values (anys levels) (codes levels Outer) depth) label (branch_of default label arms.now)).format.reads r.old) }
+    ensures { Gives is_memory r.new result
+        ((branch (anys levels) (codes levels Outer) (values (anys levels) (codes levels Outer) depth) label
+        (branch_of default label arms.now)).format.reads
+        r.old) }
 {
-    match branch_of(&label, default, arms) {
-        None => Ok(Value::Union {
-            label: Boxed::new(alloc, label)?,
-            arm: None,
-        }),
+    match branch_of(label.get(), default, arms) {
+        None => Ok(Value::Union { label, arm: None }),
         Some(arm) => {
-            let label = Boxed::new(alloc, label)?;
-            let value = value_at(alloc, r, levels, depth, &arm.code)?;
+            let value = boxed_value_at(alloc, r, levels, depth, &arm.code)?;
             Ok(Value::Union {
                 label,
-                arm: Some(Boxed::new(alloc, value)?),
+                arm: Some(value),
             })
         }
     }
@@ -287,7 +342,10 @@ fn each_at(
 ) -> Result<List<Value>, ValueFault>
     requires few { levels ≤ 16 }
     requires shallow { depth ≤ 16 }
-    ensures { Gives is_memory r.new result ((each (anys levels) (codes levels Outer) (values (anys levels) (codes levels Outer) depth) members.now).format.reads r.old) }
+    ensures { Gives is_memory r.new result
+        ((each (anys levels) (codes levels Outer) (values (anys levels) (codes levels Outer) depth)
+        members.now).format.reads
+        r.old) }
 {
     let mut values = List::new(alloc);
     for member in members {
@@ -309,7 +367,8 @@ fn items_at(
 ) -> Result<List<Value>, ValueFault>
     requires few { levels ≤ 16 }
     requires shallow { depth ≤ 16 }
-    ensures { Gives is_memory r.new result ((array (values (anys levels) (codes levels Outer) depth item.now) count).format.reads r.old) }
+    ensures { Gives is_memory r.new result
+        ((array (values (anys levels) (codes levels Outer) depth item.now) count).format.reads r.old) }
 {
     let mut values = List::new(alloc);
     for _ in 0..count {

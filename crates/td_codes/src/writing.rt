@@ -1,11 +1,12 @@
 //! TypeCodes to bytes.
 
 ghost use Rattle.std.specs.Prelude.{◌≡◌, length, map};
-ghost use Rattle.td_cdr.specs.Format.{Appends, row, ◌then◌};
+ghost use Rattle.td_cdr.specs.Format.{Appends, row, ◌then◌, number, octets, text};
 ghost use Rattle.td_cdr.specs.Writing.{written_octets};
-ghost use Rattle.td_codes.specs.Formats.{number_piece};
+ghost use Rattle.td_codes.specs.declared.kinds.CodeKind.TheVariants as kind;
 ghost use Rattle.td_codes.specs.Labels.{label_of, label_piece};
-ghost use Rattle.td_codes.specs.WritingCodes.{Writes, octets_piece, text, enclosed, kind_piece, header_piece, written, written_arm, written_member, head_piece};
+ghost use Rattle.td_codes.specs.WritingCodes.{Writes, encapsulation_piece, kind_piece, header_piece, code_piece};
+ghost use Rattle.td_codes.specs.WritingCodes.{arm_piece, member_piece, head_piece};
 
 use crate::code::{Arm, Member, TypeCode};
 use crate::kinds::CodeKind;
@@ -20,7 +21,7 @@ use td_cdr::{Memory, Text, Writer};
 /// `Memory` for want of memory or of room; the writer is then unchanged.
 #[cycle(writing)]
 pub fn write_typecode(alloc: Global, w: &mut Writer, code: &TypeCode) -> Result<(), Memory>
-    ensures { Appends (written code.now) w.old w.new result }
+    ensures { Appends (code_piece code.now) w.old w.new result }
 {
     match code {
         TypeCode::Null => write_kind(w, CodeKind::Null),
@@ -37,11 +38,7 @@ pub fn write_typecode(alloc: Global, w: &mut Writer, code: &TypeCode) -> Result<
         TypeCode::LongLong => write_kind(w, CodeKind::LongLong),
         TypeCode::ULongLong => write_kind(w, CodeKind::ULongLong),
         TypeCode::Str { bound } => write_two(w, CodeKind::Str, *bound),
-        TypeCode::ObjRef { id, name } => {
-            let mut inner = Writer::inside(alloc, w.order())?;
-            write_texts(&mut inner, id.as_slice(), name.as_slice())?;
-            write_enclosed(w, CodeKind::ObjRef, &inner)
-        }
+        TypeCode::ObjRef { id, name } => write_object(alloc, w, id.as_slice(), name.as_slice()),
         TypeCode::Struct { id, name, members } => {
             write_fields(
                 alloc,
@@ -68,38 +65,19 @@ pub fn write_typecode(alloc: Global, w: &mut Writer, code: &TypeCode) -> Result<
                 switch.get(),
             )?;
             write_back(alloc, &mut inner, default, arms.as_slice())?;
-            write_enclosed(w, CodeKind::Union, &inner)
+            write_encapsulation(w, CodeKind::Union, &inner)
         }
         TypeCode::Enum { id, name, labels } => {
-            let mut inner = Writer::inside(alloc, w.order())?;
-            write_enum(
-                &mut inner,
-                id.as_slice(),
-                name.as_slice(),
-                labels.as_slice(),
-            )?;
-            write_enclosed(w, CodeKind::Enum, &inner)
+            write_enumeration(alloc, w, id.as_slice(), name.as_slice(), labels.as_slice())
         }
         TypeCode::Sequence { item, bound } => {
-            let mut inner = Writer::inside(alloc, w.order())?;
-            write_bounded(alloc, &mut inner, item.get(), *bound)?;
-            write_enclosed(w, CodeKind::Sequence, &inner)
+            write_items(alloc, w, CodeKind::Sequence, item.get(), *bound)
         }
         TypeCode::Array { item, len } => {
-            let mut inner = Writer::inside(alloc, w.order())?;
-            write_bounded(alloc, &mut inner, item.get(), *len)?;
-            write_enclosed(w, CodeKind::Array, &inner)
+            write_items(alloc, w, CodeKind::Array, item.get(), *len)
         }
         TypeCode::Alias { id, name, item } => {
-            let mut inner = Writer::inside(alloc, w.order())?;
-            write_front(
-                alloc,
-                &mut inner,
-                id.as_slice(),
-                name.as_slice(),
-                item.get(),
-            )?;
-            write_enclosed(w, CodeKind::Alias, &inner)
+            write_alias(alloc, w, id.as_slice(), name.as_slice(), item.get())
         }
         TypeCode::Except { id, name, members } => {
             write_fields(
@@ -123,7 +101,7 @@ fn write_kind(w: &mut Writer, kind: CodeKind) -> Result<(), Memory>
 
 /// A kind and a number, or nothing.
 fn write_two(w: &mut Writer, kind: CodeKind, n: u32) -> Result<(), Memory>
-    ensures { Appends (kind_piece kind then number_piece 4 n) w.old w.new result }
+    ensures { Appends (kind_piece kind then (number 4).writes n) w.old w.new result }
 {
     let held = w.len();
     w.u32(kind.number())?;
@@ -137,8 +115,8 @@ fn write_two(w: &mut Writer, kind: CodeKind, n: u32) -> Result<(), Memory>
 }
 
 /// The kind and the octets of its encapsulation, or nothing.
-fn write_enclosed(w: &mut Writer, kind: CodeKind, inner: &Writer) -> Result<(), Memory>
-    ensures { Appends (kind_piece kind then octets_piece inner.now.bytes) w.old w.new result }
+fn write_encapsulation(w: &mut Writer, kind: CodeKind, inner: &Writer) -> Result<(), Memory>
+    ensures { Appends (kind_piece kind then octets.writes inner.now.bytes) w.old w.new result }
 {
     let held = w.len();
     w.u32(kind.number())?;
@@ -151,9 +129,78 @@ fn write_enclosed(w: &mut Writer, kind: CodeKind, inner: &Writer) -> Result<(), 
     }
 }
 
+/// An object reference's TypeCode, or nothing.
+fn write_object(alloc: Global, w: &mut Writer, id: &[u8], name: &[u8]) -> Result<(), Memory>
+    ensures { Appends (kind_piece kind.ObjRef then encapsulation_piece (header_piece id.now name.now)) w.old w.new
+        result }
+{
+    let mut inner = Writer::inside(alloc, w.order())?;
+    write_texts(&mut inner, id, name)?;
+    write_encapsulation(w, CodeKind::ObjRef, &inner)
+}
+
+/// A sequence or an array with its bound or length, or nothing.
 #[cycle(writing)]
-fn write_bounded(alloc: Global, w: &mut Writer, item: &TypeCode, bound: u32) -> Result<(), Memory>
-    ensures { Writes (written item.now then number_piece 4 bound) w.old w.new result }
+fn write_items(
+    alloc: Global,
+    w: &mut Writer,
+    kind: CodeKind,
+    item: &TypeCode,
+    size: u32,
+) -> Result<(), Memory>
+    ensures { Appends (kind_piece kind then encapsulation_piece (code_piece item.now then (number 4).writes size)) w.old
+        w.new result }
+{
+    let mut inner = Writer::inside(alloc, w.order())?;
+    write_item_and_size(alloc, &mut inner, item, size)?;
+    write_encapsulation(w, kind, &inner)
+}
+
+/// An alias, or nothing.
+#[cycle(writing)]
+fn write_alias(
+    alloc: Global,
+    w: &mut Writer,
+    id: &[u8],
+    name: &[u8],
+    item: &TypeCode,
+) -> Result<(), Memory>
+    ensures { Appends (kind_piece kind.Alias
+        then encapsulation_piece (header_piece id.now name.now then code_piece item.now))
+        w.old w.new result }
+{
+    let mut inner = Writer::inside(alloc, w.order())?;
+    write_front(alloc, &mut inner, id, name, item)?;
+    write_encapsulation(w, CodeKind::Alias, &inner)
+}
+
+/// An enumeration, or nothing.
+fn write_enumeration(
+    alloc: Global,
+    w: &mut Writer,
+    id: &[u8],
+    name: &[u8],
+    names: &[Text],
+) -> Result<(), Memory>
+    ensures { Appends (kind_piece kind.Enum
+        then encapsulation_piece (header_piece id.now name.now then (number 4).writes (length names.now)
+        then row (map text.writes names.now)))
+        w.old w.new result }
+{
+    let mut inner = Writer::inside(alloc, w.order())?;
+    write_enum(&mut inner, id, name, names)?;
+    write_encapsulation(w, CodeKind::Enum, &inner)
+}
+
+/// The parameters of a sequence or an array.
+#[cycle(writing)]
+fn write_item_and_size(
+    alloc: Global,
+    w: &mut Writer,
+    item: &TypeCode,
+    bound: u32,
+) -> Result<(), Memory>
+    ensures { Writes (code_piece item.now then (number 4).writes bound) w.old w.new result }
 {
     write_typecode(alloc, w, item)?;
     w.u32(bound)
@@ -168,7 +215,7 @@ fn write_texts(w: &mut Writer, id: &[u8], name: &[u8]) -> Result<(), Memory>
 
 /// A number of items.
 pub fn write_count(w: &mut Writer, count: usize) -> Result<(), Memory>
-    ensures { Appends (number_piece 4 count) w.old w.new result }
+    ensures { Appends ((number 4).writes count) w.old w.new result }
 {
     if count > u32::MAX as usize {
         return Err(Memory);
@@ -176,8 +223,11 @@ pub fn write_count(w: &mut Writer, count: usize) -> Result<(), Memory>
     w.u32(count as u32)
 }
 
+/// The parameters of an enumeration.
 fn write_enum(w: &mut Writer, id: &[u8], name: &[u8], names: &[Text]) -> Result<(), Memory>
-    ensures { Writes (header_piece id.now name.now then number_piece 4 (length names.now) then row (map text names.now)) w.old w.new result }
+    ensures { Writes (header_piece id.now name.now then (number 4).writes (length names.now)
+        then row (map text.writes names.now))
+        w.old w.new result }
 {
     write_texts(w, id, name)?;
     write_count(w, names.len())?;
@@ -185,7 +235,7 @@ fn write_enum(w: &mut Writer, id: &[u8], name: &[u8], names: &[Text]) -> Result<
 }
 
 fn write_names(w: &mut Writer, names: &[Text]) -> Result<(), Memory>
-    ensures { Writes (row (map text names.now)) w.old w.new result }
+    ensures { Writes (row (map text.writes names.now)) w.old w.new result }
 {
     for name in names {
         write_name(w, name)?;
@@ -194,7 +244,7 @@ fn write_names(w: &mut Writer, names: &[Text]) -> Result<(), Memory>
 }
 
 fn write_name(w: &mut Writer, name: &Text) -> Result<(), Memory>
-    ensures { Writes (text name.now) w.old w.new result }
+    ensures { Writes (text.writes name.now) w.old w.new result }
 {
     w.string(name.as_slice())
 }
@@ -209,11 +259,14 @@ fn write_fields(
     name: &[u8],
     members: &[Member],
 ) -> Result<(), Memory>
-    ensures { Appends (kind_piece kind then enclosed (header_piece id.now name.now then number_piece 4 (length members.now) then row (map written_member members.now))) w.old w.new result }
+    ensures { Appends (kind_piece kind
+        then encapsulation_piece (header_piece id.now name.now then (number 4).writes (length members.now)
+        then row (map member_piece members.now)))
+        w.old w.new result }
 {
     let mut inner = Writer::inside(alloc, w.order())?;
     write_struct(alloc, &mut inner, id, name, members)?;
-    write_enclosed(w, kind, &inner)
+    write_encapsulation(w, kind, &inner)
 }
 
 /// The parameters of a structure or an exception.
@@ -225,7 +278,9 @@ fn write_struct(
     name: &[u8],
     members: &[Member],
 ) -> Result<(), Memory>
-    ensures { Writes (header_piece id.now name.now then number_piece 4 (length members.now) then row (map written_member members.now)) w.old w.new result }
+    ensures { Writes (header_piece id.now name.now then (number 4).writes (length members.now)
+        then row (map member_piece members.now))
+        w.old w.new result }
 {
     write_texts(w, id, name)?;
     write_count(w, members.len())?;
@@ -234,7 +289,7 @@ fn write_struct(
 
 #[cycle(writing)]
 fn write_members(alloc: Global, w: &mut Writer, members: &[Member]) -> Result<(), Memory>
-    ensures { Writes (row (map written_member members.now)) w.old w.new result }
+    ensures { Writes (row (map member_piece members.now)) w.old w.new result }
 {
     for member in members {
         write_member(alloc, w, member)?;
@@ -244,7 +299,7 @@ fn write_members(alloc: Global, w: &mut Writer, members: &[Member]) -> Result<()
 
 #[cycle(writing)]
 fn write_member(alloc: Global, w: &mut Writer, member: &Member) -> Result<(), Memory>
-    ensures { Writes (written_member member.now) w.old w.new result }
+    ensures { Writes (member_piece member.now) w.old w.new result }
 {
     w.string(member.name.as_slice())?;
     write_typecode(alloc, w, &member.code)
@@ -259,7 +314,7 @@ fn write_front(
     name: &[u8],
     item: &TypeCode,
 ) -> Result<(), Memory>
-    ensures { Writes (header_piece id.now name.now then written item.now) w.old w.new result }
+    ensures { Writes (header_piece id.now name.now then code_piece item.now) w.old w.new result }
 {
     write_texts(w, id, name)?;
     write_typecode(alloc, w, item)
@@ -268,7 +323,7 @@ fn write_front(
 /// A union's parameters behind its discriminator.
 #[cycle(writing)]
 fn write_back(alloc: Global, w: &mut Writer, default: &i32, arms: &[Arm]) -> Result<(), Memory>
-    ensures { Writes (head_piece default.now (length arms.now) then row (map written_arm arms.now)) w.old w.new result }
+    ensures { Writes (head_piece default.now (length arms.now) then row (map arm_piece arms.now)) w.old w.new result }
 {
     write_head(w, default, arms.len())?;
     write_arms(alloc, w, arms)
@@ -284,7 +339,7 @@ fn write_head(w: &mut Writer, default: &i32, count: usize) -> Result<(), Memory>
 
 #[cycle(writing)]
 fn write_arms(alloc: Global, w: &mut Writer, arms: &[Arm]) -> Result<(), Memory>
-    ensures { Writes (row (map written_arm arms.now)) w.old w.new result }
+    ensures { Writes (row (map arm_piece arms.now)) w.old w.new result }
 {
     for arm in arms {
         write_arm(alloc, w, arm)?;
@@ -294,7 +349,7 @@ fn write_arms(alloc: Global, w: &mut Writer, arms: &[Arm]) -> Result<(), Memory>
 
 #[cycle(writing)]
 fn write_arm(alloc: Global, w: &mut Writer, arm: &Arm) -> Result<(), Memory>
-    ensures { Writes (written_arm arm.now) w.old w.new result }
+    ensures { Writes (arm_piece arm.now) w.old w.new result }
 {
     write_label(w, label_of(&arm.label))?;
     w.string(arm.name.as_slice())?;

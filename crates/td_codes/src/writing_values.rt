@@ -7,9 +7,11 @@ ghost use Rattle.td_cdr.specs.Sound.{text};
 ghost use Rattle.td_codes.specs.declared.code.Value.{out-Value};
 ghost use Rattle.td_codes.specs.declared.mode.Mode.TheVariants.{Outer};
 ghost use Rattle.td_codes.specs.Codes.{codes};
+ghost use Rattle.td_codes.specs.Labels.{plain_piece};
 ghost use Rattle.td_codes.specs.References.{reference};
-ghost use Rattle.td_codes.specs.Values.{anys, values, each, text_in, any_in, code_in, reference_in, items_in, struct_value, items_piece, sequence_piece, branch_piece, union_piece};
-ghost use Rattle.td_codes.specs.WritingCodes.{written};
+ghost use Rattle.td_codes.specs.Values.{anys, values, each, text_in, any_in, code_in, reference_in, items_in};
+ghost use Rattle.td_codes.specs.Values.{struct_value, items_piece, sequence_piece, branch_piece, union_piece};
+ghost use Rattle.td_codes.specs.WritingCodes.{code_piece};
 
 use crate::code::{Any, Arm, Member, TypeCode, Value};
 use crate::label::label_of;
@@ -44,7 +46,8 @@ fn put_value(
 ) -> Result<(), Memory>
     requires few { levels ≤ 16 }
     requires shallow { depth ≤ 16 }
-    ensures { Puts ((values (anys levels) (codes levels Outer) depth code.now).format.writes value.now) w.old w.new result }
+    ensures { Puts ((values (anys levels) (codes levels Outer) depth code.now).format.writes value.now) w.old w.new
+        result }
 {
     if depth == 0 {
         return Ok(());
@@ -53,15 +56,15 @@ fn put_value(
     match code {
         TypeCode::Null => Ok(()),
         TypeCode::Void => Ok(()),
-        TypeCode::Short => write_label(w, label_of(value)),
-        TypeCode::Long => write_label(w, label_of(value)),
-        TypeCode::UShort => write_label(w, label_of(value)),
-        TypeCode::ULong => write_label(w, label_of(value)),
-        TypeCode::Boolean => write_label(w, label_of(value)),
-        TypeCode::Char => write_label(w, label_of(value)),
-        TypeCode::Octet => write_label(w, label_of(value)),
-        TypeCode::LongLong => write_label(w, label_of(value)),
-        TypeCode::ULongLong => write_label(w, label_of(value)),
+        TypeCode::Short => put_plain(w, value),
+        TypeCode::Long => put_plain(w, value),
+        TypeCode::UShort => put_plain(w, value),
+        TypeCode::ULong => put_plain(w, value),
+        TypeCode::Boolean => put_plain(w, value),
+        TypeCode::Char => put_plain(w, value),
+        TypeCode::Octet => put_plain(w, value),
+        TypeCode::LongLong => put_plain(w, value),
+        TypeCode::ULongLong => put_plain(w, value),
         TypeCode::AnyCode => put_any_in(alloc, w, levels, value),
         TypeCode::Code => put_code_in(alloc, w, value),
         TypeCode::Str { .. } => put_text_in(w, value),
@@ -80,7 +83,7 @@ fn put_value(
                 value,
             )
         }
-        TypeCode::Enum { .. } => write_label(w, label_of(value)),
+        TypeCode::Enum { .. } => put_plain(w, value),
         TypeCode::Sequence { item, .. } => {
             put_sequence(alloc, w, levels, depth, item.get(), value)
         }
@@ -88,6 +91,13 @@ fn put_value(
         TypeCode::Alias { item, .. } => put_value(alloc, w, levels, depth, item.get(), value),
         TypeCode::Except { .. } => Ok(()),
     }
+}
+
+/// The number that spells a plain value.
+fn put_plain(w: &mut Writer, value: &Value) -> Result<(), Memory>
+    ensures { Puts (plain_piece value.now) w.old w.new result }
+{
+    write_label(w, label_of(value))
 }
 
 /// The any that the value is.
@@ -104,7 +114,7 @@ fn put_any_in(alloc: Global, w: &mut Writer, levels: u32, value: &Value) -> Resu
 
 /// The TypeCode that the value is.
 fn put_code_in(alloc: Global, w: &mut Writer, value: &Value) -> Result<(), Memory>
-    ensures { Puts (none_or written (code_in (out-Value value.now))) w.old w.new result }
+    ensures { Puts (none_or code_piece (code_in (out-Value value.now))) w.old w.new result }
 {
     match value {
         Value::Code(code) => write_typecode(alloc, w, code.get()),
@@ -144,7 +154,10 @@ fn put_struct(
 ) -> Result<(), Memory>
     requires few { levels ≤ 16 }
     requires shallow { depth ≤ 16 }
-    ensures { Puts ((struct_value (anys levels) (codes levels Outer) (values (anys levels) (codes levels Outer) depth) members.now).format.writes value.now) w.old w.new result }
+    ensures { Puts ((struct_value (anys levels) (codes levels Outer) (values (anys levels) (codes levels Outer) depth)
+        members.now).format.writes
+        value.now)
+        w.old w.new result }
 {
     match value {
         Value::Struct(held) => put_fields(alloc, w, levels, depth, members, held.as_slice()),
@@ -164,7 +177,10 @@ fn put_fields(
 ) -> Result<(), Memory>
     requires few { levels ≤ 16 }
     requires shallow { depth ≤ 16 }
-    ensures { Puts ((each (anys levels) (codes levels Outer) (values (anys levels) (codes levels Outer) depth) members.now).format.writes held.now) w.old w.new result }
+    ensures { Puts ((each (anys levels) (codes levels Outer) (values (anys levels) (codes levels Outer) depth)
+        members.now).format.writes
+        held.now)
+        w.old w.new result }
 {
     let count = members.len().min(held.len());
     for i in 0..count {
@@ -186,7 +202,9 @@ fn put_union(
 ) -> Result<(), Memory>
     requires few { levels ≤ 16 }
     requires shallow { depth ≤ 16 }
-    ensures { Puts (union_piece (anys levels) (codes levels Outer) (values (anys levels) (codes levels Outer) depth) default arms.now (out-Value value.now)) w.old w.new result }
+    ensures { Puts (union_piece (anys levels) (codes levels Outer) (values (anys levels) (codes levels Outer) depth)
+        default arms.now (out-Value value.now))
+        w.old w.new result }
 {
     match value {
         Value::Union { label, arm } => {
@@ -216,7 +234,9 @@ fn put_branch(
 ) -> Result<(), Memory>
     requires few { levels ≤ 16 }
     requires shallow { depth ≤ 16 }
-    ensures { Puts (branch_piece (anys levels) (codes levels Outer) (values (anys levels) (codes levels Outer) depth) (option_copied chosen.entry) value.now) w.old w.new result }
+    ensures { Puts (branch_piece (anys levels) (codes levels Outer) (values (anys levels) (codes levels Outer) depth)
+        (option_copied chosen.entry) value.now)
+        w.old w.new result }
 {
     match (chosen, value) {
         (Some(arm), Some(value)) => put_value(alloc, w, levels, depth, &arm.code, value.get()),
@@ -236,17 +256,20 @@ fn put_sequence(
 ) -> Result<(), Memory>
     requires few { levels ≤ 16 }
     requires shallow { depth ≤ 16 }
-    ensures { Puts (none_or (sequence_piece (anys levels) (codes levels Outer) (values (anys levels) (codes levels Outer) depth) item.now) (items_in (out-Value value.now))) w.old w.new result }
+    ensures { Puts (none_or (sequence_piece (anys levels) (codes levels Outer)
+        (values (anys levels) (codes levels Outer) depth) item.now)
+        (items_in (out-Value value.now)))
+        w.old w.new result }
 {
     match value {
-        Value::Items(items) => put_counted(alloc, w, levels, depth, item, items.as_slice()),
+        Value::Items(items) => put_count_and_items(alloc, w, levels, depth, item, items.as_slice()),
         _ => Ok(()),
     }
 }
 
 /// A count and the items behind it.
 #[cycle(putting)]
-fn put_counted(
+fn put_count_and_items(
     alloc: Global,
     w: &mut Writer,
     levels: u32,
@@ -256,7 +279,9 @@ fn put_counted(
 ) -> Result<(), Memory>
     requires few { levels ≤ 16 }
     requires shallow { depth ≤ 16 }
-    ensures { Puts (sequence_piece (anys levels) (codes levels Outer) (values (anys levels) (codes levels Outer) depth) item.now items.now) w.old w.new result }
+    ensures { Puts (sequence_piece (anys levels) (codes levels Outer) (values (anys levels) (codes levels Outer) depth)
+        item.now items.now)
+        w.old w.new result }
 {
     write_count(w, items.len())?;
     put_items(alloc, w, levels, depth, item, items)
@@ -274,7 +299,10 @@ fn put_array(
 ) -> Result<(), Memory>
     requires few { levels ≤ 16 }
     requires shallow { depth ≤ 16 }
-    ensures { Puts (none_or (items_piece (anys levels) (codes levels Outer) (values (anys levels) (codes levels Outer) depth) item.now) (items_in (out-Value value.now))) w.old w.new result }
+    ensures { Puts (none_or (items_piece (anys levels) (codes levels Outer)
+        (values (anys levels) (codes levels Outer) depth) item.now)
+        (items_in (out-Value value.now)))
+        w.old w.new result }
 {
     match value {
         Value::Items(items) => put_items(alloc, w, levels, depth, item, items.as_slice()),
@@ -294,7 +322,9 @@ fn put_items(
 ) -> Result<(), Memory>
     requires few { levels ≤ 16 }
     requires shallow { depth ≤ 16 }
-    ensures { Puts (items_piece (anys levels) (codes levels Outer) (values (anys levels) (codes levels Outer) depth) item.now items.now) w.old w.new result }
+    ensures { Puts (items_piece (anys levels) (codes levels Outer) (values (anys levels) (codes levels Outer) depth)
+        item.now items.now)
+        w.old w.new result }
 {
     for value in items {
         put_value(alloc, w, levels, depth, item, value)?;

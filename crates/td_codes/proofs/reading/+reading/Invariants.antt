@@ -30,8 +30,8 @@ decreases-fields_of l = 9 * l.levels + 4
 abbrev pub decreases-arms_of : goal.decreases-arms_of
 decreases-arms_of l = 9 * l.levels + 3
 
-abbrev pub decreases-armed_of : goal.decreases-armed_of
-decreases-armed_of l = 9 * l.levels + 4
+abbrev pub decreases-choices_of : goal.decreases-choices_of
+decreases-choices_of l = 9 * l.levels + 4
 
 abbrev pub decreases-front_of : goal.decreases-front_of
 decreases-front_of l = 9 * l.levels + 2

@@ -9,14 +9,19 @@ same_members-returns-then-a-b t c = sym (here-long member_entry c.args.a.now c.a
 pub same_members-returns-then-not-same_member : goal.same_members-returns-then-not-same_member
 same_members-returns-then-not-same_member t c =
     let low : c.loop-i.i < length c.args.b.now = omega (arith, c.loop-i-test.true, c.loop-i.invariant.long) in
-    here-fails member_entry c.loop-i.i c.args.a.now c.args.b.now c.index-a-i.result c.index-b-i.result c.loop-i-test.true low c.index-a-i.is c.index-b-i.is c.if-not-same_member.ensures ∙ c.loop-i.invariant.so_far
+    here-fails member_entry c.loop-i.i c.args.a.now c.args.b.now c.index-a-i.result c.index-b-i.result
+    c.loop-i-test.true low c.index-a-i.is c.index-b-i.is c.if-not-same_member.ensures
+    ∙ c.loop-i.invariant.so_far
 
 pub same_members-loop-i-preserved : goal.same_members-loop-i-preserved
 same_members-loop-i-preserved t c =
     let low : c.loop-i.i < length c.args.b.now = omega (arith, c.loop-i-test.true, c.loop-i.invariant.long) in
     record {
       long = c.loop-i.invariant.long;
-      so_far = here-next member_entry c.loop-i.i c.args.a.now c.args.b.now c.index-a-i.result c.index-b-i.result c.loop-i-test.true low c.index-a-i.is c.index-b-i.is c.if-not-same_member.ensures ∙ c.loop-i.invariant.so_far;
+      so_far =
+          here-next member_entry c.loop-i.i c.args.a.now c.args.b.now c.index-a-i.result c.index-b-i.result
+          c.loop-i-test.true low c.index-a-i.is c.index-b-i.is c.if-not-same_member.ensures
+          ∙ c.loop-i.invariant.so_far;
     }
 
 pub same_arms-returns-then-a-b : goal.same_arms-returns-then-a-b
@@ -25,12 +30,17 @@ same_arms-returns-then-a-b t c = sym (here-long arm_entry c.args.a.now c.args.b.
 pub same_arms-returns-then-not-same_arm : goal.same_arms-returns-then-not-same_arm
 same_arms-returns-then-not-same_arm t c =
     let low : c.loop-i.i < length c.args.b.now = omega (arith, c.loop-i-test.true, c.loop-i.invariant.long) in
-    here-fails arm_entry c.loop-i.i c.args.a.now c.args.b.now c.index-a-i.result c.index-b-i.result c.loop-i-test.true low c.index-a-i.is c.index-b-i.is c.if-not-same_arm.ensures ∙ c.loop-i.invariant.so_far
+    here-fails arm_entry c.loop-i.i c.args.a.now c.args.b.now c.index-a-i.result c.index-b-i.result c.loop-i-test.true
+    low c.index-a-i.is c.index-b-i.is c.if-not-same_arm.ensures
+    ∙ c.loop-i.invariant.so_far
 
 pub same_arms-loop-i-preserved : goal.same_arms-loop-i-preserved
 same_arms-loop-i-preserved t c =
     let low : c.loop-i.i < length c.args.b.now = omega (arith, c.loop-i-test.true, c.loop-i.invariant.long) in
     record {
       long = c.loop-i.invariant.long;
-      so_far = here-next arm_entry c.loop-i.i c.args.a.now c.args.b.now c.index-a-i.result c.index-b-i.result c.loop-i-test.true low c.index-a-i.is c.index-b-i.is c.if-not-same_arm.ensures ∙ c.loop-i.invariant.so_far;
+      so_far =
+          here-next arm_entry c.loop-i.i c.args.a.now c.args.b.now c.index-a-i.result c.index-b-i.result
+          c.loop-i-test.true low c.index-a-i.is c.index-b-i.is c.if-not-same_arm.ensures
+          ∙ c.loop-i.invariant.so_far;
     }

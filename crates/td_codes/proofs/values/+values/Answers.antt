@@ -1,3 +1,4 @@
+use Rattle.std.proofs.Common.{refl}
 use Rattle.std.proofs.lemmas.Result.{err_from_is_err_and}
 use Rattle.td_cdr.specs.Format.{array_format}
 use Rattle.td_cdr.specs.ValueFaults.{is_memory}
@@ -6,7 +7,9 @@ use Rattle.td_codes.specs.declared.mode.Mode.TheVariants.{Outer}
 use Rattle.td_codes.specs.declared.code.TypeCode.TheVariants as code
 use Rattle.td_codes.specs.declared.code.TypeCode.TheOpen as layer_of
 use Rattle.td_codes.specs.Codes.{codes}
-use Rattle.td_codes.specs.Layers.{code-struct, code-union, code-enum, code-sequence, code-array}
+use Rattle.td_codes.specs.Layers.{code-null, code-void, code-short, code-long, code-ushort, code-ulong, code-boolean}
+use Rattle.td_codes.specs.Layers.{code-char, code-octet, code-longlong, code-ulonglong, code-struct, code-union}
+use Rattle.td_codes.specs.Layers.{code-enum, code-sequence, code-array, code-alias}
 use Rattle.td_codes.specs.Values.{anys, values}
 use Rattle.td_codes.proofs.AtLayers.{values-reads, any-fails}
 use Rattle.td_codes.proofs.values.+values.Goals as goal
@@ -15,38 +18,197 @@ pub items_at-returns-in_err-value : goal.items_at-returns-in_err-value
 items_at-returns-in_err-value t c =
     let p = err_from_is_err_and c.from_residual.result c.from_residual.ensures.1 in
     let g = (values (anys c.args.levels) (codes c.args.levels Outer) c.args.depth c.args.item.now).format in
-    rw (p.1, p.2) (ends is_memory g c.loop.values c.args.count c.loop.counter c.loop.r c.value_at.new.r _ ((array_format g c.args.count).reads c.args.r.now) c.loop-test.true c.in_err-value.ensures c.loop.invariant)
+    rw (p.1, p.2) (ends is_memory g c.loop.values c.args.count c.loop.counter c.loop.r c.value_at.new.r _
+    ((array_format g c.args.count).reads c.args.r.now) c.loop-test.true c.in_err-value.ensures c.loop.invariant)
 
 pub items_at-loop-preserved : goal.items_at-loop-preserved
 items_at-loop-preserved t c =
     let g = (values (anys c.args.levels) (codes c.args.levels Outer) c.args.depth c.args.item.now).format in
-    rw c.in_ok-push.ensures.ok (goes_on g c.loop.values c.args.count c.loop.counter c.loop.r _ _ ((array_format g c.args.count).reads c.args.r.now) c.loop-test.true c.in_ok-value.ensures c.loop.invariant)
+    rw c.in_ok-push.ensures.ok
+    (goes_on g c.loop.values c.args.count c.loop.counter c.loop.r _ _
+    ((array_format g c.args.count).reads c.args.r.now) c.loop-test.true c.in_ok-value.ensures c.loop.invariant)
 
 pub items_at-returns : goal.items_at-returns
 items_at-returns t c =
     let g = (values (anys c.args.levels) (codes c.args.levels Outer) c.args.depth c.args.item.now).format in
-    is_done g c.loop.values c.args.count c.loop.counter c.loop.r ((array_format g c.args.count).reads c.args.r.now) c.loop-test.false c.loop.invariant
+    is_done g c.loop.values c.args.count c.loop.counter c.loop.r ((array_format g c.args.count).reads c.args.r.now)
+    c.loop-test.false c.loop.invariant
 
 pub value_at-returns-in-Struct : goal.value_at-returns-in-Struct
 value_at-returns-in-Struct t c =
-    rw (c.in-Struct.is, values-reads (anys c.args.levels) (codes c.args.levels Outer) c.args.depth (code.Struct c.in-Struct.id c.in-Struct.name c.in-Struct.members) (layer_of.TypeCode::Struct c.in-Struct.id c.in-Struct.name c.in-Struct.members) c.if-depth-eq0.false (code-struct c.in-Struct.id c.in-Struct.name c.in-Struct.members) c.args.r.now, ← c.as_slice.ensures) c.struct_at.ensures
+    rw (
+      c.in-Struct.is,
+      values-reads (anys c.args.levels) (codes c.args.levels Outer) c.args.depth
+          (code.Struct c.in-Struct.id c.in-Struct.name c.in-Struct.members)
+          (layer_of.TypeCode::Struct c.in-Struct.id c.in-Struct.name c.in-Struct.members) c.if-depth-eq0.false
+          (code-struct c.in-Struct.id c.in-Struct.name c.in-Struct.members) c.args.r.now,
+      ← c.as_slice.ensures,
+    )
+    c.struct_at.ensures
 
 pub value_at-returns-in-Union : goal.value_at-returns-in-Union
 value_at-returns-in-Union t c =
-    rw (c.in-Union.is, values-reads (anys c.args.levels) (codes c.args.levels Outer) c.args.depth (code.Union c.in-Union.id c.in-Union.name c.in-Union.switch c.in-Union.default c.in-Union.arms) (layer_of.TypeCode::Union c.in-Union.id c.in-Union.name c.in-Union.switch c.in-Union.default c.in-Union.arms) c.if-depth-eq0.false (code-union c.in-Union.id c.in-Union.name c.in-Union.switch c.in-Union.default c.in-Union.arms) c.args.r.now, ← c.as_slice-in-Union.ensures, ← c.get.ensures, ← c.index_of.ensures) c.union_at.ensures
+    rw (
+      c.in-Union.is,
+      values-reads (anys c.args.levels) (codes c.args.levels Outer) c.args.depth
+          (code.Union c.in-Union.id c.in-Union.name c.in-Union.switch c.in-Union.default c.in-Union.arms)
+          (layer_of.TypeCode::Union c.in-Union.id c.in-Union.name c.in-Union.switch c.in-Union.default c.in-Union.arms)
+          c.if-depth-eq0.false
+          (code-union c.in-Union.id c.in-Union.name c.in-Union.switch c.in-Union.default c.in-Union.arms) c.args.r.now,
+      ← c.as_slice-in-Union.ensures,
+      ← c.get.ensures,
+      ← c.index_of.ensures,
+    )
+    c.union_at.ensures
 
 pub value_at-returns-in-Enum : goal.value_at-returns-in-Enum
 value_at-returns-in-Enum t c =
-    rw (c.in-Enum.is, values-reads (anys c.args.levels) (codes c.args.levels Outer) c.args.depth (code.Enum c.in-Enum.id c.in-Enum.name c.in-Enum.labels) (layer_of.TypeCode::Enum c.in-Enum.id c.in-Enum.name c.in-Enum.labels) c.if-depth-eq0.false (code-enum c.in-Enum.id c.in-Enum.name c.in-Enum.labels) c.args.r.now, ← c.len.ensures) c.one_of.ensures
+    rw (
+      c.in-Enum.is,
+      values-reads (anys c.args.levels) (codes c.args.levels Outer) c.args.depth
+          (code.Enum c.in-Enum.id c.in-Enum.name c.in-Enum.labels)
+          (layer_of.TypeCode::Enum c.in-Enum.id c.in-Enum.name c.in-Enum.labels) c.if-depth-eq0.false
+          (code-enum c.in-Enum.id c.in-Enum.name c.in-Enum.labels) c.args.r.now,
+      ← c.len.ensures,
+    )
+    c.one_of.ensures
 
 pub value_at-returns-in-Sequence : goal.value_at-returns-in-Sequence
 value_at-returns-in-Sequence t c =
-    rw (c.in-Sequence.is, values-reads (anys c.args.levels) (codes c.args.levels Outer) c.args.depth (code.Sequence c.in-Sequence.item c.in-Sequence.bound) (layer_of.Sequence c.in-Sequence.item c.in-Sequence.bound) c.if-depth-eq0.false (code-sequence c.in-Sequence.item c.in-Sequence.bound) c.args.r.now, ← c.get-in-Sequence.ensures) c.sequence_at.ensures
+    rw (
+      c.in-Sequence.is,
+      values-reads (anys c.args.levels) (codes c.args.levels Outer) c.args.depth
+          (code.Sequence c.in-Sequence.item c.in-Sequence.bound)
+          (layer_of.Sequence c.in-Sequence.item c.in-Sequence.bound) c.if-depth-eq0.false
+          (code-sequence c.in-Sequence.item c.in-Sequence.bound) c.args.r.now,
+      ← c.get-in-Sequence.ensures,
+    )
+    c.sequence_at.ensures
 
 pub value_at-returns-in-Array : goal.value_at-returns-in-Array
 value_at-returns-in-Array t c =
-    rw (c.in-Array.is, values-reads (anys c.args.levels) (codes c.args.levels Outer) c.args.depth (code.Array c.in-Array.item c.in-Array.len) (layer_of.Array c.in-Array.item c.in-Array.len) c.if-depth-eq0.false (code-array c.in-Array.item c.in-Array.len) c.args.r.now, ← c.get-in-Array.ensures) c.array_at.ensures
+    rw (
+      c.in-Array.is,
+      values-reads (anys c.args.levels) (codes c.args.levels Outer) c.args.depth
+          (code.Array c.in-Array.item c.in-Array.len) (layer_of.Array c.in-Array.item c.in-Array.len)
+          c.if-depth-eq0.false
+          (code-array c.in-Array.item c.in-Array.len) c.args.r.now,
+      ← c.get-in-Array.ensures,
+    )
+    c.array_at.ensures
 
 pub any_at-returns-in-Err : goal.any_at-returns-in-Err
 any_at-returns-in-Err t c =
-    any-fails c.args.levels c.args.r.now c.code_at.new.r c.value_at.new.r c.in_ok-code.code c.in-Err.fault c.if-levels-eq0.false c.in_ok-code.ensures c.in-Err.ensures
+    any-fails c.args.levels c.args.r.now c.code_at.new.r c.value_at.new.r c.in_ok-code.code c.in-Err.fault
+    c.if-levels-eq0.false c.in_ok-code.ensures c.in-Err.ensures
+
+pub value_at-returns-in-Short : goal.value_at-returns-in-Short
+value_at-returns-in-Short t c =
+    rw (
+      c.in-Short.is,
+      values-reads (anys c.args.levels) (codes c.args.levels Outer) c.args.depth code.Short
+          layer_of.TypeCode::Short c.if-depth-eq0.false code-short c.args.r.now,
+    )
+    c.short_at.ensures
+
+pub value_at-returns-in-Long : goal.value_at-returns-in-Long
+value_at-returns-in-Long t c =
+    rw (
+      c.in-Long.is,
+      values-reads (anys c.args.levels) (codes c.args.levels Outer) c.args.depth code.Long
+          layer_of.TypeCode::Long c.if-depth-eq0.false code-long c.args.r.now,
+    )
+    c.long_at.ensures
+
+pub value_at-returns-in-UShort : goal.value_at-returns-in-UShort
+value_at-returns-in-UShort t c =
+    rw (
+      c.in-UShort.is,
+      values-reads (anys c.args.levels) (codes c.args.levels Outer) c.args.depth code.UShort
+          layer_of.TypeCode::UShort c.if-depth-eq0.false code-ushort c.args.r.now,
+    )
+    c.ushort_at.ensures
+
+pub value_at-returns-in-ULong : goal.value_at-returns-in-ULong
+value_at-returns-in-ULong t c =
+    rw (
+      c.in-ULong.is,
+      values-reads (anys c.args.levels) (codes c.args.levels Outer) c.args.depth code.ULong
+          layer_of.TypeCode::ULong c.if-depth-eq0.false code-ulong c.args.r.now,
+    )
+    c.ulong_at.ensures
+
+pub value_at-returns-in-Boolean : goal.value_at-returns-in-Boolean
+value_at-returns-in-Boolean t c =
+    rw (
+      c.in-Boolean.is,
+      values-reads (anys c.args.levels) (codes c.args.levels Outer) c.args.depth code.Boolean
+          layer_of.TypeCode::Boolean c.if-depth-eq0.false code-boolean c.args.r.now,
+    )
+    c.boolean_at.ensures
+
+pub value_at-returns-in-Char : goal.value_at-returns-in-Char
+value_at-returns-in-Char t c =
+    rw (
+      c.in-Char.is,
+      values-reads (anys c.args.levels) (codes c.args.levels Outer) c.args.depth code.Char
+          layer_of.TypeCode::Char c.if-depth-eq0.false code-char c.args.r.now,
+    )
+    c.char_at.ensures
+
+pub value_at-returns-in-Octet : goal.value_at-returns-in-Octet
+value_at-returns-in-Octet t c =
+    rw (
+      c.in-Octet.is,
+      values-reads (anys c.args.levels) (codes c.args.levels Outer) c.args.depth code.Octet
+          layer_of.TypeCode::Octet c.if-depth-eq0.false code-octet c.args.r.now,
+    )
+    c.octet_at.ensures
+
+pub value_at-returns-in-LongLong : goal.value_at-returns-in-LongLong
+value_at-returns-in-LongLong t c =
+    rw (
+      c.in-LongLong.is,
+      values-reads (anys c.args.levels) (codes c.args.levels Outer) c.args.depth code.LongLong
+          layer_of.TypeCode::LongLong c.if-depth-eq0.false code-longlong c.args.r.now,
+    )
+    c.longlong_at.ensures
+
+pub value_at-returns-in-ULongLong : goal.value_at-returns-in-ULongLong
+value_at-returns-in-ULongLong t c =
+    rw (
+      c.in-ULongLong.is,
+      values-reads (anys c.args.levels) (codes c.args.levels Outer) c.args.depth code.ULongLong
+          layer_of.TypeCode::ULongLong c.if-depth-eq0.false code-ulonglong c.args.r.now,
+    )
+    c.ulonglong_at.ensures
+
+pub value_at-returns-in-Null : goal.value_at-returns-in-Null
+value_at-returns-in-Null t c =
+    rw (
+      c.in-Null.is,
+      values-reads (anys c.args.levels) (codes c.args.levels Outer) c.args.depth code.Null layer_of.Null
+          c.if-depth-eq0.false code-null c.args.r.now,
+    )
+    refl
+
+pub value_at-returns-in-Void : goal.value_at-returns-in-Void
+value_at-returns-in-Void t c =
+    rw (
+      c.in-Void.is,
+      values-reads (anys c.args.levels) (codes c.args.levels Outer) c.args.depth code.Void layer_of.Void
+          c.if-depth-eq0.false code-void c.args.r.now,
+    )
+    refl
+
+pub value_at-returns-in-Alias : goal.value_at-returns-in-Alias
+value_at-returns-in-Alias t c =
+    rw (
+      c.in-Alias.is,
+      values-reads (anys c.args.levels) (codes c.args.levels Outer) c.args.depth
+          (code.Alias c.in-Alias.id c.in-Alias.name c.in-Alias.item)
+          (layer_of.Alias c.in-Alias.id c.in-Alias.name c.in-Alias.item) c.if-depth-eq0.false
+          (code-alias c.in-Alias.id c.in-Alias.name c.in-Alias.item) c.args.r.now,
+      ← c.get-in-Alias.ensures,
+    )
+    c.value_at.ensures

@@ -1,38 +1,147 @@
 use Rattle.std.proofs.Common.{◌∙◌}
-use Rattle.td_codes.specs.WritingCodes.{written_member, written_arm}
+use Rattle.td_codes.specs.WritingCodes.{member_piece, arm_piece}
 use Rattle.td_cdr.proofs.SequenceWriting.{goes_on}
 use Rattle.std.proofs.Common.{length, map}
 use Rattle.td_cdr.specs.Format.{row, ◌then◌}
-use Rattle.td_codes.specs.WritingCodes.{written, header_piece, head_piece}
-use Rattle.td_codes.proofs.AtLayers.{written-union, written-except, enclosed-two}
+use Rattle.td_codes.specs.WritingCodes.{code_piece, header_piece, head_piece}
+use Rattle.td_codes.specs.declared.code.TypeCode.TheVariants as code
+use Rattle.td_codes.specs.declared.code.TypeCode.TheOpen as layer_of
+use Rattle.td_codes.specs.Layers.{code-null, code-void, code-short, code-long, code-ushort, code-ulong, code-boolean}
+use Rattle.td_codes.specs.Layers.{code-char, code-octet, code-any, code-code, code-longlong, code-ulonglong}
+use Rattle.td_codes.proofs.AtLayers.{code_piece-at, object-piece, struct-piece, except-piece, union-piece, enum-piece}
+use Rattle.td_codes.proofs.AtLayers.{sequence-piece, array-piece, alias-piece, str-piece, encapsulation-two}
 use Rattle.td_codes.proofs.writing.+writing.Goals as goal
 
 pub write_members-loop-member-preserved : goal.write_members-loop-member-preserved
 write_members-loop-member-preserved t c = record {
-  bytes = goes_on written_member c.args.members.now c.loop-member.member-index c.member-item.result c.args.w.now.order c.args.w.now.bytes c.loop-member.w.bytes
-      c.write_member.new.w.bytes c.loop-member-test.true c.member-item.is c.loop-member.invariant.bytes (rw c.loop-member.invariant.order at c.in_ok-write_member.ensures.done);
+  bytes =
+      goes_on member_piece c.args.members.now c.loop-member.member-index c.member-item.result c.args.w.now.order
+      c.args.w.now.bytes c.loop-member.w.bytes c.write_member.new.w.bytes c.loop-member-test.true c.member-item.is
+      c.loop-member.invariant.bytes (rw c.loop-member.invariant.order at c.in_ok-write_member.ensures.done);
   order = c.in_ok-write_member.ensures.order ∙ c.loop-member.invariant.order;
 }
 
 pub write_arms-loop-arm-preserved : goal.write_arms-loop-arm-preserved
 write_arms-loop-arm-preserved t c = record {
-  bytes = goes_on written_arm c.args.arms.now c.loop-arm.arm-index c.arm-item.result c.args.w.now.order c.args.w.now.bytes c.loop-arm.w.bytes
-      c.write_arm.new.w.bytes c.loop-arm-test.true c.arm-item.is c.loop-arm.invariant.bytes (rw c.loop-arm.invariant.order at c.in_ok-write_arm.ensures.done);
+  bytes =
+      goes_on arm_piece c.args.arms.now c.loop-arm.arm-index c.arm-item.result c.args.w.now.order c.args.w.now.bytes
+      c.loop-arm.w.bytes c.write_arm.new.w.bytes c.loop-arm-test.true c.arm-item.is c.loop-arm.invariant.bytes
+      (rw c.loop-arm.invariant.order at c.in_ok-write_arm.ensures.done);
   order = c.in_ok-write_arm.ensures.order ∙ c.loop-arm.invariant.order;
 }
 
-pub write_typecode-returns-in_ok-write_back-in-Union : goal.write_typecode-returns-in_ok-write_back-in-Union
+pub write_typecode-returns-in-Null : goal.write_typecode-returns-in-Null
+write_typecode-returns-in-Null t c =
+    rw (c.in-Null.is, code_piece-at code.Null layer_of.Null code-null) c.write_kind.ensures
+
+pub write_typecode-returns-in-Void : goal.write_typecode-returns-in-Void
+write_typecode-returns-in-Void t c =
+    rw (c.in-Void.is, code_piece-at code.Void layer_of.Void code-void) c.write_kind-in-Void.ensures
+
+pub write_typecode-returns-in-Short : goal.write_typecode-returns-in-Short
+write_typecode-returns-in-Short t c =
+    rw (c.in-Short.is, code_piece-at code.Short layer_of.TypeCode::Short code-short) c.write_kind-in-Short.ensures
+
+pub write_typecode-returns-in-Long : goal.write_typecode-returns-in-Long
+write_typecode-returns-in-Long t c =
+    rw (c.in-Long.is, code_piece-at code.Long layer_of.TypeCode::Long code-long) c.write_kind-in-Long.ensures
+
+pub write_typecode-returns-in-UShort : goal.write_typecode-returns-in-UShort
+write_typecode-returns-in-UShort t c =
+    rw (c.in-UShort.is, code_piece-at code.UShort layer_of.TypeCode::UShort code-ushort) c.write_kind-in-UShort.ensures
+
+pub write_typecode-returns-in-ULong : goal.write_typecode-returns-in-ULong
+write_typecode-returns-in-ULong t c =
+    rw (c.in-ULong.is, code_piece-at code.ULong layer_of.TypeCode::ULong code-ulong) c.write_kind-in-ULong.ensures
+
+pub write_typecode-returns-in-Boolean : goal.write_typecode-returns-in-Boolean
+write_typecode-returns-in-Boolean t c =
+    rw (c.in-Boolean.is, code_piece-at code.Boolean layer_of.TypeCode::Boolean code-boolean)
+    c.write_kind-in-Boolean.ensures
+
+pub write_typecode-returns-in-Char : goal.write_typecode-returns-in-Char
+write_typecode-returns-in-Char t c =
+    rw (c.in-Char.is, code_piece-at code.Char layer_of.TypeCode::Char code-char) c.write_kind-in-Char.ensures
+
+pub write_typecode-returns-in-Octet : goal.write_typecode-returns-in-Octet
+write_typecode-returns-in-Octet t c =
+    rw (c.in-Octet.is, code_piece-at code.Octet layer_of.TypeCode::Octet code-octet) c.write_kind-in-Octet.ensures
+
+pub write_typecode-returns-in-AnyCode : goal.write_typecode-returns-in-AnyCode
+write_typecode-returns-in-AnyCode t c =
+    rw (c.in-AnyCode.is, code_piece-at code.AnyCode layer_of.AnyCode code-any) c.write_kind-in-AnyCode.ensures
+
+pub write_typecode-returns-in-Code : goal.write_typecode-returns-in-Code
+write_typecode-returns-in-Code t c =
+    rw (c.in-Code.is, code_piece-at code.Code layer_of.TypeCode::Code code-code) c.write_kind-in-Code.ensures
+
+pub write_typecode-returns-in-LongLong : goal.write_typecode-returns-in-LongLong
+write_typecode-returns-in-LongLong t c =
+    rw (c.in-LongLong.is, code_piece-at code.LongLong layer_of.TypeCode::LongLong code-longlong)
+    c.write_kind-in-LongLong.ensures
+
+pub write_typecode-returns-in-ULongLong : goal.write_typecode-returns-in-ULongLong
+write_typecode-returns-in-ULongLong t c =
+    rw (c.in-ULongLong.is, code_piece-at code.ULongLong layer_of.TypeCode::ULongLong code-ulonglong)
+    c.write_kind-in-ULongLong.ensures
+
+pub write_typecode-returns-in-Str : goal.write_typecode-returns-in-Str
+write_typecode-returns-in-Str t c =
+    rw (c.in-Str.is, str-piece c.in-Str.bound)
+    (c.write_two.ensures)
+
+pub write_typecode-returns-in-ObjRef : goal.write_typecode-returns-in-ObjRef
+write_typecode-returns-in-ObjRef t c =
+    rw (c.in-ObjRef.is, object-piece c.in-ObjRef.id c.in-ObjRef.name)
+    (rw (c.as_slice.ensures, c.as_slice-in-ObjRef.ensures) at c.write_object.ensures)
+
+pub write_typecode-returns-in-Struct : goal.write_typecode-returns-in-Struct
+write_typecode-returns-in-Struct t c =
+    rw (c.in-Struct.is, struct-piece c.in-Struct.id c.in-Struct.name c.in-Struct.members)
+    (rw (c.as_slice-in-Struct.ensures, c.as_slice-in-Struct-2.ensures, c.as_slice-in-Struct-3.ensures) at
+    c.write_fields.ensures)
+
+pub write_typecode-returns-in_ok-write_back-in-Union :
+    goal.write_typecode-returns-in_ok-write_back-in-Union
 write_typecode-returns-in_ok-write_back-in-Union t c =
     let u = c.in-Union in
-    let first = rw (c.as_slice-in-Union.ensures, c.as_slice-in-Union-2.ensures, c.get.ensures) at c.in_ok-write_front-in-Union.ensures in
+    let first =
+    rw (c.as_slice-in-Union.ensures, c.as_slice-in-Union-2.ensures, c.get.ensures) at
+    c.in_ok-write_front-in-Union.ensures in
     let second = rw c.as_slice-in-Union-3.ensures at c.in_ok-write_back-in-Union.ensures in
-    let bytes = enclosed-two (header_piece u.id u.name then written u.switch) (head_piece u.default (length u.arms) then row (map written_arm u.arms)) c.order-in-Union.result c.in_ok-inner-in-Union.inner c.write_front.new.w c.write_back.new.w
+    let bytes =
+    encapsulation-two (header_piece u.id u.name then code_piece u.switch)
+    (head_piece u.default (length u.arms) then row (map arm_piece u.arms)) c.order.result c.in_ok-inner-in-Union.inner
+    c.write_front.new.w c.write_back.new.w
     c.in_ok-inner-in-Union.ensures.0 c.in_ok-inner-in-Union.ensures.1 first.done first.order second.done in
-    let inside = rw c.order-in-Union.ensures at bytes in
-    let e = c.write_enclosed-in-Union.ensures in
-    rw (u.is, written-union u.id u.name u.switch u.default u.arms) (record { done = rw inside at e.done; order = e.order; refused = e.refused })
+    let inside = rw c.order.ensures at bytes in
+    let e = c.write_encapsulation.ensures in
+    rw (u.is, union-piece u.id u.name u.switch u.default u.arms)
+    (record { done = rw inside at e.done; order = e.order; refused = e.refused })
+
+pub write_typecode-returns-in-Enum : goal.write_typecode-returns-in-Enum
+write_typecode-returns-in-Enum t c =
+    rw (c.in-Enum.is, enum-piece c.in-Enum.id c.in-Enum.name c.in-Enum.labels)
+    (rw (c.as_slice-in-Enum.ensures, c.as_slice-in-Enum-2.ensures, c.as_slice-in-Enum-3.ensures) at
+    c.write_enumeration.ensures)
+
+pub write_typecode-returns-in-Sequence : goal.write_typecode-returns-in-Sequence
+write_typecode-returns-in-Sequence t c =
+    rw (c.in-Sequence.is, sequence-piece c.in-Sequence.item c.in-Sequence.bound)
+    (rw (c.get-in-Sequence.ensures) at c.write_items.ensures)
+
+pub write_typecode-returns-in-Array : goal.write_typecode-returns-in-Array
+write_typecode-returns-in-Array t c =
+    rw (c.in-Array.is, array-piece c.in-Array.item c.in-Array.len)
+    (rw (c.get-in-Array.ensures) at c.write_items-in-Array.ensures)
+
+pub write_typecode-returns-in-Alias : goal.write_typecode-returns-in-Alias
+write_typecode-returns-in-Alias t c =
+    rw (c.in-Alias.is, alias-piece c.in-Alias.id c.in-Alias.name c.in-Alias.item)
+    (rw (c.as_slice-in-Alias.ensures, c.as_slice-in-Alias-2.ensures, c.get-in-Alias.ensures) at c.write_alias.ensures)
 
 pub write_typecode-returns-in-Except : goal.write_typecode-returns-in-Except
 write_typecode-returns-in-Except t c =
-    rw (c.in-Except.is, written-except c.in-Except.id c.in-Except.name c.in-Except.members)
-    (rw (c.as_slice-in-Except.ensures, c.as_slice-in-Except-2.ensures, c.as_slice-in-Except-3.ensures) at c.write_fields-in-Except.ensures)
+    rw (c.in-Except.is, except-piece c.in-Except.id c.in-Except.name c.in-Except.members)
+    (rw (c.as_slice-in-Except.ensures, c.as_slice-in-Except-2.ensures, c.as_slice-in-Except-3.ensures) at
+    c.write_fields-in-Except.ensures)

@@ -1,4 +1,4 @@
-use Rattle.std.proofs.Common.{◌<◌, ◌≤◌, ◌-◌, length, min, sym, ◌∙◌, arith}
+use Rattle.std.proofs.Common.{◌<◌, ◌≤◌, ◌-◌, length, min, ◌∙◌, arith}
 use Rattle.std.proofs.lemmas.List.{take_all, append-nil}
 use Rattle.td_cdr.proofs.SequenceWriting.{goes_on}
 use Rattle.td_cdr.proofs.Appending.{puts-then}
@@ -8,18 +8,22 @@ use Rattle.td_codes.specs.declared.code.TypeCode.TheOpen as layer_of
 use Rattle.td_codes.specs.declared.code.Value.{Value}
 use Rattle.td_codes.specs.declared.mode.Mode.TheVariants.{Outer}
 use Rattle.td_codes.specs.Codes.{codes}
-use Rattle.td_codes.specs.Formats.{number_piece}
 use Rattle.td_codes.specs.Labels.{plain_piece}
-use Rattle.td_codes.specs.Layers.{code-struct, code-union, code-sequence, code-array, value-union}
-use Rattle.td_codes.specs.Values.{anys, values, branch_of, branch_piece, items_piece}
-use Rattle.td_codes.specs.WritingCodes.{written}
-use Rattle.td_codes.proofs.AtLayers.{values-writes, any-writes, any-writes-none, each-row, zipped, zipped-at, zipped-length}
+use Rattle.td_codes.specs.Layers.{code-short, code-long, code-ushort, code-ulong, code-boolean, code-char, code-octet}
+use Rattle.td_codes.specs.Layers.{code-any, code-longlong, code-ulonglong, code-struct, code-union, code-enum}
+use Rattle.td_codes.specs.Layers.{code-sequence, code-array, code-alias, value-union}
+use Rattle.td_codes.specs.Values.{anys, values, branch_of, branch_piece}
+use Rattle.td_codes.specs.WritingCodes.{code_piece}
+use Rattle.td_codes.proofs.AtLayers.{values-writes, any-writes, any-writes-none, each-row, member_pairs}
+use Rattle.td_codes.proofs.AtLayers.{member_pairs-at, member_pairs-length}
 use Rattle.td_codes.proofs.writing_values.+putting.Goals as goal
 
 pub put_any-returns-then-levels-eq0 : goal.put_any-returns-then-levels-eq0
 put_any-returns-then-levels-eq0 t c =
     rw (any-writes-none c.args.levels c.args.any.now c.if-levels-eq0.true) (record {
-      done = rw (append-nil (written c.args.any.now.code c.args.w.now.order (length c.args.w.now.bytes))) c.in_ok-write_typecode.ensures.done;
+      done =
+          rw (append-nil (code_piece c.args.any.now.code c.args.w.now.order (length c.args.w.now.bytes)))
+          c.in_ok-write_typecode.ensures.done;
       order = c.in_ok-write_typecode.ensures.order;
       kept = tt;
     })
@@ -27,36 +31,62 @@ put_any-returns-then-levels-eq0 t c =
 pub put_any-returns : goal.put_any-returns
 put_any-returns t c =
     rw (any-writes c.args.levels c.args.any.now c.if-levels-eq0.false)
-    (puts-then (written c.args.any.now.code) ((values (anys (c.args.levels - 1)) (codes (c.args.levels - 1) Outer) c.args.levels c.args.any.now.code).format.writes c.args.any.now.value)
-    c.args.w.now c.write_typecode.new.w c.put_value.new.w c.put_value.result c.in_ok-write_typecode.ensures.done c.in_ok-write_typecode.ensures.order c.put_value.ensures)
+    (puts-then (code_piece c.args.any.now.code)
+    ((values (anys (c.args.levels - 1)) (codes (c.args.levels - 1) Outer) c.args.levels
+    c.args.any.now.code).format.writes
+    c.args.any.now.value)
+    c.args.w.now c.write_typecode.new.w c.put_value.new.w c.put_value.result c.in_ok-write_typecode.ensures.done
+    c.in_ok-write_typecode.ensures.order c.put_value.ensures)
 
 pub put_fields-loop-i-preserved : goal.put_fields-loop-i-preserved
 put_fields-loop-i-preserved t c =
-    let few : c.loop-i.i < min (length c.args.members.now) (length c.args.held.now) = omega (arith, c.loop-i-test.true, c.min-count.ensures) in
-    let low : c.loop-i.i < length (zipped c.args.members.now c.args.held.now) = omega (arith, few, zipped-length c.args.members.now c.args.held.now) in
+    let few : c.loop-i.i < min (length c.args.members.now) (length c.args.held.now) =
+    omega (arith, c.loop-i-test.true, c.min-count.ensures) in
+    let low : c.loop-i.i < length (member_pairs c.args.members.now c.args.held.now) =
+    omega (arith, few, member_pairs-length c.args.members.now c.args.held.now) in
     let in_members : c.loop-i.i < length c.args.members.now = omega (arith, few) in
     let in_values : c.loop-i.i < length c.args.held.now = omega (arith, few) in
     record {
-      bytes = goes_on (λ (p : TypeCode × Value). (values (anys c.args.levels) (codes c.args.levels Outer) c.args.depth p.0).format.writes p.1) (zipped c.args.members.now c.args.held.now) c.loop-i.i (c.index-members-i.result.code, c.index-held-i.result)
-          c.args.w.now.order c.args.w.now.bytes c.loop-i.w.bytes c.put_value.new.w.bytes low
-          (zipped-at c.args.members.now c.args.held.now c.loop-i.i c.index-members-i.result c.index-held-i.result in_members in_values c.index-members-i.is c.index-held-i.is)
-          c.loop-i.invariant.bytes (rw (c.loop-i.invariant.order, ← c.index-members-i.is) at c.in_ok-put_value.ensures.done);
+      bytes =
+          goes_on (λ (p : TypeCode × Value).
+          (values (anys c.args.levels) (codes c.args.levels Outer) c.args.depth p.0).format.writes p.1)
+          (member_pairs c.args.members.now c.args.held.now) c.loop-i.i
+          (c.index-members-i.result.code, c.index-held-i.result) c.args.w.now.order c.args.w.now.bytes
+          c.loop-i.w.bytes c.put_value.new.w.bytes low
+          (member_pairs-at c.args.members.now c.args.held.now c.loop-i.i c.index-members-i.result
+          c.index-held-i.result in_members in_values c.index-members-i.is c.index-held-i.is)
+          c.loop-i.invariant.bytes
+          (rw (c.loop-i.invariant.order, ← c.index-members-i.is) at c.in_ok-put_value.ensures.done);
       order = c.in_ok-put_value.ensures.order ∙ c.loop-i.invariant.order;
     }
 
 pub put_fields-returns : goal.put_fields-returns
 put_fields-returns t c =
-    let all : length (zipped c.args.members.now c.args.held.now) ≤ c.loop-i.i = omega (arith, c.loop-i-test.false, c.min-count.ensures, zipped-length c.args.members.now c.args.held.now) in
+    let all : length (member_pairs c.args.members.now c.args.held.now) ≤ c.loop-i.i =
+    omega (
+      arith,
+      c.loop-i-test.false,
+      c.min-count.ensures,
+      member_pairs-length c.args.members.now c.args.held.now,
+    ) in
     record {
-      done = rw (each-row (anys c.args.levels) (codes c.args.levels Outer) (values (anys c.args.levels) (codes c.args.levels Outer) c.args.depth) c.args.members.now c.args.held.now c.args.w.now.order (length c.args.w.now.bytes)) (rw (take_all c.loop-i.i (zipped c.args.members.now c.args.held.now) all) at c.loop-i.invariant.bytes);
+      done =
+          rw (each-row (anys c.args.levels) (codes c.args.levels Outer)
+          (values (anys c.args.levels) (codes c.args.levels Outer) c.args.depth) c.args.members.now c.args.held.now
+          c.args.w.now.order (length c.args.w.now.bytes))
+          (rw (take_all c.loop-i.i (member_pairs c.args.members.now c.args.held.now) all) at
+          c.loop-i.invariant.bytes);
       order = c.loop-i.invariant.order;
       kept = tt;
     }
 
 pub put_items-loop-value-preserved : goal.put_items-loop-value-preserved
 put_items-loop-value-preserved t c = record {
-  bytes = goes_on (values (anys c.args.levels) (codes c.args.levels Outer) c.args.depth c.args.item.now).format.writes c.args.items.now c.loop-value.value-index c.value-item.result c.args.w.now.order c.args.w.now.bytes c.loop-value.w.bytes
-      c.put_value.new.w.bytes c.loop-value-test.true c.value-item.is c.loop-value.invariant.bytes (rw c.loop-value.invariant.order at c.in_ok-put_value.ensures.done);
+  bytes =
+      goes_on (values (anys c.args.levels) (codes c.args.levels Outer) c.args.depth c.args.item.now).format.writes
+      c.args.items.now c.loop-value.value-index c.value-item.result c.args.w.now.order c.args.w.now.bytes
+      c.loop-value.w.bytes c.put_value.new.w.bytes c.loop-value-test.true c.value-item.is
+      c.loop-value.invariant.bytes (rw c.loop-value.invariant.order at c.in_ok-put_value.ensures.done);
   order = c.in_ok-put_value.ensures.order ∙ c.loop-value.invariant.order;
 }
 
@@ -66,14 +96,21 @@ put_union-returns-in_ok-write_label-in-Union t c =
     let first = rw (c.label_of.ensures, c.get.ensures) at c.in_ok-write_label-in-Union.ensures.done in
     let others = rw (c.branch_of.ensures, c.get-in-Union.ensures) at c.put_branch.ensures in
     rw (c.in-Union.is, value-union c.in-Union.label c.in-Union.arm)
-    (puts-then (plain_piece c.in-Union.label) (branch_piece (anys c.args.levels) (codes c.args.levels Outer) (values (anys c.args.levels) (codes c.args.levels Outer) c.args.depth) (branch_of c.args.default c.in-Union.label c.args.arms.now) c.in-Union.arm)
-    c.args.w.now c.write_label.new.w c.put_branch.new.w c.put_branch.result first c.in_ok-write_label-in-Union.ensures.order others)
+    (puts-then (plain_piece c.in-Union.label)
+    (branch_piece (anys c.args.levels) (codes c.args.levels Outer)
+    (values (anys c.args.levels) (codes c.args.levels Outer) c.args.depth)
+    (branch_of c.args.default c.in-Union.label c.args.arms.now) c.in-Union.arm)
+    c.args.w.now c.write_label.new.w c.put_branch.new.w c.put_branch.result first
+    c.in_ok-write_label-in-Union.ensures.order others)
 
 pub put_value-returns-in-Sequence : goal.put_value-returns-in-Sequence
 put_value-returns-in-Sequence t c =
     rw (
       c.in-Sequence.is,
-      values-writes (anys c.args.levels) (codes c.args.levels Outer) c.args.depth (code.Sequence c.in-Sequence.item c.in-Sequence.bound) (layer_of.Sequence c.in-Sequence.item c.in-Sequence.bound) c.args.value.now c.if-depth-eq0.false (code-sequence c.in-Sequence.item c.in-Sequence.bound),
+      values-writes (anys c.args.levels) (codes c.args.levels Outer) c.args.depth
+          (code.Sequence c.in-Sequence.item c.in-Sequence.bound)
+          (layer_of.Sequence c.in-Sequence.item c.in-Sequence.bound) c.args.value.now c.if-depth-eq0.false
+          (code-sequence c.in-Sequence.item c.in-Sequence.bound),
       ← c.get.ensures,
     ) c.put_sequence.ensures
 
@@ -81,7 +118,9 @@ pub put_value-returns-in-Array : goal.put_value-returns-in-Array
 put_value-returns-in-Array t c =
     rw (
       c.in-Array.is,
-      values-writes (anys c.args.levels) (codes c.args.levels Outer) c.args.depth (code.Array c.in-Array.item c.in-Array.len) (layer_of.Array c.in-Array.item c.in-Array.len) c.args.value.now c.if-depth-eq0.false (code-array c.in-Array.item c.in-Array.len),
+      values-writes (anys c.args.levels) (codes c.args.levels Outer) c.args.depth
+          (code.Array c.in-Array.item c.in-Array.len) (layer_of.Array c.in-Array.item c.in-Array.len) c.args.value.now
+          c.if-depth-eq0.false (code-array c.in-Array.item c.in-Array.len),
       ← c.get-in-Array.ensures,
     ) c.put_array.ensures
 
@@ -89,7 +128,10 @@ pub put_value-returns-in-Struct : goal.put_value-returns-in-Struct
 put_value-returns-in-Struct t c =
     rw (
       c.in-Struct.is,
-      values-writes (anys c.args.levels) (codes c.args.levels Outer) c.args.depth (code.Struct c.in-Struct.id c.in-Struct.name c.in-Struct.members) (layer_of.TypeCode::Struct c.in-Struct.id c.in-Struct.name c.in-Struct.members) c.args.value.now c.if-depth-eq0.false (code-struct c.in-Struct.id c.in-Struct.name c.in-Struct.members),
+      values-writes (anys c.args.levels) (codes c.args.levels Outer) c.args.depth
+          (code.Struct c.in-Struct.id c.in-Struct.name c.in-Struct.members)
+          (layer_of.TypeCode::Struct c.in-Struct.id c.in-Struct.name c.in-Struct.members) c.args.value.now
+          c.if-depth-eq0.false (code-struct c.in-Struct.id c.in-Struct.name c.in-Struct.members),
       ← c.as_slice.ensures,
     ) c.put_struct.ensures
 
@@ -97,7 +139,124 @@ pub put_value-returns-in-Union : goal.put_value-returns-in-Union
 put_value-returns-in-Union t c =
     rw (
       c.in-Union.is,
-      values-writes (anys c.args.levels) (codes c.args.levels Outer) c.args.depth (code.Union c.in-Union.id c.in-Union.name c.in-Union.switch c.in-Union.default c.in-Union.arms) (layer_of.TypeCode::Union c.in-Union.id c.in-Union.name c.in-Union.switch c.in-Union.default c.in-Union.arms) c.args.value.now c.if-depth-eq0.false (code-union c.in-Union.id c.in-Union.name c.in-Union.switch c.in-Union.default c.in-Union.arms),
+      values-writes (anys c.args.levels) (codes c.args.levels Outer) c.args.depth
+          (code.Union c.in-Union.id c.in-Union.name c.in-Union.switch c.in-Union.default c.in-Union.arms)
+          (layer_of.TypeCode::Union c.in-Union.id c.in-Union.name c.in-Union.switch c.in-Union.default c.in-Union.arms)
+          c.args.value.now c.if-depth-eq0.false
+          (code-union c.in-Union.id c.in-Union.name c.in-Union.switch c.in-Union.default c.in-Union.arms),
       ← c.as_slice-in-Union.ensures,
       ← c.index_of.ensures,
     ) c.put_union.ensures
+
+pub put_value-returns-in-Short : goal.put_value-returns-in-Short
+put_value-returns-in-Short t c =
+    rw (
+      c.in-Short.is,
+      values-writes (anys c.args.levels) (codes c.args.levels Outer) c.args.depth code.Short
+          layer_of.TypeCode::Short c.args.value.now c.if-depth-eq0.false code-short,
+    )
+    c.put_plain.ensures
+
+pub put_value-returns-in-Long : goal.put_value-returns-in-Long
+put_value-returns-in-Long t c =
+    rw (
+      c.in-Long.is,
+      values-writes (anys c.args.levels) (codes c.args.levels Outer) c.args.depth code.Long
+          layer_of.TypeCode::Long c.args.value.now c.if-depth-eq0.false code-long,
+    )
+    c.put_plain-in-Long.ensures
+
+pub put_value-returns-in-UShort : goal.put_value-returns-in-UShort
+put_value-returns-in-UShort t c =
+    rw (
+      c.in-UShort.is,
+      values-writes (anys c.args.levels) (codes c.args.levels Outer) c.args.depth code.UShort
+          layer_of.TypeCode::UShort c.args.value.now c.if-depth-eq0.false code-ushort,
+    )
+    c.put_plain-in-UShort.ensures
+
+pub put_value-returns-in-ULong : goal.put_value-returns-in-ULong
+put_value-returns-in-ULong t c =
+    rw (
+      c.in-ULong.is,
+      values-writes (anys c.args.levels) (codes c.args.levels Outer) c.args.depth code.ULong
+          layer_of.TypeCode::ULong c.args.value.now c.if-depth-eq0.false code-ulong,
+    )
+    c.put_plain-in-ULong.ensures
+
+pub put_value-returns-in-Boolean : goal.put_value-returns-in-Boolean
+put_value-returns-in-Boolean t c =
+    rw (
+      c.in-Boolean.is,
+      values-writes (anys c.args.levels) (codes c.args.levels Outer) c.args.depth code.Boolean
+          layer_of.TypeCode::Boolean c.args.value.now c.if-depth-eq0.false code-boolean,
+    )
+    c.put_plain-in-Boolean.ensures
+
+pub put_value-returns-in-Char : goal.put_value-returns-in-Char
+put_value-returns-in-Char t c =
+    rw (
+      c.in-Char.is,
+      values-writes (anys c.args.levels) (codes c.args.levels Outer) c.args.depth code.Char
+          layer_of.TypeCode::Char c.args.value.now c.if-depth-eq0.false code-char,
+    )
+    c.put_plain-in-Char.ensures
+
+pub put_value-returns-in-Octet : goal.put_value-returns-in-Octet
+put_value-returns-in-Octet t c =
+    rw (
+      c.in-Octet.is,
+      values-writes (anys c.args.levels) (codes c.args.levels Outer) c.args.depth code.Octet
+          layer_of.TypeCode::Octet c.args.value.now c.if-depth-eq0.false code-octet,
+    )
+    c.put_plain-in-Octet.ensures
+
+pub put_value-returns-in-LongLong : goal.put_value-returns-in-LongLong
+put_value-returns-in-LongLong t c =
+    rw (
+      c.in-LongLong.is,
+      values-writes (anys c.args.levels) (codes c.args.levels Outer) c.args.depth code.LongLong
+          layer_of.TypeCode::LongLong c.args.value.now c.if-depth-eq0.false code-longlong,
+    )
+    c.put_plain-in-LongLong.ensures
+
+pub put_value-returns-in-ULongLong : goal.put_value-returns-in-ULongLong
+put_value-returns-in-ULongLong t c =
+    rw (
+      c.in-ULongLong.is,
+      values-writes (anys c.args.levels) (codes c.args.levels Outer) c.args.depth code.ULongLong
+          layer_of.TypeCode::ULongLong c.args.value.now c.if-depth-eq0.false code-ulonglong,
+    )
+    c.put_plain-in-ULongLong.ensures
+
+pub put_value-returns-in-Enum : goal.put_value-returns-in-Enum
+put_value-returns-in-Enum t c =
+    rw (
+      c.in-Enum.is,
+      values-writes (anys c.args.levels) (codes c.args.levels Outer) c.args.depth
+          (code.Enum c.in-Enum.id c.in-Enum.name c.in-Enum.labels)
+          (layer_of.TypeCode::Enum c.in-Enum.id c.in-Enum.name c.in-Enum.labels) c.args.value.now c.if-depth-eq0.false
+          (code-enum c.in-Enum.id c.in-Enum.name c.in-Enum.labels),
+    )
+    c.put_plain-in-Enum.ensures
+
+pub put_value-returns-in-Alias : goal.put_value-returns-in-Alias
+put_value-returns-in-Alias t c =
+    rw (
+      c.in-Alias.is,
+      values-writes (anys c.args.levels) (codes c.args.levels Outer) c.args.depth
+          (code.Alias c.in-Alias.id c.in-Alias.name c.in-Alias.item)
+          (layer_of.Alias c.in-Alias.id c.in-Alias.name c.in-Alias.item) c.args.value.now c.if-depth-eq0.false
+          (code-alias c.in-Alias.id c.in-Alias.name c.in-Alias.item),
+      ← c.get-in-Alias.ensures,
+    )
+    c.put_value.ensures
+
+pub put_value-returns-in-AnyCode : goal.put_value-returns-in-AnyCode
+put_value-returns-in-AnyCode t c =
+    rw (
+      c.in-AnyCode.is,
+      values-writes (anys c.args.levels) (codes c.args.levels Outer) c.args.depth code.AnyCode
+          layer_of.AnyCode c.args.value.now c.if-depth-eq0.false code-any,
+    )
+    c.put_any_in.ensures

@@ -3,7 +3,7 @@ use Rattle.td_cdr.specs.Format.{row}
 use Rattle.td_codes.specs.declared.mode.Mode.TheVariants.{Outer}
 use Rattle.td_codes.specs.Codes.{codes}
 use Rattle.td_codes.specs.Values.{anys, values}
-use Rattle.td_codes.proofs.AtLayers.{zipped}
+use Rattle.td_codes.proofs.AtLayers.{member_pairs}
 use Rattle.td_codes.proofs.writing_values.+putting.Given as goal
 
 abbrev pub decreases-put_any : goal.decreases-put_any
@@ -30,8 +30,8 @@ decreases-put_struct l = 100 * l.levels + 4 * l.depth + 4
 abbrev pub decreases-put_union : goal.decreases-put_union
 decreases-put_union l = 100 * l.levels + 4 * l.depth + 4
 
-abbrev pub decreases-put_counted : goal.decreases-put_counted
-decreases-put_counted l = 100 * l.levels + 4 * l.depth + 4
+abbrev pub decreases-put_count_and_items : goal.decreases-put_count_and_items
+decreases-put_count_and_items l = 100 * l.levels + 4 * l.depth + 4
 
 abbrev pub decreases-put_array : goal.decreases-put_array
 decreases-put_array l = 100 * l.levels + 4 * l.depth + 4
@@ -41,12 +41,18 @@ decreases-put_sequence l = 100 * l.levels + 4 * l.depth + 5
 
 abbrev pub invariant-put_items-loop-value : goal.invariant-put_items-loop-value
 invariant-put_items-loop-value l = record {
-  bytes : l.w.bytes ≡ l.initial.w.bytes ++ row (map (values (anys l.levels) (codes l.levels Outer) l.depth l.item).format.writes (take l.value-index l.items)) l.initial.w.order (length l.initial.w.bytes);
+  bytes : l.w.bytes ≡ l.initial.w.bytes
+      ++ row (map (values (anys l.levels) (codes l.levels Outer) l.depth l.item).format.writes
+      (take l.value-index l.items))
+      l.initial.w.order (length l.initial.w.bytes);
   order : l.w.order ≡ l.initial.w.order;
 }
 
 abbrev pub invariant-put_fields-loop-i : goal.invariant-put_fields-loop-i
 invariant-put_fields-loop-i l = record {
-  bytes : l.w.bytes ≡ l.initial.w.bytes ++ row (map (λ p. (values (anys l.levels) (codes l.levels Outer) l.depth p.0).format.writes p.1) (take l.i (zipped l.members l.held))) l.initial.w.order (length l.initial.w.bytes);
+  bytes : l.w.bytes ≡ l.initial.w.bytes
+      ++ row (map (λ p. (values (anys l.levels) (codes l.levels Outer) l.depth p.0).format.writes p.1)
+      (take l.i (member_pairs l.members l.held)))
+      l.initial.w.order (length l.initial.w.bytes);
   order : l.w.order ≡ l.initial.w.order;
 }

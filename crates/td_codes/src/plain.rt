@@ -1,0 +1,64 @@
+//! Plain values, from bytes.
+
+ghost use Rattle.std.specs.Prelude.{◌≡◌};
+ghost use Rattle.td_cdr.specs.Format.{Gives};
+ghost use Rattle.td_cdr.specs.ValueFaults.{is_memory};
+ghost use Rattle.td_codes.specs.Labels.{short_value, long_value, ushort_value, ulong_value, longlong_value};
+ghost use Rattle.td_codes.specs.Labels.{ulonglong_value, boolean_value, char_value, octet_value};
+
+use crate::code::Value;
+use td_cdr::{Reader, ValueFault};
+
+pub fn short_at(r: &mut Reader) -> Result<Value, ValueFault>
+    ensures { Gives is_memory r.new result (short_value.format.reads r.old) }
+{
+    Ok(Value::Short(r.i16()?))
+}
+
+pub fn long_at(r: &mut Reader) -> Result<Value, ValueFault>
+    ensures { Gives is_memory r.new result (long_value.format.reads r.old) }
+{
+    Ok(Value::Long(r.i32()?))
+}
+
+pub fn ushort_at(r: &mut Reader) -> Result<Value, ValueFault>
+    ensures { Gives is_memory r.new result (ushort_value.format.reads r.old) }
+{
+    Ok(Value::UShort(r.u16()?))
+}
+
+pub fn ulong_at(r: &mut Reader) -> Result<Value, ValueFault>
+    ensures { Gives is_memory r.new result (ulong_value.format.reads r.old) }
+{
+    Ok(Value::ULong(r.u32()?))
+}
+
+pub fn longlong_at(r: &mut Reader) -> Result<Value, ValueFault>
+    ensures { Gives is_memory r.new result (longlong_value.format.reads r.old) }
+{
+    Ok(Value::LongLong(r.i64()?))
+}
+
+pub fn ulonglong_at(r: &mut Reader) -> Result<Value, ValueFault>
+    ensures { Gives is_memory r.new result (ulonglong_value.format.reads r.old) }
+{
+    Ok(Value::ULongLong(r.u64()?))
+}
+
+pub fn boolean_at(r: &mut Reader) -> Result<Value, ValueFault>
+    ensures { Gives is_memory r.new result (boolean_value.format.reads r.old) }
+{
+    Ok(Value::Boolean(r.boolean()?))
+}
+
+pub fn char_at(r: &mut Reader) -> Result<Value, ValueFault>
+    ensures { Gives is_memory r.new result (char_value.format.reads r.old) }
+{
+    Ok(Value::Char(r.octet()?))
+}
+
+pub fn octet_at(r: &mut Reader) -> Result<Value, ValueFault>
+    ensures { Gives is_memory r.new result (octet_value.format.reads r.old) }
+{
+    Ok(Value::Octet(r.octet()?))
+}
