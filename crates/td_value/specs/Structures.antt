@@ -56,14 +56,27 @@ offer_info = structure
 
 abbrev pub link_info : Sound ValueFault LinkInfo
 link_info = structure
-    (λ p. record { target = p.0; target_reg = p.1.0; def_pass_on_follow_rule = p.1.1.0; limiting_follow_rule = p.1.1.1 })
+    (λ p. record {
+      target = p.0;
+      target_reg = p.1.0;
+      def_pass_on_follow_rule = p.1.1.0;
+      limiting_follow_rule = p.1.1.1;
+    })
     (λ x. (x.target, (x.target_reg, (x.def_pass_on_follow_rule, x.limiting_follow_rule)))) (λ _. refl) (λ _. refl)
     (reference & reference & follow_option & follow_option)
 
 abbrev pub proxy_info : Sound ValueFault ProxyInfo
 proxy_info = structure
-    (λ p. record { service_type = p.0; target = p.1.0; properties = p.1.1.0; if_match_all = p.1.1.1.0; recipe = p.1.1.1.1.0; policies_to_pass_on = p.1.1.1.1.1 })
-    (λ x. (x.service_type, (x.target, (x.properties, (x.if_match_all, (x.recipe, x.policies_to_pass_on)))))) (λ _. refl) (λ _. refl)
+    (λ p. record {
+      service_type = p.0;
+      target = p.1.0;
+      properties = p.1.1.0;
+      if_match_all = p.1.1.1.0;
+      recipe = p.1.1.1.1.0;
+      policies_to_pass_on = p.1.1.1.1.1;
+    })
+    (λ x. (x.service_type, (x.target, (x.properties, (x.if_match_all, (x.recipe, x.policies_to_pass_on)))))) (λ _. refl)
+    (λ _. refl)
     (text & reference & sequence property & boolean & text & sequence policy)
 
 abbrev pub type_struct : Sound ValueFault TypeStruct

@@ -2,7 +2,9 @@
 //! CosTradingRepos): each value is spelled by its number.
 
 ghost use Rattle.std.specs.Prelude.{◌≡◌};
-ghost use Rattle.td_value.specs.Enumerations.{follow_option, follow_option_number, how_many_props, how_many_props_number, property_mode, property_mode_number, list_option, list_option_number};
+ghost use Rattle.td_value.specs.Enumerations.{follow_option, follow_option_number, how_many_props};
+ghost use Rattle.td_value.specs.Enumerations.{how_many_props_number, property_mode, property_mode_number, list_option};
+ghost use Rattle.td_value.specs.Enumerations.{list_option_number};
 
 use std::alloc::Global;
 use td_cdr::{Memory, Reader, Spelled, Twin, ValueFault, Writer};

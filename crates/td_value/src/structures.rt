@@ -2,7 +2,8 @@
 //! CosTradingDynamic and CosTradingRepos): each is spelled by its members in order.
 
 ghost use Rattle.std.specs.Prelude.{◌≡◌};
-ghost use Rattle.td_value.specs.Structures.{property, policy, incarnation_number, prop_struct, offer, offer_info, link_info, proxy_info, type_struct, dynamic_prop};
+ghost use Rattle.td_value.specs.Structures.{property, policy, incarnation_number, prop_struct, offer, offer_info};
+ghost use Rattle.td_value.specs.Structures.{link_info, proxy_info, type_struct, dynamic_prop};
 
 use crate::enumerations::{FollowOption, PropertyMode};
 use std::alloc::Global;

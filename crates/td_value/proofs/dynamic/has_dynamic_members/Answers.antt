@@ -14,8 +14,12 @@ kinds-long (kind ∷ kinds) (e ∷ es) no_match = rw (kinds-long kinds es (λ e.
 
 pub returns-in_default : goal.returns-in_default
 returns-in_default c =
-    sym (kinds-long dynamic_kinds (map member_entry c.args.members.now) (λ e. let bad : ⊥ = omega (arith, e, length-map c.args.members.now member_entry, c.in_default.len_below) in bad))
+    sym (kinds-long dynamic_kinds (map member_entry c.args.members.now)
+    (λ e. let bad : ⊥ = omega (arith, e, length-map c.args.members.now member_entry, c.in_default.len_below) in
+    bad))
 
 pub returns-in_default-2 : goal.returns-in_default-2
 returns-in_default-2 c =
-    sym (kinds-long dynamic_kinds (map member_entry c.args.members.now) (λ e. let bad : ⊥ = omega (arith, e, length-map c.args.members.now member_entry, c.in_default.len_at_least) in bad))
+    sym (kinds-long dynamic_kinds (map member_entry c.args.members.now)
+    (λ e. let bad : ⊥ = omega (arith, e, length-map c.args.members.now member_entry, c.in_default.len_at_least) in
+    bad))
