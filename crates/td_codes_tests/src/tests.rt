@@ -3,7 +3,7 @@
 use std::alloc::Global;
 use std::process::Abort;
 use std::test::Fail;
-use td_cdr::{Boxed, CdrFault, Order, Reader, Text, Twin, ValueFault, Writer};
+use td_cdr::{Boxed, CdrFault, Order, Reader, Text, Twin, ValueFault, Writer, write_whole};
 use td_codes::*;
 
 /// Faults of anys: the fault, its place and the bytes.
@@ -177,11 +177,12 @@ fn code_of(
     Ok(code)
 }
 
-/// Reads a TypeCode that fills the bytes, and writes it again.
+/// Reads a TypeCode that fills the bytes, and writes its copy.
 fn spelled(rt: &impl Abort, alloc: Global, bytes: &[u8], order: Order) -> Result<(), Fail> {
     let code = code_of(rt, alloc, bytes, order)?;
+    let twin = Boxed::new(alloc, code.get().copy(alloc)?)?;
     let mut writer = Writer::new(alloc, order);
-    write_typecode(alloc, &mut writer, code.get())?;
+    write_whole(alloc, &mut writer, twin.get())?;
     assert!(rt; writer.bytes() == bytes);
     Ok(())
 }

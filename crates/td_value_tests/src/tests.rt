@@ -230,7 +230,23 @@ fn sizes(rt: HostRuntime) -> Result<(), Fail> {
     assert_eq!(rt; offer_size(alloc, &nil(alloc), &none)?, 16);
     assert_eq!(rt; size_of_type(alloc)?, 112);
     assert_eq!(rt; size_of_long(alloc)?, 8);
+    for line in OFFER.lines() {
+        let (order, digits) = line.split_once(' ').ok_or("an order")?;
+        let bytes = hex::decode(alloc, digits.as_bytes())?;
+        assert_eq!(rt; size_of_offer(alloc, &bytes, order_of(order))?, bytes.len());
+    }
     Ok(())
+}
+
+/// The size of the offer that is read from the bytes.
+fn size_of_offer(alloc: Global, bytes: &[u8], order: Order) -> Result<usize, Fail> {
+    if bytes.len() >= 1000 {
+        return Err("long".into());
+    }
+    let mut reader = Reader::new(bytes, 0, order);
+    let offer = Boxed::new(alloc, read_whole::<Offer>(alloc, &mut reader)?)?;
+    let offer = offer.get();
+    Ok(offer_size(alloc, &offer.reference, &offer.properties)?)
 }
 
 /// The size of the type that is read from the first line.
