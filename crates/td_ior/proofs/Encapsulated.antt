@@ -1,5 +1,6 @@
 -- What stands alone as the octets of an encapsulation is read as it is spelled, and only so.
-use Rattle.std.proofs.Common.{◌≡◌, ℕ, ◌+◌, ◌^◌, ◌<◌, nat_eq, nat_lt, Bool, true, false, List, [], ◌∷◌, ◌++◌, length, Option, Some, None, Ok, Err, refl, sym, ap, subst, ◌∙◌, arith, if◌then◌else◌}
+use Rattle.std.proofs.Common.{◌≡◌, ℕ, ◌+◌, ◌^◌, ◌<◌, nat_eq, nat_lt, Bool, true, false, List, [], ◌∷◌, ◌++◌, length}
+use Rattle.std.proofs.Common.{Option, Some, None, Ok, Err, refl, sym, ap, subst, ◌∙◌, arith, if◌then◌else◌}
 use Rattle.std.proofs.lemmas.List.{append-nil}
 use Rattle.std.proofs.lemmas.Bool.{eqb-true, lt-ltb}
 use Rattle.std.proofs.lemmas.Bool.Decides.{nat_tests}
@@ -24,22 +25,47 @@ record Starts (octets : List ℕ) (a : At) : Type 0 where
   short : length octets < 2 ^ 32
   is : start little body ≡ a
 
-order-told : (t u : Bool) (octet : ℕ) (body : List ℕ) (a : At) → length body + 1 < 2 ^ 32 → nat_eq octet 0 ≡ t → nat_eq octet 1 ≡ u
-    → (if t then some_at (start false body) else if u then some_at (start true body) else None) ≡ Some a → Starts (octet ∷ body) a
-order-told true u octet body a h e f g = record { little = false; octet = octet; body = body; told = eqb-true octet 0 e; parts = refl; short = omega arith; is = some-is (start false body) a g }
-order-told false true octet body a h e f g = record { little = true; octet = octet; body = body; told = eqb-true octet 1 f; parts = refl; short = omega arith; is = some-is (start true body) a g }
+order-told : (t u : Bool) (octet : ℕ) (body : List ℕ) (a : At) → length body + 1 < 2 ^ 32 → nat_eq octet 0 ≡ t
+    → nat_eq octet 1 ≡ u
+    → (if t then some_at (start false body) else if u then some_at (start true body) else None) ≡ Some a
+    → Starts (octet ∷ body) a
+order-told true u octet body a h e f g = record {
+  little = false;
+  octet = octet;
+  body = body;
+  told = eqb-true octet 0 e;
+  parts = refl;
+  short = omega arith;
+  is = some-is (start false body) a g;
+}
+order-told false true octet body a h e f g = record {
+  little = true;
+  octet = octet;
+  body = body;
+  told = eqb-true octet 1 f;
+  parts = refl;
+  short = omega arith;
+  is = some-is (start true body) a g;
+}
 order-told false false octet body a h e f g = absurd cc
 
 short-told : (t : Bool) (octet : ℕ) (body : List ℕ) (a : At) → nat_lt (length body + 1) (2 ^ 32) ≡ t
-    → (if t then (if nat_eq octet 0 then some_at (start false body) else if nat_eq octet 1 then some_at (start true body) else None) else None) ≡ Some a → Starts (octet ∷ body) a
-short-told true octet body a h g = let lt : length body + 1 < 2 ^ 32 = grind (arith, nat_tests) in order-told (nat_eq octet 0) (nat_eq octet 1) octet body a lt refl refl g
+    → (if t then (if nat_eq octet 0 then some_at (start false body)
+    else if nat_eq octet 1 then some_at (start true body) else None)
+    else None)
+    ≡ Some a
+    → Starts (octet ∷ body) a
+short-told true octet body a h g =
+    let lt : length body + 1 < 2 ^ 32 = grind (arith, nat_tests) in
+    order-told (nat_eq octet 0) (nat_eq octet 1) octet body a lt refl refl g
 short-told false octet body a h g = absurd cc
 
 start-found : (octets : List ℕ) (a : At) → start_of octets ≡ Some a → Starts octets a
 start-found [] a e = absurd cc
 start-found (octet ∷ body) a e = short-told (nat_lt (length body + 1) (2 ^ 32)) octet body a refl e
 
-start-only : (little : Bool) (octet : ℕ) (body : List ℕ) → IsFlag little octet → length (octet ∷ body) < 2 ^ 32 → start_of (octet ∷ body) ≡ Some (start little body)
+start-only : (little : Bool) (octet : ℕ) (body : List ℕ) → IsFlag little octet → length (octet ∷ body) < 2 ^ 32
+    → start_of (octet ∷ body) ≡ Some (start little body)
 start-only false octet body e h = let t = lt-ltb (length body + 1) (2 ^ 32) (omega arith) in rw (t, e) refl
 start-only true octet body e h = let t = lt-ltb (length body + 1) (2 ^ 32) (omega arith) in rw (t, e) refl
 
@@ -47,16 +73,27 @@ value-found : {Y : Type 0} (r : Read ValueFault Y) (v : Y) → value_in r ≡ So
 value-found (Ok x) v e = (x.1, ap (λ (y : _). Ok (y, x.1)) (some-is x.0 v e))
 value-found (Err d) v e = absurd cc
 
-pub enclosed-found : {Y : Type 0} (g : Sound ValueFault Y) → (octets : List ℕ) (v : Y) → enclosed_in g octets ≡ Some v → Encloses g octets v
+pub enclosed-found : {Y : Type 0} (g : Sound ValueFault Y) → (octets : List ℕ) (v : Y) → enclosed_in g octets ≡ Some v
+    → Encloses g octets v
 enclosed-found {Y = Y} g octets v e =
     let b = bind-Some (start_of octets) (λ (a : At). value_in (g.format.reads a)) v e in
     let s = start-found octets b.0 b.1 in
     let n = value-found (g.format.reads b.0) v b.2 in
     let at : g.format.reads (start s.little s.body) ≡ Ok (v, n.0) = ap g.format.reads s.is ∙ n.1 in
     let f = g.lawful.found (start s.little s.body) v n.0 (omega arith) at in
-    record { little = s.little; order_octet = s.octet; body = f.bytes; ignored = n.0.rest; order_told = s.told; parts = s.parts ∙ ap (λ (x : List ℕ). s.octet ∷ x) f.parts; short = s.short; spelled = f.spelled }
+    record {
+      little = s.little;
+      order_octet = s.octet;
+      body = f.bytes;
+      ignored = n.0.rest;
+      order_told = s.told;
+      parts = s.parts ∙ ap (λ (x : List ℕ). s.octet ∷ x) f.parts;
+      short = s.short;
+      spelled = f.spelled;
+    }
 
-pub enclosed-only : {Y : Type 0} (g : Sound ValueFault Y) → (octets : List ℕ) (v : Y) → Encloses g octets v → enclosed_in g octets ≡ Some v
+pub enclosed-only : {Y : Type 0} (g : Sound ValueFault Y) → (octets : List ℕ) (v : Y) → Encloses g octets v
+    → enclosed_in g octets ≡ Some v
 enclosed-only {Y = Y} g octets v s =
     let body : List ℕ = s.body ++ s.ignored in
     let short : length (s.order_octet ∷ body) < 2 ^ 32 = subst (λ (x : List ℕ). length x < 2 ^ 32) s.parts s.short in
@@ -65,7 +102,8 @@ enclosed-only {Y = Y} g octets v s =
     ap (enclosed_in g) s.parts ∙ rw (begins, one) refl
 
 -- what is written for a value, behind the octet that tells big order
-pub enclosing-holds : {Y : Type 0} (g : Sound ValueFault Y) (v : Y) → g.format.admits v → length (enclosing g v) < 2 ^ 32 → Encloses g (enclosing g v) v
+pub enclosing-holds : {Y : Type 0} (g : Sound ValueFault Y) (v : Y) → g.format.admits v
+    → length (enclosing g v) < 2 ^ 32 → Encloses g (enclosing g v) v
 enclosing-holds g v ok short = record {
   little = false;
   order_octet = 0;

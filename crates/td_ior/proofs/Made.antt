@@ -12,14 +12,18 @@ abbrev onto : List ℕ → Piece → List ℕ
 onto b p = b ++ p Big (length b)
 
 onto-then : (p q : Piece) (b : List ℕ) → onto b (p then q) ≡ onto (onto b p) q
-onto-then p q b = rw (length-append b (p Big (length b))) (sym (append_assoc b (p Big (length b)) (q Big (length b + length (p Big (length b))))))
+onto-then p q b =
+    rw (length-append b (p Big (length b)))
+    (sym (append_assoc b (p Big (length b)) (q Big (length b + length (p Big (length b))))))
 
-five_onto : (p q r s t : Piece) (b : List ℕ) → onto b (p then q then r then s then t) ≡ onto (onto (onto (onto (onto b p) q) r) s) t
+five_onto : (p q r s t : Piece) (b : List ℕ)
+    → onto b (p then q then r then s then t) ≡ onto (onto (onto (onto (onto b p) q) r) s) t
 five_onto p q r s t b =
     let c = onto b p in
     let d = onto c q in
     let e = onto d r in
-    onto-then p (q then r then s then t) b ∙ onto-then q (r then s then t) c ∙ onto-then r (s then t) d ∙ onto-then s t e
+    onto-then p (q then r then s then t) b ∙ onto-then q (r then s then t) c ∙ onto-then r (s then t) d
+    ∙ onto-then s t e
 
 abbrev pub Added : List ℕ → Draft → Draft → Type 0
 Added more old new = (new.bytes ≡ old.bytes ++ more) × (new.order ≡ old.order) × (old.room ≤ new.room)
@@ -29,19 +33,22 @@ record Stands (w : Draft) (bytes : List ℕ) : Type 0 where
   bytes_are : w.bytes ≡ bytes
   order_is : w.order ≡ Big
 
-stands-on : (p : Piece) (old new : Draft) (bytes : List ℕ) → Stands old bytes → Added (p old.order (length old.bytes)) old new → Stands new (onto bytes p)
+stands-on : (p : Piece) (old new : Draft) (bytes : List ℕ) → Stands old bytes
+    → Added (p old.order (length old.bytes)) old new → Stands new (onto bytes p)
 stands-on p old new bytes s a = record {
-  bytes_are = a.0 ∙ ap (λ (o : Order). old.bytes ++ p o (length old.bytes)) s.order_is ∙ ap (λ (b : List ℕ). onto b p) s.bytes_are;
+  bytes_are =
+      a.0 ∙ ap (λ (o : Order). old.bytes ++ p o (length old.bytes)) s.order_is
+      ∙ ap (λ (b : List ℕ). onto b p) s.bytes_are;
   order_is = a.1 ∙ s.order_is;
 }
 
-pub profile-made : (host key : List ℕ) (port : ℕ) (w0 w1 w2 w3 w4 w5 : Draft) → (w0.bytes ≡ flag Big ∷ []) × (w0.order ≡ Big)
+pub profile-made : (host key : List ℕ) (port : ℕ) (w0 w1 w2 w3 w4 w5 : Draft)
+    → (w0.bytes ≡ flag Big ∷ []) × (w0.order ≡ Big)
     → Added (written_number 1 w0.order (length w0.bytes) iiop_major) w0 w1
     → Added (written_number 1 w1.order (length w1.bytes) written_minor) w1 w2
     → Added (written_octets w2.order (length w2.bytes) (host ++ 0 ∷ [])) w2 w3
     → Added (written_number 2 w3.order (length w3.bytes) port) w3 w4
-    → Added (written_octets w4.order (length w4.bytes) key) w4 w5
-    → w5.bytes ≡ made_octets host port key
+    → Added (written_octets w4.order (length w4.bytes) key) w4 w5 → w5.bytes ≡ made_octets host port key
 profile-made host key port w0 w1 w2 w3 w4 w5 s a1 a2 a3 a4 a5 =
     let p = (number 1).format.writes iiop_major in
     let q = (number 1).format.writes written_minor in

@@ -1,5 +1,7 @@
 -- References in their text forms, and how these are cut.
-use Rattle.std.proofs.Common.{codes, ◌≡◌, ℕ, ◌^◌, ◌<◌, ◌||◌, Bool, true, false, nat_eq, List, [], ◌∷◌, ◌++◌, length, take, drop, append_assoc, append-nil, subst, ◌⊎◌, inl, inr, Option, Some, None, Result, Ok, Err, refl, sym, ap, ◌∙◌, arith, if◌then◌else◌}
+use Rattle.std.proofs.Common.{codes, ◌≡◌, ℕ, ◌^◌, ◌<◌, ◌||◌, Bool, true, false, nat_eq, List, [], ◌∷◌, ◌++◌, length}
+use Rattle.std.proofs.Common.{take, drop, append_assoc, append-nil, subst, ◌⊎◌, inl, inr, Option, Some, None, Result}
+use Rattle.std.proofs.Common.{Ok, Err, refl, sym, ap, ◌∙◌, arith, if◌then◌else◌}
 use Rattle.std.specs.List.{list_any}
 use Rattle.std.specs.Result.{result_ok, IfOk}
 use Rattle.std.specs.Str.{bytes_eq}
@@ -17,7 +19,8 @@ use Rattle.td_ior.specs.Keys.{◌>>=◌}
 use Rattle.td_ior.specs.Laws.{Agrees}
 use Rattle.td_ior.specs.Number.{port_of}
 use Rattle.td_ior.specs.Profiles.{made_profile, made_reference}
-use Rattle.td_ior.specs.Texts.{IsHexForm, IsPlainForm, IsReferenceText, HasNoComma, hex_form, cut_last, unmarked, Parts, with_port, parts_of, plain_form, reference_in, printed}
+use Rattle.td_ior.specs.Texts.{IsHexForm, IsPlainForm, IsReferenceText, HasNoComma, hex_form, cut_last, unmarked, Parts}
+use Rattle.td_ior.specs.Texts.{with_port, parts_of, plain_form, reference_in, printed}
 use Rattle.td_ior.proofs.Commas.{cut_last-none, cut_last-here, cut_last-append}
 use Rattle.td_ior.proofs.Encapsulated.{enclosed-found, enclosed-only, enclosing-holds}
 use Rattle.td_ior.proofs.Keys.{bind-Some, some-is, same-bytes}
@@ -48,7 +51,8 @@ uncut (b ∷ bytes) h =
 -- the cut at the last comma
 cut-at : (before after : List ℕ) → HasNoComma after → cut_last (before ++ 44 ∷ after) ≡ Some (before, after)
 cut-at before after h =
-    cut_last-append before (44 ∷ after) [] after (cut_last-here 44 after refl (uncut after h)) ∙ ap (λ x. Some (x, after)) (append-nil before)
+    cut_last-append before (44 ∷ after) [] after (cut_last-here 44 after refl (uncut after h))
+    ∙ ap (λ x. Some (x, after)) (append-nil before)
 
 record IsCut (word before after : List ℕ) : Type 0 where
   whole : word ≡ before ++ 44 ∷ after
@@ -56,15 +60,26 @@ record IsCut (word before after : List ℕ) : Type 0 where
 
 -- bytes have no comma and no cut, or are cut at their last comma
 abbrev CutOrNot : List ℕ → Type 0
-CutOrNot bytes = ((cut_last bytes ≡ None) × HasNoComma bytes) ⊎ ((before : List ℕ) × (after : List ℕ) × (cut_last bytes ≡ Some (before, after)) × IsCut bytes before after)
+CutOrNot bytes =
+    ((cut_last bytes ≡ None) × HasNoComma bytes)
+    ⊎ ((before : List ℕ) × (after : List ℕ) × (cut_last bytes ≡ Some (before, after)) × IsCut bytes before after)
 
-cut-or_not_first : (b : ℕ) (bytes : List ℕ) (t : Bool) → nat_eq b 44 ≡ t → cut_last bytes ≡ None → HasNoComma bytes → CutOrNot (b ∷ bytes)
-cut-or_not_first b bytes true e none rest = inr ([], bytes, cut_last-here b bytes e none, record { whole = ap (λ x. x ∷ bytes) (eqb-true b 44 e); last = rest })
-cut-or_not_first b bytes false e none rest = inl (cut_last-none b bytes e none, or-both_false (nat_eq b 44) (list_any (λ x. nat_eq x 44) bytes) e rest)
+cut-or_not_first : (b : ℕ) (bytes : List ℕ) (t : Bool) → nat_eq b 44 ≡ t → cut_last bytes ≡ None → HasNoComma bytes
+    → CutOrNot (b ∷ bytes)
+cut-or_not_first b bytes true e none rest =
+    inr ([], bytes, cut_last-here b bytes e none, record { whole = ap (λ x. x ∷ bytes) (eqb-true b 44 e); last = rest })
+cut-or_not_first b bytes false e none rest =
+    inl (cut_last-none b bytes e none, or-both_false (nat_eq b 44) (list_any (λ x. nat_eq x 44) bytes) e rest)
 
-cut-or_not_later : (b : ℕ) (bytes before after : List ℕ) → cut_last bytes ≡ Some (before, after) → IsCut bytes before after → CutOrNot (b ∷ bytes)
+cut-or_not_later : (b : ℕ) (bytes before after : List ℕ) → cut_last bytes ≡ Some (before, after)
+    → IsCut bytes before after → CutOrNot (b ∷ bytes)
 cut-or_not_later b bytes before after e cut =
-    inr (b ∷ before, after, cut_last-append (b ∷ []) bytes before after e, record { whole = ap (λ x. b ∷ x) cut.whole; last = cut.last })
+    inr (
+      b ∷ before,
+      after,
+      cut_last-append (b ∷ []) bytes before after e,
+      record { whole = ap (λ x. b ∷ x) cut.whole; last = cut.last },
+    )
 
 cut-or_not : (bytes : List ℕ) → CutOrNot bytes
 unfolding cut_last
@@ -82,15 +97,18 @@ cut-Some word cut e = elim (cut-or_not word) [
 
 -- ---- the form `ref:ID,HOST,PORT,KEY`
 
-unmarked-test : (t : Bool) (text rest : List ℕ) → bytes_eq (take 4 text) (codes "ref:") ≡ t → (if t then Some (drop 4 text) else None) ≡ Some rest → text ≡ codes "ref:" ++ rest
+unmarked-test : (t : Bool) (text rest : List ℕ) → bytes_eq (take 4 text) (codes "ref:") ≡ t
+    → (if t then Some (drop 4 text) else None) ≡ Some rest → text ≡ codes "ref:" ++ rest
 unmarked-test true text rest e h =
-    sym (take-append-drop 4 text) ∙ ap (λ x. x ++ drop 4 text) (same-bytes (take 4 text) (codes "ref:") e) ∙ ap (λ x. codes "ref:" ++ x) (some-is (drop 4 text) rest h)
+    sym (take-append-drop 4 text) ∙ ap (λ x. x ++ drop 4 text) (same-bytes (take 4 text) (codes "ref:") e)
+    ∙ ap (λ x. codes "ref:" ++ x) (some-is (drop 4 text) rest h)
 unmarked-test false text rest e h = absurd cc
 
 unmarked-Some : (text rest : List ℕ) → unmarked text ≡ Some rest → text ≡ codes "ref:" ++ rest
 unmarked-Some text rest h = unmarked-test (bytes_eq (take 4 text) (codes "ref:")) text rest refl h
 
-joined : (text rest a b id host port key : List ℕ) → text ≡ codes "ref:" ++ rest → rest ≡ a ++ 44 ∷ key → a ≡ b ++ 44 ∷ port → b ≡ id ++ 44 ∷ host → text ≡ codes "ref:" ++ (id ++ 44 ∷ (host ++ 44 ∷ (port ++ 44 ∷ key)))
+joined : (text rest a b id host port key : List ℕ) → text ≡ codes "ref:" ++ rest → rest ≡ a ++ 44 ∷ key
+    → a ≡ b ++ 44 ∷ port → b ≡ id ++ 44 ∷ host → text ≡ codes "ref:" ++ (id ++ 44 ∷ (host ++ 44 ∷ (port ++ 44 ∷ key)))
 joined text rest a b id host port key e f g h = rw (e, f, g, h) (simp append_assoc)
 
 abbrev some_parts : Parts → Option Parts
@@ -101,8 +119,10 @@ record IsWithPort (first : List ℕ × List ℕ) (key : List ℕ) (port : ℕ) (
   host_plain : HasNoNul first.1
   is : record { id = first.0; host = first.1; port = port; key = key } ≡ parts
 
-with_port-at : (t : Bool) (first : List ℕ × List ℕ) (key : List ℕ) (port : ℕ) (parts : Parts) → (has_nul first.0 || has_nul first.1) ≡ t
-    → (if t then None else some_parts (record { id = first.0; host = first.1; port = port; key = key })) ≡ Some parts → IsWithPort first key port parts
+with_port-at : (t : Bool) (first : List ℕ × List ℕ) (key : List ℕ) (port : ℕ) (parts : Parts)
+    → (has_nul first.0 || has_nul first.1) ≡ t
+    → (if t then None else some_parts (record { id = first.0; host = first.1; port = port; key = key })) ≡ Some parts
+    → IsWithPort first key port parts
 with_port-at true first key port parts e h = absurd cc
 with_port-at false first key port parts e h = record {
   id_plain = or-false_left (has_nul first.0) (has_nul first.1) e;
@@ -147,7 +167,9 @@ parts-found text parts e =
       port_word = before.0.1;
       port = port.0;
       key = last.0.1;
-      whole = joined text rest.0 last.0.0 before.0.0 first.0.0 first.0.1 before.0.1 last.0.1 (unmarked-Some text rest.0 rest.1) at_last.whole at_before.whole at_first.whole;
+      whole =
+          joined text rest.0 last.0.0 before.0.0 first.0.0 first.0.1 before.0.1 last.0.1
+          (unmarked-Some text rest.0 rest.1) at_last.whole at_before.whole at_first.whole;
       in_host = at_first.last;
       in_port = at_before.last;
       in_key = at_last.last;
@@ -162,10 +184,12 @@ plain-found text r e =
     let parts = bind-Some (parts_of text) (λ (p : Parts). Some (made_of p)) r e in
     subst (IsPlainForm text) (some-is (made_of parts.0) r parts.2) (parts-found text parts.0 parts.1)
 
-parts-only : (text : List ℕ) (r : Ior) (s : IsPlainForm text r) → parts_of text ≡ Some (record { id = s.id; host = s.host; port = s.port; key = s.key })
+parts-only : (text : List ℕ) (r : Ior) (s : IsPlainForm text r)
+    → parts_of text ≡ Some (record { id = s.id; host = s.host; port = s.port; key = s.key })
 unfolding parts_of
 parts-only text r s =
-    let parted : text ≡ codes "ref:" ++ (((s.id ++ 44 ∷ s.host) ++ 44 ∷ s.port_word) ++ 44 ∷ s.key) = s.whole ∙ simp append_assoc in
+    let parted : text ≡ codes "ref:" ++ (((s.id ++ 44 ∷ s.host) ++ 44 ∷ s.port_word) ++ 44 ∷ s.key) =
+    s.whole ∙ simp append_assoc in
     let last = cut-at ((s.id ++ 44 ∷ s.host) ++ 44 ∷ s.port_word) s.key s.in_key in
     let before = cut-at (s.id ++ 44 ∷ s.host) s.port_word s.in_port in
     let first = cut-at s.id s.host s.in_host in
@@ -184,19 +208,32 @@ decoded-found : (r : Result (List ℕ) FromHexError) (octets : List ℕ) → res
 decoded-found (Ok x) octets e = ap (λ (y : List ℕ). Ok y) (some-is x octets e)
 decoded-found (Err d) octets e = absurd cc
 
-hex-found : (text digits : List ℕ) (r : Ior) → text ≡ codes "IOR:" ++ digits → hex_form digits ≡ Some r → IsHexForm text r
+hex-found : (text digits : List ℕ) (r : Ior) → text ≡ codes "IOR:" ++ digits → hex_form digits ≡ Some r
+    → IsHexForm text r
 hex-found text digits r whole e =
     let b = bind-Some (result_ok (decode_of digits)) (enclosed_in reference) r e in
-    record { digits = digits; octets = b.0; whole = whole; decoded = decoded-found (decode_of digits) b.0 b.1; holds = enclosed-found reference b.0 r b.2 }
+    record {
+      digits = digits;
+      octets = b.0;
+      whole = whole;
+      decoded = decoded-found (decode_of digits) b.0 b.1;
+      holds = enclosed-found reference b.0 r b.2;
+    }
 
-hex-only : (digits octets : List ℕ) (r : Ior) → decode_of digits ≡ Ok octets → Encloses reference octets r → hex_form digits ≡ Some r
-hex-only digits octets r e h = ap (λ (x : Result (List ℕ) FromHexError). result_ok x >>= enclosed_in reference) e ∙ enclosed-only reference octets r h
+hex-only : (digits octets : List ℕ) (r : Ior) → decode_of digits ≡ Ok octets → Encloses reference octets r
+    → hex_form digits ≡ Some r
+hex-only digits octets r e h =
+    ap (λ (x : Result (List ℕ) FromHexError). result_ok x >>= enclosed_in reference) e
+    ∙ enclosed-only reference octets r h
 
 -- ---- both forms
 
-text-found-at : (t : Bool) (text : List ℕ) (r : Ior) → bytes_eq (take 4 text) (codes "IOR:") ≡ t → (if t then hex_form (drop 4 text) else plain_form text) ≡ Some r → IsReferenceText text r
+text-found-at : (t : Bool) (text : List ℕ) (r : Ior) → bytes_eq (take 4 text) (codes "IOR:") ≡ t
+    → (if t then hex_form (drop 4 text) else plain_form text) ≡ Some r → IsReferenceText text r
 text-found-at true text r e h =
-    let whole = sym (take-append-drop 4 text) ∙ ap (λ (x : List ℕ). x ++ drop 4 text) (same-bytes (take 4 text) (codes "IOR:") e) in
+    let whole =
+    sym (take-append-drop 4 text)
+    ∙ ap (λ (x : List ℕ). x ++ drop 4 text) (same-bytes (take 4 text) (codes "IOR:") e) in
     IsReferenceText.hex (hex-found text (drop 4 text) r whole h)
 text-found-at false text r e h = IsReferenceText.plain (plain-found text r h)
 
@@ -212,20 +249,25 @@ text-only text r (IsReferenceText.plain s) =
 pub texts-agree : Agrees IsReferenceText reference_in
 texts-agree = record { found = text-found; only = text-only }
 
-pub printed-found : (r : Ior) → reference.format.admits r → IsBytes (enclosing reference r) → length (enclosing reference r) < 2 ^ 32 → reference_in (printed r) ≡ Some r
+pub printed-found : (r : Ior) → reference.format.admits r → IsBytes (enclosing reference r)
+    → length (enclosing reference r) < 2 ^ 32 → reference_in (printed r) ≡ Some r
 printed-found r ok bytes short =
-    hex-only (encode_lower (enclosing reference r)) (enclosing reference r) r (decode_of-encode_lower (enclosing reference r) bytes)
+    hex-only (encode_lower (enclosing reference r)) (enclosing reference r) r
+    (decode_of-encode_lower (enclosing reference r) bytes)
     (enclosing-holds reference r ok short)
 
-pub printed-back : {E : Type 0} (r : Ior) (octets : List ℕ) (result : Result (List ℕ) E) → IfOk result (λ t. t ≡ codes "IOR:" ++ encode_lower octets) → octets ≡ enclosing reference r → IsBytes octets → length octets < 2 ^ 32
-    → IfOk result (λ t. reference.format.admits r → reference_in t ≡ Some r)
+pub printed-back : {E : Type 0} (r : Ior) (octets : List ℕ) (result : Result (List ℕ) E)
+    → IfOk result (λ t. t ≡ codes "IOR:" ++ encode_lower octets) → octets ≡ enclosing reference r → IsBytes octets
+    → length octets < 2 ^ 32 → IfOk result (λ t. reference.format.admits r → reference_in t ≡ Some r)
 printed-back r octets (Ok t) e held bytes short = λ ok.
     let printed_is : t ≡ printed r = e ∙ ap (λ (o : List ℕ). codes "IOR:" ++ encode_lower o) held in
-    ap reference_in printed_is ∙ printed-found r ok (subst IsBytes held bytes) (subst (λ (o : List ℕ). length o < 2 ^ 32) held short)
+    ap reference_in printed_is
+    ∙ printed-found r ok (subst IsBytes held bytes) (subst (λ (o : List ℕ). length o < 2 ^ 32) held short)
 printed-back r octets (Err d) e held bytes short = tt
 
 -- a made reference has a spelling
-pub made-admitted : (id host key : List ℕ) (port : ℕ) → HasNoNul id → reference.format.admits (made_reference id host port key)
+pub made-admitted : (id host key : List ℕ) (port : ℕ) → HasNoNul id
+    → reference.format.admits (made_reference id host port key)
 made-admitted id host key port plain =
     let p : Profile = made_profile host port key in
     (plain, (omega arith, ((p, []), refl, ((omega arith, tt), refl))))

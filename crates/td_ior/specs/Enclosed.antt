@@ -1,7 +1,8 @@
 -- The octets of an encapsulation (CORBA's chapter on the General Inter-ORB Protocol, "CDR Transfer
 -- Syntax", on encapsulation): the first tells the order of the value behind it, and alignment counts
 -- from it. They are counted by an unsigned long, so there are fewer than 2 ^ 32.
-use Rattle.std.specs.Prelude.{◌≡◌, ℕ, ◌+◌, ◌^◌, ◌<◌, nat_eq, nat_lt, Bool, true, false, List, [], ◌∷◌, ◌++◌, length, if◌then◌else◌, Option, Some, None, Ok, Err}
+use Rattle.std.specs.Prelude.{◌≡◌, ℕ, ◌+◌, ◌^◌, ◌<◌, nat_eq, nat_lt, Bool, true, false, List, [], ◌∷◌, ◌++◌, length}
+use Rattle.std.specs.Prelude.{if◌then◌else◌, Option, Some, None, Ok, Err}
 use Rattle.td_cdr.specs.declared.order.Order.TheVariants.{Big}
 use Rattle.td_cdr.specs.Gap.{flag}
 use Rattle.td_cdr.specs.Place.{At}

@@ -1,5 +1,6 @@
 -- IIOP profiles (CORBA's chapter on the General Inter-ORB Protocol, "IIOP IOR Profiles").
-use Rattle.std.specs.Prelude.{◌≡◌, ℕ, nat_eq, List, [], ◌∷◌, ◌++◌, if◌then◌else◌, Option, Some, None, Result, Ok, Err, refl}
+use Rattle.std.specs.Prelude.{◌≡◌, ℕ, nat_eq, List, [], ◌∷◌, ◌++◌, if◌then◌else◌, Option, Some, None, Result, Ok, Err}
+use Rattle.std.specs.Prelude.{refl}
 use Rattle.std.proofs.Common.{arith}
 use Rattle.std.specs.Option.{IsSome}
 use Rattle.td_codes.specs.declared.reference.Ior.{Ior}

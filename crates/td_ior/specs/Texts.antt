@@ -1,6 +1,7 @@
 -- The two text forms of a reference: `IOR:` and hexadecimal digits (CORBA's chapter on ORB
 -- interoperability, "Stringified Object References"), and `ref:ID,HOST,PORT,KEY`, which is only read.
-use Rattle.std.specs.Prelude.{codes, ◌≡◌, ℕ, nat_eq, ◌||◌, false, List, [], ◌∷◌, ◌++◌, take, drop, if◌then◌else◌, Option, Some, None, Result, Ok, Err}
+use Rattle.std.specs.Prelude.{codes, ◌≡◌, ℕ, nat_eq, ◌||◌, false, List, [], ◌∷◌, ◌++◌, take, drop, if◌then◌else◌}
+use Rattle.std.specs.Prelude.{Option, Some, None, Result, Ok, Err}
 use Rattle.std.specs.List.{list_any}
 use Rattle.std.specs.Result.{result_ok}
 use Rattle.std.specs.Str.{bytes_eq}

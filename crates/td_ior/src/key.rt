@@ -4,7 +4,8 @@ ghost use Rattle.std.specs.Prelude.{◌≡◌, ◌++◌, nat_eq, OnOk, IfOk};
 ghost use Rattle.std.specs.List.{position};
 ghost use Rattle.std.specs.Option.{option_map};
 ghost use Rattle.td_value.specs.declared.key.Kind.TheVariants.{Iterator};
-ghost use Rattle.td_ior.specs.Keys.{key_of, kind_of, letter_kind, iterator_of, at_slash, kind_piece, written_key, ReadsKey};
+ghost use Rattle.td_ior.specs.Keys.{key_of, kind_of, letter_kind, iterator_of, at_slash, kind_piece, written_key};
+ghost use Rattle.td_ior.specs.Keys.{ReadsKey};
 
 use crate::fault::IorFault;
 use crate::number::number_of;

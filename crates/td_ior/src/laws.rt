@@ -12,7 +12,8 @@ ghost use Rattle.td_codes.specs.References.{reference};
 ghost use Rattle.td_ior.specs.Enclosed.{enclosing};
 ghost use Rattle.td_ior.specs.Keys.{SpellsKey, IsKind, key_of, written_key};
 ghost use Rattle.td_ior.specs.Laws.{Agrees};
-ghost use Rattle.td_ior.specs.Profiles.{IsIiop, HasNoIiop, IsFirstIiop, iiop_in, first_iiop, iiop_of, made_octets, made_reference};
+ghost use Rattle.td_ior.specs.Profiles.{IsIiop, HasNoIiop, IsFirstIiop, iiop_in, first_iiop, iiop_of, made_octets};
+ghost use Rattle.td_ior.specs.Profiles.{made_reference};
 ghost use Rattle.td_ior.specs.Texts.{IsReferenceText, reference_in, printed};
 
 /// A key is read as it is written, and only so, and no two keys are written alike.

@@ -2,7 +2,8 @@
 
 ghost use Rattle.std.specs.Prelude.{◌≡◌};
 ghost use Rattle.std.specs.List.{list_all};
-ghost use Rattle.td_ior.specs.Number.{is_digit, leads_with_zero, numeral, number_of, port_of};
+ghost use Rattle.td_cdr.specs.Names.{is_digit};
+ghost use Rattle.td_ior.specs.Number.{leads_with_zero, numeral, number_of, port_of};
 
 fn is_digit(byte: u8) -> bool
     ensures { result ≡ is_digit byte }

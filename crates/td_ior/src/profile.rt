@@ -4,7 +4,8 @@ ghost use Rattle.std.specs.Prelude.{◌≡◌, ◌<◌, ◌^◌, length, Some, I
 ghost use Rattle.std.specs.Option.{option_map};
 ghost use Rattle.td_cdr.specs.Text.{HasNoNul};
 ghost use Rattle.td_ior.specs.Enclosed.{value_in};
-ghost use Rattle.td_ior.specs.Profiles.{profile_body, iiop_in, first_iiop, iiop_of, lent, ReadsIiop, made_octets, made_reference};
+ghost use Rattle.td_ior.specs.Profiles.{profile_body, iiop_in, first_iiop, iiop_of, lent, ReadsIiop, made_octets};
+ghost use Rattle.td_ior.specs.Profiles.{made_reference};
 
 use crate::enclosed::start_of;
 use crate::fault::IorFault;

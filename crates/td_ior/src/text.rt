@@ -6,7 +6,8 @@ ghost use Rattle.std.specs.Option.{option_map, option_copied};
 ghost use Rattle.td_cdr.specs.Text.{has_nul, HasNoNul};
 ghost use Rattle.td_codes.specs.References.{reference as references};
 ghost use Rattle.td_ior.specs.Enclosed.{enclosed_in, enclosing};
-ghost use Rattle.td_ior.specs.Texts.{cut_last, unmarked, parts_of, hex_form, plain_form, reference_in, ReadsText, printed};
+ghost use Rattle.td_ior.specs.Texts.{cut_last, unmarked, parts_of, hex_form, plain_form, reference_in, ReadsText};
+ghost use Rattle.td_ior.specs.Texts.{printed};
 
 use crate::enclosed::start_of;
 use crate::fault::IorFault;
