@@ -21,7 +21,8 @@ names-Binary o a b = ap names_in (sym (expr.rolls-Binary o a b)) ∙ fold-roll-E
 
 names-Within : (a : Expr) (name : List ℕ) → names_in (expr.Within a name) ≡ names_in a ++ name ∷ []
 unfolding names_in
-names-Within a name = ap names_in (sym (expr.rolls-Within a name)) ∙ fold-roll-Expr Names names_layer (layer.Within a name)
+names-Within a name =
+    ap names_in (sym (expr.rolls-Within a name)) ∙ fold-roll-Expr Names names_layer (layer.Within a name)
 
 names-Not : (a : Expr) → names_in (expr.Not a) ≡ names_in a
 unfolding names_in
@@ -57,7 +58,8 @@ module _ (m n : List Property) where
       let both : Agree m n (names_in a ++ names_in b) = subst (Agree m n) (names-Binary o a b) h in
       let x = pa (front (names_in a) (names_in b) both) in
       let y = pb (back (names_in a) (names_in b) both) in
-      of_binary m o a b ∙ ap (λ l. binary o l (simple_value m b)) x ∙ ap (binary o (simple_value n a)) y ∙ sym (of_binary n o a b)
+      of_binary m o a b ∙ ap (λ l. binary o l (simple_value m b)) x ∙ ap (binary o (simple_value n a)) y
+      ∙ sym (of_binary n o a b)
 
   same-Within : (a : Expr) (name : List ℕ) → Same a → Same (expr.Within a name)
   unfolding Same
@@ -65,11 +67,13 @@ module _ (m n : List Property) where
       let both : Agree m n (names_in a ++ name ∷ []) = subst (Agree m n) (names-Within a name) h in
       let x = pa (front (names_in a) (name ∷ []) both) in
       let y = same_content name (back (names_in a) (name ∷ []) both).0 in
-      of_within m a name ∙ ap (λ l. within l (content_named m name)) x ∙ ap (within (simple_value n a)) y ∙ sym (of_within n a name)
+      of_within m a name ∙ ap (λ l. within l (content_named m name)) x ∙ ap (within (simple_value n a)) y
+      ∙ sym (of_within n a name)
 
   same-Not : (a : Expr) → Same a → Same (expr.Not a)
   unfolding Same
-  same-Not a pa h = of_not m a ∙ ap (option_and_then negation) (pa (subst (Agree m n) (names-Not a) h)) ∙ sym (of_not n a)
+  same-Not a pa h =
+      of_not m a ∙ ap (option_and_then negation) (pa (subst (Agree m n) (names-Not a) h)) ∙ sym (of_not n a)
 
   same-Exist : (name : List ℕ) → Same (expr.Exist name)
   unfolding Same

@@ -14,13 +14,15 @@ use Rattle.td_eval.specs.Values.{operand, binary, within, negation, value_layer,
 use Rattle.td_eval.proofs.Operating.{operand_one}
 
 module _ (map : List Property) where
-  pub of_binary : (o : Op) (a b : Expr) → simple_value map (expr.Binary o a b) ≡ binary o (simple_value map a) (simple_value map b)
+  pub of_binary : (o : Op) (a b : Expr)
+      → simple_value map (expr.Binary o a b) ≡ binary o (simple_value map a) (simple_value map b)
   unfolding value simple_value
   of_binary o a b =
       ap (λ e. operand (fold-Expr (Option Content) (value_layer map) e)) (sym (expr.rolls-Binary o a b))
       ∙ ap operand (fold-roll-Expr (Option Content) (value_layer map) (layer.Binary o a b)) ∙ operand_one _
 
-  pub of_within : (a : Expr) (name : List ℕ) → simple_value map (expr.Within a name) ≡ within (simple_value map a) (content_named map name)
+  pub of_within : (a : Expr) (name : List ℕ)
+      → simple_value map (expr.Within a name) ≡ within (simple_value map a) (content_named map name)
   unfolding value simple_value
   of_within a name =
       ap (λ e. operand (fold-Expr (Option Content) (value_layer map) e)) (sym (expr.rolls-Within a name))

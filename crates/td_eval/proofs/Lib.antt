@@ -6,7 +6,8 @@ pub mod LessThan
 pub mod Literals
 pub mod Mentions
 pub mod Occurring
-pub mod OneOrder
+pub mod Once
+mod OneOrder
 pub mod Operating
 pub mod Ordered
 pub mod Parts

@@ -19,42 +19,53 @@ one_more : (names : Names) (name : List ℕ) → with_names names (name ∷ []) 
 unfolding with_names
 one_more names name = refl
 
-pub of_binary : (names : Names) (o : Op) (a b : Expr) → with_names names (names_in (expr.Binary o a b)) ≡ with_names (with_names names (names_in a)) (names_in b)
+pub of_binary : (names : Names) (o : Op) (a b : Expr)
+    → with_names names (names_in (expr.Binary o a b)) ≡ with_names (with_names names (names_in a)) (names_in b)
 unfolding names_in
 of_binary names o a b =
-    ap (λ e. with_names names (fold-Expr Names names_layer e)) (sym (expr.rolls-Binary o a b)) ∙ ap (with_names names) (fold-roll-Expr Names names_layer (layer.Binary o a b)) ∙ more names _ _
+    ap (λ e. with_names names (fold-Expr Names names_layer e)) (sym (expr.rolls-Binary o a b))
+    ∙ ap (with_names names) (fold-roll-Expr Names names_layer (layer.Binary o a b)) ∙ more names _ _
 
-pub of_within : (names : Names) (a : Expr) (name : List ℕ) → with_names names (names_in (expr.Within a name)) ≡ with_name (with_names names (names_in a)) name
+pub of_within : (names : Names) (a : Expr) (name : List ℕ)
+    → with_names names (names_in (expr.Within a name)) ≡ with_name (with_names names (names_in a)) name
 unfolding names_in
 of_within names a name =
-    ap (λ e. with_names names (fold-Expr Names names_layer e)) (sym (expr.rolls-Within a name)) ∙ ap (with_names names) (fold-roll-Expr Names names_layer (layer.Within a name))
+    ap (λ e. with_names names (fold-Expr Names names_layer e)) (sym (expr.rolls-Within a name))
+    ∙ ap (with_names names) (fold-roll-Expr Names names_layer (layer.Within a name))
     ∙ more names _ _ ∙ one_more _ name
 
 pub of_not : (names : Names) (a : Expr) → with_names names (names_in (expr.Not a)) ≡ with_names names (names_in a)
 unfolding names_in
-of_not names a = ap (λ e. with_names names (fold-Expr Names names_layer e)) (sym (expr.rolls-Not a)) ∙ ap (with_names names) (fold-roll-Expr Names names_layer (layer.Not a))
+of_not names a =
+    ap (λ e. with_names names (fold-Expr Names names_layer e)) (sym (expr.rolls-Not a))
+    ∙ ap (with_names names) (fold-roll-Expr Names names_layer (layer.Not a))
 
 pub of_exist : (names : Names) (name : List ℕ) → with_names names (names_in (expr.Exist name)) ≡ with_name names name
 unfolding names_in
 of_exist names name =
-    ap (λ e. with_names names (fold-Expr Names names_layer e)) (sym (expr.rolls-Exist name)) ∙ ap (with_names names) (fold-roll-Expr Names names_layer (layer.Exist name)) ∙ one_more names name
+    ap (λ e. with_names names (fold-Expr Names names_layer e)) (sym (expr.rolls-Exist name))
+    ∙ ap (with_names names) (fold-roll-Expr Names names_layer (layer.Exist name)) ∙ one_more names name
 
 pub of_name : (names : Names) (name : List ℕ) → with_names names (names_in (expr.Name name)) ≡ with_name names name
 unfolding names_in
 of_name names name =
-    ap (λ e. with_names names (fold-Expr Names names_layer e)) (sym (expr.rolls-Name name)) ∙ ap (with_names names) (fold-roll-Expr Names names_layer (layer.Name name)) ∙ one_more names name
+    ap (λ e. with_names names (fold-Expr Names names_layer e)) (sym (expr.rolls-Name name))
+    ∙ ap (with_names names) (fold-roll-Expr Names names_layer (layer.Name name)) ∙ one_more names name
 
 pub of_number : (names : Names) (n : ℤ) → with_names names (names_in (expr.Number n)) ≡ names
 unfolding names_in
 of_number names n =
-    ap (λ e. with_names names (fold-Expr Names names_layer e)) (sym (expr.rolls-Number n)) ∙ ap (with_names names) (fold-roll-Expr Names names_layer (layer.Number n)) ∙ sym (none names)
+    ap (λ e. with_names names (fold-Expr Names names_layer e)) (sym (expr.rolls-Number n))
+    ∙ ap (with_names names) (fold-roll-Expr Names names_layer (layer.Number n)) ∙ sym (none names)
 
 pub of_text : (names : Names) (t : List ℕ) → with_names names (names_in (expr.Str t)) ≡ names
 unfolding names_in
 of_text names t =
-    ap (λ e. with_names names (fold-Expr Names names_layer e)) (sym (expr.rolls-Str t)) ∙ ap (with_names names) (fold-roll-Expr Names names_layer (layer.Str t)) ∙ sym (none names)
+    ap (λ e. with_names names (fold-Expr Names names_layer e)) (sym (expr.rolls-Str t))
+    ∙ ap (with_names names) (fold-roll-Expr Names names_layer (layer.Str t)) ∙ sym (none names)
 
 pub of_truth : (names : Names) (p : Bool) → with_names names (names_in (expr.Truth p)) ≡ names
 unfolding names_in
 of_truth names p =
-    ap (λ e. with_names names (fold-Expr Names names_layer e)) (sym (expr.rolls-Truth p)) ∙ ap (with_names names) (fold-roll-Expr Names names_layer (layer.Truth p)) ∙ sym (none names)
+    ap (λ e. with_names names (fold-Expr Names names_layer e)) (sym (expr.rolls-Truth p))
+    ∙ ap (with_names names) (fold-roll-Expr Names names_layer (layer.Truth p)) ∙ sym (none names)

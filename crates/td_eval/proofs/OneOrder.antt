@@ -1,5 +1,6 @@
 -- A list in order, whose ties stand as they did, is the only one.
-use Rattle.std.proofs.Common.{◌≡◌, ℕ, suc, ◌<◌, ◌≤◌, Bool, true, false, not, ◌&&◌, cond, List, [], ◌∷◌, length, get_or, refl, sym, ap, ◌∙◌, arith}
+use Rattle.std.proofs.Common.{◌≡◌, ℕ, suc, ◌<◌, ◌≤◌, Bool, true, false, not, ◌&&◌, cond, List, [], ◌∷◌, length, get_or}
+use Rattle.std.proofs.Common.{refl, sym, ap, ◌∙◌, arith}
 use Rattle.std.specs.Cmp.{IsStrictWeakOrder}
 use Rattle.std.specs.List.{filter}
 use Rattle.std.specs.List.Sorted.{ties}
@@ -34,10 +35,14 @@ module _ {X : Type 0} (lt : X → X → Bool) (o : IsStrictWeakOrder lt) where
   above_of y [] h = tt
   above_of y (w ∷ ws) h = (h 0 w (omega arith), above_of y ws (λ j d k. h (suc j) d (omega arith)))
 
-  up_of : (ys : List X) → ((i j : ℕ) (d : X) → i ≤ j → j < length ys → lt (get_or ys j d) (get_or ys i d) ≡ false) → Up ys
+  up_of : (ys : List X) → ((i j : ℕ) (d : X) → i ≤ j → j < length ys → lt (get_or ys j d) (get_or ys i d) ≡ false)
+      → Up ys
   unfolding Up
   up_of [] h = tt
-  up_of (y ∷ ys) h = (above_of y ys (λ j d k. h 0 (suc j) d (omega arith) (omega arith)), up_of ys (λ i j d l k. h (suc i) (suc j) d (omega arith) (omega arith)))
+  up_of (y ∷ ys) h = (
+    above_of y ys (λ j d k. h 0 (suc j) d (omega arith) (omega arith)),
+    up_of ys (λ i j d l k. h (suc i) (suc j) d (omega arith) (omega arith)),
+  )
 
   not_tied : (z w y : X) → lt z y ≡ true → lt w y ≡ false → ties lt z w ≡ false
   not_tied z w y h k = by_test (lt z w) (lt w z) (λ e. o.chain z w y e k)
@@ -50,17 +55,20 @@ module _ {X : Type 0} (lt : X → X → Bool) (o : IsStrictWeakOrder lt) where
   unfolding Above
   none_tied z y [] h a = refl
   none_tied z y (w ∷ ws) h a =
-      ap (λ b. cond b (w ∷ filter (ties lt z) ws) (filter (ties lt z) ws)) (not_tied z w y h a.0) ∙ none_tied z y ws h a.1
+      ap (λ b. cond b (w ∷ filter (ties lt z) ws) (filter (ties lt z) ws)) (not_tied z w y h a.0)
+      ∙ none_tied z y ws h a.1
 
   kept : (z : X) (ws : List X) → filter (ties lt z) (z ∷ ws) ≡ z ∷ filter (ties lt z) ws
   kept z ws = ap (λ b. cond b (z ∷ filter (ties lt z) ws) (filter (ties lt z) ws)) (ties_itself z)
 
-  not_below : (y z : X) (ys zs : List X) → Above y ys → filter (ties lt z) (y ∷ ys) ≡ filter (ties lt z) (z ∷ zs) → lt z y ≡ false
+  not_below : (y z : X) (ys zs : List X) → Above y ys → filter (ties lt z) (y ∷ ys) ≡ filter (ties lt z) (z ∷ zs)
+      → lt z y ≡ false
   unfolding Above
   not_below y z ys zs a e =
       is_false (lt z y) (λ h. let n = none_tied z y (y ∷ ys) h (itself y, a) in let k = kept z zs in cc)
 
-  front_tied : (y z : X) (zs : List X) → lt y z ≡ false → lt z y ≡ false → filter (ties lt y) (z ∷ zs) ≡ z ∷ filter (ties lt y) zs
+  front_tied : (y z : X) (zs : List X) → lt y z ≡ false → lt z y ≡ false
+      → filter (ties lt y) (z ∷ zs) ≡ z ∷ filter (ties lt y) zs
   front_tied y z zs h k =
       let t : ties lt y z ≡ true = ap (λ b. not b && not (lt z y)) h ∙ ap not k in
       ap (λ b. cond b (z ∷ filter (ties lt y) zs) (filter (ties lt y) zs)) t
@@ -77,14 +85,18 @@ module _ {X : Type 0} (lt : X → X → Bool) (o : IsStrictWeakOrder lt) where
   only (y ∷ ys) (z ∷ zs) u v h =
       let a : lt z y ≡ false = not_below y z ys zs u.0 (h z) in
       let b : lt y z ≡ false = not_below z y zs ys v.0 (sym (h y)) in
-      let fronts : y ∷ filter (ties lt y) ys ≡ z ∷ filter (ties lt y) zs = sym (kept y ys) ∙ h y ∙ front_tied y z zs b a in
+      let fronts : y ∷ filter (ties lt y) ys ≡ z ∷ filter (ties lt y) zs =
+      sym (kept y ys) ∙ h y ∙ front_tied y z zs b a in
       let same : y ≡ z = cc in
-      let tails : ys ≡ zs = only ys zs u.1 v.1 (λ x. rest (ties lt x y) y (filter (ties lt x) ys) (filter (ties lt x) zs)
+      let tails : ys ≡ zs =
+      only ys zs u.1 v.1 (λ x. rest (ties lt x y) y (filter (ties lt x) ys) (filter (ties lt x) zs)
       (h x ∙ ap (λ w. filter (ties lt x) (w ∷ zs)) (sym same))) in
       ap (λ w. w ∷ ys) same ∙ ap (λ ws. z ∷ ws) tails
 
-pub one_arrangement : (p : Preference) (offers xs ys : List Offer) → IsArranged p offers xs → IsArranged p offers ys → xs ≡ ys
+pub one_arrangement : (p : Preference) (offers xs ys : List Offer) → IsArranged p offers xs → IsArranged p offers ys
+    → xs ≡ ys
 one_arrangement p offers xs ys a b =
-    only (goes_before p) (orders p) xs ys (up_of (goes_before p) (orders p) xs (sorted_far (goes_before p) (orders p) xs a.in_order))
+    only (goes_before p) (orders p) xs ys
+    (up_of (goes_before p) (orders p) xs (sorted_far (goes_before p) (orders p) xs a.in_order))
     (up_of (goes_before p) (orders p) ys (sorted_far (goes_before p) (orders p) ys b.in_order))
     (λ x. a.ties_as_they_stood x ∙ sym (b.ties_as_they_stood x))

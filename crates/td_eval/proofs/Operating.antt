@@ -1,5 +1,6 @@
 -- Lists as operands, and the items of a list one by one.
-use Rattle.std.proofs.Common.{◌≡◌, ℕ, ◌+◌, ◌<◌, ◌≤◌, Bool, true, false, ◌||◌, List, ◌∷◌, length, get_or, drop, Option, Some, None, option_map, refl, ap, sym, ◌∙◌}
+use Rattle.std.proofs.Common.{◌≡◌, ℕ, ◌+◌, ◌<◌, ◌≤◌, Bool, true, false, ◌||◌, List, ◌∷◌, length, get_or, drop, Option}
+use Rattle.std.proofs.Common.{Some, None, option_map, refl, ap, sym, ◌∙◌}
 use Rattle.std.specs.Option.{option_and_then}
 use Rattle.std.specs.List.{list_any}
 use Rattle.std.proofs.lemmas.List.{drop_more, drop_all}
@@ -29,20 +30,26 @@ member_of_one x (Some y) = refl
 
 -- ---- the items from a place on
 
-joins : (x y : Simple) (found : Bool) (o : Option (List Simple)) → option_map (λ xs. found || list_any (equals x) xs) (with_item (Some y) o) ≡ option_map (λ xs. (found || equals x y) || list_any (equals x) xs) o
+joins : (x y : Simple) (found : Bool) (o : Option (List Simple))
+    → option_map (λ xs. found || list_any (equals x) xs) (with_item (Some y) o)
+    ≡ option_map (λ xs. (found || equals x y) || list_any (equals x) xs) o
 joins x y found None = refl
 joins x y true (Some xs) = refl
 joins x y false (Some xs) = refl
 
-pub one_more : (x y : Simple) (found : Bool) (kind : ℕ) (vs : List Value) (i : ℕ) (v : Value) → i < length vs → simple_under kind (get_or vs i v) ≡ Some y
-    → option_map (λ xs. (found || equals x y) || list_any (equals x) xs) (all_under kind (drop (i + 1) vs)) ≡ option_map (λ xs. found || list_any (equals x) xs) (all_under kind (drop i vs))
+pub one_more : (x y : Simple) (found : Bool) (kind : ℕ) (vs : List Value) (i : ℕ) (v : Value) → i < length vs
+    → simple_under kind (get_or vs i v) ≡ Some y
+    → option_map (λ xs. (found || equals x y) || list_any (equals x) xs) (all_under kind (drop (i + 1) vs))
+    ≡ option_map (λ xs. found || list_any (equals x) xs) (all_under kind (drop i vs))
 one_more x y found kind vs i v h e =
     let front : drop i vs ≡ get_or vs i v ∷ drop (i + 1) vs = drop_more vs i v h in
     sym (joins x y found (all_under kind (drop (i + 1) vs)))
-    ∙ ap (λ o. option_map (λ xs. found || list_any (equals x) xs) (with_item o (all_under kind (drop (i + 1) vs)))) (sym e)
+    ∙ ap (λ o. option_map (λ xs. found || list_any (equals x) xs) (with_item o (all_under kind (drop (i + 1) vs))))
+    (sym e)
     ∙ ap (λ l. option_map (λ xs. found || list_any (equals x) xs) (all_under kind l)) (sym front)
 
-pub none_more : (x : Simple) (found : Bool) (kind : ℕ) (vs : List Value) (i : ℕ) (v : Value) → i < length vs → simple_under kind (get_or vs i v) ≡ None
+pub none_more : (x : Simple) (found : Bool) (kind : ℕ) (vs : List Value) (i : ℕ) (v : Value) → i < length vs
+    → simple_under kind (get_or vs i v) ≡ None
     → option_map (λ xs. found || list_any (equals x) xs) (all_under kind (drop i vs)) ≡ None
 none_more x found kind vs i v h e =
     let front : drop i vs ≡ get_or vs i v ∷ drop (i + 1) vs = drop_more vs i v h in
@@ -56,4 +63,5 @@ or_false false = refl
 pub no_more : (x : Simple) (found : Bool) (kind : ℕ) (vs : List Value) (i : ℕ) → length vs ≤ i
     → option_map (λ xs. found || list_any (equals x) xs) (all_under kind (drop i vs)) ≡ Some found
 no_more x found kind vs i h =
-    ap (λ l. option_map (λ xs. found || list_any (equals x) xs) (all_under kind l)) (drop_all i vs h) ∙ ap (λ b. Some b) (or_false found)
+    ap (λ l. option_map (λ xs. found || list_any (equals x) xs) (all_under kind l)) (drop_all i vs h)
+    ∙ ap (λ b. Some b) (or_false found)

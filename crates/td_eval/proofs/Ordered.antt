@@ -1,5 +1,6 @@
 -- That offers go before one another by an order, and that a sort by it arranges them.
-use Rattle.std.proofs.Common.{◌≡◌, ℕ, suc, ℤ, pos, negsuc, zero, Bool, true, false, int_lt, if◌then◌else◌, Option, Some, None, refl}
+use Rattle.std.proofs.Common.{◌≡◌, ℕ, suc, ℤ, pos, negsuc, zero, Bool, true, false, int_lt, if◌then◌else◌, Option, Some}
+use Rattle.std.proofs.Common.{None, refl}
 use Rattle.std.specs.Cmp.{IsStrictWeakOrder}
 use Rattle.td_lang.specs.declared.expr.Preference.{Preference}
 use Rattle.td_lang.specs.declared.expr.Preference.TheVariants as preference
@@ -41,7 +42,8 @@ proper (preference.Min e) o = proper_number (simple_value o.properties e)
 proper (preference.Max e) o = proper_number (simple_value o.properties e)
 proper (preference.With e) o = proper_truth (simple_value o.properties e)
 
-one_way : (descending : Bool) (x y : Option Fraction) → comes_first descending x y ≡ true → comes_first descending y x ≡ false
+one_way : (descending : Bool) (x y : Option Fraction) → comes_first descending x y ≡ true
+    → comes_first descending y x ≡ false
 one_way false (Some x) (Some y) h = one_sided x y h
 one_way true (Some x) (Some y) h = one_sided y x h
 one_way false (Some x) None h = refl
@@ -49,7 +51,8 @@ one_way true (Some x) None h = refl
 one_way false None y h = absurd (cc)
 one_way true None y h = absurd (cc)
 
-chain : (descending : Bool) (x y z : Option Fraction) → IsProper x → IsProper y → IsProper z → comes_first descending x y ≡ false → comes_first descending y z ≡ false → comes_first descending x z ≡ false
+chain : (descending : Bool) (x y z : Option Fraction) → IsProper x → IsProper y → IsProper z
+    → comes_first descending x y ≡ false → comes_first descending y z ≡ false → comes_first descending x z ≡ false
 chain false None y z p q r h k = refl
 chain true None y z p q r h k = refl
 chain false (Some x) None z p q r h k = absurd (cc)
@@ -62,5 +65,7 @@ chain true (Some x) (Some y) (Some z) p q r h k = chains z y x r.0 q.0 p.0 r.1 q
 pub orders : (p : Preference) → IsStrictWeakOrder (goes_before p)
 orders p = record {
   one_way = λ x y h. one_way (descends p) (rank_of p x) (rank_of p y) h;
-  chain = λ x y z h k. chain (descends p) (rank_of p x) (rank_of p y) (rank_of p z) (proper p x) (proper p y) (proper p z) h k;
+  chain =
+      λ x y z h k. chain (descends p) (rank_of p x) (rank_of p y) (rank_of p z) (proper p x) (proper p y) (proper p z) h
+      k;
 }

@@ -1,5 +1,6 @@
 -- The order of fractions with positive denominators.
-use Rattle.std.proofs.Common.{◌≡◌, ℕ, zero, suc, ℤ, pos, ◌+ℤ◌, ◌*ℤ◌, ◌<ℤ◌, ◌≤ℤ◌, Bool, true, false, int_lt, Option, Some, None, refl, sym, ap, subst, ◌∙◌, arith}
+use Rattle.std.proofs.Common.{◌≡◌, ℕ, zero, suc, ℤ, pos, ◌+ℤ◌, ◌*ℤ◌, ◌<ℤ◌, ◌≤ℤ◌, Bool, true, false, int_lt, Option}
+use Rattle.std.proofs.Common.{Some, None, refl, sym, ap, subst, ◌∙◌, arith}
 use Rattle.std.proofs.lemmas.Int.{ints}
 use Rattle.std.proofs.Math.IntN.{suc_ℤ-*ℤ, zero-*ℤ, *ℤ_comm}
 use Rattle.td_eval.specs.Ranking.{Fraction, is_less}
@@ -73,15 +74,19 @@ IsProper (Some x) = (n : ℕ) × (x.1 ≡ pos (suc n))
 turned : (x : ℤ) (n : ℕ) → x *ℤ pos n ≡ pos n *ℤ x
 turned x n = *ℤ_comm x (pos n)
 
-pub chains : (x y z : Fraction) (b d f : ℕ) → x.1 ≡ pos (suc b) → y.1 ≡ pos (suc d) → z.1 ≡ pos (suc f) → is_less x y ≡ false → is_less y z ≡ false → is_less x z ≡ false
+pub chains : (x y z : Fraction) (b d f : ℕ) → x.1 ≡ pos (suc b) → y.1 ≡ pos (suc d) → z.1 ≡ pos (suc f)
+    → is_less x y ≡ false → is_less y z ≡ false → is_less x z ≡ false
 chains x y z b d f p q r h k =
     let s : (pos (suc b) *ℤ y.0) ≤ℤ (pos (suc d) *ℤ x.0) =
-    not_less _ _ (subst (λ (n : ℤ). int_lt (pos (suc d) *ℤ x.0) n ≡ false) (ap (λ n. y.0 *ℤ n) p ∙ turned y.0 (suc b)) (subst (λ (n : ℤ). int_lt n (y.0 *ℤ x.1) ≡ false) (ap (λ n. x.0 *ℤ n) q ∙ turned x.0 (suc d)) h)) in
+    not_less _ _ (subst (λ (n : ℤ). int_lt (pos (suc d) *ℤ x.0) n ≡ false) (ap (λ n. y.0 *ℤ n) p ∙ turned y.0 (suc b))
+    (subst (λ (n : ℤ). int_lt n (y.0 *ℤ x.1) ≡ false) (ap (λ n. x.0 *ℤ n) q ∙ turned x.0 (suc d)) h)) in
     let t : (pos (suc d) *ℤ z.0) ≤ℤ (pos (suc f) *ℤ y.0) =
-    not_less _ _ (subst (λ (n : ℤ). int_lt (pos (suc f) *ℤ y.0) n ≡ false) (ap (λ n. z.0 *ℤ n) q ∙ turned z.0 (suc d)) (subst (λ (n : ℤ). int_lt n (z.0 *ℤ y.1) ≡ false) (ap (λ n. y.0 *ℤ n) r ∙ turned y.0 (suc f)) k)) in
+    not_less _ _ (subst (λ (n : ℤ). int_lt (pos (suc f) *ℤ y.0) n ≡ false) (ap (λ n. z.0 *ℤ n) q ∙ turned z.0 (suc d))
+    (subst (λ (n : ℤ). int_lt n (z.0 *ℤ y.1) ≡ false) (ap (λ n. y.0 *ℤ n) r ∙ turned y.0 (suc f)) k)) in
     is_false (is_less x z) (λ l.
     let m : (pos (suc f) *ℤ x.0) <ℤ (pos (suc b) *ℤ z.0) =
-    less _ _ (subst (λ (n : ℤ). int_lt (pos (suc f) *ℤ x.0) n ≡ true) (ap (λ n. z.0 *ℤ n) p ∙ turned z.0 (suc b)) (subst (λ (n : ℤ). int_lt n (z.0 *ℤ x.1) ≡ true) (ap (λ n. x.0 *ℤ n) r ∙ turned x.0 (suc f)) l)) in
+    less _ _ (subst (λ (n : ℤ). int_lt (pos (suc f) *ℤ x.0) n ≡ true) (ap (λ n. z.0 *ℤ n) p ∙ turned z.0 (suc b))
+    (subst (λ (n : ℤ). int_lt n (z.0 *ℤ x.1) ≡ true) (ap (λ n. x.0 *ℤ n) r ∙ turned x.0 (suc f)) l)) in
     over (suc b) (suc d) (suc f) x.0 y.0 z.0 s t (climbs d _ _ m))
 
 pub one_sided : (x y : Fraction) → is_less x y ≡ true → is_less y x ≡ false

@@ -1,5 +1,6 @@
 -- Numbers of 64 bits have products that fit 128 bits, and a sum that doesn't fit is no numerator.
-use Rattle.std.proofs.Common.{◌≡◌, ℕ, zero, suc, ℤ, pos, negsuc, neg_ℤ, ◌*ℤ◌, ◌*◌, ◌^◌, ◌-◌, ◌≤◌, Bool, true, false, ◌&&◌, if◌then◌else◌, Option, Some, None, refl, arith, lit<}
+use Rattle.std.proofs.Common.{◌≡◌, ℕ, zero, suc, ℤ, pos, negsuc, neg_ℤ, ◌*ℤ◌, ◌*◌, ◌^◌, ◌-◌, ◌≤◌, Bool, true, false}
+use Rattle.std.proofs.Common.{◌&&◌, if◌then◌else◌, Option, Some, None, refl, arith, lit<}
 use Rattle.std.specs.Int.{w64, w128}
 use Rattle.std.specs.Prelude.{FitsSigned, unsigned_abs}
 use Rattle.std.proofs.lemmas.Int.{fits_signed_mul, unsigned_abs-mul, fits_signed_from_abs}
@@ -19,7 +20,8 @@ bounded : (x y m : ℕ) → x ≤ m → y ≤ m → x * y ≤ m * m
 bounded x y m h k = grind arith
 
 pub product_size : (a b : ℤ) → FitsSigned w64 a → FitsSigned w64 b → unsigned_abs (a *ℤ b) ≤ 2 ^ 126
-product_size a b f g = rw unsigned_abs-mul (bounded (unsigned_abs a) (unsigned_abs b) (2 ^ 63) (size_of a f) (size_of b g))
+product_size a b f g =
+    rw unsigned_abs-mul (bounded (unsigned_abs a) (unsigned_abs b) (2 ^ 63) (size_of a f) (size_of b g))
 
 pub opposite_fits : (a : ℤ) → unsigned_abs a ≤ 2 ^ 126 → FitsSigned w128 (neg_ℤ a)
 opposite_fits (pos zero) h = fits_signed_from_abs w128 (pos zero) (lit< tt)
@@ -31,8 +33,10 @@ and_left true b h = refl
 and_left false b h = h
 
 in_range-fits : (n d : ℤ) → in_range n d ≡ true → FitsSigned w128 n
-in_range-fits (pos k) d h = fits_signed_from_abs w128 (pos k) (let low = ltb-true k (2 ^ 63) (and_left _ _ h) in omega arith)
-in_range-fits (negsuc k) d h = fits_signed_from_abs w128 (negsuc k) (let low = ltb-true k (2 ^ 63 - 1) (and_left _ _ h) in omega arith)
+in_range-fits (pos k) d h =
+    fits_signed_from_abs w128 (pos k) (let low = ltb-true k (2 ^ 63) (and_left _ _ h) in omega arith)
+in_range-fits (negsuc k) d h =
+    fits_signed_from_abs w128 (negsuc k) (let low = ltb-true k (2 ^ 63 - 1) (and_left _ _ h) in omega arith)
 
 none_if : (b : Bool) (P : Type 0) (x : Option Simple) → (b ≡ true → P) → (P → ⊥) → None ≡ (if b then x else None)
 none_if true P x f g = absurd (g (f refl))

@@ -1,6 +1,7 @@
 -- Trading Object Service, "Proxy", on recipes.
 -- The constraint that a proxy offer passes on, as the concatenation of what the recipe's parts give.
-use Rattle.std.specs.Prelude.{ℕ, suc, ℤ, pos, negsuc, nat_le, Bool, true, false, if◌then◌else◌, List, [], ◌∷◌, ◌++◌, length, codes, Option, None, Some, option_and_then}
+use Rattle.std.specs.Prelude.{ℕ, suc, ℤ, pos, negsuc, nat_le, Bool, true, false, if◌then◌else◌, List, [], ◌∷◌, ◌++◌}
+use Rattle.std.specs.Prelude.{length, codes, Option, None, Some, option_and_then}
 use Rattle.std.specs.Fmt.{decimal}
 use Rattle.std.specs.Ordering.{int_eq}
 use Rattle.td_cdr.specs.Text.{has_nul}

@@ -1,11 +1,14 @@
 -- Trading Object Service, "The Constraint Language", on arithmetic.
--- Numbers as fractions n/d, which are never reduced: |n| is at most 2^63 - 1, and d lies from 1 to 2^63 - 1. A result outside has no value.
-use Rattle.std.specs.Prelude.{ℤ, pos, negsuc, neg_ℤ, ◌+ℤ◌, ◌-ℤ◌, ◌*ℤ◌, int_lt, ◌^◌, ◌-◌, Bool, ◌&&◌, if◌then◌else◌, Option, None, Some}
+-- Numbers as fractions n/d, which are never reduced: |n| is at most 2^63 - 1, and d lies from 1 to 2^63 - 1. A result
+-- outside has no value.
+use Rattle.std.specs.Prelude.{ℤ, pos, negsuc, neg_ℤ, ◌+ℤ◌, ◌-ℤ◌, ◌*ℤ◌, int_lt, ◌^◌, ◌-◌, Bool, ◌&&◌, if◌then◌else◌}
+use Rattle.std.specs.Prelude.{Option, None, Some}
 use Rattle.td_eval.specs.declared.simple.Simple.{Simple}
 use Rattle.td_eval.specs.declared.simple.Simple.TheVariants.{Number}
 
 abbrev pub in_range : ℤ → ℤ → Bool
-in_range n d = int_lt (negsuc (2 ^ 63 - 1)) n && (int_lt n (pos (2 ^ 63)) && (int_lt (pos 0) d && int_lt d (pos (2 ^ 63))))
+in_range n d =
+    int_lt (negsuc (2 ^ 63 - 1)) n && (int_lt n (pos (2 ^ 63)) && (int_lt (pos 0) d && int_lt d (pos (2 ^ 63))))
 
 unfoldable pub fraction : ℤ → ℤ → Option Simple
 fraction n d = if in_range n d then Some (Number n d) else None

@@ -1,5 +1,7 @@
--- Trading Object Service, "The Constraint Language", on the types of properties; CORBA, interface repository, "TypeCodes", on kinds.
-use Rattle.std.specs.Prelude.{ℕ, pos, nat_eq, Bool, ◌||◌, if◌then◌else◌, List, [], ◌∷◌, Option, None, Some, option_map, option_and_then}
+-- Trading Object Service, "The Constraint Language", on the types of properties; CORBA, interface repository,
+-- "TypeCodes", on kinds.
+use Rattle.std.specs.Prelude.{ℕ, pos, nat_eq, Bool, ◌||◌, if◌then◌else◌, List, [], ◌∷◌, Option, None, Some, option_map}
+use Rattle.std.specs.Prelude.{option_and_then}
 use Rattle.td_codes.specs.declared.code.TypeCode.{TypeCode}
 use Rattle.td_codes.specs.declared.code.Any.{Any}
 use Rattle.td_codes.specs.declared.code.TypeCode.TheOpen as c
@@ -36,7 +38,9 @@ item_kind t = items_kind (shape t)
 
 -- short, long, ushort, ulong, octet, longlong and ulonglong
 abbrev pub is_numeric : ℕ → Bool
-is_numeric kind = nat_eq kind 2 || (nat_eq kind 3 || (nat_eq kind 4 || (nat_eq kind 5 || (nat_eq kind 10 || (nat_eq kind 23 || nat_eq kind 24)))))
+is_numeric kind =
+    nat_eq kind 2 || (nat_eq kind 3
+    || (nat_eq kind 4 || (nat_eq kind 5 || (nat_eq kind 10 || (nat_eq kind 23 || nat_eq kind 24)))))
 
 -- char and string
 abbrev pub is_textual : ℕ → Bool
@@ -44,7 +48,9 @@ is_textual kind = nat_eq kind 9 || nat_eq kind 18
 
 -- what values of a kind are; boolean has kind 8
 unfoldable pub sort_of : ℕ → Option Sort
-sort_of kind = if is_numeric kind then Some Numbers else if is_textual kind then Some Texts else if nat_eq kind 8 then Some Truths else None
+sort_of kind =
+    if is_numeric kind then Some Numbers else if is_textual kind then Some Texts else if nat_eq kind 8 then Some Truths
+    else None
 
 -- ---- values
 

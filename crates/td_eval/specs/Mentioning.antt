@@ -1,6 +1,6 @@
 -- Trading Object Service, "The Constraint Language", on property names.
 -- The names of properties that a constraint and a preference mention.
-use Rattle.std.specs.Prelude.{ℕ, List, [], ◌∷◌, ◌++◌, if◌then◌else◌, fold}
+use Rattle.std.specs.Prelude.{ℕ, Bool, List, [], ◌∷◌, ◌++◌, if◌then◌else◌, fold}
 use Rattle.std.specs.List.{list_any}
 use Rattle.std.specs.Str.{bytes_eq}
 use Rattle.td_lang.specs.declared.expr.Expr.{Expr, Expr-F, fold-Expr}
@@ -49,3 +49,7 @@ with_names names further = fold with_name names further
 -- those of the constraint and then those of the preference, each once
 abbrev pub names_asked : Constraint → Preference → Names
 names_asked c p = with_names [] (constraint_names c ++ preference_names p)
+
+-- the name is one of these
+abbrev pub is_mentioned : List ℕ → Names → Bool
+is_mentioned name names = list_any (bytes_eq name) names

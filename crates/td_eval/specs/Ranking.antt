@@ -1,6 +1,7 @@
 -- Trading Object Service, "Preferences".
 -- In which order offers are wanted.
-use Rattle.std.specs.Prelude.{◌≡◌, ℕ, zero, suc, ◌+◌, ◌-◌, ◌%◌, ℤ, pos, ◌*ℤ◌, int_lt, Bool, true, false, if◌then◌else◌, List, length, Option, None, Some}
+use Rattle.std.specs.Prelude.{◌≡◌, ℕ, zero, suc, ◌+◌, ◌-◌, ◌%◌, ℤ, pos, ◌*ℤ◌, int_lt, Bool, true, false, if◌then◌else◌}
+use Rattle.std.specs.Prelude.{List, length, Option, None, Some}
 use Rattle.std.specs.List.{swap}
 use Rattle.std.specs.List.Sorted.{IsPermutation, IsSortedBy, IsStableBy}
 use Rattle.td_lang.specs.declared.expr.Preference.{Preference}
@@ -58,8 +59,8 @@ pub record IsArranged (p : Preference) (offers arranged : List Offer) : Type 0 w
   pub in_order : IsSortedBy (goes_before p) arranged
   pub ties_as_they_stood : IsStableBy (goes_before p) offers arranged
 
--- from a place down to place 1 a word is drawn for each, the first of them of this number, and the offers at the place and at the word's remainder by the
--- place's number, counted from 1, are exchanged
+-- from a place down to place 1 a word is drawn for each, the first of them of this number, and the offers at the place
+-- and at the word's remainder by the place's number, counted from 1, are exchanged
 abbrev pub shuffle_of : (ℕ → ℕ) → ℕ → ℕ → List Offer → List Offer
 shuffle_of word k zero offers = offers
 shuffle_of word k (suc i) offers = shuffle_of word (k + 1) i (swap offers (suc i) (word k % (suc i + 1)))

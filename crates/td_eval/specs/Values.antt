@@ -1,7 +1,8 @@
 -- Trading Object Service, "The Constraint Language".
--- The value of an expression over the properties of an offer: a number, a text, a truth value, a list, or nothing. Operands are taken left to right; one
--- without a value, or of a wrong kind, gives no value.
-use Rattle.std.specs.Prelude.{pos, Bool, true, false, not, ◌&&◌, ◌||◌, List, if◌then◌else◌, Option, None, Some, IsTrue, option_map, option_and_then, is_some}
+-- The value of an expression over the properties of an offer: a number, a text, a truth value, a list, or nothing.
+-- Operands are taken left to right; one without a value, or of a wrong kind, gives no value.
+use Rattle.std.specs.Prelude.{pos, Bool, true, false, not, ◌&&◌, ◌||◌, List, if◌then◌else◌, Option, None, Some, IsTrue}
+use Rattle.std.specs.Prelude.{option_map, option_and_then, is_some}
 use Rattle.std.specs.List.{list_any}
 use Rattle.std.specs.declared.cmp.Ordering.{Ordering}
 use Rattle.std.specs.Ordering.{is_eq, is_lt, is_gt, is_le, is_ge}

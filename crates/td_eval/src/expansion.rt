@@ -4,7 +4,8 @@ ghost use Rattle.std.specs.Prelude.{◌≡◌, ◌++◌, vec_len, IfOk, OnOk};
 ghost use Rattle.td_cdr.specs.Text.{has_nul};
 ghost use Rattle.td_lang.specs.Spelling.{needs_backslash, inside_quotes};
 ghost use Rattle.td_eval.specs.Operands.{view};
-ghost use Rattle.td_eval.specs.Expansion.{number_literal, text_literal, truth_literal, literal, importer_text, part_text, expansion};
+ghost use Rattle.td_eval.specs.Expansion.{number_literal, text_literal, truth_literal, literal, importer_text};
+ghost use Rattle.td_eval.specs.Expansion.{part_text, expansion};
 ghost use Rattle.td_eval.specs.Putting.{Puts};
 
 use crate::property::simple_named;

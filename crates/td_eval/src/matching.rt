@@ -7,17 +7,12 @@ ghost use Rattle.td_eval.specs.Values.{matching};
 
 use crate::evaluation::evaluate;
 use crate::simple::Operand;
-use std::alloc::Global;
 use td_cdr::{List, Memory};
 use td_lang::Constraint;
 use td_value::Property;
 
 /// Whether the constraint matches: it is empty, or its value is TRUE. It takes no memory.
-pub fn matches(
-    _alloc: Global,
-    constraint: &Constraint,
-    map: &List<Property>,
-) -> Result<bool, Memory>
+pub fn matches(constraint: &Constraint, map: &List<Property>) -> Result<bool, Memory>
     ensures { result ≡ Ok (matching map.now constraint.now) }
 {
     Ok(is_matching(constraint, map.as_slice()))

@@ -4,7 +4,8 @@
 ghost use Rattle.std.specs.Prelude.{◌≡◌, IfOk, OnOk};
 ghost use Rattle.std.specs.List.{list_any};
 ghost use Rattle.std.specs.Str.{bytes_eq};
-ghost use Rattle.td_eval.specs.Mentioning.{names_in, constraint_names, preference_names, with_name, with_names, names_asked};
+ghost use Rattle.td_eval.specs.Mentioning.{names_in, constraint_names, preference_names, with_name, with_names};
+ghost use Rattle.td_eval.specs.Mentioning.{names_asked};
 
 use std::alloc::Global;
 use td_cdr::{List, Memory, Text, Twin};

@@ -3,7 +3,8 @@
 ghost use Rattle.std.specs.Prelude.{◌≡◌, Some, None, option_map, option_and_then, if◌then◌else◌};
 ghost use Rattle.std.specs.List.{list_any};
 ghost use Rattle.td_eval.specs.Comparing.{equals};
-ghost use Rattle.td_eval.specs.Kinds.{kind_of, item_kind, is_numeric, is_textual, sort_of, with_kind, scalar, simple_under, all_under, list_under, content_of};
+ghost use Rattle.td_eval.specs.Kinds.{kind_of, item_kind, is_numeric, is_textual, sort_of, with_kind, scalar};
+ghost use Rattle.td_eval.specs.Kinds.{simple_under, all_under, list_under, content_of};
 ghost use Rattle.td_eval.specs.declared.simple.Simple.TheVariants.{Truth as SimpleTruth};
 ghost use Rattle.td_eval.specs.Operands.{view};
 ghost use Rattle.td_eval.specs.Properties.{property, content_named};

@@ -1,15 +1,16 @@
 //! In which order offers are wanted (Trading Object Service, "Preferences").
 
-ghost use Rattle.std.specs.Prelude.{◌≡◌, ℕ, ◌+◌, ◌-◌, pos, int_lt, length, vec_len, if◌then◌else◌, Some, None, option_map, IfOk, OnOk, OnErr};
+ghost use Rattle.std.specs.Prelude.{◌≡◌, ℕ, ◌+◌, ◌-◌, pos, int_lt, length, vec_len, if◌then◌else◌, Some, None};
+ghost use Rattle.std.specs.Prelude.{option_map, IfOk, OnOk, OnErr};
 ghost use Rattle.std.specs.Ordering.{is_lt};
 ghost use Rattle.td_eval.specs.Ranks.{pair};
-ghost use Rattle.td_eval.specs.Ranking.{number_of, truth_of, rank_of, descends, comes_first, goes_before, IsArranged, shuffle_of, draw_count, IsRanked};
+ghost use Rattle.td_eval.specs.Ranking.{number_of, truth_of, rank_of, descends, comes_first, goes_before, IsArranged};
+ghost use Rattle.td_eval.specs.Ranking.{shuffle_of, draw_count, IsRanked};
 ghost use Rattle.td_eval.specs.Values.{simple_value};
 
 use crate::arithmetic::times;
 use crate::evaluation::evaluate;
 use crate::simple::Operand;
-use std::alloc::Global;
 use std::cmp::Ordering;
 use td_cdr::{List, Memory};
 use td_lang::{Expr, Preference};
@@ -156,13 +157,13 @@ fn shuffle<W: Words>(offers: &mut Vec<Offer>, words: &mut W)
 ///
 /// `Memory` for want of memory alone; no word was then drawn.
 pub fn rank<W: Words>(
-    _alloc: Global,
     preference: &Preference,
     offers: List<Offer>,
     words: &mut W,
 ) -> Result<List<Offer>, Memory>
     ensures ranked { IfOk result (λ ranked. IsRanked preference.now (W.word words.old) offers ranked) }
-    ensures drawn { OnOk result ((k : ℕ) → W.word words.new k ≡ W.word words.old (k + draw_count preference.now (length offers))) }
+    ensures drawn { OnOk result
+        ((k : ℕ) → W.word words.new k ≡ W.word words.old (k + draw_count preference.now (length offers))) }
     ensures kept { OnErr result ((k : ℕ) → W.word words.new k ≡ W.word words.old k) }
     ensures seeding { W.last_seeding words.new ≡ W.last_seeding words.old }
     ensures same { W.same words.old words.new }

@@ -11,7 +11,7 @@ use td_out::{MemWords, Words};
 /// The names of offers in the order that a preference asks for, and how many words are left.
 fn ranked(alloc: Global, preference: &str, line: &str, words: &mut MemWords) -> Result<Text, Fail> {
     let preference = read_preference(alloc, preference.as_bytes())?;
-    let ranked = rank(alloc, &preference, offers(alloc, line)?, words)?;
+    let ranked = rank(&preference, offers(alloc, line)?, words)?;
     Ok(names(alloc, &ranked)?)
 }
 

@@ -13,7 +13,7 @@ const MAP: &str =
 Most ulonglong  9223372036854775807;Short short  -3;UShort ushort  65535;ULong ulong  4294967295;Byte octet  7;\
 Letter char  x;Kind string  laser;Own boolean  TRUE;Other void  ;Named long a 6;List long s 1,2,3;None long s ;\
 Words string sa ink,toner;Letters char s a,b;Flags boolean s FALSE;Wide ulonglong s 1,9223372036854775808;\
-Alias string as x,y;Voids void s ;Twice long  1;Twice long  2";
+Alias string as x,y;Voids void s ;Extremes longlong s -9223372036854775807,9223372036854775807;Twice long  1;Twice long  2";
 
 /// How a value is written in the tables.
 fn shown(alloc: Global, value: Option<Simple>) -> Result<String, Fail> {
@@ -99,6 +99,98 @@ fn fractions_are_never_reduced_and_stay_in_range(rt: HostRuntime) -> Result<(), 
     )
 }
 
+/// The greatest number is 2^63 - 1, the least one its opposite, for a numerator and for a denominator.
+#[test]
+fn every_operator_keeps_the_bounds_of_64_bits(rt: HostRuntime) -> Result<(), Fail> {
+    has_values(
+        &rt,
+        rt.alloc(),
+        &[
+            ("Most", "9223372036854775807/1"),
+            ("Most + 0", "9223372036854775807/1"),
+            ("Most + 1", "none"),
+            ("Most - -1", "none"),
+            ("Most - 1", "9223372036854775806/1"),
+            ("0 - Most", "-9223372036854775807/1"),
+            ("-1 - Most", "none"),
+            ("-2 - Most", "none"),
+            ("Most * 1", "9223372036854775807/1"),
+            ("Most * -1", "-9223372036854775807/1"),
+            ("Most * 2", "none"),
+            ("Most * Most", "none"),
+            ("Most / 1", "9223372036854775807/1"),
+            ("Most / -1", "-9223372036854775807/1"),
+            ("1 / Most", "1/9223372036854775807"),
+            ("1 / Most / 2", "none"),
+            ("-1 / Most", "-1/9223372036854775807"),
+            ("1 / (1 / Most)", "9223372036854775807/1"),
+            ("2 / (1 / Most)", "none"),
+            ("Most / Most", "9223372036854775807/9223372036854775807"),
+            ("Most / Most == 1", "true"),
+            ("1 / Most + 1 / Most", "none"),
+            ("Most == Most", "true"),
+            ("Most != Most - 1", "true"),
+            ("1 / Most < 1 / (Most - 1)", "true"),
+            ("Most / 2 > (Most - 1) / 2", "true"),
+            ("Most <= Most / 1", "true"),
+            ("0 - Most >= Most", "false"),
+            ("Most in Wide", "none"),
+            ("Most in Extremes", "true"),
+            ("0 - Most in Extremes", "true"),
+            ("Most - 1 in Extremes", "false"),
+        ],
+    )
+}
+
+/// A number, a text, a truth value, a list and nothing as the left and as the right side of each form.
+#[test]
+fn each_form_wants_its_kinds_of_operands(rt: HostRuntime) -> Result<(), Fail> {
+    has_values(
+        &rt,
+        rt.alloc(),
+        &[
+            ("Cost + Cost", "10/1"),
+            ("Kind + Kind", "none"),
+            ("Own + Own", "none"),
+            ("List + List", "none"),
+            ("Cost + Absent", "none"),
+            ("Absent + Cost", "none"),
+            ("Kind - Cost", "none"),
+            ("Cost * Own", "none"),
+            ("Cost / Kind", "none"),
+            ("Own / Cost", "none"),
+            ("Cost < Kind", "none"),
+            ("Kind <= Own", "none"),
+            ("Own > Cost", "none"),
+            ("List >= Cost", "none"),
+            ("Cost != List", "none"),
+            ("Absent == Absent", "none"),
+            ("Other == Other", "none"),
+            ("Own >= Own", "true"),
+            ("Kind != 'laser'", "false"),
+            ("Letter == 'x'", "true"),
+            ("Letter ~ 'xyz'", "true"),
+            ("Cost ~ Kind", "none"),
+            ("Own ~ Kind", "none"),
+            ("Kind ~ List", "none"),
+            ("Absent ~ Kind", "none"),
+            ("not Kind", "none"),
+            ("not List", "none"),
+            ("not Absent", "none"),
+            ("Own and Kind", "none"),
+            ("Own and List", "none"),
+            ("Kind or Own", "none"),
+            ("Own in Flags", "false"),
+            ("Kind in List", "none"),
+            ("Cost in Words", "none"),
+            ("List in List", "none"),
+            ("Letter in Letters", "false"),
+            ("Letter in Alias", "true"),
+            ("Byte in List", "false"),
+        ],
+    )
+}
+
 #[test]
 fn comparisons_want_one_kind(rt: HostRuntime) -> Result<(), Fail> {
     has_values(
@@ -179,7 +271,7 @@ fn lists_hold_items_of_one_kind(rt: HostRuntime) -> Result<(), Fail> {
 fn is_match(alloc: Global, constraint: &str, map: &str) -> Result<bool, Fail> {
     let map = properties(alloc, map)?;
     let constraint = read_constraint(alloc, constraint.as_bytes())?;
-    Ok(matches(alloc, &constraint, &map)?)
+    Ok(matches(&constraint, &map)?)
 }
 
 /// A quotient of a property that isn't there has no value, and so the fourth offer's left side has none,

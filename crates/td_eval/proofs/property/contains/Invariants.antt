@@ -7,4 +7,5 @@ use Rattle.td_eval.proofs.property.contains.Given as goal
 
 abbrev pub invariant-loop-value : goal.invariant-loop-value
 invariant-loop-value l =
-    option_map (λ xs. l.found || list_any (equals (view l.item)) xs) (all_under l.kind (drop l.value-index l.items)) ≡ option_map (list_any (equals (view l.item))) (all_under l.kind l.items)
+    option_map (λ xs. l.found || list_any (equals (view l.item)) xs) (all_under l.kind (drop l.value-index l.items))
+    ≡ option_map (list_any (equals (view l.item))) (all_under l.kind l.items)
