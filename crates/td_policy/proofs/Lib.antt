@@ -2,4 +2,3 @@ pub mod Decided
 pub mod Items
 pub mod Least
 pub mod ReadBack
-pub mod Sets

@@ -1,6 +1,7 @@
 -- The cardinalities and the hop count that a query is served with (Trading Object Service, "Lookup" and
 -- "Policies": what an importer states is bounded by the trader's maximum).
-use Rattle.std.specs.Prelude.{ℕ, nat_lt, min, if◌then◌else◌, List, [], ◌∷◌, ◌++◌, Option, Some, None, unwrap_or, option_map, codes}
+use Rattle.std.specs.Prelude.{ℕ, nat_lt, min, if◌then◌else◌, List, [], ◌∷◌, ◌++◌, Option, Some, None, unwrap_or}
+use Rattle.std.specs.Prelude.{option_map, codes}
 use Rattle.td_value.specs.Enumerations.{follow_option_number}
 use Rattle.td_policy.specs.declared.attributes.Attributes.{Attributes}
 use Rattle.td_policy.specs.declared.effective.Effective.{Effective}
@@ -19,7 +20,8 @@ above name (Some n) maximum = if nat_lt maximum n then name ∷ [] else []
 abbrev pub over_maximum : Stated → Attributes → List (List ℕ)
 over_maximum s a =
     above (codes "hop_count") s.hops a.max_hop_count
-    ++ above (codes "link_follow_rule") (option_map follow_option_number s.follow) (follow_option_number a.max_follow_policy)
+    ++ above (codes "link_follow_rule") (option_map follow_option_number s.follow)
+    (follow_option_number a.max_follow_policy)
     ++ above (codes "match_card") s.match_card a.max_match_card
     ++ above (codes "return_card") s.return_card a.max_return_card
     ++ above (codes "search_card") s.search_card a.max_search_card

@@ -3,6 +3,5 @@ pub mod Effective
 pub mod Faults
 pub mod Laws
 pub mod Rules
-pub mod Seen
 pub mod Stated
 pub mod Values

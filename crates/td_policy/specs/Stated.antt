@@ -1,21 +1,17 @@
 -- What an importer states by its policies (Trading Object Service, "Policies" and interface Lookup, query: the
 -- exceptions IllegalPolicyName, DuplicatePolicyName, PolicyTypeMismatch, InvalidPolicyValue).
-use Rattle.std.specs.Prelude.{ℕ, Bool, not, if◌then◌else◌, List, [], ◌∷◌, Option, Some, None, Result, Ok, Err, codes}
-use Rattle.std.specs.List.{list_any}
+use Rattle.std.specs.Prelude.{ℕ, not, if◌then◌else◌, List, [], ◌∷◌, Option, Some, None, Result, Ok, Err, codes}
 use Rattle.std.specs.Map.{lookup}
 use Rattle.std.specs.Str.{bytes_eq}
+use Rattle.td_cdr.specs.Format.{◌>>=◌}
 use Rattle.td_cdr.specs.Names.{identifier}
+use Rattle.td_cdr.specs.Seen.{is_among}
 use Rattle.td_codes.specs.Same.{same}
 use Rattle.td_value.specs.declared.structures.Policy.{Policy}
 use Rattle.td_policy.specs.Values.{Kind, truth, number, rule, texts, octets}
 use Rattle.td_policy.specs.declared.fault.PolicyFault.{PolicyFault}
 use Rattle.td_policy.specs.declared.fault.PolicyFault.TheVariants as fault
 use Rattle.td_policy.specs.declared.stated.Stated.{Stated}
-
-infixl 10 ◌>>=◌
-abbrev pub ◌>>=◌ : {A B : Type 0} → Result A PolicyFault → (A → Result B PolicyFault) → Result B PolicyFault
-(Ok x) >>= f = f x
-(Err e) >>= f = Err e
 
 -- nothing is stated
 abbrev pub nothing : Stated
@@ -74,9 +70,6 @@ abbrev pub with_policy : Policy → Stated → Result Stated PolicyFault
 with_policy p s = known (lookup (bytes_eq p.name) policies) p s
 
 -- ---- a list of policies
-
-abbrev pub is_among : List ℕ → List (List ℕ) → Bool
-is_among name names = list_any (bytes_eq name) names
 
 -- a policy after others of these names, which state this
 abbrev pub next_stated : (earlier : List (List ℕ)) → Stated → Policy → Result Stated PolicyFault

@@ -1,23 +1,17 @@
 -- The types of policies (Trading Object Service, "Policies"): of each its TypeCode as a trader writes it, which
 -- value an any of that type holds, and how one is written.
-use Rattle.std.specs.Prelude.{ℕ, nat_eq, nat_le, Bool, if◌then◌else◌, List, [], ◌∷◌, length, map, Option, Some, None, codes}
+use Rattle.std.specs.Prelude.{ℕ, nat_eq, nat_le, Bool, if◌then◌else◌, List, [], ◌∷◌, length, map, Option, Some, None}
+use Rattle.std.specs.Prelude.{codes}
 use Rattle.td_value.specs.Enumerations.{follow_option_number}
+use Rattle.td_codes.specs.Labels.{Held}
 use Rattle.td_codes.specs.declared.code.TypeCode.{TypeCode}
 use Rattle.td_codes.specs.declared.code.TypeCode.TheVariants as code
 use Rattle.td_codes.specs.declared.code.TypeCode.TheOpen as c
-use Rattle.td_codes.specs.declared.code.TypeCode.TheOpen.{Value-F}
 use Rattle.td_codes.specs.declared.code.Value.{Value, out-Value}
-use Rattle.td_codes.specs.declared.code.Any.{Any}
-use Rattle.td_codes.specs.declared.code.Arm.{Arm}
-use Rattle.td_codes.specs.declared.code.Member.{Member}
 use Rattle.td_codes.specs.declared.code.Value.TheVariants as value
 use Rattle.td_value.specs.declared.enumerations.FollowOption.{FollowOption}
 use Rattle.td_value.specs.declared.enumerations.FollowOption.TheVariants.{LocalOnly, IfNoLocal, Always}
 use Rattle.td_value.specs.declared.structures.Policy.{Policy}
-
--- what a value is, and what stands in it
-abbrev pub Layer : Type 0
-Layer = Value-F TypeCode Value Any Arm Member
 
 pub record Kind (A : Type 0) : Type 0 where
   pub code : TypeCode
@@ -27,7 +21,7 @@ pub record Kind (A : Type 0) : Type 0 where
 
 -- ---- a truth value
 
-abbrev pub truth_in : Layer → Option Bool
+abbrev pub truth_in : Held → Option Bool
 truth_in (c.Value::Boolean b) = Some b
 truth_in l = None
 
@@ -36,7 +30,7 @@ truth = record { code = code.Boolean; value_of = λ v. truth_in (out-Value v); v
 
 -- ---- a number
 
-abbrev pub number_in : Layer → Option ℕ
+abbrev pub number_in : Held → Option ℕ
 number_in (c.Value::ULong n) = Some n
 number_in l = None
 
@@ -46,17 +40,25 @@ number = record { code = code.ULong; value_of = λ v. number_in (out-Value v); v
 -- ---- a rule for following links
 
 abbrev pub rule_code : TypeCode
-rule_code = code.Enum (codes "IDL:omg.org/CosTrading/FollowOption:1.0") (codes "FollowOption") (codes "local_only" ∷ codes "if_no_local" ∷ codes "always" ∷ [])
+rule_code =
+    code.Enum (codes "IDL:omg.org/CosTrading/FollowOption:1.0") (codes "FollowOption")
+    (codes "local_only" ∷ codes "if_no_local" ∷ codes "always" ∷ [])
 
 abbrev pub rule_numbered : ℕ → Option FollowOption
-rule_numbered n = if nat_eq n 0 then Some LocalOnly else if nat_eq n 1 then Some IfNoLocal else if nat_eq n 2 then Some Always else None
+rule_numbered n =
+    if nat_eq n 0 then Some LocalOnly else if nat_eq n 1 then Some IfNoLocal else if nat_eq n 2 then Some Always
+    else None
 
-abbrev pub rule_in : Layer → Option FollowOption
+abbrev pub rule_in : Held → Option FollowOption
 rule_in (c.Value::Enum n) = rule_numbered n
 rule_in l = None
 
 abbrev pub rule : Kind FollowOption
-rule = record { code = rule_code; value_of = λ v. rule_in (out-Value v); value = λ r. value.Enum (follow_option_number r) }
+rule = record {
+  code = rule_code;
+  value_of = λ v. rule_in (out-Value v);
+  value = λ r. value.Enum (follow_option_number r);
+}
 
 -- ---- a sequence without bound, of at most so many items
 
@@ -70,7 +72,7 @@ abbrev pub items_of : {A : Type 0} → (Value → Option A) → List Value → O
 items_of item_of [] = Some []
 items_of item_of (v ∷ vs) = one_more (item_of v) (items_of item_of vs)
 
-abbrev pub items_in : {A : Type 0} → (Value → Option A) → (most : ℕ) → Layer → Option (List A)
+abbrev pub items_in : {A : Type 0} → (Value → Option A) → (most : ℕ) → Held → Option (List A)
 items_in item_of most (c.Items vs) = if nat_le (length vs) most then items_of item_of vs else None
 items_in item_of most l = None
 
@@ -81,14 +83,14 @@ sequence item_code item_of item most = record {
   value = λ xs. value.Items (map item xs);
 }
 
-abbrev pub text_in : Layer → Option (List ℕ)
+abbrev pub text_in : Held → Option (List ℕ)
 text_in (c.Value::Str t) = Some t
 text_in l = None
 
 abbrev pub text_of : Value → Option (List ℕ)
 text_of v = text_in (out-Value v)
 
-abbrev pub octet_in : Layer → Option ℕ
+abbrev pub octet_in : Held → Option ℕ
 octet_in (c.Value::Octet o) = Some o
 octet_in l = None
 

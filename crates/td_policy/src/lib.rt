@@ -10,7 +10,6 @@ mod laws;
 mod optional;
 mod reading;
 mod rules;
-mod seen;
 mod stated;
 mod values;
 mod writing;

@@ -1,15 +1,15 @@
 //! What an importer states by its policies (OMG's Trading Object Service, "Policies").
 
 ghost use Rattle.std.specs.Prelude.{◌≡◌};
-ghost use Rattle.td_policy.specs.Faults.{Gives, Leaves};
+ghost use Rattle.td_cdr.specs.Format.{Computes};
+ghost use Rattle.td_policy.specs.Faults.{is_memory, Leaves};
 ghost use Rattle.td_policy.specs.Stated.{nothing, stated, with_policy};
 
 use crate::fault::PolicyFault;
-use crate::seen::{nothing_seen, see};
 use crate::stated::Stated;
 use crate::values::{put_number, put_octets, put_rule, put_texts, put_truth};
 use std::alloc::Global;
-use td_cdr::{List, Twin, is_identifier};
+use td_cdr::{List, Twin, is_identifier, nothing_seen, see};
 use td_value::Policy;
 
 /// What an importer states by its policies. A policy whose name is legal and unknown states nothing.
@@ -22,7 +22,7 @@ use td_value::Policy;
 /// `InvalidPolicyValue`, for more than 64 names in starting_trader, more than 256 octets in
 /// request_id, and a value that isn't of its own type. `Memory` for want of memory.
 pub fn read_policies(alloc: Global, policies: &List<Policy>) -> Result<Stated, PolicyFault>
-    ensures { Gives (stated policies.now) result }
+    ensures { Computes is_memory (λ s. s) result (stated policies.now) }
 {
     let mut seen = nothing_seen(alloc);
     let mut stated = nothing();

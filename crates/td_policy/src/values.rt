@@ -4,7 +4,8 @@ ghost use Rattle.std.specs.Prelude.{◌≡◌, IfOk, option_copied};
 ghost use Rattle.td_policy.specs.declared.fault.PolicyFault.TheVariants as fault;
 ghost use Rattle.td_policy.specs.Faults.{IsFault, Leaves};
 ghost use Rattle.td_policy.specs.Stated.{stated_value};
-ghost use Rattle.td_policy.specs.Values.{truth, number, rule, rule_numbered, texts, octets, items_of, text_of, octet_of};
+ghost use Rattle.td_policy.specs.Values.{truth, number, rule, rule_numbered, texts, octets, items_of, text_of};
+ghost use Rattle.td_policy.specs.Values.{octet_of};
 
 use crate::codes::{is_number, is_octets, is_rule, is_texts, is_truth};
 use crate::fault::PolicyFault;
