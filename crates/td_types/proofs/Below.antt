@@ -1,15 +1,17 @@
 -- The types that conform to a type.
-use Rattle.std.proofs.Common.{◌≡◌, ℕ, Bool, true, false, ◌||◌, cond, inl, inr, List, [], ◌∷◌, map, reverse, refl, sym, ap, subst, ◌∙◌, Result, Ok, Err}
+use Rattle.std.proofs.Common.{◌≡◌, ℕ, Bool, true, false, ◌||◌, cond, inl, inr, List, [], ◌∷◌, map, reverse, refl, sym}
+use Rattle.std.proofs.Common.{ap, subst, ◌∙◌, Result, Ok, Err}
 use Rattle.std.specs.Prelude.{IfOk}
 use Rattle.std.specs.List.{filter, AllByRecursion}
 use Rattle.std.specs.Str.{bytes_eq}
 use Rattle.std.proofs.lemmas.Bool.{both_ways, or_cases, and_parts, false_from_ne_true}
 use Rattle.td_types.specs.declared.entry.Entry.{Entry}
-use Rattle.td_types.specs.Conforming.{walk, ancestors, conforms, subtypes}
+use Rattle.td_types.specs.Conforming.{ancestors, conforms, subtypes}
 use Rattle.td_types.specs.Judged.{AreKept}
 use Rattle.td_types.specs.Kept.{kept, repository, IsKept, AreEntries, is_below}
 use Rattle.td_types.specs.Laws.{Rises}
-use Rattle.td_types.specs.Repository.{Repository, Declared, ServiceType, IsRepository, Founded, has_type, is_named, is_among}
+use Rattle.td_types.specs.Repository.{Repository, Declared, ServiceType, IsRepository, Founded, has_type, is_named}
+use Rattle.td_types.specs.Repository.{is_among}
 use Rattle.td_types.proofs.Equal.{bytes_same}
 use Rattle.td_types.proofs.Others.{any-reverse}
 use Rattle.td_types.proofs.Outcomes.{walk-has}
@@ -19,34 +21,47 @@ use Rattle.td_types.proofs.Subtypes.{ancestor-walked, has-each}
 chosen : {X : Type 0} (b c : Bool) (x y z : X) → b ≡ c → y ≡ z → cond b x y ≡ cond c x z
 chosen b c x y z p q = rw (p, q) refl
 
-conforms-below : (types : List ServiceType) (base : List ℕ) (e : Entry) → has_type types e.service_type.name ≡ true → IsKept types e → is_below base e ≡ conforms types e.service_type.name base
+conforms-below : (types : List ServiceType) (base : List ℕ) (e : Entry) → has_type types e.service_type.name ≡ true
+    → IsKept types e → is_below base e ≡ conforms types e.service_type.name base
 conforms-below types base e there k = rw (there, k.ancestors) refl
 
-number-or : (b : Bool) (e : Entry) (es : List Entry) → map (λ (x : Entry). x.service_type.incarnation) (cond b (e ∷ es) es) ≡ cond b (e.service_type.incarnation ∷ map (λ (x : Entry). x.service_type.incarnation) es) (map (λ (x : Entry). x.service_type.incarnation) es)
+number-or : (b : Bool) (e : Entry) (es : List Entry)
+    → map (λ (x : Entry). x.service_type.incarnation) (cond b (e ∷ es) es)
+    ≡ cond b (e.service_type.incarnation ∷ map (λ (x : Entry). x.service_type.incarnation) es)
+    (map (λ (x : Entry). x.service_type.incarnation) es)
 number-or true e es = refl
 number-or false e es = refl
 
-type-or : (b : Bool) (t : ServiceType) (ts : List ServiceType) → map (λ (x : ServiceType). x.incarnation) (cond b (t ∷ ts) ts) ≡ cond b (t.incarnation ∷ map (λ (x : ServiceType). x.incarnation) ts) (map (λ (x : ServiceType). x.incarnation) ts)
+type-or : (b : Bool) (t : ServiceType) (ts : List ServiceType)
+    → map (λ (x : ServiceType). x.incarnation) (cond b (t ∷ ts) ts)
+    ≡ cond b (t.incarnation ∷ map (λ (x : ServiceType). x.incarnation) ts)
+    (map (λ (x : ServiceType). x.incarnation) ts)
 type-or true t ts = refl
 type-or false t ts = refl
 
 both-or : (b c : Bool) (n : ℕ) (ns ms : List ℕ) → b ≡ c → ns ≡ ms → cond b (n ∷ ns) ns ≡ cond c (n ∷ ms) ms
 both-or b c n ns ms p q = rw (p, q) refl
 
-below-among : (types : List ServiceType) (base : List ℕ) (es : List Entry) → AllByRecursion (λ t. has_type types t.name ≡ true) (map kept es) → AllByRecursion (IsKept types) es →
-    map (λ (e : Entry). e.service_type.incarnation) (filter (is_below base) es) ≡ map (λ (t : ServiceType). t.incarnation) (filter (λ t. conforms types t.name base) (map kept es))
+below-among : (types : List ServiceType) (base : List ℕ) (es : List Entry)
+    → AllByRecursion (λ t. has_type types t.name ≡ true) (map kept es) → AllByRecursion (IsKept types) es
+    → map (λ (e : Entry). e.service_type.incarnation) (filter (is_below base) es)
+    ≡ map (λ (t : ServiceType). t.incarnation) (filter (λ t. conforms types t.name base) (map kept es))
 below-among types base [] h k = refl
 below-among types base (e ∷ es) h k =
     number-or (is_below base e) e (filter (is_below base) es)
-    ∙ (both-or (is_below base e) (conforms types e.service_type.name base) e.service_type.incarnation _ _ (conforms-below types base e h.0 k.0) (below-among types base es h.1 k.1)
-    ∙ sym (type-or (conforms types e.service_type.name base) (kept e) (filter (λ t. conforms types t.name base) (map kept es))))
+    ∙ (both-or (is_below base e) (conforms types e.service_type.name base) e.service_type.incarnation _ _
+    (conforms-below types base e h.0 k.0) (below-among types base es h.1 k.1)
+    ∙ sym (type-or (conforms types e.service_type.name base) (kept e)
+    (filter (λ t. conforms types t.name base) (map kept es))))
 
-pub below-kept : (es : List Entry) (base : List ℕ) → AreKept es → map (λ (e : Entry). e.service_type.incarnation) (filter (is_below base) es) ≡ subtypes (map kept es) base
+pub below-kept : (es : List Entry) (base : List ℕ) → AreKept es
+    → map (λ (e : Entry). e.service_type.incarnation) (filter (is_below base) es) ≡ subtypes (map kept es) base
 below-kept es base k = below-among (map kept es) base es (has-each (map kept es)) k
 
 -- ---- what is conformed to is there
 
-conformed : (types : List ServiceType) (a b : List ℕ) → Founded (reverse types) → conforms types a b ≡ true → has_type types b ≡ true
+conformed : (types : List ServiceType) (a b : List ℕ) → Founded (reverse types) → conforms types a b ≡ true
+    → has_type types b ≡ true
 conformed types a b f h =
     let p = and_parts (has_type types a) (bytes_eq a b || is_among b (ancestors types a)) h in
     elim (or_cases (bytes_eq a b) (is_among b (ancestors types a)) p.1) [
@@ -58,19 +73,25 @@ none-filtered : {X : Type 0} (test : X → Bool) (xs : List X) → ((x : X) → 
 none-filtered test [] h = refl
 none-filtered test (x ∷ xs) h = rw (h x) (none-filtered test xs h)
 
-pub no-subtypes : (types : List ServiceType) (base : List ℕ) → Founded (reverse types) → has_type types base ≡ false → subtypes types base ≡ []
+pub no-subtypes : (types : List ServiceType) (base : List ℕ) → Founded (reverse types) → has_type types base ≡ false
+    → subtypes types base ≡ []
 no-subtypes types base f h =
     ap (map (λ (t : ServiceType). t.incarnation)) (none-filtered (λ (t : ServiceType). conforms types t.name base) types
-    (λ t. false_from_ne_true (conforms types t.name base) (λ e. both_ways (has_type types base) h (conformed types t.name base f e))))
+    (λ t. false_from_ne_true (conforms types t.name base)
+    (λ e. both_ways (has_type types base) h (conformed types t.name base f e))))
 
 -- ---- what a call is told
 
-pub told-when : {E : Type 0} (r : Result (List ℕ) E) (P Q : List ℕ → Type 0) → ((n : List ℕ) → P n → Q n) → IfOk r P → IfOk r Q
+pub told-when : {E : Type 0} (r : Result (List ℕ) E) (P Q : List ℕ → Type 0) → ((n : List ℕ) → P n → Q n) → IfOk r P
+    → IfOk r Q
 told-when (Ok x) P Q f h = f x h
 told-when (Err e) P Q f h = h
 
-module _ (es given : List Entry) (interfaces : Declared) (last : ℕ) (base b : List ℕ) (r : Repository) (view : repository es interfaces last ≡ r) (same : given ≡ es) (called : b ≡ base) (are : AreEntries es interfaces last) where
-  pub told : (n : List ℕ) → n ≡ map (λ (e : Entry). e.service_type.incarnation) (filter (is_below b) given) → n ≡ subtypes r.types base
+module _ (es given : List Entry) (interfaces : Declared) (last : ℕ) (base b : List ℕ) (r : Repository)
+    (view : repository es interfaces last ≡ r) (same : given ≡ es) (called : b ≡ base)
+    (are : AreEntries es interfaces last) where
+  pub told : (n : List ℕ) → n ≡ map (λ (e : Entry). e.service_type.incarnation) (filter (is_below b) given)
+      → n ≡ subtypes r.types base
   told n e =
       e ∙ (ap (λ (xs : List Entry). map (λ (x : Entry). x.service_type.incarnation) (filter (is_below b) xs)) same
       ∙ (ap (λ (x : List ℕ). map (λ (y : Entry). y.service_type.incarnation) (filter (is_below x) es)) called
@@ -79,8 +100,10 @@ module _ (es given : List Entry) (interfaces : Declared) (last : ℕ) (base b : 
   valid : IsRepository r
   valid = subst IsRepository view are.valid
 
-  pub told-rising : (n : List ℕ) → n ≡ map (λ (e : Entry). e.service_type.incarnation) (filter (is_below b) given) → Rises 0 n
+  pub told-rising : (n : List ℕ) → n ≡ map (λ (e : Entry). e.service_type.incarnation) (filter (is_below b) given)
+      → Rises 0 n
   told-rising n e = subst (Rises 0) (sym (told n e)) (incarnations-rise r (λ t. conforms r.types t.name base) valid)
 
-  pub told-none : has_type r.types base ≡ false → (n : List ℕ) → n ≡ map (λ (e : Entry). e.service_type.incarnation) (filter (is_below b) given) → n ≡ []
+  pub told-none : has_type r.types base ≡ false → (n : List ℕ)
+      → n ≡ map (λ (e : Entry). e.service_type.incarnation) (filter (is_below b) given) → n ≡ []
   told-none absent n e = told n e ∙ no-subtypes r.types base valid.founded absent

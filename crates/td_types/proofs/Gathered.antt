@@ -1,10 +1,12 @@
 -- What a type has by its supertypes, gathered in order.
-use Rattle.std.proofs.Common.{◌≡◌, ℕ, ◌+◌, ◌<◌, ◌≤◌, Bool, true, false, ◌||◌, cond, List, [], ◌∷◌, ◌++◌, length, drop, get_or, map, refl, sym, ap, ◌∙◌, append_assoc, arith, length-append, Bor, Result, Err}
+use Rattle.std.proofs.Common.{◌≡◌, ℕ, ◌+◌, ◌<◌, ◌≤◌, Bool, true, false, ◌||◌, cond, List, [], ◌∷◌, ◌++◌, length, drop}
+use Rattle.std.proofs.Common.{get_or, map, refl, sym, ap, ◌∙◌, append_assoc, arith, length-append, Bor, Result, Err}
 use Rattle.std.proofs.lemmas.List.Folds.{list_any-append}
 use Rattle.std.specs.BTreeSet.{BTreeSet}
 use Rattle.std.specs.Str.{bytes_eq}
 use Rattle.td_value.specs.declared.enumerations.PropertyMode.{PropertyMode}
-use Rattle.td_value.specs.declared.enumerations.PropertyMode.TheVariants.{Normal, Readonly, Mandatory, MandatoryReadonly}
+use Rattle.td_value.specs.declared.enumerations.PropertyMode.TheVariants.{Normal, Readonly, Mandatory}
+use Rattle.td_value.specs.declared.enumerations.PropertyMode.TheVariants.{MandatoryReadonly}
 use Rattle.td_value.specs.declared.structures.PropStruct.{PropStruct}
 use Rattle.td_types.proofs.Equal.{bytes_same, bytes_eq-sym}
 use Rattle.td_types.proofs.Redefined.{entries_of}
@@ -63,35 +65,51 @@ join_last Mandatory = refl
 join_last MandatoryReadonly = refl
 
 -- a mode that is called, or not, before the rest
-joined_when : (b : Bool) (m p rest : PropertyMode) → join m (cond b (join p rest) rest) ≡ join (cond b (join m p) m) rest
+joined_when : (b : Bool) (m p rest : PropertyMode)
+    → join m (cond b (join p rest) rest) ≡ join (cond b (join m p) m) rest
 joined_when true m p rest = sym (join_assoc m p rest)
 joined_when false m p rest = refl
 
-pub mode_on : (props : List PropStruct) (i : ℕ) (p : PropStruct) (name : List ℕ) (m total : PropertyMode) → i < length props → p ≡ get_or props i p → bytes_eq p.name name ≡ true →
-    join m (joined_mode (drop i props) name) ≡ total → join (join m p.mode) (joined_mode (drop (i + 1) props) name) ≡ total
+pub mode_on : (props : List PropStruct) (i : ℕ) (p : PropStruct) (name : List ℕ) (m total : PropertyMode)
+    → i < length props → p ≡ get_or props i p → bytes_eq p.name name ≡ true
+    → join m (joined_mode (drop i props) name) ≡ total
+    → join (join m p.mode) (joined_mode (drop (i + 1) props) name) ≡ total
 mode_on props i p name m total lt is called h =
-    let one : join m (joined_mode (drop i props) name) ≡ join (join m p.mode) (joined_mode (drop (i + 1) props) name) = rw (rest props i p lt is, called) (sym (join_assoc m p.mode (joined_mode (drop (i + 1) props) name))) in
+    let one : join m (joined_mode (drop i props) name) ≡ join (join m p.mode) (joined_mode (drop (i + 1) props) name) =
+    rw (rest props i p lt is, called) (sym (join_assoc m p.mode (joined_mode (drop (i + 1) props) name))) in
     sym one ∙ h
 
-pub mode_past : (props : List PropStruct) (i : ℕ) (p : PropStruct) (name : List ℕ) (m total : PropertyMode) → i < length props → p ≡ get_or props i p → bytes_eq p.name name ≡ false →
-    join m (joined_mode (drop i props) name) ≡ total → join m (joined_mode (drop (i + 1) props) name) ≡ total
+pub mode_past : (props : List PropStruct) (i : ℕ) (p : PropStruct) (name : List ℕ) (m total : PropertyMode)
+    → i < length props → p ≡ get_or props i p → bytes_eq p.name name ≡ false
+    → join m (joined_mode (drop i props) name) ≡ total → join m (joined_mode (drop (i + 1) props) name) ≡ total
 mode_past props i p name m total lt is called h =
-    let one : join m (joined_mode (drop i props) name) ≡ join m (joined_mode (drop (i + 1) props) name) = rw (rest props i p lt is, called) refl in
+    let one : join m (joined_mode (drop i props) name) ≡ join m (joined_mode (drop (i + 1) props) name) =
+    rw (rest props i p lt is, called) refl in
     sym one ∙ h
 
-joined_head : (b : Bool) (p xs ys : PropertyMode) → cond b (join p (join xs ys)) (join xs ys) ≡ join (cond b (join p xs) xs) ys
+joined_head : (b : Bool) (p xs ys : PropertyMode)
+    → cond b (join p (join xs ys)) (join xs ys) ≡ join (cond b (join p xs) xs) ys
 joined_head true p xs ys = sym (join_assoc p xs ys)
 joined_head false p xs ys = refl
 
-pub joined-append : (xs ys : List PropStruct) (name : List ℕ) → joined_mode (xs ++ ys) name ≡ join (joined_mode xs name) (joined_mode ys name)
+pub joined-append : (xs ys : List PropStruct) (name : List ℕ)
+    → joined_mode (xs ++ ys) name ≡ join (joined_mode xs name) (joined_mode ys name)
 joined-append [] ys name = sym (join_first (joined_mode ys name))
-joined-append (x ∷ xs) ys name = rw (joined-append xs ys name) (joined_head (is_called name x) x.mode (joined_mode xs name) (joined_mode ys name))
+joined-append (x ∷ xs) ys name =
+    rw (joined-append xs ys name) (joined_head (is_called name x) x.mode (joined_mode xs name) (joined_mode ys name))
 
-pub modes_on : (bases : List (Bor Entry)) (i : ℕ) (b : Bor Entry) (name : List ℕ) (m total : PropertyMode) → i < length bases → b ≡ get_or bases i b →
-    join m (joined_mode (inherited (entries_of (drop i bases))) name) ≡ total → join (join m (joined_mode b.now.full name)) (joined_mode (inherited (entries_of (drop (i + 1) bases))) name) ≡ total
+pub modes_on : (bases : List (Bor Entry)) (i : ℕ) (b : Bor Entry) (name : List ℕ) (m total : PropertyMode)
+    → i < length bases → b ≡ get_or bases i b
+    → join m (joined_mode (inherited (entries_of (drop i bases))) name) ≡ total
+    → join (join m (joined_mode b.now.full name)) (joined_mode (inherited (entries_of (drop (i + 1) bases))) name)
+    ≡ total
 modes_on bases i b name m total lt is h =
-    let one : join m (joined_mode (inherited (entries_of (drop i bases))) name) ≡ join (join m (joined_mode b.now.full name)) (joined_mode (inherited (entries_of (drop (i + 1) bases))) name) =
-    rw (rest bases i b lt is, joined-append b.now.full (inherited (entries_of (drop (i + 1) bases))) name) (sym (join_assoc m (joined_mode b.now.full name) (joined_mode (inherited (entries_of (drop (i + 1) bases))) name))) in
+    let one : join m (joined_mode (inherited (entries_of (drop i bases))) name)
+    ≡ join (join m (joined_mode b.now.full name))
+    (joined_mode (inherited (entries_of (drop (i + 1) bases))) name) =
+    rw (rest bases i b lt is, joined-append b.now.full (inherited (entries_of (drop (i + 1) bases))) name)
+    (sym (join_assoc m (joined_mode b.now.full name)
+    (joined_mode (inherited (entries_of (drop (i + 1) bases))) name))) in
     sym one ∙ h
 
 -- ---- newcomers
@@ -99,11 +117,14 @@ modes_on bases i b name m total lt is h =
 cond_both : {X : Type 0} (b c : Bool) (x y u v : X) → b ≡ c → x ≡ u → y ≡ v → cond b x y ≡ cond c u v
 cond_both b c x y u v p q r = rw (p, q, r) refl
 
-pub newcomers_same : (a b ps : List PropStruct) → ((name : List ℕ) → has_property a name ≡ has_property b name) → newcomers a ps ≡ newcomers b ps
+pub newcomers_same : (a b ps : List PropStruct) → ((name : List ℕ) → has_property a name ≡ has_property b name)
+    → newcomers a ps ≡ newcomers b ps
 newcomers_same a b [] h = refl
 newcomers_same a b (p ∷ ps) h =
-    cond_both (has_property a p.name) (has_property b p.name) (newcomers a ps) (p ∷ newcomers (p ∷ a) ps) (newcomers b ps) (p ∷ newcomers (p ∷ b) ps) (h p.name) (newcomers_same a b ps h)
-    (ap (λ (qs : List PropStruct). p ∷ qs) (newcomers_same (p ∷ a) (p ∷ b) ps (λ name. ap (λ (x : Bool). is_called name p || x) (h name))))
+    cond_both (has_property a p.name) (has_property b p.name) (newcomers a ps) (p ∷ newcomers (p ∷ a) ps)
+    (newcomers b ps) (p ∷ newcomers (p ∷ b) ps) (h p.name) (newcomers_same a b ps h)
+    (ap (λ (qs : List PropStruct). p ∷ qs)
+    (newcomers_same (p ∷ a) (p ∷ b) ps (λ name. ap (λ (x : Bool). is_called name p || x) (h name))))
 
 turned : (a b : Bool) → (a || (b || false)) ≡ (b || a)
 turned true true = refl
@@ -111,21 +132,29 @@ turned true false = refl
 turned false true = refl
 turned false false = refl
 
-has_last : (own : List PropStruct) (p q : PropStruct) (name : List ℕ) → q.name ≡ p.name → has_property (own ++ q ∷ []) name ≡ has_property (p ∷ own) name
-has_last own p q name e = list_any-append (is_called name) own (q ∷ []) ∙ (rw e (turned (has_property own name) (is_called name p)))
+has_last : (own : List PropStruct) (p q : PropStruct) (name : List ℕ) → q.name ≡ p.name
+    → has_property (own ++ q ∷ []) name ≡ has_property (p ∷ own) name
+has_last own p q name e =
+    list_any-append (is_called name) own (q ∷ []) ∙ (rw e (turned (has_property own name) (is_called name p)))
 
-pub skipped : (inh own later : List PropStruct) (p : PropStruct) → has_property own p.name ≡ true → extended inh own later ≡ extended inh own (p ∷ later)
+pub skipped : (inh own later : List PropStruct) (p : PropStruct) → has_property own p.name ≡ true
+    → extended inh own later ≡ extended inh own (p ∷ later)
 skipped inh own later p h = rw h refl
 
-pub pushed : (inh own new later : List PropStruct) (p : PropStruct) → has_property own p.name ≡ false → new ≡ own ++ strengthened inh p ∷ [] → extended inh new later ≡ extended inh own (p ∷ later)
+pub pushed : (inh own new later : List PropStruct) (p : PropStruct) → has_property own p.name ≡ false
+    → new ≡ own ++ strengthened inh p ∷ [] → extended inh new later ≡ extended inh own (p ∷ later)
 pushed inh own new later p h e =
-    let same : newcomers (own ++ strengthened inh p ∷ []) later ≡ newcomers (p ∷ own) later = newcomers_same (own ++ strengthened inh p ∷ []) (p ∷ own) later (λ name. has_last own p (strengthened inh p) name refl) in
+    let same : newcomers (own ++ strengthened inh p ∷ []) later ≡ newcomers (p ∷ own) later =
+    newcomers_same (own ++ strengthened inh p ∷ []) (p ∷ own) later
+    (λ name. has_last own p (strengthened inh p) name refl) in
     rw (e, same, h) (append_assoc own (strengthened inh p ∷ []) (map (strengthened inh) (newcomers (p ∷ own) later)))
 
-pub too_many : (inh own later : List PropStruct) (p : PropStruct) → has_property own p.name ≡ false → most_properties ≤ length own → most_properties < length (extended inh own (p ∷ later))
+pub too_many : (inh own later : List PropStruct) (p : PropStruct) → has_property own p.name ≡ false
+    → most_properties ≤ length own → most_properties < length (extended inh own (p ∷ later))
 too_many inh own later p h many = rw (h, length-append) (omega (arith, many))
 
-pub one_longer : (own new : List PropStruct) (p : PropStruct) → new ≡ own ++ p ∷ [] → length own < most_properties → length new ≤ most_properties
+pub one_longer : (own new : List PropStruct) (p : PropStruct) → new ≡ own ++ p ∷ [] → length own < most_properties
+    → length new ≤ most_properties
 one_longer own new p e lt = rw (e, length-append) (omega (arith, lt))
 
 -- ---- names met
@@ -138,30 +167,46 @@ already : (b old new m : Bool) → new ≡ (b || old) → old ≡ m → (b ≡ t
 already true old new m e h k = e ∙ (sym (k refl) ∙ h)
 already false old new m e h k = e ∙ h
 
-pub met_already : (seen new : BTreeSet (Bor (List ℕ))) (met : List (List ℕ)) (name : List ℕ) → HaveSeen seen met → has_seen seen name ≡ true → ((other : List ℕ) → has_seen new other ≡ (bytes_eq name other || has_seen seen other)) → HaveSeen new met
-met_already seen new met name h among added other = already (bytes_eq name other) (has_seen seen other) (has_seen new other) (is_among other met) (added other) (h other) (λ e. ap (λ (n : List ℕ). has_seen seen n) (sym (bytes_same name other e)) ∙ among)
+pub met_already : (seen new : BTreeSet (Bor (List ℕ))) (met : List (List ℕ)) (name : List ℕ) → HaveSeen seen met
+    → has_seen seen name ≡ true → ((other : List ℕ) → has_seen new other ≡ (bytes_eq name other || has_seen seen other))
+    → HaveSeen new met
+met_already seen new met name h among added other =
+    already (bytes_eq name other) (has_seen seen other) (has_seen new other) (is_among other met) (added other)
+    (h other) (λ e. ap (λ (n : List ℕ). has_seen seen n) (sym (bytes_same name other e)) ∙ among)
 
-pub met_anew : (seen new : BTreeSet (Bor (List ℕ))) (met : List (List ℕ)) (name : List ℕ) → HaveSeen seen met → ((other : List ℕ) → has_seen new other ≡ (bytes_eq name other || has_seen seen other)) → HaveSeen new (met ++ name ∷ [])
+pub met_anew : (seen new : BTreeSet (Bor (List ℕ))) (met : List (List ℕ)) (name : List ℕ) → HaveSeen seen met
+    → ((other : List ℕ) → has_seen new other ≡ (bytes_eq name other || has_seen seen other))
+    → HaveSeen new (met ++ name ∷ [])
 met_anew seen new met name h added other =
-    added other ∙ (rw (h other, list_any-append (bytes_eq other) met (name ∷ []), bytes_eq-sym name other) (sym (turned (is_among other met) (bytes_eq other name))))
+    added other ∙ (rw (h other, list_any-append (bytes_eq other) met (name ∷ []), bytes_eq-sym name other)
+    (sym (turned (is_among other met) (bytes_eq other name))))
 
 pub kept_once : (met : List (List ℕ)) (name : List ℕ) → is_among name met ≡ true → met ≡ add_once met name
 kept_once met name h = rw h refl
 
-pub added_once : (met new : List (List ℕ)) (name : List ℕ) → is_among name met ≡ false → new ≡ met ++ name ∷ [] → new ≡ add_once met name
+pub added_once : (met new : List (List ℕ)) (name : List ℕ) → is_among name met ≡ false → new ≡ met ++ name ∷ []
+    → new ≡ add_once met name
 added_once met new name h e = rw (h, e) refl
 
-pub names_on : (met : List (List ℕ)) (names : List (List ℕ)) (i : ℕ) (name : List ℕ) (new total : List (List ℕ)) → i < length names → name ≡ get_or names i name → new ≡ add_once met name →
-    once met (drop i names) ≡ total → once new (drop (i + 1) names) ≡ total
+pub names_on : (met : List (List ℕ)) (names : List (List ℕ)) (i : ℕ) (name : List ℕ) (new total : List (List ℕ))
+    → i < length names → name ≡ get_or names i name → new ≡ add_once met name → once met (drop i names) ≡ total
+    → once new (drop (i + 1) names) ≡ total
 names_on met names i name new total lt is e h =
-    let one : once met (drop i names) ≡ once (add_once met name) (drop (i + 1) names) = rw (rest names i name lt is) refl in
+    let one : once met (drop i names) ≡ once (add_once met name) (drop (i + 1) names) =
+    rw (rest names i name lt is) refl in
     rw e (sym one ∙ h)
 
-pub bases_on : (bases : List (Bor Entry)) (i : ℕ) (b : Bor Entry) (met new last total : List (List ℕ)) → i < length bases → b ≡ get_or bases i b → new ≡ add_once met b.now.service_type.name → last ≡ once new b.now.ancestors →
-    once met (names_above (entries_of (drop i bases))) ≡ total → once last (names_above (entries_of (drop (i + 1) bases))) ≡ total
+pub bases_on : (bases : List (Bor Entry)) (i : ℕ) (b : Bor Entry) (met new last total : List (List ℕ))
+    → i < length bases → b ≡ get_or bases i b → new ≡ add_once met b.now.service_type.name
+    → last ≡ once new b.now.ancestors → once met (names_above (entries_of (drop i bases))) ≡ total
+    → once last (names_above (entries_of (drop (i + 1) bases))) ≡ total
 bases_on bases i b met new last total lt is e k h =
-    let one : once met (names_above (entries_of (drop i bases))) ≡ once (once (add_once met b.now.service_type.name) b.now.ancestors) (names_above (entries_of (drop (i + 1) bases))) =
-    rw (rest bases i b lt is) (once-append (add_once met b.now.service_type.name) b.now.ancestors (names_above (entries_of (drop (i + 1) bases)))) in
+    let one : once met (names_above (entries_of (drop i bases)))
+    ≡ once (once (add_once met b.now.service_type.name) b.now.ancestors)
+    (names_above (entries_of (drop (i + 1) bases))) =
+    rw (rest bases i b lt is)
+    (once-append (add_once met b.now.service_type.name) b.now.ancestors
+    (names_above (entries_of (drop (i + 1) bases)))) in
     rw (k, e) (sym one ∙ h)
 
 -- ---- supertype by supertype
@@ -169,7 +214,9 @@ bases_on bases i b met new last total lt is e k h =
 abbrev failed : TypesFault → Result (Unit {0}) TypesFault
 failed t = Err t
 
-pub fails : (inh old new further later was now far rest : List PropStruct) (t : TypesFault) → extended inh old further ≡ extended inh was far → IsMoreBy inh old new further later (failed t) → IsMoreBy inh was now far rest (failed t)
+pub fails : (inh old new further later was now far rest : List PropStruct) (t : TypesFault)
+    → extended inh old further ≡ extended inh was far → IsMoreBy inh old new further later (failed t)
+    → IsMoreBy inh was now far rest (failed t)
 fails inh old new further later was now far rest (User f) e h = absurd h
 fails inh old new further later was now far rest Full e h = rw (← e) h
 fails inh old new further later was now far rest Memory e h = tt
@@ -177,14 +224,18 @@ fails inh old new further later was now far rest Memory e h = tt
 abbrev refused : TypesFault → Result (List PropStruct) TypesFault
 refused t = Err t
 
-pub fails_all : (inh old new further later total : List PropStruct) (t : TypesFault) → extended inh old further ≡ total → IsMoreBy inh old new further later (failed t) → IsMore total (refused t)
+pub fails_all : (inh old new further later total : List PropStruct) (t : TypesFault) → extended inh old further ≡ total
+    → IsMoreBy inh old new further later (failed t) → IsMore total (refused t)
 fails_all inh old new further later total (User f) e h = absurd h
 fails_all inh old new further later total Full e h = rw (← e) h
 fails_all inh old new further later total Memory e h = tt
 
-pub one_of : (inh own props later : List PropStruct) (i : ℕ) (p : PropStruct) → i < length props → p ≡ get_or props i p → extended inh own (p ∷ (drop (i + 1) props ++ later)) ≡ extended inh own (drop i props ++ later)
+pub one_of : (inh own props later : List PropStruct) (i : ℕ) (p : PropStruct) → i < length props → p ≡ get_or props i p
+    → extended inh own (p ∷ (drop (i + 1) props ++ later)) ≡ extended inh own (drop i props ++ later)
 one_of inh own props later i p lt is = rw (rest props i p lt is) refl
 
-pub base_of : (inh own : List PropStruct) (bases : List (Bor Entry)) (i : ℕ) (b : Bor Entry) → i < length bases → b ≡ get_or bases i b →
-    extended inh own (b.now.full ++ inherited (entries_of (drop (i + 1) bases))) ≡ extended inh own (inherited (entries_of (drop i bases)))
+pub base_of : (inh own : List PropStruct) (bases : List (Bor Entry)) (i : ℕ) (b : Bor Entry) → i < length bases
+    → b ≡ get_or bases i b
+    → extended inh own (b.now.full ++ inherited (entries_of (drop (i + 1) bases)))
+    ≡ extended inh own (inherited (entries_of (drop i bases)))
 base_of inh own bases i b lt is = rw (rest bases i b lt is) refl

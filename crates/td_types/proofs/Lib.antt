@@ -1,4 +1,6 @@
+pub mod Additions
 pub mod Adds
+pub mod Admitted
 pub mod Below
 pub mod ByName
 pub mod Chained
@@ -18,6 +20,7 @@ pub mod Redefined
 pub mod Removed
 pub mod Rest
 pub mod Rising
+pub mod Sequences
 pub mod Sets
 pub mod Start
 pub mod Stronger

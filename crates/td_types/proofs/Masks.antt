@@ -1,21 +1,19 @@
 -- The repository with a type masked or not: everything but the mask stays.
-use Rattle.std.proofs.Common.{◌≡◌, ℕ, ◌+◌, ◌≤◌, ◌<◌, Bool, true, false, ◌||◌, cond, inl, inr, List, [], ◌∷◌, ◌++◌, length, get_or, reverse, map, refl, sym, ap, subst, ◌∙◌, arith, Ok, Option, Some}
+use Rattle.std.proofs.Common.{◌≡◌, ℕ, ◌≤◌, Bool, true, false, ◌||◌, cond, inl, inr, List, [], ◌∷◌, ◌++◌}
+use Rattle.std.proofs.Common.{get_or, reverse, map, refl, sym, ap, subst, ◌∙◌, arith, Option, Some}
 use Rattle.std.specs.List.{flat_map, AllByRecursion}
 use Rattle.std.specs.Str.{bytes_eq}
 use Rattle.std.proofs.lemmas.Bool.{cases_Bool}
 use Rattle.std.proofs.lemmas.List.{reverse-append, map-append}
 use Rattle.td_types.specs.declared.entry.Entry.{Entry}
-use Rattle.td_types.specs.declared.fault.RepoFault.TheVariants as fault
-use Rattle.td_types.specs.declared.reply.TypesReply.TheVariants as reply
-use Rattle.td_types.specs.Calls.{Comes, refuse, set_mask, mask_type, unmask_type}
+use Rattle.td_types.specs.Calls.{set_mask}
 use Rattle.td_types.specs.Conforming.{once, walk, ancestors, conforms}
 use Rattle.td_types.specs.Kept.{kept, repository, IsKept, AreEntries}
 use Rattle.td_types.specs.Laws.{unmasked}
 use Rattle.td_types.specs.Properties.{full, full_properties}
-use Rattle.td_types.specs.Removing.{masked_entry, with_mask}
-use Rattle.td_types.specs.Repository.{Repository, ServiceType, Declared, is_named, has_type, type_named, mask_of, top, Founded, IsRepository}
-use Rattle.td_types.specs.Sought.{sought}
-use Rattle.td_types.proofs.Found.{known_found}
+use Rattle.td_types.specs.Removing.{with_mask}
+use Rattle.td_types.specs.Repository.{Repository, ServiceType, Declared, is_named, has_type, type_named, mask_of, top}
+use Rattle.td_types.specs.Repository.{Founded, IsRepository}
 use Rattle.td_types.proofs.Others.{named-otherwise, Descends, full-step, full-descends, walk-step, walk-descends}
 
 -- ---- types that differ in the mask alone
@@ -40,13 +38,15 @@ alike-masked name masked t = alike-when (is_named name t) masked t
 pub map-reversed : {X Y : Type 0} (f : X → Y) (xs : List X) → map f (reverse xs) ≡ reverse (map f xs)
 map-reversed f [] = refl
 map-reversed f (x ∷ xs) =
-    ap (map f) (reverse-append (x ∷ []) xs) ∙ map-append f (reverse xs) (x ∷ []) ∙ ap (λ ys. ys ++ f x ∷ []) (map-reversed f xs) ∙ sym (reverse-append (f x ∷ []) (map f xs))
+    ap (map f) (reverse-append (x ∷ []) xs) ∙ map-append f (reverse xs) (x ∷ [])
+    ∙ ap (λ ys. ys ++ f x ∷ []) (map-reversed f xs) ∙ sym (reverse-append (f x ∷ []) (map f xs))
 
 module _ (change : ServiceType → ServiceType) (alike : (t : ServiceType) → IsAlike (change t) t) where
   pub has-alike : (ts : List ServiceType) (name : List ℕ) → has_type (map change ts) name ≡ has_type ts name
   has-alike [] name = refl
   has-alike (t ∷ ts) name =
-      ap (λ (n : List ℕ). bytes_eq n name || has_type (map change ts) name) (alike t).name ∙ ap (λ (b : Bool). is_named name t || b) (has-alike ts name)
+      ap (λ (n : List ℕ). bytes_eq n name || has_type (map change ts) name) (alike t).name
+      ∙ ap (λ (b : Bool). is_named name t || b) (has-alike ts name)
 
   top-alike : (ts : List ServiceType) → top (map change ts) ≡ top ts
   top-alike [] = refl
@@ -61,11 +61,15 @@ module _ (change : ServiceType → ServiceType) (alike : (t : ServiceType) → I
       (let i = (alike t).incarnation in let e = top-alike older in omega (arith, i, e, higher))
       (founded-alike f)
 
-  pub descends-alike : {X : Type 0} (F : List ServiceType → List ℕ → List X) (step : ServiceType → (List ℕ → List X) → List X) → Descends F step → ((t : ServiceType) (f : List ℕ → List X) → step (change t) f ≡ step t f) → (ts : List ServiceType) (name : List ℕ) → F (map change ts) name ≡ F ts name
+  pub descends-alike : {X : Type 0} (F : List ServiceType → List ℕ → List X)
+      (step : ServiceType → (List ℕ → List X) → List X)
+      → Descends F step → ((t : ServiceType) (f : List ℕ → List X) → step (change t) f ≡ step t f)
+      → (ts : List ServiceType) (name : List ℕ) → F (map change ts) name ≡ F ts name
   descends-alike F step d same [] name = refl
   descends-alike F step d same (t ∷ older) name =
       let rest = descends-alike F step d same older in
-      let here : step (change t) (F (map change older)) ≡ step t (F older) = same t (F (map change older)) ∙ d.agrees t (F (map change older)) (F older) (λ s a. rest s) in
+      let here : step (change t) (F (map change older)) ≡ step t (F older) =
+      same t (F (map change older)) ∙ d.agrees t (F (map change older)) (F older) (λ s a. rest s) in
       let named : is_named name (change t) ≡ is_named name t = ap (λ (n : List ℕ). bytes_eq n name) (alike t).name in
       d.finds (change t) (map change older) name ∙ rw (named, here, rest name) (sym (d.finds t older name))
 
@@ -76,34 +80,50 @@ module _ (types : List ServiceType) (name : List ℕ) (masked : Bool) where
   unfolding full_properties
   full-masked n =
       ap (λ (ts : List ServiceType). full ts n) (sym (map-reversed (masked_type name masked) types))
-      ∙ descends-alike (masked_type name masked) (alike-masked name masked) full full-step full-descends (λ t f. rw ((alike-masked name masked t).props, (alike-masked name masked t).supers) refl) (reverse types) n
+      ∙ descends-alike (masked_type name masked) (alike-masked name masked) full full-step full-descends
+      (λ t f. rw ((alike-masked name masked t).props, (alike-masked name masked t).supers) refl) (reverse types) n
 
   pub ancestors-masked : (n : List ℕ) → ancestors (map (masked_type name masked) types) n ≡ ancestors types n
   unfolding ancestors
   ancestors-masked n =
       ap (once []) (ap (λ (ts : List ServiceType). walk ts n) (sym (map-reversed (masked_type name masked) types))
-      ∙ descends-alike (masked_type name masked) (alike-masked name masked) walk walk-step walk-descends (λ t f. ap (λ (supers : List (List ℕ)). flat_map (λ s. s ∷ f s) supers) (alike-masked name masked t).supers) (reverse types) n)
+      ∙ descends-alike (masked_type name masked) (alike-masked name masked) walk walk-step walk-descends
+      (λ t f. ap (λ (supers : List (List ℕ)). flat_map (λ s. s ∷ f s) supers) (alike-masked name masked t).supers)
+      (reverse types) n)
 
   pub conforms-masked : (a b : List ℕ) → conforms (map (masked_type name masked) types) a b ≡ conforms types a b
-  conforms-masked a b = rw (has-alike (masked_type name masked) (alike-masked name masked) types a, ancestors-masked a) refl
+  conforms-masked a b =
+      rw (has-alike (masked_type name masked) (alike-masked name masked) types a, ancestors-masked a) refl
 
-  still-kept_when : (e : Entry) (b : Bool) → IsKept types e → IsKept (map (masked_type name masked) types) (cond b (record e { service_type = record e.service_type { masked = masked } }) e)
-  still-kept_when e true k = record { ancestors = k.ancestors ∙ sym (ancestors-masked e.service_type.name); full = k.full ∙ sym (full-masked e.service_type.name) }
-  still-kept_when e false k = record { ancestors = k.ancestors ∙ sym (ancestors-masked e.service_type.name); full = k.full ∙ sym (full-masked e.service_type.name) }
+  still-kept_when : (e : Entry) (b : Bool) → IsKept types e
+      → IsKept (map (masked_type name masked) types)
+      (cond b (record e { service_type = record e.service_type { masked = masked } }) e)
+  still-kept_when e true k = record {
+    ancestors = k.ancestors ∙ sym (ancestors-masked e.service_type.name);
+    full = k.full ∙ sym (full-masked e.service_type.name);
+  }
+  still-kept_when e false k = record {
+    ancestors = k.ancestors ∙ sym (ancestors-masked e.service_type.name);
+    full = k.full ∙ sym (full-masked e.service_type.name);
+  }
 
-  still-kept : (es : List Entry) → AllByRecursion (IsKept types) es → AllByRecursion (IsKept (map (masked_type name masked) types)) (with_mask es name masked)
+  still-kept : (es : List Entry) → AllByRecursion (IsKept types) es
+      → AllByRecursion (IsKept (map (masked_type name masked) types)) (with_mask es name masked)
   still-kept [] k = tt
   still-kept (e ∷ es) k = (still-kept_when e (bytes_eq e.service_type.name name) k.0, still-kept es k.1)
 
-pub named-masked : (name : List ℕ) (masked : Bool) (ts : List ServiceType) (other : List ℕ) → (other ≡ name → ⊥) → type_named (map (masked_type name masked) ts) other ≡ type_named ts other
+pub named-masked : (name : List ℕ) (masked : Bool) (ts : List ServiceType) (other : List ℕ) → (other ≡ name → ⊥)
+    → type_named (map (masked_type name masked) ts) other ≡ type_named ts other
 named-masked name masked [] other differs = refl
 named-masked name masked (t ∷ ts) other differs =
     elim (cases_Bool (is_named name t)) [
       | inl here ↦ rw (here, named-otherwise t name other differs here) (named-masked name masked ts other differs)
-      | inr unlike ↦ rw unlike (ap (λ (o : Option ServiceType). cond (is_named other t) (Some t) o) (named-masked name masked ts other differs))
+      | inr unlike ↦ rw unlike (ap (λ (o : Option ServiceType). cond (is_named other t) (Some t) o)
+          (named-masked name masked ts other differs))
     ]
 
-pub mask-set : (name : List ℕ) (masked : Bool) (ts : List ServiceType) (t : ServiceType) → type_named ts name ≡ Some t → mask_of (map (masked_type name masked) ts) name ≡ Some masked
+pub mask-set : (name : List ℕ) (masked : Bool) (ts : List ServiceType) (t : ServiceType) → type_named ts name ≡ Some t
+    → mask_of (map (masked_type name masked) ts) name ≡ Some masked
 mask-set name masked [] t h = absurd (let bad : ⊥ = cc in bad)
 mask-set name masked (x ∷ ts) t h =
     elim (cases_Bool (is_named name x)) [
@@ -115,38 +135,56 @@ unmasked-when : (b masked : Bool) (t : ServiceType) → unmasked (cond b (record
 unmasked-when true masked t = refl
 unmasked-when false masked t = refl
 
-pub all-unmasked : (name : List ℕ) (masked : Bool) (ts : List ServiceType) → map unmasked (map (masked_type name masked) ts) ≡ map unmasked ts
+pub all-unmasked : (name : List ℕ) (masked : Bool) (ts : List ServiceType)
+    → map unmasked (map (masked_type name masked) ts) ≡ map unmasked ts
 all-unmasked name masked [] = refl
 all-unmasked name masked (t ∷ ts) =
-    ap (λ (x : ServiceType). x ∷ map unmasked (map (masked_type name masked) ts)) (unmasked-when (is_named name t) masked t)
+    ap (λ (x : ServiceType). x ∷ map unmasked (map (masked_type name masked) ts))
+    (unmasked-when (is_named name t) masked t)
     ∙ ap (λ (xs : List ServiceType). unmasked t ∷ xs) (all-unmasked name masked ts)
 
-pub valid-masked : (r : Repository) (name : List ℕ) (masked : Bool) → IsRepository r → IsRepository (set_mask r name masked)
+pub valid-masked : (r : Repository) (name : List ℕ) (masked : Bool) → IsRepository r
+    → IsRepository (set_mask r name masked)
 valid-masked r name masked valid =
     let change = masked_type name masked in
     let alike = alike-masked name masked in
     record {
       founded = subst Founded (map-reversed change r.types) (founded-alike change alike valid.founded);
-      counted = let c = valid.counted in let e = top-alike change alike (reverse r.types) in subst (λ (ts : List ServiceType). top ts ≤ r.last) (map-reversed change r.types) (omega (arith, c, e));
+      counted =
+          let c = valid.counted in
+          let e = top-alike change alike (reverse r.types) in
+          subst (λ (ts : List ServiceType). top ts ≤ r.last) (map-reversed change r.types) (omega (arith, c, e));
     }
 
 -- ---- their entries
 
-kept_when : (e : Entry) (b masked : Bool) → kept (cond b (record e { service_type = record e.service_type { masked = masked } }) e) ≡ cond b (record (kept e) { masked = masked }) (kept e)
+kept_when : (e : Entry) (b masked : Bool)
+    → kept (cond b (record e { service_type = record e.service_type { masked = masked } }) e)
+    ≡ cond b (record (kept e) { masked = masked }) (kept e)
 kept_when e true masked = refl
 kept_when e false masked = refl
 
-pub kept-masked : (es : List Entry) (name : List ℕ) (masked : Bool) → map kept (with_mask es name masked) ≡ map (masked_type name masked) (map kept es)
+pub kept-masked : (es : List Entry) (name : List ℕ) (masked : Bool)
+    → map kept (with_mask es name masked) ≡ map (masked_type name masked) (map kept es)
 kept-masked [] name masked = refl
 kept-masked (e ∷ es) name masked =
-    ap (λ (t : ServiceType). t ∷ map kept (with_mask es name masked)) (kept_when e (bytes_eq e.service_type.name name) masked)
+    ap (λ (t : ServiceType). t ∷ map kept (with_mask es name masked))
+    (kept_when e (bytes_eq e.service_type.name name) masked)
     ∙ ap (λ (ts : List ServiceType). masked_type name masked (kept e) ∷ ts) (kept-masked es name masked)
 
-pub repository-masked : (es : List Entry) (interfaces : Declared) (last : ℕ) (name : List ℕ) (masked : Bool) → repository (with_mask es name masked) interfaces last ≡ set_mask (repository es interfaces last) name masked
-repository-masked es interfaces last name masked = ap (λ (ts : List ServiceType). record { types = ts; interfaces = interfaces; last = last }) (kept-masked es name masked)
+pub repository-masked : (es : List Entry) (interfaces : Declared) (last : ℕ) (name : List ℕ) (masked : Bool)
+    → repository (with_mask es name masked) interfaces last ≡ set_mask (repository es interfaces last) name masked
+repository-masked es interfaces last name masked =
+    ap (λ (ts : List ServiceType). record { types = ts; interfaces = interfaces; last = last })
+    (kept-masked es name masked)
 
-pub entries-masked : (es : List Entry) (interfaces : Declared) (last : ℕ) (name : List ℕ) (masked : Bool) → AreEntries es interfaces last → AreEntries (with_mask es name masked) interfaces last
+pub entries-masked : (es : List Entry) (interfaces : Declared) (last : ℕ) (name : List ℕ) (masked : Bool)
+    → AreEntries es interfaces last → AreEntries (with_mask es name masked) interfaces last
 entries-masked es interfaces last name masked are = record {
-  valid = subst IsRepository (sym (repository-masked es interfaces last name masked)) (valid-masked (repository es interfaces last) name masked are.valid);
-  kept = subst (λ (ts : List ServiceType). AllByRecursion (IsKept ts) (with_mask es name masked)) (sym (kept-masked es name masked)) (still-kept (map kept es) name masked es are.kept);
+  valid =
+      subst IsRepository (sym (repository-masked es interfaces last name masked))
+      (valid-masked (repository es interfaces last) name masked are.valid);
+  kept =
+      subst (λ (ts : List ServiceType). AllByRecursion (IsKept ts) (with_mask es name masked))
+      (sym (kept-masked es name masked)) (still-kept (map kept es) name masked es are.kept);
 }

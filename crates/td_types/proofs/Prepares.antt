@@ -1,5 +1,6 @@
 -- The entry of a new type, step by step.
-use Rattle.std.proofs.Common.{◌≡◌, ℕ, ◌+◌, ◌<◌, ◌≤◌, Bool, true, false, List, [], ◌∷◌, ◌++◌, length, map, refl, sym, ap, ◌∙◌, None, Result, Ok, Err, subst, arith, length-append, nat_lt}
+use Rattle.std.proofs.Common.{◌≡◌, ℕ, ◌+◌, ◌<◌, ◌≤◌, Bool, true, false, List, [], ◌∷◌, ◌++◌, length, map, refl, sym, ap}
+use Rattle.std.proofs.Common.{◌∙◌, None, Result, Ok, Err, subst, arith, length-append, nat_lt}
 use Rattle.std.proofs.lemmas.List.{map-append, length-map}
 use Rattle.std.proofs.lemmas.Bool.{lt-ltb, le-ltb}
 use Rattle.std.specs.List.{AllByRecursion}
@@ -7,7 +8,9 @@ use Rattle.td_cdr.specs.declared.order.Order.TheVariants.{Big}
 use Rattle.td_value.specs.Structures.{type_struct}
 use Rattle.td_value.specs.declared.structures.PropStruct.{PropStruct}
 use Rattle.td_value.specs.declared.structures.TypeStruct.{TypeStruct}
-use Rattle.td_types.proofs.Adds.{ancestors_of_new, full_of_new, inherited_are, above_are, stay_kept, All-snoc, still_valid, add_fault_last, is_fresh, limit_first, limit_second, limit_third, limit_fourth, limit_none, comes_refused, comes_full, comes_added}
+use Rattle.td_types.proofs.Adds.{ancestors_of_new, full_of_new, inherited_are, above_are, stay_kept, All-snoc}
+use Rattle.td_types.proofs.Adds.{still_valid, add_fault_last, is_fresh, limit_first, limit_second, limit_third}
+use Rattle.td_types.proofs.Adds.{limit_fourth, limit_none, comes_refused, comes_full, comes_added}
 use Rattle.td_types.specs.Added.{entry_of, described_bytes, IsMeasured, IsPrepared}
 use Rattle.td_types.specs.Adding.{new_type, with_type, most_types, most_properties, most_bytes, last_incarnation}
 use Rattle.td_types.specs.Calls.{add_fault, add_type}
@@ -26,21 +29,30 @@ use Rattle.td_types.specs.declared.reply.TypesReply.TheVariants as reply
 abbrev pub failed : {X : Type 0} → TypesFault → Result X TypesFault
 failed t = Err t
 
-pub refused : {X : Type 0} (given : X → Type 0) (es : List Entry) (interfaces : Declared) (last : ℕ) (name if_name : List ℕ) (props props_given : List PropStruct) (supers supers_given : List (List ℕ)) (t : TypesFault) → props_given ≡ props → supers_given ≡ supers →
-    Judges (add_fault (repository es interfaces 0) name if_name props_given supers_given) given (failed t) → IsPrepared es interfaces last name if_name props supers (failed t)
+pub refused : {X : Type 0} (given : X → Type 0) (es : List Entry) (interfaces : Declared) (last : ℕ)
+    (name if_name : List ℕ) (props props_given : List PropStruct) (supers supers_given : List (List ℕ)) (t : TypesFault)
+    → props_given ≡ props → supers_given ≡ supers
+    → Judges (add_fault (repository es interfaces 0) name if_name props_given supers_given) given (failed t)
+    → IsPrepared es interfaces last name if_name props supers (failed t)
 refused given es interfaces last name if_name props props_given supers supers_given (User f) p q h =
-    comes_refused (repository es interfaces last) name if_name props supers f (add_fault_last es interfaces last 0 name if_name props supers ∙ (rw (p, q) at h))
+    comes_refused (repository es interfaces last) name if_name props supers f
+    (add_fault_last es interfaces last 0 name if_name props supers ∙ (rw (p, q) at h))
 refused given es interfaces last name if_name props props_given supers supers_given Full p q h = absurd h
 refused given es interfaces last name if_name props props_given supers supers_given Memory p q h = tt
 
 -- what is known once nothing is at fault
-pub record Ready (es : List Entry) (interfaces : Declared) (last : ℕ) (name if_name : List ℕ) (props : List PropStruct) (supers : List (List ℕ)) (bs : List Entry) : Type 0 where
+pub record Ready (es : List Entry) (interfaces : Declared) (last : ℕ) (name if_name : List ℕ) (props : List PropStruct)
+    (supers : List (List ℕ)) (bs : List Entry) : Type 0 where
   pub valid : AreEntries es interfaces last
   pub fault : add_fault (repository es interfaces 0) name if_name props supers ≡ None
   pub bases : AreBases es supers bs
 
-no_fault : (es : List Entry) (interfaces : Declared) (last : ℕ) (name if_name : List ℕ) (props : List PropStruct) (supers : List (List ℕ)) (bs : List Entry) → Ready es interfaces last name if_name props supers bs → add_fault (repository es interfaces last) name if_name props supers ≡ None
-no_fault es interfaces last name if_name props supers bs k = add_fault_last es interfaces last 0 name if_name props supers ∙ k.fault
+no_fault : (es : List Entry) (interfaces : Declared) (last : ℕ) (name if_name : List ℕ) (props : List PropStruct)
+    (supers : List (List ℕ)) (bs : List Entry)
+    → Ready es interfaces last name if_name props supers bs
+    → add_fault (repository es interfaces last) name if_name props supers ≡ None
+no_fault es interfaces last name if_name props supers bs k =
+    add_fault_last es interfaces last 0 name if_name props supers ∙ k.fault
 
 -- ---- limits
 
@@ -54,82 +66,150 @@ abbrev properties_over : List Entry → ServiceType → Bool
 properties_over es t = nat_lt most_properties (length (full_properties (map kept es ++ t ∷ []) t.name))
 
 abbrev bytes_over : List Entry → ServiceType → Bool
-bytes_over es t = nat_lt most_bytes (length (type_struct.format.writes (full_description (map kept es ++ t ∷ []) t) Big 0))
+bytes_over es t =
+    nat_lt most_bytes (length (type_struct.format.writes (full_description (map kept es ++ t ∷ []) t) Big 0))
 
 one_longer : (es : List Entry) (t : ServiceType) → length (map kept es ++ t ∷ []) ≡ length es + 1
 one_longer es t = length-append (map kept es) (t ∷ []) ∙ ap (λ (n : ℕ). n + 1) (length-map es kept)
 
-pub many_types : (es : List Entry) (interfaces : Declared) (last : ℕ) (name if_name : List ℕ) (props : List PropStruct) (supers : List (List ℕ)) (bs : List Entry) → Ready es interfaces last name if_name props supers bs → most_types ≤ length es →
-    add_type (repository es interfaces last) name if_name props supers ≡ Err Full
+pub many_types : (es : List Entry) (interfaces : Declared) (last : ℕ) (name if_name : List ℕ) (props : List PropStruct)
+    (supers : List (List ℕ)) (bs : List Entry)
+    → Ready es interfaces last name if_name props supers bs → most_types ≤ length es
+    → add_type (repository es interfaces last) name if_name props supers ≡ Err Full
 many_types es interfaces last name if_name props supers bs k many =
     let t : ServiceType = new_type (repository es interfaces last) name if_name props supers in
-    let over : types_over es t ≡ true = lt-ltb most_types (length (map kept es ++ t ∷ [])) (rw (one_longer es t) (omega (arith, many))) in
-    comes_full (repository es interfaces last) name if_name props supers (no_fault es interfaces last name if_name props supers bs k) (limit_first (types_over es t) (last_over t) (properties_over es t) (bytes_over es t) over)
+    let over : types_over es t ≡ true =
+    lt-ltb most_types (length (map kept es ++ t ∷ [])) (rw (one_longer es t) (omega (arith, many))) in
+    comes_full (repository es interfaces last) name if_name props supers
+    (no_fault es interfaces last name if_name props supers bs k)
+    (limit_first (types_over es t) (last_over t) (properties_over es t) (bytes_over es t) over)
 
-pub last_given : (es : List Entry) (interfaces : Declared) (last : ℕ) (name if_name : List ℕ) (props : List PropStruct) (supers : List (List ℕ)) (bs : List Entry) → Ready es interfaces last name if_name props supers bs → last_incarnation ≤ last →
-    add_type (repository es interfaces last) name if_name props supers ≡ Err Full
+pub last_given : (es : List Entry) (interfaces : Declared) (last : ℕ) (name if_name : List ℕ) (props : List PropStruct)
+    (supers : List (List ℕ)) (bs : List Entry)
+    → Ready es interfaces last name if_name props supers bs → last_incarnation ≤ last
+    → add_type (repository es interfaces last) name if_name props supers ≡ Err Full
 last_given es interfaces last name if_name props supers bs k many =
     let t : ServiceType = new_type (repository es interfaces last) name if_name props supers in
     let over : last_over t ≡ true = lt-ltb last_incarnation (last + 1) (omega (arith, many)) in
-    comes_full (repository es interfaces last) name if_name props supers (no_fault es interfaces last name if_name props supers bs k) (limit_second (types_over es t) (last_over t) (properties_over es t) (bytes_over es t) over)
+    comes_full (repository es interfaces last) name if_name props supers
+    (no_fault es interfaces last name if_name props supers bs k)
+    (limit_second (types_over es t) (last_over t) (properties_over es t) (bytes_over es t) over)
 
-new_full : (es : List Entry) (interfaces : Declared) (last : ℕ) (name if_name : List ℕ) (props : List PropStruct) (supers : List (List ℕ)) (bs : List Entry) → Ready es interfaces last name if_name props supers bs →
-    full_properties (map kept es ++ new_type (repository es interfaces last) name if_name props supers ∷ []) name ≡ with_inherited props (inherited bs)
+new_full : (es : List Entry) (interfaces : Declared) (last : ℕ) (name if_name : List ℕ) (props : List PropStruct)
+    (supers : List (List ℕ)) (bs : List Entry)
+    → Ready es interfaces last name if_name props supers bs
+    → full_properties (map kept es ++ new_type (repository es interfaces last) name if_name props supers ∷ []) name
+    ≡ with_inherited props (inherited bs)
 new_full es interfaces last name if_name props supers bs k =
-    full_of_new (map kept es) (new_type (repository es interfaces last) name if_name props supers) ∙ ap (with_inherited props) (inherited_are es es supers bs k.valid.kept k.bases)
+    full_of_new (map kept es) (new_type (repository es interfaces last) name if_name props supers)
+    ∙ ap (with_inherited props) (inherited_are es es supers bs k.valid.kept k.bases)
 
-new_above : (es : List Entry) (interfaces : Declared) (last : ℕ) (name if_name : List ℕ) (props : List PropStruct) (supers : List (List ℕ)) (bs : List Entry) → Ready es interfaces last name if_name props supers bs →
-    ancestors (map kept es ++ new_type (repository es interfaces last) name if_name props supers ∷ []) name ≡ once [] (names_above bs)
+new_above : (es : List Entry) (interfaces : Declared) (last : ℕ) (name if_name : List ℕ) (props : List PropStruct)
+    (supers : List (List ℕ)) (bs : List Entry)
+    → Ready es interfaces last name if_name props supers bs
+    → ancestors (map kept es ++ new_type (repository es interfaces last) name if_name props supers ∷ []) name
+    ≡ once [] (names_above bs)
 new_above es interfaces last name if_name props supers bs k =
-    ancestors_of_new (map kept es) (new_type (repository es interfaces last) name if_name props supers) ∙ above_are es es supers bs [] k.valid.kept k.bases
+    ancestors_of_new (map kept es) (new_type (repository es interfaces last) name if_name props supers)
+    ∙ above_are es es supers bs [] k.valid.kept k.bases
 
-pub many_properties : (es : List Entry) (interfaces : Declared) (last : ℕ) (name if_name : List ℕ) (props : List PropStruct) (supers : List (List ℕ)) (bs : List Entry) (t : TypesFault) → Ready es interfaces last name if_name props supers bs →
-    IsMore (with_inherited props (inherited bs)) (failed t) → IsPrepared es interfaces last name if_name props supers (failed t)
+pub many_properties : (es : List Entry) (interfaces : Declared) (last : ℕ) (name if_name : List ℕ)
+    (props : List PropStruct) (supers : List (List ℕ)) (bs : List Entry) (t : TypesFault)
+    → Ready es interfaces last name if_name props supers bs → IsMore (with_inherited props (inherited bs)) (failed t)
+    → IsPrepared es interfaces last name if_name props supers (failed t)
 many_properties es interfaces last name if_name props supers bs (User f) k h = absurd h
 many_properties es interfaces last name if_name props supers bs Full k h =
     let t : ServiceType = new_type (repository es interfaces last) name if_name props supers in
-    let over : properties_over es t ≡ true = lt-ltb most_properties (length (full_properties (map kept es ++ t ∷ []) name)) (rw (new_full es interfaces last name if_name props supers bs k) h) in
-    comes_full (repository es interfaces last) name if_name props supers (no_fault es interfaces last name if_name props supers bs k) (limit_third (types_over es t) (last_over t) (properties_over es t) (bytes_over es t) over)
+    let over : properties_over es t ≡ true =
+    lt-ltb most_properties (length (full_properties (map kept es ++ t ∷ []) name))
+    (rw (new_full es interfaces last name if_name props supers bs k) h) in
+    comes_full (repository es interfaces last) name if_name props supers
+    (no_fault es interfaces last name if_name props supers bs k)
+    (limit_third (types_over es t) (last_over t) (properties_over es t) (bytes_over es t) over)
 many_properties es interfaces last name if_name props supers bs Memory k h = tt
 
 -- ---- the entry
 
-new_described : (es : List Entry) (interfaces : Declared) (last : ℕ) (name if_name : List ℕ) (props : List PropStruct) (supers : List (List ℕ)) (bs : List Entry) (full : List PropStruct) (above : List (List ℕ)) → Ready es interfaces last name if_name props supers bs →
-    full ≡ with_inherited props (inherited bs) → above ≡ once [] (names_above bs) →
-    full_description (map kept es ++ new_type (repository es interfaces last) name if_name props supers ∷ []) (new_type (repository es interfaces last) name if_name props supers) ≡ kept_description (entry_of (last + 1) name if_name props supers full above)
+new_described : (es : List Entry) (interfaces : Declared) (last : ℕ) (name if_name : List ℕ) (props : List PropStruct)
+    (supers : List (List ℕ)) (bs : List Entry) (full : List PropStruct) (above : List (List ℕ))
+    → Ready es interfaces last name if_name props supers bs → full ≡ with_inherited props (inherited bs)
+    → above ≡ once [] (names_above bs)
+    → full_description (map kept es ++ new_type (repository es interfaces last) name if_name props supers ∷ [])
+    (new_type (repository es interfaces last) name if_name props supers)
+    ≡ kept_description (entry_of (last + 1) name if_name props supers full above)
 new_described es interfaces last name if_name props supers bs full above k f a =
-    rw (new_full es interfaces last name if_name props supers bs k, new_above es interfaces last name if_name props supers bs k, f, a) refl
+    rw (
+      new_full es interfaces last name if_name props supers bs k,
+      new_above es interfaces last name if_name props supers bs k,
+      f,
+      a,
+    )
+    refl
 
-new_kept : (es : List Entry) (interfaces : Declared) (last : ℕ) (name if_name : List ℕ) (props : List PropStruct) (supers : List (List ℕ)) (bs : List Entry) (full : List PropStruct) (above : List (List ℕ)) → Ready es interfaces last name if_name props supers bs →
-    full ≡ with_inherited props (inherited bs) → above ≡ once [] (names_above bs) → AreEntries (es ++ entry_of (last + 1) name if_name props supers full above ∷ []) interfaces (last + 1)
+new_kept : (es : List Entry) (interfaces : Declared) (last : ℕ) (name if_name : List ℕ) (props : List PropStruct)
+    (supers : List (List ℕ)) (bs : List Entry) (full : List PropStruct) (above : List (List ℕ))
+    → Ready es interfaces last name if_name props supers bs → full ≡ with_inherited props (inherited bs)
+    → above ≡ once [] (names_above bs)
+    → AreEntries (es ++ entry_of (last + 1) name if_name props supers full above ∷ []) interfaces (last + 1)
 new_kept es interfaces last name if_name props supers bs full above k f a =
     let e : Entry = entry_of (last + 1) name if_name props supers full above in
     let fresh = is_fresh es interfaces name if_name props supers k.fault in
-    let here : IsKept (map kept es ++ kept e ∷ []) e = record { ancestors = a ∙ sym (new_above es interfaces last name if_name props supers bs k); full = f ∙ sym (new_full es interfaces last name if_name props supers bs k) } in
-    let all : AllByRecursion (IsKept (map kept es ++ kept e ∷ [])) (es ++ e ∷ []) = All-snoc (IsKept (map kept es ++ kept e ∷ [])) es e (stay_kept (map kept es) (kept e) es fresh k.valid.kept) here in
+    let here : IsKept (map kept es ++ kept e ∷ []) e =
+    record {
+      ancestors = a ∙ sym (new_above es interfaces last name if_name props supers bs k);
+      full = f ∙ sym (new_full es interfaces last name if_name props supers bs k);
+    } in
+    let all : AllByRecursion (IsKept (map kept es ++ kept e ∷ [])) (es ++ e ∷ []) =
+    All-snoc (IsKept (map kept es ++ kept e ∷ [])) es e (stay_kept (map kept es) (kept e) es fresh k.valid.kept)
+    here in
     record {
       valid = still_valid es interfaces last e bs k.valid.valid fresh k.bases refl;
-      kept = subst (λ (types : List ServiceType). AllByRecursion (IsKept types) (es ++ e ∷ [])) (sym (map-append kept es (e ∷ []))) all;
+      kept =
+          subst (λ (types : List ServiceType). AllByRecursion (IsKept types) (es ++ e ∷ []))
+          (sym (map-append kept es (e ∷ []))) all;
     }
 
-pub prepares : (es : List Entry) (interfaces : Declared) (last : ℕ) (name if_name : List ℕ) (props : List PropStruct) (supers : List (List ℕ)) (bs : List Entry) (full : List PropStruct) (above : List (List ℕ)) → Ready es interfaces last name if_name props supers bs →
-    length es < most_types → last < last_incarnation → full ≡ with_inherited props (inherited bs) → length full ≤ most_properties → above ≡ once [] (names_above bs) →
-    (result : Result Entry TypesFault) → IsMeasured (last + 1) name if_name props supers full above result → IsPrepared es interfaces last name if_name props supers result
+pub prepares : (es : List Entry) (interfaces : Declared) (last : ℕ) (name if_name : List ℕ) (props : List PropStruct)
+    (supers : List (List ℕ)) (bs : List Entry) (full : List PropStruct) (above : List (List ℕ))
+    → Ready es interfaces last name if_name props supers bs → length es < most_types → last < last_incarnation
+    → full ≡ with_inherited props (inherited bs) → length full ≤ most_properties → above ≡ once [] (names_above bs)
+    → (result : Result Entry TypesFault) → IsMeasured (last + 1) name if_name props supers full above result
+    → IsPrepared es interfaces last name if_name props supers result
 prepares es interfaces last name if_name props supers bs full above k few low f short a (Ok e) h =
     let t : ServiceType = new_type (repository es interfaces last) name if_name props supers in
     let r : Repository = repository es interfaces last in
     let described = new_described es interfaces last name if_name props supers bs full above k f a in
-    let types : types_over es t ≡ false = le-ltb most_types (length (map kept es ++ t ∷ [])) (rw (one_longer es t) (omega (arith, few))) in
+    let types : types_over es t ≡ false =
+    le-ltb most_types (length (map kept es ++ t ∷ [])) (rw (one_longer es t) (omega (arith, few))) in
     let given : last_over t ≡ false = le-ltb last_incarnation (last + 1) (omega (arith, low)) in
-    let properties : properties_over es t ≡ false = le-ltb most_properties (length (full_properties (map kept es ++ t ∷ []) name)) (rw (new_full es interfaces last name if_name props supers bs k, ← f) short) in
-    let bytes : bytes_over es t ≡ false = le-ltb most_bytes (length (type_struct.format.writes (full_description (map kept es ++ t ∷ []) t) Big 0)) (subst (λ (d : TypeStruct). length (type_struct.format.writes d Big 0) ≤ most_bytes) (sym described) (subst (λ (x : Entry). described_bytes x ≤ most_bytes) h.0 h.1)) in
+    let properties : properties_over es t ≡ false =
+    le-ltb most_properties (length (full_properties (map kept es ++ t ∷ []) name))
+    (rw (new_full es interfaces last name if_name props supers bs k, ← f) short) in
+    let bytes : bytes_over es t ≡ false =
+    le-ltb most_bytes (length (type_struct.format.writes (full_description (map kept es ++ t ∷ []) t) Big 0))
+    (subst (λ (d : TypeStruct). length (type_struct.format.writes d Big 0) ≤ most_bytes) (sym described)
+    (subst (λ (x : Entry). described_bytes x ≤ most_bytes) h.0 h.1)) in
     let comes : add_type r name if_name props supers ≡ Ok (reply.Added (last + 1), with_type r t) =
-    comes_added r name if_name props supers (no_fault es interfaces last name if_name props supers bs k) (limit_none (types_over es t) (last_over t) (properties_over es t) (bytes_over es t) types given properties bytes) in
-    subst (λ (x : Entry). (add_type (repository es interfaces last) name if_name props supers ≡ Ok (reply.Added x.service_type.incarnation, with_type (repository es interfaces last) (kept x))) × AreEntries (es ++ x ∷ []) interfaces x.service_type.incarnation × (has_type (map kept es) x.service_type.name ≡ false)) (sym h.0)
-    (comes, new_kept es interfaces last name if_name props supers bs full above k f a, is_fresh es interfaces name if_name props supers k.fault)
+    comes_added r name if_name props supers (no_fault es interfaces last name if_name props supers bs k)
+    (limit_none (types_over es t) (last_over t) (properties_over es t) (bytes_over es t) types given properties
+    bytes) in
+    subst (λ (x : Entry). (add_type (repository es interfaces last) name if_name props supers
+    ≡ Ok (reply.Added x.service_type.incarnation, with_type (repository es interfaces last) (kept x)))
+    × AreEntries (es ++ x ∷ []) interfaces x.service_type.incarnation
+    × (has_type (map kept es) x.service_type.name ≡ false))
+    (sym h.0) (
+      comes,
+      new_kept es interfaces last name if_name props supers bs full above k f a,
+      is_fresh es interfaces name if_name props supers k.fault,
+    )
 prepares es interfaces last name if_name props supers bs full above k few low f short a (Err (User fault)) h = absurd h
 prepares es interfaces last name if_name props supers bs full above k few low f short a (Err Full) h =
     let t : ServiceType = new_type (repository es interfaces last) name if_name props supers in
-    let over : bytes_over es t ≡ true = lt-ltb most_bytes (length (type_struct.format.writes (full_description (map kept es ++ t ∷ []) t) Big 0)) (subst (λ (d : TypeStruct). most_bytes < length (type_struct.format.writes d Big 0)) (sym (new_described es interfaces last name if_name props supers bs full above k f a)) h) in
-    comes_full (repository es interfaces last) name if_name props supers (no_fault es interfaces last name if_name props supers bs k) (limit_fourth (types_over es t) (last_over t) (properties_over es t) (bytes_over es t) over)
+    let over : bytes_over es t ≡ true =
+    lt-ltb most_bytes (length (type_struct.format.writes (full_description (map kept es ++ t ∷ []) t) Big 0))
+    (subst (λ (d : TypeStruct). most_bytes < length (type_struct.format.writes d Big 0))
+    (sym (new_described es interfaces last name if_name props supers bs full above k f a)) h) in
+    comes_full (repository es interfaces last) name if_name props supers
+    (no_fault es interfaces last name if_name props supers bs k)
+    (limit_fourth (types_over es t) (last_over t) (properties_over es t) (bytes_over es t) over)
 prepares es interfaces last name if_name props supers bs full above k few low f short a (Err Memory) h = tt

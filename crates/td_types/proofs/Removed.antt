@@ -1,5 +1,6 @@
 -- The repository without a type that no other one has as a supertype.
-use Rattle.std.proofs.Common.{◌≡◌, ℕ, ◌≤◌, Bool, true, false, not, cond, inl, inr, List, [], ◌∷◌, reverse, map, refl, sym, ap, subst, ◌∙◌, arith, Option, None, Some, Ok}
+use Rattle.std.proofs.Common.{◌≡◌, ℕ, ◌≤◌, Bool, true, false, not, cond, inl, inr, List, [], ◌∷◌, reverse, map, refl}
+use Rattle.std.proofs.Common.{sym, ap, subst, ◌∙◌, arith, Option, None, Some, Ok}
 use Rattle.std.specs.List.{filter, AllByRecursion}
 use Rattle.std.specs.Option.{option_map}
 use Rattle.std.specs.Str.{bytes_eq}
@@ -16,79 +17,118 @@ use Rattle.td_types.specs.Repository.{Repository, ServiceType, Declared, top, Fo
 use Rattle.td_types.specs.Sought.{sought, entry_named}
 use Rattle.td_types.proofs.Chains.{same-bytes, bytes-same}
 use Rattle.td_types.proofs.Found.{known_found, found_named}
-use Rattle.td_types.proofs.Others.{others, IsNoSuper, filter-reverse, has-others, top-others, founded-others, descends-others, full-step, full-descends, walk-step, walk-descends}
+use Rattle.td_types.proofs.Others.{others, IsNoSuper, filter-reverse, has-others, top-others, founded-others}
+use Rattle.td_types.proofs.Others.{descends-others, full-step, full-descends, walk-step, walk-descends}
 use Rattle.td_types.proofs.Subtypes.{no-subtypes, sub_type-kept}
 
 -- ---- the other types
 
-pub full-without : (types : List ServiceType) (gone name : List ℕ) → IsNoSuper gone (reverse types) → (name ≡ gone → ⊥) → full_properties (filter (others gone) types) name ≡ full_properties types name
+pub full-without : (types : List ServiceType) (gone name : List ℕ) → IsNoSuper gone (reverse types) → (name ≡ gone → ⊥)
+    → full_properties (filter (others gone) types) name ≡ full_properties types name
 unfolding full_properties
 full-without types gone name h differs =
-    ap (λ (ts : List ServiceType). full ts name) (sym (filter-reverse (others gone) types)) ∙ descends-others full full-step full-descends gone (reverse types) h name differs
+    ap (λ (ts : List ServiceType). full ts name) (sym (filter-reverse (others gone) types))
+    ∙ descends-others full full-step full-descends gone (reverse types) h name differs
 
-pub ancestors-without : (types : List ServiceType) (gone name : List ℕ) → IsNoSuper gone (reverse types) → (name ≡ gone → ⊥) → ancestors (filter (others gone) types) name ≡ ancestors types name
+pub ancestors-without : (types : List ServiceType) (gone name : List ℕ) → IsNoSuper gone (reverse types)
+    → (name ≡ gone → ⊥) → ancestors (filter (others gone) types) name ≡ ancestors types name
 unfolding ancestors
 ancestors-without types gone name h differs =
-    ap (once []) (ap (λ (ts : List ServiceType). walk ts name) (sym (filter-reverse (others gone) types)) ∙ descends-others walk walk-step walk-descends gone (reverse types) h name differs)
+    ap (once []) (ap (λ (ts : List ServiceType). walk ts name) (sym (filter-reverse (others gone) types))
+    ∙ descends-others walk walk-step walk-descends gone (reverse types) h name differs)
 
-pub conforms-without : (types : List ServiceType) (gone a b : List ℕ) → IsNoSuper gone (reverse types) → (a ≡ gone → ⊥) → conforms (filter (others gone) types) a b ≡ conforms types a b
+pub conforms-without : (types : List ServiceType) (gone a b : List ℕ) → IsNoSuper gone (reverse types) → (a ≡ gone → ⊥)
+    → conforms (filter (others gone) types) a b ≡ conforms types a b
 conforms-without types gone a b h differs =
     rw (has-others gone a types differs, ancestors-without types gone a h differs) refl
 
-pub valid-without : (r : Repository) (gone : List ℕ) → IsNoSuper gone (reverse r.types) → IsRepository r → IsRepository (without r gone)
+pub valid-without : (r : Repository) (gone : List ℕ) → IsNoSuper gone (reverse r.types) → IsRepository r
+    → IsRepository (without r gone)
 valid-without r gone h valid = record {
   founded = subst Founded (filter-reverse (others gone) r.types) (founded-others gone valid.founded h);
-  counted = let t = top-others gone valid.founded in let c = valid.counted in subst (λ (ts : List ServiceType). top ts ≤ r.last) (filter-reverse (others gone) r.types) (omega (arith, t, c));
+  counted =
+      let t = top-others gone valid.founded in
+      let c = valid.counted in
+      subst (λ (ts : List ServiceType). top ts ≤ r.last) (filter-reverse (others gone) r.types) (omega (arith, t, c));
 }
 
 -- ---- their entries
 
-kept_or_not : (e : Entry) (b : Bool) (es : List Entry) (ts : List ServiceType) → map kept es ≡ ts → map kept (cond b (e ∷ es) es) ≡ cond b (kept e ∷ ts) ts
+kept_or_not : (e : Entry) (b : Bool) (es : List Entry) (ts : List ServiceType) → map kept es ≡ ts
+    → map kept (cond b (e ∷ es) es) ≡ cond b (kept e ∷ ts) ts
 kept_or_not e true es ts h = ap (λ (xs : List ServiceType). kept e ∷ xs) h
 kept_or_not e false es ts h = h
 
-pub kept-without : (es : List Entry) (gone : List ℕ) → map kept (without_entry es gone) ≡ filter (others gone) (map kept es)
+pub kept-without : (es : List Entry) (gone : List ℕ)
+    → map kept (without_entry es gone) ≡ filter (others gone) (map kept es)
 kept-without [] gone = refl
-kept-without (e ∷ es) gone = kept_or_not e (not (bytes_eq e.service_type.name gone)) (without_entry es gone) (filter (others gone) (map kept es)) (kept-without es gone)
+kept-without (e ∷ es) gone =
+    kept_or_not e (not (bytes_eq e.service_type.name gone)) (without_entry es gone) (filter (others gone) (map kept es))
+    (kept-without es gone)
 
-still-kept : (types : List ServiceType) (gone : List ℕ) → IsNoSuper gone (reverse types) → (es : List Entry) → AllByRecursion (IsKept types) es → AllByRecursion (IsKept (filter (others gone) types)) (without_entry es gone)
+still-kept : (types : List ServiceType) (gone : List ℕ) → IsNoSuper gone (reverse types) → (es : List Entry)
+    → AllByRecursion (IsKept types) es → AllByRecursion (IsKept (filter (others gone) types)) (without_entry es gone)
 still-kept types gone h [] k = tt
 still-kept types gone h (e ∷ es) k =
     let rest = still-kept types gone h es k.1 in
     elim (cases_Bool (bytes_eq e.service_type.name gone)) [
       | inl here ↦ rw here rest
       | inr other ↦
-          let differs : e.service_type.name ≡ gone → ⊥ = λ same. both_ways (bytes_eq e.service_type.name gone) other (bytes-same e.service_type.name gone same) in
-          rw other (record { ancestors = k.0.ancestors ∙ sym (ancestors-without types gone e.service_type.name h differs); full = k.0.full ∙ sym (full-without types gone e.service_type.name h differs) }, rest)
+          let differs : e.service_type.name ≡ gone → ⊥ =
+          λ same. both_ways (bytes_eq e.service_type.name gone) other (bytes-same e.service_type.name gone same) in
+          rw other (
+            record {
+              ancestors = k.0.ancestors
+                  ∙ sym (ancestors-without types gone e.service_type.name h differs);
+              full = k.0.full ∙ sym (full-without types gone e.service_type.name h differs);
+            },
+            rest,
+          )
     ]
 
-pub repository-without : (es : List Entry) (interfaces : Declared) (last : ℕ) (gone : List ℕ) → repository (without_entry es gone) interfaces last ≡ without (repository es interfaces last) gone
-repository-without es interfaces last gone = ap (λ (ts : List ServiceType). record { types = ts; interfaces = interfaces; last = last }) (kept-without es gone)
+pub repository-without : (es : List Entry) (interfaces : Declared) (last : ℕ) (gone : List ℕ)
+    → repository (without_entry es gone) interfaces last ≡ without (repository es interfaces last) gone
+repository-without es interfaces last gone =
+    ap (λ (ts : List ServiceType). record { types = ts; interfaces = interfaces; last = last }) (kept-without es gone)
 
-not-super : (es : List Entry) (interfaces : Declared) (last : ℕ) (gone : List ℕ) → AreEntries es interfaces last → sub_entry es gone ≡ None → IsNoSuper gone (reverse (map kept es))
+not-super : (es : List Entry) (interfaces : Declared) (last : ℕ) (gone : List ℕ) → AreEntries es interfaces last
+    → sub_entry es gone ≡ None → IsNoSuper gone (reverse (map kept es))
 not-super es interfaces last gone are h =
-    no-subtypes (map kept es) gone are.valid.founded (sub_type-kept es interfaces last gone are.kept ∙ ap (option_map kept) h)
+    no-subtypes (map kept es) gone are.valid.founded
+    (sub_type-kept es interfaces last gone are.kept ∙ ap (option_map kept) h)
 
-pub entries-without : (es : List Entry) (interfaces : Declared) (last : ℕ) (gone : List ℕ) → AreEntries es interfaces last → sub_entry es gone ≡ None → AreEntries (without_entry es gone) interfaces last
+pub entries-without : (es : List Entry) (interfaces : Declared) (last : ℕ) (gone : List ℕ)
+    → AreEntries es interfaces last → sub_entry es gone ≡ None → AreEntries (without_entry es gone) interfaces last
 entries-without es interfaces last gone are h =
     let n = not-super es interfaces last gone are h in
     record {
-      valid = subst IsRepository (sym (repository-without es interfaces last gone)) (valid-without (repository es interfaces last) gone n are.valid);
-      kept = subst (λ (ts : List ServiceType). AllByRecursion (IsKept ts) (without_entry es gone)) (sym (kept-without es gone)) (still-kept (map kept es) gone n es are.kept);
+      valid =
+          subst IsRepository (sym (repository-without es interfaces last gone))
+          (valid-without (repository es interfaces last) gone n are.valid);
+      kept =
+          subst (λ (ts : List ServiceType). AllByRecursion (IsKept ts) (without_entry es gone))
+          (sym (kept-without es gone)) (still-kept (map kept es) gone n es are.kept);
     }
 
 -- ---- what the call comes to
 
-named_when : (name : List ℕ) (x e : Entry) (b : Bool) (later : Option Entry) → bytes_eq x.service_type.name name ≡ b → (later ≡ Some e → e.service_type.name ≡ name) → cond b (Some x) later ≡ Some e → e.service_type.name ≡ name
-named_when name x e true later t there h = let same : x ≡ e = cc in subst (λ (y : Entry). y.service_type.name ≡ name) same (same-bytes x.service_type.name name t)
+named_when : (name : List ℕ) (x e : Entry) (b : Bool) (later : Option Entry) → bytes_eq x.service_type.name name ≡ b
+    → (later ≡ Some e → e.service_type.name ≡ name) → cond b (Some x) later ≡ Some e → e.service_type.name ≡ name
+named_when name x e true later t there h =
+    let same : x ≡ e = cc in
+    subst (λ (y : Entry). y.service_type.name ≡ name) same (same-bytes x.service_type.name name t)
 named_when name x e false later t there h = there h
 
-pub found-name : (es : List Entry) (name : List ℕ) (e : Entry) → entry_named es name ≡ Some e → e.service_type.name ≡ name
+pub found-name : (es : List Entry) (name : List ℕ) (e : Entry) → entry_named es name ≡ Some e
+    → e.service_type.name ≡ name
 found-name [] name e h = absurd (let bad : ⊥ = cc in bad)
-found-name (x ∷ es) name e h = named_when name x e (bytes_eq x.service_type.name name) (entry_named es name) refl (found-name es name e) h
+found-name (x ∷ es) name e h =
+    named_when name x e (bytes_eq x.service_type.name name) (entry_named es name) refl (found-name es name e) h
 
-pub removed : (es : List Entry) (interfaces : Declared) (last : ℕ) (name : List ℕ) (e : Entry) → AreEntries es interfaces last → sought es name ≡ Ok e → sub_entry es name ≡ None →
-    remove_type (repository es interfaces last) name ≡ Ok (reply.Removed, repository (without_entry es name) interfaces last)
+pub removed : (es : List Entry) (interfaces : Declared) (last : ℕ) (name : List ℕ) (e : Entry)
+    → AreEntries es interfaces last → sought es name ≡ Ok e → sub_entry es name ≡ None
+    → remove_type (repository es interfaces last) name
+    ≡ Ok (reply.Removed, repository (without_entry es name) interfaces last)
 unfolding remove_type
 removed es interfaces last name e are h none =
     let r = repository es interfaces last in
@@ -97,11 +137,13 @@ removed es interfaces last name e are h none =
     ∙ ap (λ (n : List ℕ). Ok (reply.Removed, without r n)) (found-name es name e (found_named es name e h))
     ∙ ap (λ (after : Repository). Ok (reply.Removed, after)) (sym (repository-without es interfaces last name))
 
-pub has_sub : (es : List Entry) (interfaces : Declared) (last : ℕ) (name : List ℕ) (e sub : Entry) → AreEntries es interfaces last → sought es name ≡ Ok e → sub_entry es name ≡ Some sub →
-    remove_type (repository es interfaces last) name ≡ refuse (fault.HasSubTypes name sub.service_type.name)
+pub has_sub : (es : List Entry) (interfaces : Declared) (last : ℕ) (name : List ℕ) (e sub : Entry)
+    → AreEntries es interfaces last → sought es name ≡ Ok e → sub_entry es name ≡ Some sub
+    → remove_type (repository es interfaces last) name ≡ refuse (fault.HasSubTypes name sub.service_type.name)
 unfolding remove_type
 has_sub es interfaces last name e sub are h some =
     let r = repository es interfaces last in
     known_found es interfaces last name e (λ t. remove_unless r t (sub_type r name)) h
     ∙ ap (remove_unless r (kept e)) (sub_type-kept es interfaces last name are.kept ∙ ap (option_map kept) some)
-    ∙ ap (λ (n : List ℕ). refuse (fault.HasSubTypes n sub.service_type.name)) (found-name es name e (found_named es name e h))
+    ∙ ap (λ (n : List ℕ). refuse (fault.HasSubTypes n sub.service_type.name))
+    (found-name es name e (found_named es name e h))

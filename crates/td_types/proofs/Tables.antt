@@ -1,11 +1,13 @@
 -- What the marks of a walk say of the interfaces.
-use Rattle.std.proofs.Common.{◌≡◌, ℕ, zero, suc, ◌+◌, ◌<◌, Bool, true, false, ◌&&◌, ◌||◌, ◌⊎◌, inl, inr, List, [], ◌∷◌, ◌++◌, length, get_or, refl, sym, ap, subst, ◌∙◌, arith}
+use Rattle.std.proofs.Common.{◌≡◌, ℕ, zero, suc, ◌+◌, ◌<◌, Bool, true, false, ◌&&◌, ◌||◌, ◌⊎◌, inl, inr, List, [], ◌∷◌}
+use Rattle.std.proofs.Common.{◌++◌, length, get_or, refl, sym, ap, subst, ◌∙◌, arith}
 use Rattle.std.specs.Str.{bytes_eq}
 use Rattle.std.proofs.lemmas.Bool.{false≢true, both_ways, cases_lt, or_cases, or_left, or_right, and_parts, and_from}
 use Rattle.std.proofs.lemmas.List.{get_or_append_left, get_or_push, length_push}
 use Rattle.td_types.specs.Repository.{Declared, is_among}
 use Rattle.td_types.specs.Interfaces.{is_base, IsChain, leads_within}
-use Rattle.td_types.specs.Reaching.{declares, is_in, is_marked, ArePlaces, AreLinks, IsLeast, Reaches, AllReach, id_at, bases_at, links_at, named}
+use Rattle.td_types.specs.Reaching.{declares, is_in, is_marked, ArePlaces, AreLinks, IsLeast, Reaches, AllReach, id_at}
+use Rattle.td_types.specs.Reaching.{bases_at, links_at, named}
 use Rattle.td_types.proofs.Chains.{same-bytes, bytes-same, joined, leads-within, chain-from_within, within-reflexive}
 use Rattle.td_types.proofs.Placing.{among-one, declares-among, declares-one_of, declares-within}
 
@@ -17,7 +19,8 @@ same-tests false false f g = refl
 
 -- ---- bases by their places
 
-base-placed : (declared : Declared) (id base : List ℕ) → is_base declared id base ≡ true → (place : ℕ) × (declares declared (id ∷ []) place ≡ true) × (is_among base (bases_at declared place) ≡ true)
+base-placed : (declared : Declared) (id base : List ℕ) → is_base declared id base ≡ true
+    → (place : ℕ) × (declares declared (id ∷ []) place ≡ true) × (is_among base (bases_at declared place) ≡ true)
 base-placed [] id base h = absurd (false≢true h)
 base-placed (entry ∷ declared) id base h =
     elim (or_cases (bytes_eq entry.0 id && is_among base entry.1) (is_base declared id base) h) [
@@ -27,15 +30,20 @@ base-placed (entry ∷ declared) id base h =
       | inr there ↦ let f = base-placed declared id base there in (suc f.0, f.1, f.2)
     ]
 
-base-at : (declared : Declared) (place : ℕ) (base : List ℕ) → is_among base (bases_at declared place) ≡ true → is_base declared (id_at declared place) base ≡ true
+base-at : (declared : Declared) (place : ℕ) (base : List ℕ) → is_among base (bases_at declared place) ≡ true
+    → is_base declared (id_at declared place) base ≡ true
 base-at [] place base h = absurd (false≢true h)
-base-at (entry ∷ declared) zero base h = or_left (bytes_eq entry.0 entry.0 && is_among base entry.1) (is_base declared entry.0 base) (and_from (bytes_eq entry.0 entry.0) (is_among base entry.1) (bytes-same entry.0 entry.0 refl) h)
+base-at (entry ∷ declared) zero base h =
+    or_left (bytes_eq entry.0 entry.0 && is_among base entry.1) (is_base declared entry.0 base)
+    (and_from (bytes_eq entry.0 entry.0) (is_among base entry.1) (bytes-same entry.0 entry.0 refl) h)
 base-at (entry ∷ declared) (suc place) base h =
-    or_right (bytes_eq entry.0 (id_at declared place) && is_among base entry.1) (is_base declared (id_at declared place) base) (base-at declared place base h)
+    or_right (bytes_eq entry.0 (id_at declared place) && is_among base entry.1)
+    (is_base declared (id_at declared place) base) (base-at declared place base h)
 
 -- ---- what the marked declarations name
 
-named-at : (declared : Declared) (marks : List Bool) (base : List ℕ) → named declared marks base ≡ true → (place : ℕ) × (is_marked marks place ≡ true) × (is_among base (bases_at declared place) ≡ true)
+named-at : (declared : Declared) (marks : List Bool) (base : List ℕ) → named declared marks base ≡ true
+    → (place : ℕ) × (is_marked marks place ≡ true) × (is_among base (bases_at declared place) ≡ true)
 named-at [] marks base h = absurd (false≢true h)
 named-at (entry ∷ declared) [] base h = absurd (false≢true h)
 named-at (entry ∷ declared) (mark ∷ marks) base h =
@@ -44,29 +52,40 @@ named-at (entry ∷ declared) (mark ∷ marks) base h =
       | inr there ↦ let f = named-at declared marks base there in (suc f.0, f.1, f.2)
     ]
 
-named-from : (declared : Declared) (marks : List Bool) (base : List ℕ) (place : ℕ) → is_marked marks place ≡ true → is_among base (bases_at declared place) ≡ true → named declared marks base ≡ true
+named-from : (declared : Declared) (marks : List Bool) (base : List ℕ) (place : ℕ) → is_marked marks place ≡ true
+    → is_among base (bases_at declared place) ≡ true → named declared marks base ≡ true
 named-from [] marks base place m h = absurd (false≢true h)
 named-from (entry ∷ declared) [] base place m h = absurd (false≢true m)
-named-from (entry ∷ declared) (mark ∷ marks) base zero m h = or_left (mark && is_among base entry.1) (named declared marks base) (and_from mark (is_among base entry.1) m h)
-named-from (entry ∷ declared) (mark ∷ marks) base (suc place) m h = or_right (mark && is_among base entry.1) (named declared marks base) (named-from declared marks base place m h)
+named-from (entry ∷ declared) (mark ∷ marks) base zero m h =
+    or_left (mark && is_among base entry.1) (named declared marks base) (and_from mark (is_among base entry.1) m h)
+named-from (entry ∷ declared) (mark ∷ marks) base (suc place) m h =
+    or_right (mark && is_among base entry.1) (named declared marks base) (named-from declared marks base place m h)
 
 -- ---- the marks and the chains
 
-module _ (declared : Declared) (links : List (List ℕ)) (starts : List ℕ) (marks : List Bool) (id : List ℕ) (are : AreLinks declared links) (from : ArePlaces declared (id ∷ []) starts) (least : IsLeast links starts marks) where
+module _ (declared : Declared) (links : List (List ℕ)) (starts : List ℕ) (marks : List Bool) (id : List ℕ)
+    (are : AreLinks declared links) (from : ArePlaces declared (id ∷ []) starts)
+    (least : IsLeast links starts marks) where
   -- where all declarations of an interface are marked, a chain from it ends there or at a name
-  chain-named : (first : List ℕ) (ids : List (List ℕ)) (last : List ℕ) → ((place : ℕ) → declares declared (first ∷ []) place ≡ true → is_marked marks place ≡ true) → IsChain declared first ids last → (first ≡ last) ⊎ (named declared marks last ≡ true)
+  chain-named : (first : List ℕ) (ids : List (List ℕ)) (last : List ℕ)
+      → ((place : ℕ) → declares declared (first ∷ []) place ≡ true → is_marked marks place ≡ true)
+      → IsChain declared first ids last → (first ≡ last) ⊎ (named declared marks last ≡ true)
   chain-named first [] last marked h = inl h
   chain-named first (next ∷ ids) last marked h =
       let base = base-placed declared first next h.0 in
       let is_named = named-from declared marks next base.0 (marked base.0 base.1) base.2 in
       let rest : (next ≡ last) ⊎ (named declared marks last ≡ true) =
-      chain-named next ids last (λ to d. least.closed base.0 to (marked base.0 base.1) (are.each base.0 to ∙ declares-one_of declared (bases_at declared base.0) next to base.2 d)) h.1 in
+      chain-named next ids last
+      (λ to d. least.closed base.0 to (marked base.0 base.1)
+      (are.each base.0 to ∙ declares-one_of declared (bases_at declared base.0) next to base.2 d))
+      h.1 in
       elim rest [
         | inl same ↦ inr (subst (λ (x : List ℕ). named declared marks x ≡ true) same is_named)
         | inr further ↦ inr further
       ]
 
-  leads-named : (last : List ℕ) → leads_within (length declared) declared id last ≡ true → (bytes_eq id last || named declared marks last) ≡ true
+  leads-named : (last : List ℕ) → leads_within (length declared) declared id last ≡ true
+      → (bytes_eq id last || named declared marks last) ≡ true
   leads-named last h =
       let chain = chain-from_within (length declared) declared id last h in
       elim (chain-named id chain.0 last (λ place d. least.holds_starts place (from place ∙ d)) chain.1) [
@@ -75,17 +94,29 @@ module _ (declared : Declared) (links : List (List ℕ)) (starts : List ℕ) (ma
       ]
 
   -- the interface leads to each whose declaration is marked
-  marked-led : (place : ℕ) → is_marked marks place ≡ true → leads_within (length declared) declared id (id_at declared place) ≡ true
+  marked-led : (place : ℕ) → is_marked marks place ≡ true
+      → leads_within (length declared) declared id (id_at declared place) ≡ true
   marked-led = least.least (λ place. leads_within (length declared) declared id (id_at declared place))
-      (λ place i. rw (among-one (id_at declared place) id (declares-among declared (id ∷ []) place (sym (from place) ∙ i))) (within-reflexive (length declared) declared id))
-      (λ place to t i. leads-within declared id (id_at declared to) (joined declared id (id_at declared place) (id_at declared to)
-      (chain-from_within (length declared) declared id (id_at declared place) t)
-      (id_at declared to ∷ [], (base-at declared place (id_at declared to) (declares-among declared (bases_at declared place) to (sym (are.each place to) ∙ i)), refl))))
+      (λ place i. rw (among-one (id_at declared place) id
+      (declares-among declared (id ∷ []) place (sym (from place) ∙ i)))
+      (within-reflexive (length declared) declared id))
+      (λ place to t i. leads-within declared id (id_at declared to)
+      (joined declared id (id_at declared place) (id_at declared to)
+      (chain-from_within (length declared) declared id (id_at declared place) t) (
+        id_at declared to ∷ [],
+        (
+          base-at declared place (id_at declared to)
+              (declares-among declared (bases_at declared place) to (sym (are.each place to) ∙ i)),
+          refl,
+        ),
+      )))
 
-  named-leads : (last : List ℕ) → (bytes_eq id last || named declared marks last) ≡ true → leads_within (length declared) declared id last ≡ true
+  named-leads : (last : List ℕ) → (bytes_eq id last || named declared marks last) ≡ true
+      → leads_within (length declared) declared id last ≡ true
   named-leads last h =
       elim (or_cases (bytes_eq id last) (named declared marks last) h) [
-        | inl same ↦ subst (λ (x : List ℕ). leads_within (length declared) declared id x ≡ true) (same-bytes id last same) (within-reflexive (length declared) declared id)
+        | inl same ↦ subst (λ (x : List ℕ). leads_within (length declared) declared id x ≡ true)
+            (same-bytes id last same) (within-reflexive (length declared) declared id)
         | inr there ↦
             let f = named-at declared marks last there in
             leads-within declared id last (joined declared id (id_at declared f.0) last
@@ -96,32 +127,43 @@ module _ (declared : Declared) (links : List (List ℕ)) (starts : List ℕ) (ma
   pub least_reaches : Reaches declared id marks
   least_reaches = record {
     count = least.count ∙ are.count;
-    leads = λ last. same-tests (leads_within (length declared) declared id last) (bytes_eq id last || named declared marks last) (leads-named last) (named-leads last);
+    leads =
+        λ last. same-tests (leads_within (length declared) declared id last)
+        (bytes_eq id last || named declared marks last) (leads-named last) (named-leads last);
   }
 
 -- ---- places that are linked have links
 
-pub starts-within : (declared : Declared) (links : List (List ℕ)) (ids : List (List ℕ)) (places : List ℕ) → AreLinks declared links → ArePlaces declared ids places → (place : ℕ) → is_in place places ≡ true → place < length links
+pub starts-within : (declared : Declared) (links : List (List ℕ)) (ids : List (List ℕ)) (places : List ℕ)
+    → AreLinks declared links → ArePlaces declared ids places → (place : ℕ) → is_in place places ≡ true
+    → place < length links
 starts-within declared links ids places are from place h =
     let b = declares-within declared ids place (sym (from place) ∙ h) in
     omega (arith, b, are.count)
 
-pub links-within : (declared : Declared) (links : List (List ℕ)) → AreLinks declared links → (place to : ℕ) → is_in to (links_at links place) ≡ true → to < length links
-links-within declared links are place = starts-within declared links (bases_at declared place) (links_at links place) are (are.each place)
+pub links-within : (declared : Declared) (links : List (List ℕ)) → AreLinks declared links → (place to : ℕ)
+    → is_in to (links_at links place) ≡ true → to < length links
+links-within declared links are place =
+    starts-within declared links (bases_at declared place) (links_at links place) are (are.each place)
 
 -- ---- an interface that isn't declared leads to itself alone
 
-undeclared-chain : (declared : Declared) (first : List ℕ) (ids : List (List ℕ)) (last : List ℕ) → ((place : ℕ) → declares declared (first ∷ []) place ≡ false) → IsChain declared first ids last → first ≡ last
+undeclared-chain : (declared : Declared) (first : List ℕ) (ids : List (List ℕ)) (last : List ℕ)
+    → ((place : ℕ) → declares declared (first ∷ []) place ≡ false) → IsChain declared first ids last → first ≡ last
 undeclared-chain declared first [] last none h = h
 undeclared-chain declared first (next ∷ ids) last none h =
     let base = base-placed declared first next h.0 in
     absurd (both_ways (declares declared (first ∷ []) base.0) (none base.0) base.1)
 
-pub undeclared-leads : (declared : Declared) (first last : List ℕ) → ((place : ℕ) → declares declared (first ∷ []) place ≡ false) → bytes_eq first last ≡ leads_within (length declared) declared first last
+pub undeclared-leads : (declared : Declared) (first last : List ℕ)
+    → ((place : ℕ) → declares declared (first ∷ []) place ≡ false)
+    → bytes_eq first last ≡ leads_within (length declared) declared first last
 undeclared-leads declared first last none =
     same-tests (bytes_eq first last) (leads_within (length declared) declared first last)
-    (λ e. subst (λ (x : List ℕ). leads_within (length declared) declared first x ≡ true) (same-bytes first last e) (within-reflexive (length declared) declared first))
-    (λ h. let chain = chain-from_within (length declared) declared first last h in bytes-same first last (undeclared-chain declared first chain.0 last none chain.1))
+    (λ e. subst (λ (x : List ℕ). leads_within (length declared) declared first x ≡ true) (same-bytes first last e)
+    (within-reflexive (length declared) declared first))
+    (λ h. let chain = chain-from_within (length declared) declared first last h in
+    bytes-same first last (undeclared-chain declared first chain.0 last none chain.1))
 
 -- ---- a loop over the declarations
 
@@ -132,11 +174,14 @@ pub record Reached (declared : Declared) (reached : List (List Bool)) (n : ℕ) 
 pub reached_none : (declared : Declared) → Reached declared [] 0
 reached_none declared = record { count = refl; each = λ place b. absurd (omega (arith, b)) }
 
-pub reached_push : (declared : Declared) (reached : List (List Bool)) (n : ℕ) (id : List ℕ) (marks : List Bool) → id ≡ id_at declared n → Reaches declared id marks → Reached declared reached n → Reached declared (reached ++ marks ∷ []) (n + 1)
+pub reached_push : (declared : Declared) (reached : List (List Bool)) (n : ℕ) (id : List ℕ) (marks : List Bool)
+    → id ≡ id_at declared n → Reaches declared id marks → Reached declared reached n
+    → Reached declared (reached ++ marks ∷ []) (n + 1)
 reached_push declared reached n id marks i h r = record {
   count = length_push reached marks ∙ ap (λ (k : ℕ). k + 1) r.count;
   each = λ place b. elim (cases_lt place n) [
-    | inl earlier ↦ rw (get_or_append_left reached (marks ∷ []) [] place (omega (arith, earlier, r.count))) (r.each place earlier)
+    | inl earlier ↦ rw (get_or_append_left reached (marks ∷ []) [] place (omega (arith, earlier, r.count)))
+        (r.each place earlier)
     | inr here ↦
         let e : place ≡ n = omega (arith, b, here) in
         let last : get_or (reached ++ marks ∷ []) n [] ≡ marks = get_or_push reached marks [] n r.count in
@@ -144,5 +189,9 @@ reached_push declared reached n id marks i h r = record {
   ];
 }
 
-pub reached_all : (declared : Declared) (reached : List (List Bool)) (n : ℕ) → n ≡ length declared → Reached declared reached n → AllReach declared reached
-reached_all declared reached n h r = record { count = r.count ∙ h; each = λ place b. r.each place (omega (arith, b, h)) }
+pub reached_all : (declared : Declared) (reached : List (List Bool)) (n : ℕ) → n ≡ length declared
+    → Reached declared reached n → AllReach declared reached
+reached_all declared reached n h r = record {
+  count = r.count ∙ h;
+  each = λ place b. r.each place (omega (arith, b, h));
+}

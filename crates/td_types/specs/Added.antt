@@ -12,10 +12,19 @@ use Rattle.td_types.specs.declared.fault.TypesFault.{TypesFault}
 use Rattle.td_types.specs.declared.fault.TypesFault.TheVariants.{User, Full, Memory}
 use Rattle.td_types.specs.declared.reply.TypesReply.TheVariants as reply
 
-abbrev pub entry_of : (incarnation : ℕ) (name if_name : List ℕ) → List PropStruct → List (List ℕ) → List PropStruct → List (List ℕ) → Entry
+abbrev pub entry_of : (incarnation : ℕ) (name if_name : List ℕ) → List PropStruct → List (List ℕ) → List PropStruct
+    → List (List ℕ) → Entry
 entry_of incarnation name if_name props supers full above =
     record {
-      service_type = record { name = name; if_name = if_name; props = props; supers = supers; masked = false; incarnation = incarnation };
+      service_type =
+          record {
+            name = name;
+            if_name = if_name;
+            props = props;
+            supers = supers;
+            masked = false;
+            incarnation = incarnation;
+          };
       ancestors = above;
       full = full;
     }
@@ -24,17 +33,25 @@ abbrev pub described_bytes : Entry → ℕ
 described_bytes e = length (type_struct.format.writes (kept_description e) Big 0)
 
 -- the entry of these parts, whose full description is short enough
-abbrev pub IsMeasured : (incarnation : ℕ) (name if_name : List ℕ) → List PropStruct → List (List ℕ) → List PropStruct → List (List ℕ) → Result Entry TypesFault → Type 0
-IsMeasured incarnation name if_name props supers full above (Ok e) = (e ≡ entry_of incarnation name if_name props supers full above) × (described_bytes e ≤ most_bytes)
+abbrev pub IsMeasured : (incarnation : ℕ) (name if_name : List ℕ) → List PropStruct → List (List ℕ) → List PropStruct
+    → List (List ℕ) → Result Entry TypesFault → Type 0
+IsMeasured incarnation name if_name props supers full above (Ok e) =
+    (e ≡ entry_of incarnation name if_name props supers full above) × (described_bytes e ≤ most_bytes)
 IsMeasured incarnation name if_name props supers full above (Err (User f)) = ⊥
-IsMeasured incarnation name if_name props supers full above (Err Full) = most_bytes < described_bytes (entry_of incarnation name if_name props supers full above)
+IsMeasured incarnation name if_name props supers full above (Err Full) =
+    most_bytes < described_bytes (entry_of incarnation name if_name props supers full above)
 IsMeasured incarnation name if_name props supers full above (Err Memory) = Unit {0}
 
 -- the answer with the new entry, which is kept beside the others; or the refusal
-abbrev pub IsPrepared : List Entry → Declared → (last : ℕ) (name if_name : List ℕ) → List PropStruct → List (List ℕ) → Result Entry TypesFault → Type 0
+abbrev pub IsPrepared : List Entry → Declared → (last : ℕ) (name if_name : List ℕ) → List PropStruct → List (List ℕ)
+    → Result Entry TypesFault → Type 0
 IsPrepared entries interfaces last name if_name props supers (Ok e) =
-    (add_type (repository entries interfaces last) name if_name props supers ≡ Ok (reply.Added e.service_type.incarnation, with_type (repository entries interfaces last) (kept e)))
-    × AreEntries (entries ++ e ∷ []) interfaces e.service_type.incarnation × (has_type (map kept entries) e.service_type.name ≡ false)
-IsPrepared entries interfaces last name if_name props supers (Err (User f)) = add_type (repository entries interfaces last) name if_name props supers ≡ refuse f
-IsPrepared entries interfaces last name if_name props supers (Err Full) = add_type (repository entries interfaces last) name if_name props supers ≡ Err Full
+    (add_type (repository entries interfaces last) name if_name props supers
+    ≡ Ok (reply.Added e.service_type.incarnation, with_type (repository entries interfaces last) (kept e)))
+    × AreEntries (entries ++ e ∷ []) interfaces e.service_type.incarnation
+    × (has_type (map kept entries) e.service_type.name ≡ false)
+IsPrepared entries interfaces last name if_name props supers (Err (User f)) =
+    add_type (repository entries interfaces last) name if_name props supers ≡ refuse f
+IsPrepared entries interfaces last name if_name props supers (Err Full) =
+    add_type (repository entries interfaces last) name if_name props supers ≡ Err Full
 IsPrepared entries interfaces last name if_name props supers (Err Memory) = Unit {0}

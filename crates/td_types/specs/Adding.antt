@@ -1,6 +1,7 @@
 -- Why a type isn't added (interface CosTradingRepos::ServiceTypeRepository, add_type), the causes in the order in
 -- which they are looked for.
-use Rattle.std.specs.Prelude.{ℕ, ◌+◌, ◌^◌, nat_lt, Bool, false, not, ◌&&◌, ◌||◌, if◌then◌else◌, List, [], ◌∷◌, ◌++◌, length, map, flat_map, find, Option, None, Some}
+use Rattle.std.specs.Prelude.{ℕ, ◌+◌, ◌^◌, nat_lt, Bool, false, not, ◌&&◌, ◌||◌, if◌then◌else◌, List, [], ◌∷◌, ◌++◌}
+use Rattle.std.specs.Prelude.{length, map, flat_map, find, Option, None, Some}
 use Rattle.td_cdr.specs.Names.{word_name, identifier}
 use Rattle.td_cdr.specs.declared.order.Order.TheVariants.{Big}
 use Rattle.td_codes.specs.Same.{same}
@@ -16,7 +17,14 @@ use Rattle.td_types.specs.declared.fault.RepoFault.TheVariants as fault
 
 -- the type that would be added
 abbrev pub new_type : Repository → (name if_name : List ℕ) → List PropStruct → List (List ℕ) → ServiceType
-new_type r name if_name props supers = record { name = name; if_name = if_name; props = props; supers = supers; masked = false; incarnation = r.last + 1 }
+new_type r name if_name props supers = record {
+  name = name;
+  if_name = if_name;
+  props = props;
+  supers = supers;
+  masked = false;
+  incarnation = r.last + 1;
+}
 
 abbrev pub with_type : Repository → ServiceType → Repository
 with_type r t = record r { types = r.types ++ t ∷ []; last = t.incarnation }
@@ -47,7 +55,8 @@ property_fault before (p ∷ ps) =
 -- ---- supertypes
 
 -- no type's name, or the name of one before it, or one whose interface the new type's doesn't conform to
-abbrev pub base_fault : Repository → (name if_name : List ℕ) → (before : List (List ℕ)) → (super : List ℕ) → Option ServiceType → Option RepoFault
+abbrev pub base_fault : Repository → (name if_name : List ℕ) → (before : List (List ℕ)) → (super : List ℕ)
+    → Option ServiceType → Option RepoFault
 base_fault r name if_name before super None = Some (fault.UnknownServiceType super)
 base_fault r name if_name before super (Some base) =
     if is_among super before then Some (fault.DuplicateServiceTypeName super)
@@ -56,11 +65,14 @@ base_fault r name if_name before super (Some base) =
 
 abbrev pub super_fault : Repository → (name if_name : List ℕ) → (before : List (List ℕ)) → List ℕ → Option RepoFault
 super_fault r name if_name before super =
-    if word_name super then base_fault r name if_name before super (type_named r.types super) else Some (fault.IllegalServiceType super)
+    if word_name super then base_fault r name if_name before super (type_named r.types super)
+    else Some (fault.IllegalServiceType super)
 
-abbrev pub supers_fault : Repository → (name if_name : List ℕ) → (before : List (List ℕ)) → List (List ℕ) → Option RepoFault
+abbrev pub supers_fault : Repository → (name if_name : List ℕ) → (before : List (List ℕ)) → List (List ℕ)
+    → Option RepoFault
 supers_fault r name if_name before [] = None
-supers_fault r name if_name before (s ∷ ss) = or_else (super_fault r name if_name before s) (supers_fault r name if_name (s ∷ before) ss)
+supers_fault r name if_name before (s ∷ ss) =
+    or_else (super_fault r name if_name before s) (supers_fault r name if_name (s ∷ before) ss)
 
 -- ---- redefined properties
 
@@ -76,7 +88,8 @@ definitions type own props = map (λ p. record { type = type; property = p; own 
 -- The definitions agree where the value types are the same and, if the earlier one is the new type's own, its mode
 -- is at least the supertype's.
 abbrev pub agree : Definition → PropStruct → Bool
-agree earlier p = same earlier.property.value_type p.value_type && (not earlier.own || is_at_least earlier.property.mode p.mode)
+agree earlier p =
+    same earlier.property.value_type p.value_type && (not earlier.own || is_at_least earlier.property.mode p.mode)
 
 -- against the earlier definition of the name, if there is one
 abbrev pub conflict : Option Definition → Definition → Option RepoFault
@@ -91,7 +104,8 @@ earlier_of earlier name = find (λ d. is_called name d.property) earlier
 -- the first of these definitions, in order, that conflicts with the earlier one of its name
 abbrev pub redefinition : (earlier : List Definition) → List Definition → Option RepoFault
 redefinition earlier [] = None
-redefinition earlier (d ∷ ds) = or_else (conflict (earlier_of earlier d.property.name) d) (redefinition (earlier ++ d ∷ []) ds)
+redefinition earlier (d ∷ ds) =
+    or_else (conflict (earlier_of earlier d.property.name) d) (redefinition (earlier ++ d ∷ []) ds)
 
 -- of each supertype in order its full properties in order
 abbrev pub inherited_definitions : Repository → List (List ℕ) → List Definition

@@ -1,8 +1,10 @@
 -- What the calls of the repository come to (interface CosTradingRepos::ServiceTypeRepository).
-use Rattle.std.specs.Prelude.{◌≡◌, ℕ, nat_le, Bool, true, false, not, ◌&&◌, if◌then◌else◌, List, [], map, filter, find, Option, None, Some, Result, Ok, Err, IsErr}
+use Rattle.std.specs.Prelude.{◌≡◌, ℕ, nat_le, Bool, true, false, not, ◌&&◌, if◌then◌else◌, List, [], map, filter, find}
+use Rattle.std.specs.Prelude.{Option, None, Some, Result, Ok, Err, IsErr}
 use Rattle.td_cdr.specs.Names.{word_name}
 use Rattle.td_value.specs.declared.structures.PropStruct.{PropStruct}
-use Rattle.td_types.specs.Adding.{new_type, with_type, or_else, name_fault, property_fault, supers_fault, redefinition, definitions, inherited_definitions, passes_limit}
+use Rattle.td_types.specs.Adding.{new_type, with_type, or_else, name_fault, property_fault, supers_fault, redefinition}
+use Rattle.td_types.specs.Adding.{definitions, inherited_definitions, passes_limit}
 use Rattle.td_types.specs.Conforming.{conforms}
 use Rattle.td_types.specs.Descriptions.{description, full_description}
 use Rattle.td_types.specs.Repository.{Repository, ServiceType, type_named, is_named}
@@ -46,7 +48,8 @@ act_on (Some t) name act = act t
 
 -- what is done with the type of that name
 abbrev pub known : Repository → List ℕ → (ServiceType → Comes) → Comes
-known r name act = if word_name name then act_on (type_named r.types name) name act else refuse (fault.IllegalServiceType name)
+known r name act =
+    if word_name name then act_on (type_named r.types name) name act else refuse (fault.IllegalServiceType name)
 
 unfoldable pub describe_type : Repository → List ℕ → Comes
 describe_type r name = known r name λ t. Ok (reply.Described (description t), r)
@@ -71,13 +74,17 @@ unfoldable pub remove_type : Repository → List ℕ → Comes
 remove_type r name = known r name λ t. remove_unless r t (sub_type r name)
 
 abbrev pub set_mask : Repository → List ℕ → Bool → Repository
-set_mask r name masked = record r { types = map (λ t. if is_named name t then record t { masked = masked } else t) r.types }
+set_mask r name masked = record r {
+  types = map (λ t. if is_named name t then record t { masked = masked } else t) r.types;
+}
 
 unfoldable pub mask_type : Repository → List ℕ → Comes
-mask_type r name = known r name λ t. if t.masked then refuse (fault.AlreadyMasked name) else Ok (reply.Masked, set_mask r name true)
+mask_type r name =
+    known r name λ t. if t.masked then refuse (fault.AlreadyMasked name) else Ok (reply.Masked, set_mask r name true)
 
 unfoldable pub unmask_type : Repository → List ℕ → Comes
-unmask_type r name = known r name λ t. if t.masked then Ok (reply.Unmasked, set_mask r name false) else refuse (fault.NotMasked name)
+unmask_type r name =
+    known r name λ t. if t.masked then Ok (reply.Unmasked, set_mask r name false) else refuse (fault.NotMasked name)
 
 -- ---- listing
 
@@ -91,7 +98,8 @@ list_types r since = Ok (reply.Names (map (λ t. t.name) (filter (is_listed sinc
 
 -- ---- clauses
 
--- The call is answered as it is said, and the repository is then as it is said; or memory was wanted, and nothing changed.
+-- The call is answered as it is said, and the repository is then as it is said; or memory was wanted, and nothing
+-- changed.
 abbrev pub Answers : Comes → (old new : Repository) → Result TypesReply TypesFault → Type 0
 Answers comes old new (Ok reply) = comes ≡ Ok (reply, new)
 Answers comes old new (Err (User f)) = (comes ≡ refuse f) × (new ≡ old)

@@ -1,5 +1,6 @@
 -- When a service type conforms to another (OMG's Trading Object Service, "Service Types", on subtypes).
-use Rattle.std.specs.Prelude.{◌≡◌, ℕ, Bool, IsTrue, ◌&&◌, ◌||◌, if◌then◌else◌, List, [], ◌∷◌, ◌++◌, map, filter, reverse, flat_map, Some}
+use Rattle.std.specs.Prelude.{◌≡◌, ℕ, Bool, IsTrue, ◌&&◌, ◌||◌, if◌then◌else◌, List, [], ◌∷◌, ◌++◌, map, filter}
+use Rattle.std.specs.Prelude.{reverse, flat_map, Some}
 use Rattle.std.specs.Str.{bytes_eq}
 use Rattle.td_types.specs.Repository.{ServiceType, type_named, has_type, is_named, is_among}
 

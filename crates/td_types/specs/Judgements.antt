@@ -6,7 +6,8 @@ use Rattle.td_types.specs.declared.fault.RepoFault.TheVariants as fault
 use Rattle.td_types.specs.declared.fault.TypesFault.{TypesFault}
 use Rattle.td_types.specs.declared.fault.TypesFault.TheVariants.{User, Full, Memory}
 use Rattle.td_types.specs.declared.judgement.Judgement.{Judgement}
-use Rattle.td_types.specs.declared.judgement.Judgement.TheVariants.{Accepted, IllegalServiceType, UnknownServiceType, HasSubTypes, AlreadyMasked, NotMasked}
+use Rattle.td_types.specs.declared.judgement.Judgement.TheVariants.{Accepted, IllegalServiceType, UnknownServiceType}
+use Rattle.td_types.specs.declared.judgement.Judgement.TheVariants.{HasSubTypes, AlreadyMasked, NotMasked}
 
 -- what a call on the type of this name comes to is judged right
 abbrev pub IsJudged : Comes → (name : List ℕ) → Judgement → Type 0

@@ -63,7 +63,8 @@ pub record IsNewest (before after : Repository) (told : TypesReply) : Type 0 whe
 pub record IsOldestSubType (r : Repository) (name : List ℕ) (sub : ServiceType) : Type 0 where
   pub conforming : IsTrue (conforms r.types sub.name name)
   pub other : sub.name ≡ name → ⊥
-  pub oldest : AllByRecursion (λ t. (t.name ≡ name → ⊥) → IsTrue (conforms r.types t.name name) → sub.incarnation ≤ t.incarnation) r.types
+  pub oldest : AllByRecursion
+      (λ t. (t.name ≡ name → ⊥) → IsTrue (conforms r.types t.name name) → sub.incarnation ≤ t.incarnation) r.types
 
 -- a property of the other's name that demands at least what the other does
 abbrev pub is_as_strong : PropStruct → PropStruct → Bool

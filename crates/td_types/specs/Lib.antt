@@ -19,3 +19,4 @@ pub mod Removing
 pub mod Repository
 pub mod Seen
 pub mod Sought
+pub mod Writable

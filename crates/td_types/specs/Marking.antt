@@ -17,11 +17,13 @@ AreQueued marks queue = (place : ℕ) → IsTrue (is_marked marks place) → IsT
 
 -- From marks and a queue to others by marking these places: those that weren't marked stand at the end of the
 -- queue, and nothing else has changed.
-pub record Marks (places : List ℕ) (marks : List Bool) (queue : List ℕ) (marked : List Bool) (queued : List ℕ) : Type 0 where
+pub record Marks (places : List ℕ) (marks : List Bool) (queue : List ℕ) (marked : List Bool) (queued : List ℕ) : Type
+    0 where
   pub count : length marked ≡ length marks
   pub kept : (place : ℕ) → IsTrue (is_marked marks place) → IsTrue (is_marked marked place)
   pub all : (place : ℕ) → IsTrue (is_in place places) → IsTrue (is_marked marked place)
-  pub only : (place : ℕ) → IsTrue (is_marked marked place) → IsTrue (is_marked marks place) ⊎ IsTrue (is_in place places)
+  pub only : (place : ℕ) → IsTrue (is_marked marked place)
+      → IsTrue (is_marked marks place) ⊎ IsTrue (is_in place places)
   pub longer : length queue + unmarked marks ≡ length queued + unmarked marked
   pub grows : length queue ≤ length queued
   pub front : (i : ℕ) → i < length queue → slice_index_or queued i 0 ≡ slice_index_or queue i 0

@@ -2,7 +2,8 @@
 -- A property may be mandatory, readonly, both or neither.
 use Rattle.std.specs.Prelude.{Bool, true, false, ◌&&◌, ◌||◌, not}
 use Rattle.td_value.specs.declared.enumerations.PropertyMode.{PropertyMode}
-use Rattle.td_value.specs.declared.enumerations.PropertyMode.TheVariants.{Normal, Readonly, Mandatory, MandatoryReadonly}
+use Rattle.td_value.specs.declared.enumerations.PropertyMode.TheVariants.{Normal, Readonly, Mandatory}
+use Rattle.td_value.specs.declared.enumerations.PropertyMode.TheVariants.{MandatoryReadonly}
 
 abbrev pub is_mandatory : PropertyMode → Bool
 is_mandatory Normal = false

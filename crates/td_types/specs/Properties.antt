@@ -43,7 +43,8 @@ with_inherited own inherited = own ++ map (strengthened inherited) (newcomers ow
 -- behind it.
 abbrev pub full : List ServiceType → List ℕ → List PropStruct
 full [] name = []
-full (t ∷ older) name = if is_named name t then with_inherited t.props (flat_map (full older) t.supers) else full older name
+full (t ∷ older) name =
+    if is_named name t then with_inherited t.props (flat_map (full older) t.supers) else full older name
 
 unfoldable pub full_properties : List ServiceType → List ℕ → List PropStruct
 full_properties types name = full (reverse types) name

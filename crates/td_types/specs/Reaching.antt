@@ -1,7 +1,8 @@
 -- CORBA, IDL on the inheritance of interfaces.
 -- Which declarations an interface leads to, by their places in the list of declarations, and how a
 -- table of these answers which interface leads to which.
-use Rattle.std.specs.Prelude.{◌≡◌, ℕ, zero, suc, nat_eq, ◌<◌, Bool, false, ◌&&◌, ◌||◌, IsTrue, List, [], ◌∷◌, length, slice_index_or}
+use Rattle.std.specs.Prelude.{◌≡◌, ℕ, zero, suc, nat_eq, ◌<◌, Bool, false, ◌&&◌, ◌||◌, IsTrue, List, [], ◌∷◌, length}
+use Rattle.std.specs.Prelude.{slice_index_or}
 use Rattle.std.specs.List.{list_any}
 use Rattle.std.specs.Str.{bytes_eq}
 use Rattle.td_types.specs.Repository.{Declared, is_among}
@@ -53,8 +54,11 @@ AreWithin links places = (place : ℕ) → IsTrue (is_in place places) → place
 pub record IsLeast (links : List (List ℕ)) (starts : List ℕ) (marks : List Bool) : Type 0 where
   pub count : length marks ≡ length links
   pub holds_starts : (place : ℕ) → IsTrue (is_in place starts) → IsTrue (is_marked marks place)
-  pub closed : (from to : ℕ) → IsTrue (is_marked marks from) → IsTrue (is_in to (links_at links from)) → IsTrue (is_marked marks to)
-  pub least : (test : ℕ → Bool) → ((place : ℕ) → IsTrue (is_in place starts) → IsTrue (test place)) → ((from to : ℕ) → IsTrue (test from) → IsTrue (is_in to (links_at links from)) → IsTrue (test to)) → (place : ℕ) → IsTrue (is_marked marks place) → IsTrue (test place)
+  pub closed : (from to : ℕ) → IsTrue (is_marked marks from) → IsTrue (is_in to (links_at links from))
+      → IsTrue (is_marked marks to)
+  pub least : (test : ℕ → Bool) → ((place : ℕ) → IsTrue (is_in place starts) → IsTrue (test place))
+      → ((from to : ℕ) → IsTrue (test from) → IsTrue (is_in to (links_at links from)) → IsTrue (test to)) → (place : ℕ)
+      → IsTrue (is_marked marks place) → IsTrue (test place)
 
 -- ---- the table
 
@@ -67,9 +71,11 @@ named (entry ∷ declared) (mark ∷ marks) base = (mark && is_among base entry.
 -- by these marks an interface leads where it does
 pub record Reaches (declared : Declared) (id : List ℕ) (marks : List Bool) : Type 0 where
   pub count : length marks ≡ length declared
-  pub leads : (last : List ℕ) → leads_within (length declared) declared id last ≡ (bytes_eq id last || named declared marks last)
+  pub leads : (last : List ℕ)
+      → leads_within (length declared) declared id last ≡ (bytes_eq id last || named declared marks last)
 
 -- the marks of each declaration's interface
 pub record AllReach (declared : Declared) (reached : List (List Bool)) : Type 0 where
   pub count : length reached ≡ length declared
-  pub each : (place : ℕ) → place < length declared → Reaches declared (id_at declared place) (slice_index_or reached place [])
+  pub each : (place : ℕ) → place < length declared
+      → Reaches declared (id_at declared place) (slice_index_or reached place [])

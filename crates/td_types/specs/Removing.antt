@@ -15,7 +15,8 @@ without_entry entries name = filter (λ e. not (is_named name (kept e))) entries
 
 -- the entries, with the mask of this name set so
 abbrev pub masked_entry : List ℕ → Bool → Entry → Entry
-masked_entry name masked e = if is_named name (kept e) then record e { service_type = record e.service_type { masked = masked } } else e
+masked_entry name masked e =
+    if is_named name (kept e) then record e { service_type = record e.service_type { masked = masked } } else e
 
 abbrev pub with_mask : List Entry → List ℕ → Bool → List Entry
 with_mask entries name masked = map (masked_entry name masked) entries

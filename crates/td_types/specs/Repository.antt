@@ -1,6 +1,7 @@
 -- The repository of service types as a plain value (OMG's Trading Object Service, "Service Type Repository").
 pub use Rattle.td_types.specs.declared.entry.ServiceType.{ServiceType}
-use Rattle.std.specs.Prelude.{ℕ, ◌<◌, ◌≤◌, ◌%◌, ◌/◌, ◌^◌, Bool, IsTrue, IsFalse, List, [], ◌∷◌, reverse, find, All, Option, None, Some}
+use Rattle.std.specs.Prelude.{ℕ, ◌<◌, ◌≤◌, ◌%◌, ◌/◌, ◌^◌, Bool, IsTrue, IsFalse, List, [], ◌∷◌, reverse, find, All}
+use Rattle.std.specs.Prelude.{Option, None, Some}
 use Rattle.std.specs.List.{list_any}
 use Rattle.std.specs.Str.{bytes_eq}
 use Rattle.td_value.specs.declared.structures.IncarnationNumber.{IncarnationNumber}
@@ -63,7 +64,8 @@ top (t ∷ older) = t.incarnation
 -- Listed from the youngest on, each type has a name and an incarnation of its own, and its supertypes are older.
 pub data Founded : List ServiceType → Type 0 where
   none : Founded []
-  more : (t : ServiceType) (older : List ServiceType) → IsFalse (has_type older t.name) → All (λ s. IsTrue (has_type older s)) t.supers → top older < t.incarnation → Founded older → Founded (t ∷ older)
+  more : (t : ServiceType) (older : List ServiceType) → IsFalse (has_type older t.name)
+      → All (λ s. IsTrue (has_type older s)) t.supers → top older < t.incarnation → Founded older → Founded (t ∷ older)
 
 pub record IsRepository (r : Repository) : Type 0 where
   pub founded : Founded (reverse r.types)

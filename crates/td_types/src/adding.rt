@@ -112,7 +112,8 @@ fn judged<'a>(
     supers: &[Text],
 ) -> Result<List<&'a Entry>, TypesFault>
     requires { AreKept entries.now }
-    ensures { Judges (add_fault (repository entries.now interfaces.now 0) name.now if_name.now props.now supers.now) (λ bases. AreBases entries.now supers.now (map (λ b. b.now) bases)) result }
+    ensures { Judges (add_fault (repository entries.now interfaces.now 0) name.now if_name.now props.now supers.now)
+        (λ bases. AreBases entries.now supers.now (map (λ b. b.now) bases)) result }
 {
     check_name(alloc, entries, name)?;
     check_properties(alloc, props)?;

@@ -13,7 +13,7 @@ use crate::interfaces::Interfaces;
 use crate::seen::{nothing_seen, see};
 use crate::sought::sought;
 use std::alloc::Global;
-use td_cdr::{List, Memory, Text, Twin};
+use td_cdr::{List, Memory, Text, Twin, copy_four};
 
 /// The entries of the supertypes. Refuses the first that no type has, that stands before, or to whose
 /// interface the new type's doesn't conform.
@@ -25,7 +25,8 @@ pub(crate) fn bases_of<'a>(
     if_name: &Text,
     supers: &[Text],
 ) -> Result<List<&'a Entry>, TypesFault>
-    ensures { Judges (supers_fault (repository entries.now interfaces.now 0) name.now if_name.now [] supers.now) (λ bases. AreBases entries.now supers.now (map (λ b. b.now) bases)) result }
+    ensures { Judges (supers_fault (repository entries.now interfaces.now 0) name.now if_name.now [] supers.now)
+        (λ bases. AreBases entries.now supers.now (map (λ b. b.now) bases)) result }
 {
     let mut bases = List::new(alloc);
     let mut seen = nothing_seen(alloc);
@@ -52,12 +53,20 @@ fn mismatch(
     name: &Text,
     if_name: &Text,
 ) -> Result<RepoFault, Memory>
-    ensures { IfOk result (λ f. f ≡ fault.InterfaceTypeMismatch base_name.now base.now.service_type.if_name name.now if_name.now) }
+    ensures { IfOk result (λ f.
+        f ≡ fault.InterfaceTypeMismatch base_name.now base.now.service_type.if_name name.now if_name.now) }
 {
+    let (base_service, (base_if, (derived_service, derived_if))) = copy_four(
+        alloc,
+        base_name,
+        &base.service_type.if_name,
+        name,
+        if_name,
+    )?;
     Ok(RepoFault::InterfaceTypeMismatch {
-        base_service: base_name.copy(alloc)?,
-        base_if: base.service_type.if_name.copy(alloc)?,
-        derived_service: name.copy(alloc)?,
-        derived_if: if_name.copy(alloc)?,
+        base_service,
+        base_if,
+        derived_service,
+        derived_if,
     })
 }

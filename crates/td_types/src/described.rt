@@ -7,7 +7,7 @@ ghost use Rattle.td_types.specs.Repository.{halves};
 
 use crate::entry::Entry;
 use std::alloc::Global;
-use td_cdr::{Memory, Twin};
+use td_cdr::{Memory, copy_three};
 use td_value::{IncarnationNumber, TypeStruct};
 
 /// A number as the two halves of an IncarnationNumber. Takes no memory.
@@ -28,12 +28,19 @@ pub fn halves(number: u64) -> IncarnationNumber
 pub(crate) fn description(alloc: Global, entry: &Entry) -> Result<TypeStruct, Memory>
     ensures { IfOk result (λ d. d ≡ description (kept entry.now)) }
 {
+    let service_type = &entry.service_type;
+    let (if_name, (props, super_types)) = copy_three(
+        alloc,
+        &service_type.if_name,
+        &service_type.props,
+        &service_type.supers,
+    )?;
     Ok(TypeStruct {
-        if_name: entry.service_type.if_name.copy(alloc)?,
-        props: entry.service_type.props.copy(alloc)?,
-        super_types: entry.service_type.supers.copy(alloc)?,
-        masked: entry.service_type.masked,
-        incarnation: halves(entry.service_type.incarnation),
+        if_name,
+        props,
+        super_types,
+        masked: service_type.masked,
+        incarnation: halves(service_type.incarnation),
     })
 }
 
@@ -45,11 +52,18 @@ pub(crate) fn description(alloc: Global, entry: &Entry) -> Result<TypeStruct, Me
 pub(crate) fn kept_description(alloc: Global, entry: &Entry) -> Result<TypeStruct, Memory>
     ensures { IfOk result (λ d. d ≡ kept_description entry.now) }
 {
+    let service_type = &entry.service_type;
+    let (if_name, (props, super_types)) = copy_three(
+        alloc,
+        &service_type.if_name,
+        &entry.full,
+        &entry.ancestors,
+    )?;
     Ok(TypeStruct {
-        if_name: entry.service_type.if_name.copy(alloc)?,
-        props: entry.full.copy(alloc)?,
-        super_types: entry.ancestors.copy(alloc)?,
-        masked: entry.service_type.masked,
-        incarnation: halves(entry.service_type.incarnation),
+        if_name,
+        props,
+        super_types,
+        masked: service_type.masked,
+        incarnation: halves(service_type.incarnation),
     })
 }

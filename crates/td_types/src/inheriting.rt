@@ -1,6 +1,7 @@
 //! What a new type has by its supertypes.
 
-ghost use Rattle.std.specs.Prelude.{◌≡◌, ◌<◌, ◌≤◌, ℕ, List as Row, [], ◌∷◌, ◌++◌, length, map, flat_map, IfOk, OnOk, MatchResult};
+ghost use Rattle.std.specs.Prelude.{◌≡◌, ◌<◌, ◌≤◌, ℕ, List as Row, [], ◌∷◌, ◌++◌, length, map, flat_map, IfOk, OnOk};
+ghost use Rattle.std.specs.Prelude.{MatchResult};
 ghost use Rattle.td_types.specs.Adding.{most_properties};
 ghost use Rattle.td_types.specs.Conforming.{once, add_once};
 ghost use Rattle.td_types.specs.Inheriting.{extended, IsMore, IsMoreBy};

@@ -1,14 +1,15 @@
 //! Whether a call on one type is accepted, without memory.
 
-ghost use Rattle.std.specs.Prelude.{◌≡◌, ℕ, IsOk, MatchResult};
+ghost use Rattle.std.specs.Prelude.{◌≡◌, ℕ, IsOk, IfOk, MatchResult};
 ghost use Rattle.td_types.specs.Calls.{Comes, mask_type, unmask_type, remove_type};
 ghost use Rattle.td_types.specs.Judgements.{IsJudged, IsRefusal};
+ghost use Rattle.td_types.specs.declared.fault.RepoFault.TheVariants as fault;
 
 use crate::fault::{RepoFault, TypesFault};
 use crate::removing::sub_entry;
 use crate::types::Types;
 use std::alloc::Global;
-use td_cdr::{Text, Twin, is_word_name};
+use td_cdr::{Memory, Text, Twin, copy_two, is_word_name};
 
 /// Whether a call on the type of a name is accepted, or else the exception that it raises.
 #[derive(Clone, Copy)]
@@ -85,12 +86,16 @@ pub(crate) fn accepted(
         Judgement::Accepted => return Ok(()),
         Judgement::IllegalServiceType => RepoFault::IllegalServiceType(name.copy(alloc)?),
         Judgement::UnknownServiceType => RepoFault::UnknownServiceType(name.copy(alloc)?),
-        Judgement::HasSubTypes(sub) => RepoFault::HasSubTypes {
-            the_type: name.copy(alloc)?,
-            sub_type: sub.copy(alloc)?,
-        },
+        Judgement::HasSubTypes(sub) => has_sub_types(alloc, name, sub)?,
         Judgement::AlreadyMasked => RepoFault::AlreadyMasked(name.copy(alloc)?),
         Judgement::NotMasked => RepoFault::NotMasked(name.copy(alloc)?),
     };
     Err(TypesFault::User(fault))
+}
+
+fn has_sub_types(alloc: Global, the_type: &Text, sub_type: &Text) -> Result<RepoFault, Memory>
+    ensures { IfOk result (λ f. f ≡ fault.HasSubTypes the_type.now sub_type.now) }
+{
+    let (the_type, sub_type) = copy_two(alloc, the_type, sub_type)?;
+    Ok(RepoFault::HasSubTypes { the_type, sub_type })
 }

@@ -1,14 +1,18 @@
 //! What holds of service types and interfaces, as functions that do nothing: each one's contract is
 //! the law.
 
-ghost use Rattle.std.specs.Prelude.{◌≡◌, ℕ, ◌↔◌, List, Ok, Some, Option, IsTrue, true, false, map, filter};
+ghost use Rattle.std.specs.Prelude.{◌≡◌, ℕ, ◌↔◌, List, [], Ok, Some, Option, IsTrue, true, false, map, filter};
+ghost use Rattle.td_cdr.specs.Sound.{text, sequence};
+ghost use Rattle.td_value.specs.Structures.{prop_struct};
 ghost use Rattle.td_value.specs.declared.structures.PropStruct.{PropStruct};
-ghost use Rattle.td_types.specs.Calls.{add_type, remove_type, mask_type, unmask_type, is_listed, sub_type};
+ghost use Rattle.td_types.specs.Calls.{add_type, remove_type, mask_type, unmask_type, describe_type};
+ghost use Rattle.td_types.specs.Calls.{fully_describe_type, list_types, is_listed, sub_type};
 ghost use Rattle.td_types.specs.Conforming.{conforms};
 ghost use Rattle.td_types.specs.Interfaces.{LeadsTo, InterfaceConforms, interface_conforms};
 ghost use Rattle.td_types.specs.Laws.{Rises, Removes, SetsMask, IsNewest, IsOldestSubType, AreAsStrong};
 ghost use Rattle.td_types.specs.Properties.{full_properties};
 ghost use Rattle.td_types.specs.Repository.{Declared, Repository, ServiceType, IsRepository, has_type, is_among};
+ghost use Rattle.td_types.specs.Writable.{IsWritable, AreWritable, StaysWritable};
 ghost use Rattle.td_types.specs.declared.reply.TypesReply.{TypesReply};
 
 /// The test of conforming interfaces is the relation: declared bases lead from the one to the other,
@@ -70,4 +74,26 @@ pub fn supertypes_modes_hold()
         (told : TypesReply) → add_type r name if_name props supers ≡ Ok (told, after) →
         (super : List ℕ) → IsTrue (is_among super supers) →
         AreAsStrong (full_properties after.types name) (full_properties r.types super) }
+{}
+
+/// A repository without types can be written. A call whose parameters can be written leaves one that
+/// can be written so, and what it answers can be written: the reply, or the exception's members.
+pub fn types_stay_writable()
+    ensures new { (interfaces : Declared) → IsWritable (record { types = []; interfaces = interfaces; last = 0 }) }
+    ensures add { (r : Repository) (name if_name : List ℕ) (props : List PropStruct) (supers : List (List ℕ)) →
+        IsWritable r → AreWritable name if_name props supers →
+        StaysWritable (add_type r name if_name props supers) }
+    ensures remove { (r : Repository) (name : List ℕ) → IsRepository r → IsWritable r →
+        text.format.admits name → StaysWritable (remove_type r name) }
+    ensures mask { (r : Repository) (name : List ℕ) → IsWritable r → text.format.admits name →
+        StaysWritable (mask_type r name) }
+    ensures unmask { (r : Repository) (name : List ℕ) → IsWritable r → text.format.admits name →
+        StaysWritable (unmask_type r name) }
+    ensures describe { (r : Repository) (name : List ℕ) → IsWritable r → text.format.admits name →
+        StaysWritable (describe_type r name) }
+    ensures fully_describe { (r : Repository) (name : List ℕ) → IsWritable r → text.format.admits name →
+        StaysWritable (fully_describe_type r name) }
+    ensures list { (r : Repository) (since : Option ℕ) → IsWritable r → StaysWritable (list_types r since) }
+    ensures properties { (r : Repository) (name : List ℕ) → IsWritable r →
+        (sequence prop_struct).format.admits (full_properties r.types name) }
 {}

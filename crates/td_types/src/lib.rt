@@ -33,6 +33,7 @@ pub use judgement::Judgement;
 pub use laws::{
     incarnations_are_new, interfaces_conform, listing_rises, masks_change_nothing_else,
     removing_leaves_the_others, supertypes_modes_hold, the_oldest_sub_type_is_named, types_conform,
+    types_stay_writable,
 };
 pub use reply::TypesReply;
 pub use types::Types;

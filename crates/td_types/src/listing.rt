@@ -3,6 +3,7 @@
 ghost use Rattle.std.specs.Prelude.{◌≡◌, IfOk, map, filter};
 ghost use Rattle.td_types.specs.Calls.{Answers, list_types, is_listed};
 ghost use Rattle.td_types.specs.Kept.{kept};
+ghost use Rattle.td_types.specs.Repository.{IsRepository};
 
 use crate::entry::Entry;
 use crate::fault::TypesFault;
@@ -28,7 +29,9 @@ impl Types {
 
     /// The last incarnation given, 0 before the first (attribute incarnation). Takes no memory.
     pub fn incarnation(&self) -> u64
-        ensures { result ≡ self.now.last }
+        ensures answer { result ≡ self.now.last }
+        // What holds of each repository, for those who keep one.
+        ensures valid { IsRepository self.now }
     {
         self.last
     }

@@ -1,6 +1,7 @@
 //! Properties that are defined again.
 
-ghost use Rattle.std.specs.Prelude.{◌≡◌, ◌&&◌, ◌||◌, not, ℕ, List, [], ◌∷◌, ◌++◌, true, false, Some, None, map, cond, IfOk, OnOk};
+ghost use Rattle.std.specs.Prelude.{◌≡◌, ◌&&◌, ◌||◌, not, ℕ, List, [], ◌∷◌, ◌++◌, true, false, Some, None, map, cond};
+ghost use Rattle.std.specs.Prelude.{IfOk, OnOk};
 ghost use Rattle.std.specs.Option.{option_map, option_or};
 ghost use Rattle.std.specs.Str.{bytes_eq};
 ghost use Rattle.td_types.specs.Adding.{Definition, definitions, conflict, earlier_of, redefinition, agree};
@@ -14,7 +15,7 @@ use crate::fault::{RepoFault, TypesFault};
 use crate::modes::is_at_least;
 use std::alloc::Global;
 use std::collections::BTreeMap;
-use td_cdr::{Memory, Text, Twin};
+use td_cdr::{Memory, Text, copy_four};
 use td_value::{PropStruct, same_type};
 
 /// A property's definition, the type that gives it, and whether that is the new type.
@@ -106,15 +107,21 @@ fn check_agreement(alloc: Global, earlier: Given<'_>, given: Given<'_>) -> Resul
     ensures { Judges (conflict (Some (stated earlier.entry)) (stated given.entry)) (λ _. Unit {0}) result }
 {
     if agree(earlier, given.property) {
-        Ok(())
-    } else {
-        Err(TypesFault::User(RepoFault::ValueTypeRedefinition {
-            type_1: earlier.type_name.copy(alloc)?,
-            definition_1: earlier.property.copy(alloc)?,
-            type_2: given.type_name.copy(alloc)?,
-            definition_2: given.property.copy(alloc)?,
-        }))
+        return Ok(());
     }
+    let (type_1, (definition_1, (type_2, definition_2))) = copy_four(
+        alloc,
+        earlier.type_name,
+        earlier.property,
+        given.type_name,
+        given.property,
+    )?;
+    Err(TypesFault::User(RepoFault::ValueTypeRedefinition {
+        type_1,
+        definition_1,
+        type_2,
+        definition_2,
+    }))
 }
 
 /// Whether a property agrees with the first definition of its name.

@@ -11,5 +11,7 @@ invariant-loop-base_name l =
     record {
       seen : HaveSeen l.seen (reverse (take l.base_name-index l.supers));
       found : AreBases l.entries (take l.base_name-index l.supers) (map (λ (b : Bor Entry). b.now) l.bases);
-      so_far : supers_fault (repository l.entries l.interfaces 0) l.name l.if_name (reverse (take l.base_name-index l.supers)) (drop l.base_name-index l.supers) ≡ supers_fault (repository l.entries l.interfaces 0) l.name l.if_name [] l.supers;
+      so_far : supers_fault (repository l.entries l.interfaces 0) l.name l.if_name
+          (reverse (take l.base_name-index l.supers)) (drop l.base_name-index l.supers)
+          ≡ supers_fault (repository l.entries l.interfaces 0) l.name l.if_name [] l.supers;
     }

@@ -7,4 +7,5 @@ returns-in-None c = no_entry c.args.entries.now c.args.sub.now c.args.base.now (
 
 pub returns-in-Some : goal.returns-in-Some
 returns-in-Some c =
-    c.is_below.ensures ∙ below_conforms c.args.entries.now c.args.sub.now c.args.base.now c.in-Some.entry.now c.requires (sym c.in-Some.ensures)
+    c.is_below.ensures ∙ below_conforms c.args.entries.now c.args.sub.now c.args.base.now c.in-Some.entry.now c.requires
+    (sym c.in-Some.ensures)

@@ -7,5 +7,8 @@ loop-base-preserved c =
     let k = c.in_ok-meet_all.ensures m.1 in
     record {
       seen = k.1;
-      so_far = bases_on c.args.bases.now c.loop-base.base-index c.base-item.result c.loop-base.met c.meet.new.met c.meet_all.new.met _ c.loop-base-test.true c.base-item.is m.0 (rw c.as_slice.ensures at k.0) c.loop-base.invariant.so_far;
+      so_far =
+          bases_on c.args.bases.now c.loop-base.base-index c.base-item.result c.loop-base.met c.meet.new.met
+          c.meet_all.new.met _ c.loop-base-test.true c.base-item.is m.0 (rw c.as_slice.ensures at k.0)
+          c.loop-base.invariant.so_far;
     }

@@ -9,5 +9,6 @@ abbrev pub invariant-loop-base : goal.invariant-loop-base
 invariant-loop-base l =
     record {
       seen : HaveSeen l.seen l.met;
-      so_far : once l.met (names_above (map (λ (b : Bor Entry). b.now) (drop l.base-index l.bases))) ≡ once [] (names_above (map (λ (b : Bor Entry). b.now) l.bases));
+      so_far : once l.met (names_above (map (λ (b : Bor Entry). b.now) (drop l.base-index l.bases)))
+          ≡ once [] (names_above (map (λ (b : Bor Entry). b.now) l.bases));
     }

@@ -10,6 +10,8 @@ abbrev pub invariant-loop-property : goal.invariant-loop-property
 invariant-loop-property l =
     record {
       few : length l.full ≤ most_properties;
-      so_far : (later : List PropStruct) → extended (inherited (map (λ (b : Bor Entry). b.now) l.bases)) l.full (drop l.property-index l.base.full ++ later)
+      so_far : (later : List PropStruct)
+          → extended (inherited (map (λ (b : Bor Entry). b.now) l.bases)) l.full
+          (drop l.property-index l.base.full ++ later)
           ≡ extended (inherited (map (λ (b : Bor Entry). b.now) l.bases)) l.fn.full (l.base.full ++ later);
     }

@@ -9,7 +9,13 @@ use Rattle.td_types.proofs.inheriting.extend_by_one.Goals as goal
 
 pub returns : goal.returns
 returns c = λ later.
-    let e : c.push.new.self ≡ c.args.full.now ++ strengthened (inherited (entries_of c.args.bases.now)) c.args.property.now ∷ [] = c.in_ok-push.ensures.ok ∙ ap (λ (p : PropStruct). c.args.full.now ++ p ∷ []) c.in_ok-strengthened.ensures in
-    let anew : has_property c.args.full.now c.args.property.now.name ≡ false = sym (rw (c.as_slice.ensures, c.as_slice-2.ensures) at c.if-has_property.ensures) in
-    let room : length c.args.full.now < most_properties = omega (arith, c.len.ensures, c.if-len-ge-MOST_PROPERTIES.false) in
-    (pushed (inherited (entries_of c.args.bases.now)) c.args.full.now c.push.new.self later c.args.property.now anew e, one_longer c.args.full.now c.push.new.self _ e room)
+    let e : c.push.new.self ≡ c.args.full.now
+    ++ strengthened (inherited (entries_of c.args.bases.now)) c.args.property.now ∷ [] =
+    c.in_ok-push.ensures.ok ∙ ap (λ (p : PropStruct). c.args.full.now ++ p ∷ []) c.in_ok-strengthened.ensures in
+    let anew : has_property c.args.full.now c.args.property.now.name ≡ false =
+    sym (rw (c.as_slice.ensures, c.as_slice-2.ensures) at c.if-has_property.ensures) in
+    let room : length c.args.full.now < most_properties =
+    omega (arith, c.len.ensures, c.if-len-ge-MOST_PROPERTIES.false) in (
+      pushed (inherited (entries_of c.args.bases.now)) c.args.full.now c.push.new.self later c.args.property.now anew e,
+      one_longer c.args.full.now c.push.new.self _ e room,
+    )

@@ -6,4 +6,6 @@ use Rattle.td_types.specs.declared.entry.Entry.{Entry}
 use Rattle.td_types.proofs.inheriting.joined_mode.Given as goal
 
 abbrev pub invariant-loop-base : goal.invariant-loop-base
-invariant-loop-base l = join l.mode (joined_mode (inherited (map (λ (b : Bor Entry). b.now) (drop l.base-index l.bases))) l.name) ≡ joined_mode (inherited (map (λ (b : Bor Entry). b.now) l.bases)) l.name
+invariant-loop-base l =
+    join l.mode (joined_mode (inherited (map (λ (b : Bor Entry). b.now) (drop l.base-index l.bases))) l.name)
+    ≡ joined_mode (inherited (map (λ (b : Bor Entry). b.now) l.bases)) l.name

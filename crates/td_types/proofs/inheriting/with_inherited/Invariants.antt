@@ -10,6 +10,7 @@ abbrev pub invariant-loop-base : goal.invariant-loop-base
 invariant-loop-base l =
     record {
       few : length l.full ≤ most_properties;
-      so_far : extended (inherited (map (λ (b : Bor Entry). b.now) l.bases)) l.full (inherited (map (λ (b : Bor Entry). b.now) (drop l.base-index l.bases)))
+      so_far : extended (inherited (map (λ (b : Bor Entry). b.now) l.bases)) l.full
+          (inherited (map (λ (b : Bor Entry). b.now) (drop l.base-index l.bases)))
           ≡ with_inherited l.props (inherited (map (λ (b : Bor Entry). b.now) l.bases));
     }

@@ -8,5 +8,7 @@ abbrev pub invariant-loop-prop : goal.invariant-loop-prop
 invariant-loop-prop l =
     record {
       seen : HaveSeen l.seen (reverse (map (λ (p : PropStruct). p.name) (take l.prop-index l.props)));
-      so_far : property_fault (reverse (map (λ (p : PropStruct). p.name) (take l.prop-index l.props))) (drop l.prop-index l.props) ≡ property_fault [] l.props;
+      so_far : property_fault (reverse (map (λ (p : PropStruct). p.name) (take l.prop-index l.props)))
+          (drop l.prop-index l.props)
+          ≡ property_fault [] l.props;
     }

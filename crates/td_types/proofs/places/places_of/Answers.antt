@@ -8,14 +8,20 @@ loop-place-preserved c =
       | then-is_among+in_ok-push w ↦
           rw (w.places-is, w.in_ok-push.ensures.ok)
           (placed_push c.args.declared.now c.args.ids.now c.loop-place.places c.loop-place.place
-          (declared_here c.args.declared.now c.args.ids.now c.loop-place.place c.index-declared-place.result c.as_slice.result.now c.is_among.result _ c.loop-place-test.true c.index-declared-place.is c.as_slice.ensures c.is_among.ensures w.if-is_among.true)
+          (declared_here c.args.declared.now c.args.ids.now c.loop-place.place c.index-declared-place.result
+          c.as_slice.result.now c.is_among.result _ c.loop-place-test.true c.index-declared-place.is
+          c.as_slice.ensures c.is_among.ensures w.if-is_among.true)
           c.loop-place.invariant)
       | else-is_among w ↦
           rw w.places-is
           (placed_skip c.args.declared.now c.args.ids.now c.loop-place.places c.loop-place.place
-          (declared_here c.args.declared.now c.args.ids.now c.loop-place.place c.index-declared-place.result c.as_slice.result.now c.is_among.result _ c.loop-place-test.true c.index-declared-place.is c.as_slice.ensures c.is_among.ensures w.if-is_among.false)
+          (declared_here c.args.declared.now c.args.ids.now c.loop-place.place c.index-declared-place.result
+          c.as_slice.result.now c.is_among.result _ c.loop-place-test.true c.index-declared-place.is
+          c.as_slice.ensures c.is_among.ensures w.if-is_among.false)
           c.loop-place.invariant)
     ]
 
 pub returns : goal.returns
-returns c = placed_all c.args.declared.now c.args.ids.now c.loop-place.places c.loop-place.place c.loop-place-test.false c.loop-place.invariant
+returns c =
+    placed_all c.args.declared.now c.args.ids.now c.loop-place.places c.loop-place.place c.loop-place-test.false
+    c.loop-place.invariant

@@ -19,16 +19,27 @@ loop-place-preserved c =
     elim c.if-not-index.branch [
       | then-not-index+in_ok-push w ↦
           let p = get_or c.args.places.now c.loop-place.place-index 0 in
-          let b : p < length c.args.marks.now.items = c.requires p (in-index c.args.places.now c.loop-place.place-index c.loop-place-test.true) in
-          rw (w.marks-is, w.queue-is, w.in_ok-push.ensures.items, take_more c.args.places.now c.loop-place.place-index 0 c.loop-place-test.true)
-          (marks_push (take c.loop-place.place-index c.args.places.now) p c.args.marks.now.items c.args.queue.now.items c.loop-place.marks.items c.loop-place.queue.items b
-          (read_mark c.loop-place.marks.items p c.index.result.now false (omega (arith, b, c.loop-place.invariant.count)) c.index.ensures w.if-not-index.true)
+          let b : p < length c.args.marks.now.items =
+          c.requires p (in-index c.args.places.now c.loop-place.place-index c.loop-place-test.true) in
+          rw (
+            w.marks-is,
+            w.queue-is,
+            w.in_ok-push.ensures.items,
+            take_more c.args.places.now c.loop-place.place-index 0 c.loop-place-test.true,
+          )
+          (marks_push (take c.loop-place.place-index c.args.places.now) p c.args.marks.now.items c.args.queue.now.items
+          c.loop-place.marks.items c.loop-place.queue.items b
+          (read_mark c.loop-place.marks.items p c.index.result.now false
+          (omega (arith, b, c.loop-place.invariant.count)) c.index.ensures w.if-not-index.true)
           c.loop-place.invariant)
       | else-not-index w ↦
           let p = get_or c.args.places.now c.loop-place.place-index 0 in
-          let b : p < length c.args.marks.now.items = c.requires p (in-index c.args.places.now c.loop-place.place-index c.loop-place-test.true) in
+          let b : p < length c.args.marks.now.items =
+          c.requires p (in-index c.args.places.now c.loop-place.place-index c.loop-place-test.true) in
           rw (w.marks-is, w.queue-is, take_more c.args.places.now c.loop-place.place-index 0 c.loop-place-test.true)
-          (marks_skip (take c.loop-place.place-index c.args.places.now) p c.args.marks.now.items c.args.queue.now.items c.loop-place.marks.items c.loop-place.queue.items
-          (read_mark c.loop-place.marks.items p c.index.result.now true (omega (arith, b, c.loop-place.invariant.count)) c.index.ensures w.if-not-index.false)
+          (marks_skip (take c.loop-place.place-index c.args.places.now) p c.args.marks.now.items c.args.queue.now.items
+          c.loop-place.marks.items c.loop-place.queue.items
+          (read_mark c.loop-place.marks.items p c.index.result.now true (omega (arith, b, c.loop-place.invariant.count))
+          c.index.ensures w.if-not-index.false)
           c.loop-place.invariant)
     ]

@@ -7,4 +7,6 @@ abbrev pub invariant-loop-property : goal.invariant-loop-property
 invariant-loop-property l =
     (earlier : List Definition) → AreFirsts l.fn.firsts earlier →
     AreFirsts l.firsts (earlier ++ definitions l.base.service_type.name false (take l.property-index l.base.full))
-    × (redefinition (earlier ++ definitions l.base.service_type.name false (take l.property-index l.base.full)) (definitions l.base.service_type.name false (drop l.property-index l.base.full)) ≡ redefinition earlier (definitions l.base.service_type.name false l.base.full))
+    × (redefinition (earlier ++ definitions l.base.service_type.name false (take l.property-index l.base.full))
+    (definitions l.base.service_type.name false (drop l.property-index l.base.full))
+    ≡ redefinition earlier (definitions l.base.service_type.name false l.base.full))

@@ -8,7 +8,11 @@ use Rattle.td_types.proofs.redefining.check_redefinitions.Given as goal
 abbrev pub invariant-loop-base : goal.invariant-loop-base
 invariant-loop-base l =
     record {
-      firsts : AreFirsts l.firsts (definitions l.name true l.props ++ inherited_from (map (λ (b : Bor Entry). b.now) (take l.base-index l.bases)));
-      so_far : redefinition (definitions l.name true l.props ++ inherited_from (map (λ (b : Bor Entry). b.now) (take l.base-index l.bases))) (inherited_from (map (λ (b : Bor Entry). b.now) (drop l.base-index l.bases)))
+      firsts : AreFirsts l.firsts
+          (definitions l.name true l.props
+          ++ inherited_from (map (λ (b : Bor Entry). b.now) (take l.base-index l.bases)));
+      so_far : redefinition (definitions l.name true l.props
+          ++ inherited_from (map (λ (b : Bor Entry). b.now) (take l.base-index l.bases)))
+          (inherited_from (map (λ (b : Bor Entry). b.now) (drop l.base-index l.bases)))
           ≡ redefinition (definitions l.name true l.props) (inherited_from (map (λ (b : Bor Entry). b.now) l.bases));
     }

@@ -10,7 +10,9 @@ invariant_of-self c = elim c.match-get_mut.branch [
       rw w.self-inside-is (
       let holds = c.get_mut.follows.holds (set_so c.args.masked w.in-Some.entry.now) in
       record {
-        names = rw holds.0 (names_masked c.self.inside.named.entries c.args.name.now c.args.masked w.in-Some.entry.now c.self.invariant.names (sym w.in-Some.ensures.value));
+        names =
+            rw holds.0 (names_masked c.self.inside.named.entries c.args.name.now c.args.masked w.in-Some.entry.now
+            c.self.invariant.names (sym w.in-Some.ensures.value));
         unique = holds.4;
       }
       )
@@ -24,8 +26,11 @@ returns c = elim c.match-get_mut.branch [
       rw w.self-inside-is (
       let holds = c.get_mut.follows.holds (set_so c.args.masked w.in-Some.entry.now) in
       rw (← c.self.view_is) (ap (λ (es : Pairs). values_of es) holds.0
-      ∙ masked c.self.inside.named.entries c.args.name.now c.args.masked w.in-Some.entry.now c.self.invariant.names c.self.invariant.unique (sym w.in-Some.ensures.value))
+      ∙ masked c.self.inside.named.entries c.args.name.now c.args.masked w.in-Some.entry.now c.self.invariant.names
+      c.self.invariant.unique (sym w.in-Some.ensures.value))
       )
   | in_default w ↦
-      rw (w.self-inside-is, c.get_mut.follows.holds-at-none, ← c.self.view_is) (sym (nothing_masked c.self.inside.named.entries c.args.name.now c.args.masked c.self.invariant.names (sym w.in_default.ensures.value)))
+      rw (w.self-inside-is, c.get_mut.follows.holds-at-none, ← c.self.view_is)
+      (sym (nothing_masked c.self.inside.named.entries c.args.name.now c.args.masked c.self.invariant.names
+      (sym w.in_default.ensures.value)))
 ]

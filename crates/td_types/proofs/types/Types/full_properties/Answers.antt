@@ -5,4 +5,7 @@ pub returns-in-None : goal.returns-in-None
 returns-in-None c = rw (← c.self.view_is) (no_properties c.self.inside.entries c.args.name.now c.in-None.ensures)
 
 pub returns-in-Some : goal.returns-in-Some
-returns-in-Some c = rw (← c.self.view_is, c.as_slice.ensures) (its_properties c.self.inside.entries c.args.name.now c.in-Some.entry.now c.self.invariant.kept c.in-Some.ensures)
+returns-in-Some c =
+    rw (← c.self.view_is, c.as_slice.ensures)
+    (its_properties c.self.inside.entries c.args.name.now c.in-Some.entry.now c.self.invariant.kept
+    c.in-Some.ensures)

@@ -1,4 +1,4 @@
-use Rattle.std.proofs.Common.{true, ◌≡◌}
+use Rattle.std.proofs.Common.{true}
 use Rattle.std.proofs.lemmas.Result.{err_from_is_err_and}
 use Rattle.td_types.specs.Calls.{mask_type}
 use Rattle.td_types.proofs.Judging.{refused-freely, mask_told, mask_keeps}
@@ -7,17 +7,22 @@ use Rattle.td_types.proofs.types.Types.mask.Goals as goal
 pub returns-in_err-accepted-clause-answer : goal.returns-in_err-accepted-clause-answer
 returns-in_err-accepted-clause-answer c =
     let p = err_from_is_err_and c.from_residual.result c.from_residual.ensures.1 in
-    rw (p.1, p.2) (refused-freely (mask_type c.args.self.now c.args.name.now) c.args.self.now c.in_err-accepted.field-0.0 (c.in_err-accepted.ensures (mask_type c.args.self.now c.args.name.now) c.judge_mask.ensures))
+    rw (p.1, p.2) (refused-freely (mask_type c.args.self.now c.args.name.now) c.args.self.now
+    c.in_err-accepted.field-0.0
+    (c.in_err-accepted.ensures (mask_type c.args.self.now c.args.name.now) c.judge_mask.ensures))
 
 pub invariant_of-self : goal.invariant_of-self
 invariant_of-self c =
-    mask_keeps c.self.inside.entries c.set_mask.new.self c.self.inside.interfaces c.self.inside.last c.args.name.now c.args.self.now c.self.view_is true c.self.invariant (rw c.as_slice.ensures at c.set_mask.ensures)
+    mask_keeps c.self.inside.entries c.set_mask.new.self c.self.inside.interfaces c.self.inside.last c.args.name.now
+    c.args.self.now c.self.view_is true c.self.invariant (rw c.as_slice.ensures at c.set_mask.ensures)
 
 pub returns-clause-answer : goal.returns-clause-answer
 returns-clause-answer c =
-    mask_told c.self.inside.entries c.set_mask.new.self c.self.inside.interfaces c.self.inside.last c.args.name.now c.args.self.now c.self.view_is (rw c.as_slice.ensures at c.set_mask.ensures)
+    mask_told c.self.inside.entries c.set_mask.new.self c.self.inside.interfaces c.self.inside.last c.args.name.now
+    c.args.self.now c.self.view_is (rw c.as_slice.ensures at c.set_mask.ensures)
     (c.in_ok-accepted.ensures (mask_type c.args.self.now c.args.name.now) c.judge_mask.ensures)
 
 pub returns-clause-valid : goal.returns-clause-valid
 returns-clause-valid c =
-    (mask_keeps c.self.inside.entries c.set_mask.new.self c.self.inside.interfaces c.self.inside.last c.args.name.now c.args.self.now c.self.view_is true c.self.invariant (rw c.as_slice.ensures at c.set_mask.ensures)).valid
+    (mask_keeps c.self.inside.entries c.set_mask.new.self c.self.inside.interfaces c.self.inside.last c.args.name.now
+    c.args.self.now c.self.view_is true c.self.invariant (rw c.as_slice.ensures at c.set_mask.ensures)).valid
