@@ -1,7 +1,7 @@
 //! Calls of a repository from lines of text, and their answers compared.
 
 use crate::many::{add_layers, add_types, with_interface, with_properties};
-use crate::parts::{names, properties, text};
+use crate::parts::{names, properties, repository, text};
 use crate::telling::{
     put, put_answer, put_judgement, put_number, put_numbers, put_properties, put_truth,
 };
@@ -10,9 +10,21 @@ use std::process::Abort;
 use std::test::Fail;
 use td_cdr::{Boxed, List, Memory, Text};
 use td_types::{Types, TypesFault, TypesReply};
+use td_value::PropStruct;
 
-/// Performs the call of each line in order, as `CALL WORDS = ANSWER`, and compares what it answers.
-pub(crate) fn all_answered(
+/// Performs the call of each line in order, as `CALL WORDS = ANSWER`, and compares what it answers. The
+/// repository has the interfaces of these lines, and no types at first.
+pub(crate) fn answered(
+    rt: &impl Abort,
+    alloc: Global,
+    interfaces: &str,
+    lines: &str,
+) -> Result<(), Fail> {
+    let mut types = repository(alloc, interfaces)?;
+    all_answered(rt, alloc, &mut types, lines)
+}
+
+fn all_answered(
     rt: &impl Abort,
     alloc: Global,
     types: &mut Types,
@@ -24,10 +36,15 @@ pub(crate) fn all_answered(
     Ok(())
 }
 
+/// The first word and those behind it; `-` where there are none.
+fn cut(words: &str) -> (&str, &str) {
+    words.split_once(' ').unwrap_or((words, "-"))
+}
+
 /// Whether the call of this line answers what the line says.
 fn is_answered(alloc: Global, types: &mut Types, line: &str) -> Result<bool, Memory> {
     let (call, expected) = line.split_once(" =").unwrap_or((line, ""));
-    let (word, rest) = call.split_once(' ').unwrap_or((call, ""));
+    let (word, rest) = cut(call);
     let mut told = Vec::new(alloc);
     perform(alloc, types, word, rest, &mut told)?;
     Ok(told.as_slice() == expected.as_bytes())
@@ -45,8 +62,7 @@ fn perform(
         "remove" | "mask" | "unmask" => change(alloc, types, word, rest, told),
         "describe" | "fully" => describe(alloc, types, word, rest, told),
         "list" => list(alloc, types, rest, told),
-        "add_types" => put_truth(told, add_types(alloc, types, number_of(rest))?),
-        "add_layers" => put_truth(told, add_layers(alloc, types, number_of(rest))?),
+        "add_types" | "add_layers" => add_many(alloc, types, word, number_of(rest), told),
         "add_properties" | "add_interface" => add_large(alloc, types, word, rest, told),
         _ => look(alloc, types, word, rest, told),
     }
@@ -54,6 +70,20 @@ fn perform(
 
 fn number_of(digits: &str) -> u64 {
     digits.parse::<u64>().unwrap_or(0)
+}
+
+fn add_many(
+    alloc: Global,
+    types: &mut Types,
+    word: &str,
+    count: u64,
+    told: &mut Vec<u8>,
+) -> Result<(), Memory> {
+    let all = match word {
+        "add_types" => add_types(alloc, types, count),
+        _ => add_layers(alloc, types, count),
+    }?;
+    put_truth(told, all)
 }
 
 /// Adds the type of `NAME COUNT SUPERTYPES` with so many properties, or of `NAME LENGTH` with an
@@ -65,15 +95,27 @@ fn add_large(
     words: &str,
     told: &mut Vec<u8>,
 ) -> Result<(), Memory> {
-    let mut words = words.splitn(3, ' ');
-    let name = words.next().unwrap_or("");
-    let count = number_of(words.next().unwrap_or(""));
-    let answer = if word == "add_properties" {
-        with_properties(alloc, types, name, count, words.next().unwrap_or("-"))
-    } else {
-        with_interface(alloc, types, name, count)
+    let (name, rest) = cut(words);
+    let (count, supers) = cut(rest);
+    let answer = match word {
+        "add_properties" => with_properties(alloc, types, name, number_of(count), supers),
+        _ => with_interface(alloc, types, name, number_of(count)),
     }?;
     put_answer(alloc, told, answer.get())
+}
+
+fn two_texts(alloc: Global, first: &str, second: &str) -> Result<(Text, Text), Memory> {
+    let first = text(alloc, first)?;
+    Ok((first, text(alloc, second)?))
+}
+
+fn members(
+    alloc: Global,
+    props: &str,
+    supers: &str,
+) -> Result<(List<PropStruct>, List<Text>), Memory> {
+    let props = properties(alloc, props)?;
+    Ok((props, names(alloc, supers)?))
 }
 
 /// Adds the type of `NAME INTERFACE PROPERTIES SUPERTYPES`.
@@ -82,11 +124,11 @@ fn added(
     types: &mut Types,
     words: &str,
 ) -> Result<Boxed<Result<TypesReply, TypesFault>>, Memory> {
-    let mut words = words.splitn(4, ' ');
-    let name = text(alloc, words.next().unwrap_or(""))?;
-    let if_name = text(alloc, words.next().unwrap_or(""))?;
-    let props = properties(alloc, words.next().unwrap_or(""))?;
-    let supers = names(alloc, words.next().unwrap_or(""))?;
+    let (name, rest) = cut(words);
+    let (if_name, rest) = cut(rest);
+    let (props, supers) = cut(rest);
+    let (name, if_name) = two_texts(alloc, name, if_name)?;
+    let (props, supers) = members(alloc, props, supers)?;
     Boxed::new(alloc, types.add(name, if_name, props, supers))
 }
 
@@ -171,9 +213,8 @@ fn look(
 }
 
 fn conforms(alloc: Global, types: &Types, words: &str, told: &mut Vec<u8>) -> Result<(), Memory> {
-    let (sub, base) = words.split_once(' ').unwrap_or((words, ""));
-    let sub = text(alloc, sub)?;
-    let base = text(alloc, base)?;
+    let (sub, base) = cut(words);
+    let (sub, base) = two_texts(alloc, sub, base)?;
     put_truth(told, types.conforms(&sub, &base))
 }
 
@@ -183,7 +224,7 @@ fn id(word: &str) -> &[u8] {
 }
 
 fn interface_conforms(types: &Types, words: &str, told: &mut Vec<u8>) -> Result<(), Memory> {
-    let (sub, base) = words.split_once(' ').unwrap_or((words, ""));
+    let (sub, base) = cut(words);
     put_truth(told, types.interface_conforms(id(sub), id(base)))
 }
 
@@ -234,7 +275,7 @@ fn is_masked(types: &Types, name: &str, told: &mut Vec<u8>) -> Result<(), Memory
 }
 
 fn full_property(types: &Types, words: &str, told: &mut Vec<u8>) -> Result<(), Memory> {
-    let (type_name, name) = words.split_once(' ').unwrap_or((words, ""));
+    let (type_name, name) = cut(words);
     match types.full_property(type_name.as_bytes(), name.as_bytes()) {
         None => put(told, b"none"),
         Some(property) => put_properties(told, std::slice::from_ref(property)),

@@ -1,7 +1,6 @@
 //! The limits on types, and a repository of many layers.
 
-use crate::calls::all_answered;
-use crate::parts::repository;
+use crate::calls::answered;
 use std::test::Fail;
 
 /// 4,096 types and one more. A type that is refused for another cause isn't refused for the limit, and
@@ -19,9 +18,7 @@ list 4096 = T4095,More";
 
 #[test]
 fn as_many_types_as_there_may_be(rt: HostRuntime) -> Result<(), Fail> {
-    let alloc = rt.alloc();
-    let mut types = repository(alloc, "")?;
-    all_answered(&rt, alloc, &mut types, TYPES)
+    answered(&rt, rt.alloc(), "", TYPES)
 }
 
 /// 256 full properties and one more, its own or a supertype's; a property that is defined again counts
@@ -42,9 +39,7 @@ list = Wide,Below,Again,Spare,Long";
 
 #[test]
 fn as_much_as_a_type_may_have(rt: HostRuntime) -> Result<(), Fail> {
-    let alloc = rt.alloc();
-    let mut types = repository(alloc, "")?;
-    all_answered(&rt, alloc, &mut types, SIZES)
+    answered(&rt, rt.alloc(), "", SIZES)
 }
 
 /// 60 layers of two types, each below both types of the layer before: 2^59 ways lead from the last
@@ -68,7 +63,5 @@ remove A59 = HasSubTypes A59 Last";
 
 #[test]
 fn sixty_layers(rt: HostRuntime) -> Result<(), Fail> {
-    let alloc = rt.alloc();
-    let mut types = repository(alloc, "")?;
-    all_answered(&rt, alloc, &mut types, LAYERS)
+    answered(&rt, rt.alloc(), "", LAYERS)
 }

@@ -56,14 +56,13 @@ fn value_type(alloc: Global, kind: &str) -> Result<TypeCode, Memory> {
 
 /// A property as `NAME:KIND:MODE`.
 fn property(alloc: Global, word: &str) -> Result<PropStruct, Memory> {
-    let mut parts = word.split(':');
-    let name = text(alloc, parts.next().unwrap_or(""))?;
-    let kind = parts.next().unwrap_or("");
-    let mode = mode(parts.next().unwrap_or(""));
+    let (name, rest) = word.split_once(':').unwrap_or((word, ""));
+    let (kind, demand) = rest.split_once(':').unwrap_or((rest, ""));
+    let name = text(alloc, name)?;
     Ok(PropStruct {
         name,
         value_type: value_type(alloc, kind)?,
-        mode,
+        mode: mode(demand),
     })
 }
 

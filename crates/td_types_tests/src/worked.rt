@@ -1,7 +1,6 @@
 //! Worked examples: calls in order, each with its answer.
 
-use crate::calls::all_answered;
-use crate::parts::repository;
+use crate::calls::answered;
 use std::test::Fail;
 
 /// Below Device stands Printer, and Laser below that. A and B are each other's base.
@@ -58,9 +57,7 @@ is_masked Printer = no";
 
 #[test]
 fn types_conform_and_are_masked(rt: HostRuntime) -> Result<(), Fail> {
-    let alloc = rt.alloc();
-    let mut types = repository(alloc, INTERFACES)?;
-    all_answered(&rt, alloc, &mut types, LIFE)
+    answered(&rt, rt.alloc(), INTERFACES, LIFE)
 }
 
 /// A removed type leaves the others in their order. Added again it gets the next incarnation. The
@@ -95,9 +92,7 @@ subtypes Device = 1 7";
 
 #[test]
 fn types_are_removed_and_added_again(rt: HostRuntime) -> Result<(), Fail> {
-    let alloc = rt.alloc();
-    let mut types = repository(alloc, "")?;
-    all_answered(&rt, alloc, &mut types, REMOVALS)
+    answered(&rt, rt.alloc(), "", REMOVALS)
 }
 
 /// Two supertypes give one name: the first one's value type, and the join of both modes. The join of
@@ -116,9 +111,7 @@ add Strong - Cost:long:both Both = 6";
 
 #[test]
 fn modes_are_joined(rt: HostRuntime) -> Result<(), Fail> {
-    let alloc = rt.alloc();
-    let mut types = repository(alloc, "")?;
-    all_answered(&rt, alloc, &mut types, JOINED)
+    answered(&rt, rt.alloc(), "", JOINED)
 }
 
 /// Each exception with its members. A refused call changes nothing.
@@ -163,9 +156,7 @@ describe Lamp = - Cost:string:normal - no 0 2";
 
 #[test]
 fn each_exception(rt: HostRuntime) -> Result<(), Fail> {
-    let alloc = rt.alloc();
-    let mut types = repository(alloc, INTERFACES)?;
-    all_answered(&rt, alloc, &mut types, REFUSALS)
+    answered(&rt, rt.alloc(), INTERFACES, REFUSALS)
 }
 
 /// Two causes stand together: which one is answered.
@@ -190,9 +181,7 @@ list = Device,Lamp";
 
 #[test]
 fn the_first_cause_is_answered(rt: HostRuntime) -> Result<(), Fail> {
-    let alloc = rt.alloc();
-    let mut types = repository(alloc, INTERFACES)?;
-    all_answered(&rt, alloc, &mut types, ORDER)
+    answered(&rt, rt.alloc(), INTERFACES, ORDER)
 }
 
 /// Interfaces that conform, through a cycle and with an empty id too.
@@ -213,7 +202,5 @@ add Fourth Device - Third = InterfaceTypeMismatch Third A Fourth Device";
 
 #[test]
 fn interfaces_are_each_others_base(rt: HostRuntime) -> Result<(), Fail> {
-    let alloc = rt.alloc();
-    let mut types = repository(alloc, INTERFACES)?;
-    all_answered(&rt, alloc, &mut types, CONFORMING)
+    answered(&rt, rt.alloc(), INTERFACES, CONFORMING)
 }
