@@ -18,7 +18,7 @@ use Rattle.td_types.specs.Judged.{inherited, names_above}
 use Rattle.td_types.specs.Modes.{is_mandatory, is_readonly, mode_of, join}
 use Rattle.td_types.specs.Properties.{has_property, is_called, joined_mode, newcomers, strengthened}
 use Rattle.td_types.specs.Repository.{is_among}
-use Rattle.td_types.specs.Seen.{has_seen, HaveSeen}
+use Rattle.td_cdr.specs.Seen.{has_seen, HaveSeen}
 use Rattle.td_types.specs.declared.entry.Entry.{Entry}
 use Rattle.td_types.specs.declared.fault.TypesFault.{TypesFault}
 use Rattle.td_types.specs.declared.fault.TypesFault.TheVariants.{User, Full, Memory}

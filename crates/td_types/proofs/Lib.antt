@@ -21,7 +21,6 @@ pub mod Removed
 pub mod Rest
 pub mod Rising
 pub mod Sequences
-pub mod Sets
 pub mod Start
 pub mod Stronger
 pub mod Subtypes

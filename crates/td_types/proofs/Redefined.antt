@@ -13,7 +13,7 @@ use Rattle.std.specs.Str.{bytes_eq}
 use Rattle.td_value.specs.declared.structures.PropStruct.{PropStruct}
 use Rattle.td_types.proofs.Equal.{bytes_same}
 use Rattle.td_types.proofs.Rest.{rest}
-use Rattle.td_types.proofs.Sets.{slice_order}
+use Rattle.td_cdr.specs.Seen.{slice_order}
 use Rattle.td_types.specs.Adding.{Definition, definitions, conflict, earlier_of, redefinition, or_else}
 use Rattle.td_types.specs.Firsts.{stated, first_at, AreFirsts}
 use Rattle.td_types.specs.Properties.{is_called}

@@ -16,7 +16,7 @@ use Rattle.td_types.specs.Interfaces.{interface_conforms}
 use Rattle.td_types.specs.Judged.{Judges, AreBases}
 use Rattle.td_types.specs.Kept.{kept, repository}
 use Rattle.td_types.specs.Repository.{Repository, Declared, is_among}
-use Rattle.td_types.specs.Seen.{has_seen, HaveSeen}
+use Rattle.td_cdr.specs.Seen.{has_seen, HaveSeen}
 use Rattle.td_types.specs.Sought.{entry_named, entry_or_unknown, sought, IsRefused}
 use Rattle.td_types.specs.declared.entry.Entry.{Entry}
 use Rattle.td_types.specs.declared.fault.RepoFault.{RepoFault}

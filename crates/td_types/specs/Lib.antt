@@ -17,6 +17,5 @@ pub mod Properties
 pub mod Reaching
 pub mod Removing
 pub mod Repository
-pub mod Seen
 pub mod Sought
 pub mod Writable

@@ -10,10 +10,9 @@ use crate::entries::Entries;
 use crate::entry::Entry;
 use crate::fault::{RepoFault, TypesFault};
 use crate::interfaces::Interfaces;
-use crate::seen::{nothing_seen, see};
 use crate::sought::sought;
 use std::alloc::Global;
-use td_cdr::{List, Memory, Text, Twin, copy_four};
+use td_cdr::{List, Memory, Text, Twin, copy_four, nothing_seen, see};
 
 /// The entries of the supertypes. Refuses the first that no type has, that stands before, or to whose
 /// interface the new type's doesn't conform.

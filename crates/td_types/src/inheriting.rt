@@ -8,16 +8,15 @@ ghost use Rattle.td_types.specs.Inheriting.{extended, IsMore, IsMoreBy};
 ghost use Rattle.td_types.specs.Judged.{inherited, names_above};
 ghost use Rattle.td_types.specs.Modes.{join};
 ghost use Rattle.td_types.specs.Properties.{has_property, joined_mode, with_inherited, strengthened};
-ghost use Rattle.td_types.specs.Seen.{HaveSeen};
+ghost use Rattle.td_cdr.specs.Seen.{HaveSeen};
 ghost use Rattle.td_value.specs.declared.structures.PropStruct.{PropStruct as a_property};
 
 use crate::entry::Entry;
 use crate::fault::TypesFault;
 use crate::modes::join;
-use crate::seen::{nothing_seen, see};
 use std::alloc::Global;
 use std::collections::BTreeSet;
-use td_cdr::{List, Memory, Text, Twin};
+use td_cdr::{List, Memory, Text, Twin, nothing_seen, see};
 use td_value::{PropStruct, PropertyMode};
 
 /// How many full properties a type has at most.

@@ -22,7 +22,6 @@ mod reaching;
 mod redefining;
 mod removing;
 mod reply;
-mod seen;
 mod sought;
 mod types;
 

@@ -7,9 +7,8 @@ ghost use Rattle.td_types.specs.Kept.{repository};
 
 use crate::entries::Entries;
 use crate::fault::{RepoFault, TypesFault};
-use crate::seen::{nothing_seen, see};
 use std::alloc::Global;
-use td_cdr::{Text, Twin, is_identifier, is_word_name};
+use td_cdr::{Text, Twin, is_identifier, is_word_name, nothing_seen, see};
 use td_value::PropStruct;
 
 /// Refuses a type's name that is none, or that a type has.

@@ -4,7 +4,7 @@ use Rattle.td_types.specs.Interfaces.{interface_conforms}
 use Rattle.td_types.specs.Judged.{AreBases}
 use Rattle.td_types.specs.Kept.{repository}
 use Rattle.td_types.specs.Repository.{is_among}
-use Rattle.td_types.specs.Seen.{has_seen}
+use Rattle.td_cdr.specs.Seen.{has_seen}
 use Rattle.td_types.specs.Sought.{sought}
 use Rattle.td_types.specs.declared.entry.Entry.{Entry}
 use Rattle.td_types.proofs.Found.{found_named}

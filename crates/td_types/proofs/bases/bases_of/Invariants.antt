@@ -2,7 +2,7 @@ use Rattle.std.proofs.Common.{◌≡◌, [], drop, take, map, reverse, Bor}
 use Rattle.td_types.specs.Adding.{supers_fault}
 use Rattle.td_types.specs.Judged.{AreBases}
 use Rattle.td_types.specs.Kept.{repository}
-use Rattle.td_types.specs.Seen.{HaveSeen}
+use Rattle.td_cdr.specs.Seen.{HaveSeen}
 use Rattle.td_types.specs.declared.entry.Entry.{Entry}
 use Rattle.td_types.proofs.bases.bases_of.Given as goal
 

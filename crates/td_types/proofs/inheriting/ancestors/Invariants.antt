@@ -1,7 +1,7 @@
 use Rattle.std.proofs.Common.{◌≡◌, drop, map, Bor, []}
 use Rattle.td_types.specs.Conforming.{once}
 use Rattle.td_types.specs.Judged.{names_above}
-use Rattle.td_types.specs.Seen.{HaveSeen}
+use Rattle.td_cdr.specs.Seen.{HaveSeen}
 use Rattle.td_types.specs.declared.entry.Entry.{Entry}
 use Rattle.td_types.proofs.inheriting.ancestors.Given as goal
 

@@ -1,6 +1,6 @@
 use Rattle.std.proofs.Common.{◌≡◌, ℕ, not, false, List, [], ◌∷◌, ◌++◌, ◌∙◌, ap}
 use Rattle.td_types.specs.Repository.{is_among}
-use Rattle.td_types.specs.Seen.{has_seen}
+use Rattle.td_cdr.specs.Seen.{has_seen}
 use Rattle.td_types.proofs.Gathered.{added_once, met_anew}
 use Rattle.td_types.proofs.Supers.{met_first}
 use Rattle.td_types.proofs.inheriting.meet.Goals as goal

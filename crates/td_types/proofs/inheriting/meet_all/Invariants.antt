@@ -1,6 +1,6 @@
 use Rattle.std.proofs.Common.{◌≡◌, drop}
 use Rattle.td_types.specs.Conforming.{once}
-use Rattle.td_types.specs.Seen.{HaveSeen}
+use Rattle.td_cdr.specs.Seen.{HaveSeen}
 use Rattle.td_types.proofs.inheriting.meet_all.Given as goal
 
 abbrev pub invariant-loop-name : goal.invariant-loop-name

@@ -1,6 +1,6 @@
 use Rattle.std.proofs.Common.{◌≡◌, [], drop, take, map, reverse}
 use Rattle.td_types.specs.Adding.{property_fault}
-use Rattle.td_types.specs.Seen.{HaveSeen}
+use Rattle.td_cdr.specs.Seen.{HaveSeen}
 use Rattle.td_value.specs.declared.structures.PropStruct.{PropStruct}
 use Rattle.td_types.proofs.naming.check_properties.Given as goal
 
