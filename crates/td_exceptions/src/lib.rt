@@ -5,8 +5,10 @@
 mod copying;
 mod exception;
 mod ids;
+mod laws;
 mod writing;
 
 pub use exception::UserException;
 pub use ids::user_id;
+pub use laws::exceptions_are_told_apart;
 pub use writing::put_user;

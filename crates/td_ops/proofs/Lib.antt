@@ -1,4 +1,5 @@
 pub mod Heard
 pub mod Named
+pub mod Refused
 pub mod Tags
 pub mod Told

@@ -1,9 +1,9 @@
 -- What a client is told by a reply of a status (CORBA, chapter on General Inter-ORB Protocol, "Reply Header"
 -- and "Reply Body").
-use Rattle.std.specs.Prelude.{◌≡◌, ℕ, Bool, true, false, nat_eq, Result, Some, None, refl}
+use Rattle.std.specs.Prelude.{◌≡◌, ℕ, nat_eq, Result, Some, None, refl}
 use Rattle.td_cdr.specs.Place.{At}
 use Rattle.td_cdr.specs.Format.{Piece}
-use Rattle.td_cdr.specs.Sound.{Sound, ◌&◌, variant, failure, text, ulong}
+use Rattle.td_cdr.specs.Sound.{Sound, ◌&◌, variant, failure, either, text, ulong}
 use Rattle.td_cdr.specs.declared.value_fault.ValueFault.{ValueFault}
 use Rattle.td_cdr.specs.declared.value_fault.ValueFault.TheVariants.{BadValue}
 use Rattle.td_exceptions.specs.Exceptions.{row_of, user_id}
@@ -21,10 +21,6 @@ use Rattle.td_ops.specs.Shapes.{results, shape_of}
 use Rattle.td_ops.specs.Outcomes.{outcome_piece, system_id}
 use Rattle.td_ops.specs.Refusals.{told}
 
-abbrev pub choice : {F Y : Type 0} → Bool → Sound F Y → Sound F Y → Sound F Y
-choice true f g = f
-choice false f g = g
-
 abbrev pub done_answer : Shape → Sound ValueFault Answered
 done_answer shape = variant (λ r. Done r) (elim [ Done r ↦ Some r | _ ↦ None ]) (λ _. refl) (results shape)
 
@@ -41,8 +37,8 @@ no_answer = failure (λ a. BadValue a.place)
 -- No other status has a body here.
 abbrev pub answer_of : Operation → ℕ → Sound ValueFault Answered
 answer_of operation status =
-    choice (nat_eq status 0) (done_answer (row operation).result)
-    (choice (nat_eq status 1) user_answer (choice (nat_eq status 2) system_answer no_answer))
+    either (nat_eq status 0) (done_answer (row operation).result)
+    (either (nat_eq status 1) user_answer (either (nat_eq status 2) system_answer no_answer))
 
 -- what is told and where the reader then stands, or the first fault
 abbrev pub outcome_read : Call → ℕ → At → Result (Answered × At) OpsFault

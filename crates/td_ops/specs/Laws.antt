@@ -9,13 +9,14 @@ use Rattle.td_value.specs.declared.key.Kind.TheVariants.{Admin}
 use Rattle.td_ops.specs.declared.call.Call.{Call}
 use Rattle.td_ops.specs.declared.operation.Operation.{Operation}
 use Rattle.td_ops.specs.declared.operation.Operation.TheVariants.{NonExistent}
-use Rattle.td_ops.specs.declared.fault.OpsFault.TheVariants.{BadOperation, NoImplement}
+use Rattle.td_ops.specs.declared.fault.OpsFault.TheVariants.{BadOperation, Marshal, NoImplement}
 use Rattle.td_ops.specs.declared.outcome.Outcome.{Outcome}
 use Rattle.td_ops.specs.Called.{operation_in}
 use Rattle.td_ops.specs.Operations.{operations, operation_named, name_of}
 use Rattle.td_ops.specs.Calls.{Body, AdmitsCall, body_of, call_piece, call_read}
 use Rattle.td_ops.specs.Outcomes.{outcome_piece, outcome_status}
 use Rattle.td_ops.specs.Answers.{AdmitsOutcome, answered, outcome_read, telling}
+use Rattle.td_ops.specs.BodyFaults.{UnsupportedKind, Misspelling, IsUnknown, IsNotImplemented, IsMisspelled, answer_faults}
 
 -- each operation of an object is found by its name
 abbrev pub AreFound : Type 0
@@ -57,3 +58,26 @@ abbrev pub OutcomeReadsBack : Type 0
 OutcomeReadsBack = (c : Call) (o : Outcome) (a : At) (rest : List ℕ) → AdmitsOutcome (operation_in c) o → a.origin ≤ a.place
     → length (outcome_piece o a.order (a.place - a.origin)) < 2 ^ 32 → a.rest ≡ outcome_piece o a.order (a.place - a.origin) ++ rest
     → outcome_read c (outcome_status o) a ≡ Ok (answered o, after (length (telling o a.order (a.place - a.origin))) a)
+
+-- ---- why a body is refused
+
+-- BAD_OPERATION, whatever the body
+abbrev pub BadOperationIsUnknown : Type 0
+BadOperationIsUnknown = (kind : Kind) (name : List ℕ) (a : At) → (call_read kind name a ≡ Err BadOperation) ↔ IsUnknown kind name
+
+abbrev pub NoImplementIsLeftOut : Type 0
+NoImplementIsLeftOut = (kind : Kind) (name : List ℕ) (a : At) → a.origin ≤ a.place
+    → (call_read kind name a ≡ Err NoImplement) ↔ IsNotImplemented kind name a
+
+abbrev pub MarshalIsMisspelled : Type 0
+MarshalIsMisspelled = (kind : Kind) (name : List ℕ) (a : At) (place : ℕ) → a.origin ≤ a.place
+    → (call_read kind name a ≡ Err (Marshal place)) ↔ IsMisspelled kind name a place
+
+-- the same of a reply to a call
+abbrev pub ReplyIsLeftOut : Type 0
+ReplyIsLeftOut = (c : Call) (status : ℕ) (a : At) → a.origin ≤ a.place
+    → (outcome_read c status a ≡ Err NoImplement) ↔ UnsupportedKind (answer_faults (operation_in c) status) a
+
+abbrev pub ReplyIsMisspelled : Type 0
+ReplyIsMisspelled = (c : Call) (status : ℕ) (a : At) (place : ℕ) → a.origin ≤ a.place
+    → (outcome_read c status a ≡ Err (Marshal place)) ↔ Misspelling (answer_faults (operation_in c) status) a place

@@ -1,6 +1,7 @@
 pub mod Administration
 pub mod Answers
 pub mod Attributes
+pub mod BodyFaults
 pub mod Called
 pub mod Calls
 pub mod Iterators

@@ -4,6 +4,7 @@ ghost use Rattle.std.specs.Prelude.{ℕ, map};
 ghost use Rattle.std.specs.List.{IsDistinct};
 ghost use Rattle.std.specs.Str.{bytes_eq};
 ghost use Rattle.td_cdr.specs.Lawful.{Lawful};
+ghost use Rattle.td_cdr.specs.Faults.{Refuses};
 ghost use Rattle.td_value.specs.declared.key.Kind.{Kind};
 ghost use Rattle.td_exceptions.specs.declared.exception.UserException.{UserException};
 ghost use Rattle.td_exceptions.specs.Exceptions.{row_of};
@@ -14,7 +15,9 @@ ghost use Rattle.td_ops.specs.Calls.{body_of};
 ghost use Rattle.td_ops.specs.Shapes.{results};
 ghost use Rattle.td_ops.specs.Answers.{answer_of};
 ghost use Rattle.td_ops.specs.Laws.{AreFound, SecondName, RepositoryStays, ReadAsSpelled, SpelledIsRead};
+ghost use Rattle.td_ops.specs.BodyFaults.{parameter_faults, answer_faults};
 ghost use Rattle.td_ops.specs.Laws.{UnknownIsRefused, IsCalled, CallReadsBack, OutcomeReadsBack};
+ghost use Rattle.td_ops.specs.Laws.{BadOperationIsUnknown, NoImplementIsLeftOut, MarshalIsMisspelled, ReplyIsLeftOut, ReplyIsMisspelled};
 
 /// No name stands twice among the operations of an object, and each is found by its name. The second
 /// name `_not_existent` finds the same operation as `_non_existent`. `set_type_repos` is not
@@ -35,6 +38,21 @@ pub fn calls_are_spelled()
     ensures only { SpelledIsRead }
     ensures unknown { UnknownIsRefused }
     ensures called { IsCalled }
+{}
+
+/// Parameters are refused exactly where their bytes are at fault: with the fault of the first value that has no
+/// spelling, all values before it having one. A request's body is refused with `BadOperation` exactly where no
+/// operation in the object's table has the name, whatever the body; with `NoImplement` exactly where that first
+/// fault is a kind of TypeCode that is left out, or the operation is `set_type_repos`; and with `Marshal` at a
+/// place exactly where the first fault is another one, at that place. A reply's body is refused in the same way.
+pub fn bodies_are_refused()
+    ensures parameters { (operation : Operation) → Refuses (parameter_faults operation) (body_of operation).reads }
+    ensures unknown { BadOperationIsUnknown }
+    ensures not_implemented { NoImplementIsLeftOut }
+    ensures misspelled { MarshalIsMisspelled }
+    ensures replies { (operation : Operation) (status : ℕ) → Refuses (answer_faults operation status) (answer_of operation status).format.reads }
+    ensures reply_not_implemented { ReplyIsLeftOut }
+    ensures reply_misspelled { ReplyIsMisspelled }
 {}
 
 /// What is written for a call is read as that call, under the name that `operation_of` gives, at an

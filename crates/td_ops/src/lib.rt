@@ -31,8 +31,8 @@ pub use called::{operation_in, operation_of};
 pub use fault::OpsFault;
 pub use finding::operation_named;
 pub use laws::{
-    calls_are_read_back, calls_are_spelled, exceptions_are_read_back, operations_are_named,
-    outcomes_are_read_back,
+    bodies_are_refused, calls_are_read_back, calls_are_spelled, exceptions_are_read_back,
+    operations_are_named, outcomes_are_read_back,
 };
 pub use operation::{
     AdminOperation, IteratorOperation, LinkOperation, Operation, ProxyOperation, RegisterOperation,

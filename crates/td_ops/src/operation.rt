@@ -95,123 +95,72 @@ pub enum TypesOperation {
     UnmaskType,
 }
 
+/// How an operation is declared: the name that a request has, and the shape of the result.
+#[derive(Clone, Copy)]
+pub(crate) struct Declaration {
+    pub name: &'static str,
+    pub shape: Shape,
+}
+
+/// The declaration of an operation. Takes no memory.
+fn declaration_of(operation: Operation) -> Declaration
+    ensures name { result.name.now ≡ name_of operation }
+    ensures shape { result.shape ≡ (row operation).result }
+{
+    match operation {
+        Operation::Query => Declaration {
+            name: "query",
+            shape: Shape::Found,
+        },
+        Operation::Register(register) => register_declaration(register),
+        Operation::Link(link) => link_declaration(link),
+        Operation::Proxy(proxy) => proxy_declaration(proxy),
+        Operation::Admin(admin) => admin_declaration(admin),
+        Operation::Iterator(iterator) => iterator_declaration(iterator),
+        Operation::Types(types) => types_declaration(types),
+        Operation::Get(attribute) => Declaration {
+            name: reading_name(attribute),
+            shape: attribute_shape(attribute),
+        },
+        Operation::SetTruth(attribute) => Declaration {
+            name: truth_setting_name(attribute),
+            shape: Shape::Truth,
+        },
+        Operation::SetNumber(attribute) => Declaration {
+            name: number_setting_name(attribute),
+            shape: Shape::Number,
+        },
+        Operation::SetFollow(attribute) => Declaration {
+            name: follow_setting_name(attribute),
+            shape: Shape::Follow,
+        },
+        Operation::SetRequestIdStem => Declaration {
+            name: "set_request_id_stem",
+            shape: Shape::Stem,
+        },
+        Operation::IsA => Declaration {
+            name: "_is_a",
+            shape: Shape::Truth,
+        },
+        Operation::NonExistent => Declaration {
+            name: "_non_existent",
+            shape: Shape::Truth,
+        },
+    }
+}
+
 /// The name of an operation, as a client writes it. Takes no memory.
 pub(crate) fn operation_name(operation: Operation) -> &'static str
     ensures { result.now ≡ name_of operation }
 {
-    match operation {
-        Operation::Query => "query",
-        Operation::Register(register) => register_name(register),
-        Operation::Link(link) => link_name(link),
-        Operation::Proxy(proxy) => proxy_name(proxy),
-        Operation::Admin(admin) => admin_name(admin),
-        Operation::Iterator(iterator) => iterator_name(iterator),
-        Operation::Types(types) => types_name(types),
-        Operation::Get(attribute) => reading_name(attribute),
-        Operation::SetTruth(attribute) => truth_setting_name(attribute),
-        Operation::SetNumber(attribute) => number_setting_name(attribute),
-        Operation::SetFollow(attribute) => follow_setting_name(attribute),
-        Operation::SetRequestIdStem => "set_request_id_stem",
-        Operation::IsA => "_is_a",
-        Operation::NonExistent => "_non_existent",
-    }
-}
-
-fn register_name(operation: RegisterOperation) -> &'static str
-    ensures { result.now ≡ (register_row operation).name }
-{
-    match operation {
-        RegisterOperation::Export => "export",
-        RegisterOperation::Withdraw => "withdraw",
-        RegisterOperation::Describe => "describe",
-        RegisterOperation::Modify => "modify",
-        RegisterOperation::WithdrawUsingConstraint => "withdraw_using_constraint",
-        RegisterOperation::Resolve => "resolve",
-    }
-}
-
-fn link_name(operation: LinkOperation) -> &'static str
-    ensures { result.now ≡ (link_row operation).name }
-{
-    match operation {
-        LinkOperation::AddLink => "add_link",
-        LinkOperation::RemoveLink => "remove_link",
-        LinkOperation::DescribeLink => "describe_link",
-        LinkOperation::ListLinks => "list_links",
-        LinkOperation::ModifyLink => "modify_link",
-    }
-}
-
-fn proxy_name(operation: ProxyOperation) -> &'static str
-    ensures { result.now ≡ (proxy_row operation).name }
-{
-    match operation {
-        ProxyOperation::ExportProxy => "export_proxy",
-        ProxyOperation::WithdrawProxy => "withdraw_proxy",
-        ProxyOperation::DescribeProxy => "describe_proxy",
-    }
-}
-
-fn admin_name(operation: AdminOperation) -> &'static str
-    ensures { result.now ≡ (admin_row operation).name }
-{
-    match operation {
-        AdminOperation::ListOffers => "list_offers",
-        AdminOperation::ListProxies => "list_proxies",
-        AdminOperation::SetTypeRepos => "set_type_repos",
-    }
-}
-
-fn iterator_name(operation: IteratorOperation) -> &'static str
-    ensures { result.now ≡ (iterator_row operation).name }
-{
-    match operation {
-        IteratorOperation::MaxLeft => "max_left",
-        IteratorOperation::NextN => "next_n",
-        IteratorOperation::Destroy => "destroy",
-    }
-}
-
-fn types_name(operation: TypesOperation) -> &'static str
-    ensures { result.now ≡ (types_row operation).name }
-{
-    match operation {
-        TypesOperation::AddType => "add_type",
-        TypesOperation::RemoveType => "remove_type",
-        TypesOperation::ListTypes => "list_types",
-        TypesOperation::DescribeType => "describe_type",
-        TypesOperation::FullyDescribeType => "fully_describe_type",
-        TypesOperation::MaskType => "mask_type",
-        TypesOperation::UnmaskType => "unmask_type",
-    }
-}
-
-impl Named for Operation {
-    ghost name_of = { name_of };
-
-    fn name(self) -> &'static [u8] {
-        operation_name(self).as_bytes()
-    }
+    declaration_of(operation).name
 }
 
 /// The shape of an operation's result.
 pub(crate) fn result_shape(operation: Operation) -> Shape
     ensures { result ≡ (row operation).result }
 {
-    match operation {
-        Operation::Query => Shape::Found,
-        Operation::Register(register) => register_result(register),
-        Operation::Link(link) => link_result(link),
-        Operation::Proxy(proxy) => proxy_result(proxy),
-        Operation::Admin(admin) => admin_result(admin),
-        Operation::Iterator(iterator) => iterator_result(iterator),
-        Operation::Types(types) => types_result(types),
-        Operation::Get(attribute) => attribute_shape(attribute),
-        Operation::SetTruth(_) | Operation::IsA | Operation::NonExistent => Shape::Truth,
-        Operation::SetNumber(_) => Shape::Number,
-        Operation::SetFollow(_) => Shape::Follow,
-        Operation::SetRequestIdStem => Shape::Stem,
-    }
+    declaration_of(operation).shape
 }
 
 /// The shape of an attribute's value.
@@ -228,68 +177,167 @@ fn attribute_shape(attribute: Attribute) -> Shape
     }
 }
 
-fn register_result(operation: RegisterOperation) -> Shape
-    ensures { result ≡ (register_row operation).result }
+fn register_declaration(operation: RegisterOperation) -> Declaration
+    ensures name { result.name.now ≡ (register_row operation).name }
+    ensures shape { result.shape ≡ (register_row operation).result }
 {
     match operation {
-        RegisterOperation::Export => Shape::Id,
-        RegisterOperation::Withdraw
-        | RegisterOperation::Modify
-        | RegisterOperation::WithdrawUsingConstraint => Shape::Nothing,
-        RegisterOperation::Describe => Shape::Offer,
-        RegisterOperation::Resolve => Shape::Reference,
+        RegisterOperation::Export => Declaration {
+            name: "export",
+            shape: Shape::Id,
+        },
+        RegisterOperation::Withdraw => Declaration {
+            name: "withdraw",
+            shape: Shape::Nothing,
+        },
+        RegisterOperation::Describe => Declaration {
+            name: "describe",
+            shape: Shape::Offer,
+        },
+        RegisterOperation::Modify => Declaration {
+            name: "modify",
+            shape: Shape::Nothing,
+        },
+        RegisterOperation::WithdrawUsingConstraint => Declaration {
+            name: "withdraw_using_constraint",
+            shape: Shape::Nothing,
+        },
+        RegisterOperation::Resolve => Declaration {
+            name: "resolve",
+            shape: Shape::Reference,
+        },
     }
 }
 
-fn link_result(operation: LinkOperation) -> Shape
-    ensures { result ≡ (link_row operation).result }
+fn link_declaration(operation: LinkOperation) -> Declaration
+    ensures name { result.name.now ≡ (link_row operation).name }
+    ensures shape { result.shape ≡ (link_row operation).result }
 {
     match operation {
-        LinkOperation::AddLink | LinkOperation::RemoveLink | LinkOperation::ModifyLink =>
-            Shape::Nothing,
-        LinkOperation::DescribeLink => Shape::Link,
-        LinkOperation::ListLinks => Shape::Names,
+        LinkOperation::AddLink => Declaration {
+            name: "add_link",
+            shape: Shape::Nothing,
+        },
+        LinkOperation::RemoveLink => Declaration {
+            name: "remove_link",
+            shape: Shape::Nothing,
+        },
+        LinkOperation::DescribeLink => Declaration {
+            name: "describe_link",
+            shape: Shape::Link,
+        },
+        LinkOperation::ListLinks => Declaration {
+            name: "list_links",
+            shape: Shape::Names,
+        },
+        LinkOperation::ModifyLink => Declaration {
+            name: "modify_link",
+            shape: Shape::Nothing,
+        },
     }
 }
 
-fn proxy_result(operation: ProxyOperation) -> Shape
-    ensures { result ≡ (proxy_row operation).result }
+fn proxy_declaration(operation: ProxyOperation) -> Declaration
+    ensures name { result.name.now ≡ (proxy_row operation).name }
+    ensures shape { result.shape ≡ (proxy_row operation).result }
 {
     match operation {
-        ProxyOperation::ExportProxy => Shape::Id,
-        ProxyOperation::WithdrawProxy => Shape::Nothing,
-        ProxyOperation::DescribeProxy => Shape::Proxy,
+        ProxyOperation::ExportProxy => Declaration {
+            name: "export_proxy",
+            shape: Shape::Id,
+        },
+        ProxyOperation::WithdrawProxy => Declaration {
+            name: "withdraw_proxy",
+            shape: Shape::Nothing,
+        },
+        ProxyOperation::DescribeProxy => Declaration {
+            name: "describe_proxy",
+            shape: Shape::Proxy,
+        },
     }
 }
 
-fn admin_result(operation: AdminOperation) -> Shape
-    ensures { result ≡ (admin_row operation).result }
+fn admin_declaration(operation: AdminOperation) -> Declaration
+    ensures name { result.name.now ≡ (admin_row operation).name }
+    ensures shape { result.shape ≡ (admin_row operation).result }
 {
     match operation {
-        AdminOperation::ListOffers | AdminOperation::ListProxies => Shape::Ids,
-        AdminOperation::SetTypeRepos => Shape::Reference,
+        AdminOperation::ListOffers => Declaration {
+            name: "list_offers",
+            shape: Shape::Ids,
+        },
+        AdminOperation::ListProxies => Declaration {
+            name: "list_proxies",
+            shape: Shape::Ids,
+        },
+        AdminOperation::SetTypeRepos => Declaration {
+            name: "set_type_repos",
+            shape: Shape::Reference,
+        },
     }
 }
 
-fn iterator_result(operation: IteratorOperation) -> Shape
-    ensures { result ≡ (iterator_row operation).result }
+fn iterator_declaration(operation: IteratorOperation) -> Declaration
+    ensures name { result.name.now ≡ (iterator_row operation).name }
+    ensures shape { result.shape ≡ (iterator_row operation).result }
 {
     match operation {
-        IteratorOperation::MaxLeft => Shape::Number,
-        IteratorOperation::NextN => Shape::Batch,
-        IteratorOperation::Destroy => Shape::Nothing,
+        IteratorOperation::MaxLeft => Declaration {
+            name: "max_left",
+            shape: Shape::Number,
+        },
+        IteratorOperation::NextN => Declaration {
+            name: "next_n",
+            shape: Shape::Batch,
+        },
+        IteratorOperation::Destroy => Declaration {
+            name: "destroy",
+            shape: Shape::Nothing,
+        },
     }
 }
 
-fn types_result(operation: TypesOperation) -> Shape
-    ensures { result ≡ (types_row operation).result }
+fn types_declaration(operation: TypesOperation) -> Declaration
+    ensures name { result.name.now ≡ (types_row operation).name }
+    ensures shape { result.shape ≡ (types_row operation).result }
 {
     match operation {
-        TypesOperation::AddType => Shape::Incarnation,
-        TypesOperation::RemoveType | TypesOperation::MaskType | TypesOperation::UnmaskType =>
-            Shape::Nothing,
-        TypesOperation::ListTypes => Shape::Names,
-        TypesOperation::DescribeType | TypesOperation::FullyDescribeType => Shape::Typed,
+        TypesOperation::AddType => Declaration {
+            name: "add_type",
+            shape: Shape::Incarnation,
+        },
+        TypesOperation::RemoveType => Declaration {
+            name: "remove_type",
+            shape: Shape::Nothing,
+        },
+        TypesOperation::ListTypes => Declaration {
+            name: "list_types",
+            shape: Shape::Names,
+        },
+        TypesOperation::DescribeType => Declaration {
+            name: "describe_type",
+            shape: Shape::Typed,
+        },
+        TypesOperation::FullyDescribeType => Declaration {
+            name: "fully_describe_type",
+            shape: Shape::Typed,
+        },
+        TypesOperation::MaskType => Declaration {
+            name: "mask_type",
+            shape: Shape::Nothing,
+        },
+        TypesOperation::UnmaskType => Declaration {
+            name: "unmask_type",
+            shape: Shape::Nothing,
+        },
+    }
+}
+
+impl Named for Operation {
+    ghost name_of = { name_of };
+
+    fn name(self) -> &'static [u8] {
+        operation_name(self).as_bytes()
     }
 }
 

@@ -1,6 +1,6 @@
 //! Calls that another program worked out from the rules of CORBA's chapters.
 
-use crate::lines::{bytes_of, call_in, cut, kind_of};
+use crate::lines::{behind_eight, bytes_of, call_in, cut, fault_of, kind_of, with_more};
 use crate::vectors::{CALLS, FAULTS, SHORT_CALLS};
 use std::alloc::Global;
 use std::process::Abort;
@@ -8,13 +8,6 @@ use std::test::Fail;
 use td_cdr::{Boxed, Order, Reader, Twin, Writer};
 use td_ops::{Call, OpsFault, operation_of, read_call, write_call};
 use td_value::Kind;
-
-/// The body with bytes behind its last parameter.
-fn with_more(alloc: Global, body: &[u8]) -> Result<Vec<u8>, Fail> {
-    let mut bytes = Vec::from_slice(alloc, body)?;
-    bytes.extend_from_slice(b"\xff\x00\xff")?;
-    Ok(bytes)
-}
 
 /// Whether the copy of the call is written as the body.
 fn is_body(alloc: Global, call: &Call, body: &[u8], order: Order) -> Result<bool, Fail> {
@@ -83,13 +76,6 @@ fn second_name(rt: HostRuntime) -> Result<(), Fail> {
     Ok(())
 }
 
-/// Eight bytes and the body.
-fn behind_eight(alloc: Global, body: &[u8]) -> Result<Vec<u8>, Fail> {
-    let mut bytes = Vec::from_slice(alloc, b"\x00\x00\x00\x00\x00\x00\x00\x00")?;
-    bytes.extend_from_slice(body)?;
-    Ok(bytes)
-}
-
 /// Why there is no call from byte 8 on, and the place where the reader is then.
 fn fault_in(alloc: Global, kind: Kind, name: &str, bytes: &[u8]) -> (Option<OpsFault>, u32) {
     if bytes.len() < 8 || bytes.len() >= 10000 {
@@ -98,15 +84,6 @@ fn fault_in(alloc: Global, kind: Kind, name: &str, bytes: &[u8]) -> (Option<OpsF
     let mut reader = Reader::new(bytes, 8, Order::Big);
     let found = read_call(alloc, &kind, name.as_bytes(), &mut reader).err();
     (found, reader.place())
-}
-
-/// The fault that a word names, at a place.
-fn fault_of(word: &str, place: u32) -> OpsFault {
-    match word {
-        "BadOperation" => OpsFault::BadOperation,
-        "NoImplement" => OpsFault::NoImplement,
-        _ => OpsFault::Marshal(place),
-    }
 }
 
 /// An object, an operation, a fault, its place and the body, which is refused; the reader stays.

@@ -42,7 +42,7 @@ fn path(alloc: Global) -> Result<List<Text>, Fail> {
     Ok(names)
 }
 
-fn lookup(alloc: Global) -> Result<Ior, Fail> {
+pub fn lookup(alloc: Global) -> Result<Ior, Fail> {
     let mut profiles = List::new(alloc);
     profiles.push(Profile {
         tag: 0,

@@ -3,7 +3,7 @@
 use std::alloc::Global;
 use std::test::Fail;
 use td_cdr::{Boxed, Order, Reader};
-use td_ops::{Call, read_call};
+use td_ops::{Call, OpsFault, read_call};
 use td_value::Kind;
 
 /// The object that a word names.
@@ -49,4 +49,27 @@ pub fn call_in(
         read_call(alloc, &kind, name.as_bytes(), &mut reader)?,
     )?;
     Ok((call, reader.place()))
+}
+
+/// The body with bytes behind its last value.
+pub fn with_more(alloc: Global, body: &[u8]) -> Result<Vec<u8>, Fail> {
+    let mut bytes = Vec::from_slice(alloc, body)?;
+    bytes.extend_from_slice(b"\xff\x00\xff")?;
+    Ok(bytes)
+}
+
+/// Eight bytes and the body.
+pub fn behind_eight(alloc: Global, body: &[u8]) -> Result<Vec<u8>, Fail> {
+    let mut bytes = Vec::from_slice(alloc, b"\x00\x00\x00\x00\x00\x00\x00\x00")?;
+    bytes.extend_from_slice(body)?;
+    Ok(bytes)
+}
+
+/// The fault that a word names, at a place.
+pub fn fault_of(word: &str, place: u32) -> OpsFault {
+    match word {
+        "BadOperation" => OpsFault::BadOperation,
+        "NoImplement" => OpsFault::NoImplement,
+        _ => OpsFault::Marshal(place),
+    }
 }

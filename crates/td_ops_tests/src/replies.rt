@@ -1,8 +1,8 @@
 //! Replies that another program worked out from the rules of CORBA's chapters.
 
 use crate::exceptions::exception;
-use crate::lines::{bytes_of, call_in, cut, kind_of};
-use crate::vectors::{RESULTS, SYSTEM_EXCEPTIONS, USER_EXCEPTIONS};
+use crate::lines::{behind_eight, bytes_of, call_in, cut, fault_of, kind_of, with_more};
+use crate::vectors::{REPLY_FAULTS, RESULTS, SYSTEM_EXCEPTIONS, USER_EXCEPTIONS};
 use std::alloc::Global;
 use std::process::Abort;
 use std::test::Fail;
@@ -53,6 +53,7 @@ fn is_result(alloc: Global, answer: &Answered, body: &[u8], order: Order) -> Res
     }
 }
 
+/// A result is read with bytes behind its last value.
 fn result_read(
     rt: &impl Abort,
     alloc: Global,
@@ -60,7 +61,8 @@ fn result_read(
     body: &[u8],
     order: Order,
 ) -> Result<(), Fail> {
-    let (answer, place) = answer_in(alloc, call, 0, body, order)?;
+    let bytes = with_more(alloc, body)?;
+    let (answer, place) = answer_in(alloc, call, 0, &bytes, order)?;
     let twin = Boxed::new(alloc, answer.get().copy(alloc)?)?;
     assert_eq!(rt; place as usize, body.len());
     assert!(rt; is_result(alloc, twin.get(), body, order)?);
@@ -108,7 +110,8 @@ fn raised(
     let outcome = Boxed::new(alloc, Outcome::User(exception.copy(alloc)?))?;
     assert!(rt; is_written(alloc, outcome.get(), 1, body, order)?);
     let (answer, _place) = answer_in(alloc, &Call::NonExistent, 1, body, order)?;
-    assert!(rt; is_user(answer.get(), user_id(exception)));
+    let twin = Boxed::new(alloc, answer.get().copy(alloc)?)?;
+    assert!(rt; is_user(twin.get(), user_id(exception)));
     Ok(())
 }
 
@@ -172,8 +175,9 @@ fn system_raised(
     let outcome = Boxed::new(alloc, outcome)?;
     assert!(rt; is_written(alloc, outcome.get(), 2, body, order)?);
     let (answer, place) = answer_in(alloc, &Call::NonExistent, 2, body, order)?;
+    let twin = Boxed::new(alloc, answer.get().copy(alloc)?)?;
     assert_eq!(rt; place as usize, body.len());
-    assert!(rt; is_system(answer.get(), minor, completion));
+    assert!(rt; is_system(twin.get(), minor, completion));
     Ok(())
 }
 
@@ -206,17 +210,51 @@ fn system_exceptions(rt: HostRuntime) -> Result<(), Fail> {
     Ok(())
 }
 
-/// Why a reply of this status, which has no more than its body's place, tells nothing.
-fn status_fault(alloc: Global, status: u32) -> Option<OpsFault> {
-    let mut reader = Reader::new(b"\x00\x00\x00", 1, Order::Big);
-    read_outcome(alloc, &Call::NonExistent, status, &mut reader).err()
+/// Why a reply tells nothing from byte 8 on, and the place where the reader is then.
+fn fault_in(alloc: Global, call: &Call, status: u32, bytes: &[u8]) -> (Option<OpsFault>, u32) {
+    if bytes.len() < 8 || bytes.len() >= 10000 {
+        return (None, 0);
+    }
+    let mut reader = Reader::new(bytes, 8, Order::Big);
+    let found = read_outcome(alloc, call, status, &mut reader).err();
+    (found, reader.place())
+}
+
+/// A fault, its place and the body of a reply to a call, which is refused; the reader stays.
+fn reply_refused(
+    rt: &impl Abort,
+    alloc: Global,
+    call: &Call,
+    status: u32,
+    line: &str,
+) -> Result<(), Fail> {
+    let (fault, rest) = cut(line)?;
+    let (place, digits) = cut(rest)?;
+    let body = bytes_of(alloc, digits)?;
+    let bytes = behind_eight(alloc, &body)?;
+    let (found, stands) = fault_in(alloc, call, status, &bytes);
+    assert!(rt; found == Some(fault_of(fault, place.parse::<u32>()?)));
+    assert_eq!(rt; stands, 8);
+    Ok(())
+}
+
+/// An object, an operation, its request, a reply's status, a fault, its place and the body of the reply.
+fn reply_fault_line(rt: &impl Abort, alloc: Global, line: &str) -> Result<(), Fail> {
+    let (kind, rest) = cut(line)?;
+    let (name, rest) = cut(rest)?;
+    let (request, rest) = cut(rest)?;
+    let (status, rest) = cut(rest)?;
+    let request = bytes_of(alloc, request)?;
+    let (call, _place) = call_in(alloc, kind_of(kind), name, &request, Order::Big)?;
+    reply_refused(rt, alloc, call.get(), status.parse::<u32>()?, rest)
 }
 
 #[test]
-fn statuses(rt: HostRuntime) -> Result<(), Fail> {
+fn reply_faults(rt: HostRuntime) -> Result<(), Fail> {
     let alloc = rt.alloc();
-    assert!(&rt; status_fault(alloc, 3) == Some(OpsFault::Marshal(1)));
-    assert!(&rt; status_fault(alloc, 4294967295) == Some(OpsFault::Marshal(1)));
+    for line in REPLY_FAULTS.lines() {
+        reply_fault_line(&rt, alloc, line)?;
+    }
     Ok(())
 }
 
