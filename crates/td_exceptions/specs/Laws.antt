@@ -6,8 +6,8 @@ use Rattle.td_cdr.specs.Text.{HasNoNul}
 use Rattle.td_exceptions.specs.declared.exception.UserException.{UserException}
 use Rattle.td_exceptions.specs.Exceptions.{row_of, user_id, exception_piece}
 
--- the id of an exception as IDL's repository ids are written: the prefix of OMG, the scope, the name and the version (CORBA,
--- chapter "The Interface Repository", "OMG IDL Format")
+-- the id of an exception as IDL's repository ids are written: the prefix of OMG, the scope, the name and the version
+-- (CORBA, chapter "The Interface Repository", "OMG IDL Format")
 abbrev pub IdIsOfScopeAndName : Type 0
 IdIsOfScopeAndName = (e : UserException)
     → user_id e ≡ codes "IDL:omg.org/" ++ (row_of e).scope ++ codes "/" ++ (row_of e).name ++ codes ":1.0"
@@ -27,5 +27,6 @@ IsWritable e order place = (row_of e).members.format.admits e × (length (except
 
 -- no two exceptions are written alike, nor is one written as what another begins with
 abbrev pub WrittenApart : Type 0
-WrittenApart = (e f : UserException) (order : Order) (place : ℕ) (more others : List ℕ) → IsWritable e order place → IsWritable f order place
-    → exception_piece e order place ++ more ≡ exception_piece f order place ++ others → e ≡ f
+WrittenApart =
+    (e f : UserException) (order : Order) (place : ℕ) (more others : List ℕ) → IsWritable e order place
+    → IsWritable f order place → exception_piece e order place ++ more ≡ exception_piece f order place ++ others → e ≡ f

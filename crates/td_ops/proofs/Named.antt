@@ -1,5 +1,6 @@
 -- Each operation of an object is found by its name.
-use Rattle.std.proofs.Common.{◌≡◌, ℕ, List, [], ◌∷◌, ◌++◌, Bool, true, false, if◌then◌else◌, Option, Some, None, Err, codes, refl, map}
+use Rattle.std.proofs.Common.{◌≡◌, ℕ, List, [], ◌∷◌, ◌++◌, Bool, true, false, if◌then◌else◌, Option, Some, None, Err}
+use Rattle.std.proofs.Common.{codes, refl, map}
 use Rattle.std.specs.List.{IsDistinct, AllByRecursion}
 use Rattle.std.specs.Str.{bytes_eq}
 use Rattle.td_cdr.specs.Place.{At}
@@ -17,13 +18,17 @@ abbrev pub or_named : {K : Type 0} → Option K → Option K → Option K
 or_named (Some x) y = Some x
 or_named None y = y
 
-if_or : {K : Type 0} (b : Bool) (x : K) (y z : Option K) → (if b then Some x else or_named y z) ≡ or_named (if b then Some x else y) z
+if_or : {K : Type 0} (b : Bool) (x : K) (y z : Option K)
+    → (if b then Some x else or_named y z) ≡ or_named (if b then Some x else y) z
 if_or true x y z = refl
 if_or false x y z = refl
 
-pub value_named_append : {K : Type 0} (name_of : K → List ℕ) (xs ys : List K) (name : List ℕ) → value_named name_of (xs ++ ys) name ≡ or_named (value_named name_of xs name) (value_named name_of ys name)
+pub value_named_append : {K : Type 0} (name_of : K → List ℕ) (xs ys : List K) (name : List ℕ)
+    → value_named name_of (xs ++ ys) name ≡ or_named (value_named name_of xs name) (value_named name_of ys name)
 value_named_append name_of [] ys name = refl
-value_named_append name_of (x ∷ xs) ys name = rw (value_named_append name_of xs ys name) (if_or (bytes_eq name (name_of x)) x (value_named name_of xs name) (value_named name_of ys name))
+value_named_append name_of (x ∷ xs) ys name =
+    rw (value_named_append name_of xs ys name)
+    (if_or (bytes_eq name (name_of x)) x (value_named name_of xs name) (value_named name_of ys name))
 
 -- ---- no name twice
 
@@ -71,7 +76,8 @@ names-distinct (kind.Iterator n) = distinct (map name_of (operations (kind.Itera
 
 -- ---- the tables
 
-pub operations-found : (k : Kind) → map (λ o. operation_named k (name_of o)) (operations k) ≡ map (λ o. Some o) (operations k)
+pub operations-found : (k : Kind)
+    → map (λ o. operation_named k (name_of o)) (operations k) ≡ map (λ o. Some o) (operations k)
 operations-found kind.Lookup = refl
 operations-found kind.Register = refl
 operations-found kind.Link = refl

@@ -3,7 +3,9 @@ use Rattle.std.proofs.Common.{◌≡◌, ℕ, List, refl, sym, ◌∙◌}
 use Rattle.td_cdr.specs.declared.order.Order.{Order}
 use Rattle.td_ops.specs.declared.call.Call.{Call}
 use Rattle.td_ops.specs.declared.operation.Operation.{Operation}
-use Rattle.td_ops.specs.declared.operation.Operation.TheVariants.{Query, Register, Link, Proxy, Admin, Iterator, Types, Get, SetTruth, SetNumber, SetFollow, SetRequestIdStem, IsA, NonExistent}
+use Rattle.td_ops.specs.declared.operation.Operation.TheVariants.{Query, Register, Link, Proxy, Admin, Iterator, Types}
+use Rattle.td_ops.specs.declared.operation.Operation.TheVariants.{Get, SetTruth, SetNumber, SetFollow, SetRequestIdStem}
+use Rattle.td_ops.specs.declared.operation.Operation.TheVariants.{IsA, NonExistent}
 use Rattle.td_ops.specs.declared.operation.RegisterOperation.TheVariants as register
 use Rattle.td_ops.specs.declared.operation.LinkOperation.TheVariants as link
 use Rattle.td_ops.specs.declared.operation.ProxyOperation.TheVariants as proxy
@@ -51,5 +53,6 @@ row-tag SetRequestIdStem = refl
 row-tag IsA = refl
 row-tag NonExistent = refl
 
-pub called : (o : Operation) (order : Order) (place : ℕ) (c : Call) (b : List ℕ) → (body_of o).spells order place c b → operation_in c ≡ o
+pub called : (o : Operation) (order : Order) (place : ℕ) (c : Call) (b : List ℕ) → (body_of o).spells order place c b
+    → operation_in c ≡ o
 called o order place c b s = sym ((row o).body.told order place c b s) ∙ row-tag o

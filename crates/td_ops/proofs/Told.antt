@@ -1,5 +1,6 @@
 -- What a reading is to the caller.
-use Rattle.std.proofs.Common.{◌≡◌, ℕ, ◌-◌, ◌^◌, ◌<◌, ◌≤◌, List, ◌++◌, length, Option, Some, None, Ok, Err, refl, ap, sym, subst}
+use Rattle.std.proofs.Common.{◌≡◌, ℕ, ◌-◌, ◌^◌, ◌<◌, ◌≤◌, List, ◌++◌, length, Option, Some, None, Ok, Err, refl, ap}
+use Rattle.std.proofs.Common.{sym, subst}
 use Rattle.std.specs.Prelude.{◌↔◌}
 use Rattle.td_cdr.specs.Place.{At}
 use Rattle.td_cdr.specs.Reading.{after}
@@ -25,39 +26,54 @@ told_ok (Ok y) x e = cc
 told_ok (Err d) x e = absurd cc
 
 -- the operation of a call that was read
-under_ok : (o : Option Operation) (a : At) (x : Call × At) → read_under o a ≡ Ok x → (operation : Operation) × (o ≡ Some operation) × ((body_of operation).reads a ≡ Ok x)
+under_ok : (o : Option Operation) (a : At) (x : Call × At) → read_under o a ≡ Ok x
+    → (operation : Operation) × (o ≡ Some operation) × ((body_of operation).reads a ≡ Ok x)
 under_ok (Some operation) a x e = (operation, refl, told_ok ((body_of operation).reads a) x e)
 under_ok None a x e = absurd cc
 
-pub call-found : (kind : Kind) (name : List ℕ) (a : At) (c : Call) (next : At) → a.origin ≤ a.place → call_read kind name a ≡ Ok (c, next) → Found (Body kind name) a c next
+pub call-found : (kind : Kind) (name : List ℕ) (a : At) (c : Call) (next : At) → a.origin ≤ a.place
+    → call_read kind name a ≡ Ok (c, next) → Found (Body kind name) a c next
 call-found kind name a c next h e =
     let u = under_ok (operation_named kind name) a (c, next) e in
     let f = (row u.0).body.lawful.found a c next h u.2 in
-    record { bytes = f.bytes; spelled = record { operation = u.0; named = u.1; spelled = f.spelled }; parts = f.parts; moved = f.moved }
+    record {
+      bytes = f.bytes;
+      spelled = record { operation = u.0; named = u.1; spelled = f.spelled };
+      parts = f.parts;
+      moved = f.moved;
+    }
 
-pub call-only : (kind : Kind) (name : List ℕ) (a : At) (c : Call) (b rest : List ℕ) → a.origin ≤ a.place → Body kind name a.order (a.place - a.origin) c b → a.rest ≡ b ++ rest → call_read kind name a ≡ Ok (c, after (length b) a)
+pub call-only : (kind : Kind) (name : List ℕ) (a : At) (c : Call) (b rest : List ℕ) → a.origin ≤ a.place
+    → Body kind name a.order (a.place - a.origin) c b → a.rest ≡ b ++ rest
+    → call_read kind name a ≡ Ok (c, after (length b) a)
 call-only kind name a c b rest h s e =
     rw s.named (ap told ((row s.operation).body.lawful.only a c b rest h s.spelled e))
 
-pub call-back : (kind : Kind) (c : Call) (a : At) (rest : List ℕ) → operation_named kind (name_of (operation_in c)) ≡ Some (operation_in c) → AdmitsCall c → a.origin ≤ a.place
-    → length (call_piece c a.order (a.place - a.origin)) < 2 ^ 32 → a.rest ≡ call_piece c a.order (a.place - a.origin) ++ rest
+pub call-back : (kind : Kind) (c : Call) (a : At) (rest : List ℕ)
+    → operation_named kind (name_of (operation_in c)) ≡ Some (operation_in c) → AdmitsCall c → a.origin ≤ a.place
+    → length (call_piece c a.order (a.place - a.origin)) < 2 ^ 32
+    → a.rest ≡ call_piece c a.order (a.place - a.origin) ++ rest
     → call_read kind (name_of (operation_in c)) a ≡ Ok (c, after (length (call_piece c a.order (a.place - a.origin))) a)
 call-back kind c a rest named ok h short e =
     rw named (ap told (reads_back (body_of (operation_in c)) (row (operation_in c)).body.lawful c a rest ok h short e))
 
 -- what was read under an operation is a call of it
-read-called : (operation : Operation) (c : Call) (old new : At) → old.origin ≤ old.place → (body_of operation).reads old ≡ Ok (c, new) → operation_in c ≡ operation
+read-called : (operation : Operation) (c : Call) (old new : At) → old.origin ≤ old.place
+    → (body_of operation).reads old ≡ Ok (c, new) → operation_in c ≡ operation
 read-called operation c old new h is =
     let f = (row operation).body.lawful.found old c new h is in
     called operation old.order (old.place - old.origin) c f.bytes f.spelled
 
 -- and the answer
-pub call-answered : (kind : Kind) (name : List ℕ) (old new : At) (operation : Operation) (c : Call) → operation_named kind name ≡ Some operation → old.origin ≤ old.place → AreOctets old.rest
+pub call-answered : (kind : Kind) (name : List ℕ) (old new : At) (operation : Operation) (c : Call)
+    → operation_named kind name ≡ Some operation → old.origin ≤ old.place → AreOctets old.rest
     → (body_of operation).reads old ≡ Ok (c, new) → Answers AdmitsCall (call_read kind name old) old new (Ok c)
 call-answered kind name old new operation c named h octets is = record {
   gives = rw named (ap told is);
   unchanged = tt;
-  admitted = subst (λ (o : Operation). (body_of o).admits c) (sym (read-called operation c old new h is)) (read-admitted (body_of operation) (row operation).body.lawful old c new h octets is);
+  admitted =
+      subst (λ (o : Operation). (body_of o).admits c) (sym (read-called operation c old new h is))
+      (read-admitted (body_of operation) (row operation).body.lawful old c new h octets is);
 }
 
 never_unknown : {X : Type 0} (r : Read ValueFault X) → told r ≡ Err BadOperation → ⊥
@@ -78,5 +94,6 @@ under_unknown : (o : Option Operation) (a : At) → (read_under o a ≡ Err BadO
 under_unknown (Some operation) a = (λ e. absurd (never_unknown ((body_of operation).reads a) e), λ e. absurd cc)
 under_unknown None a = (λ e. refl, λ e. refl)
 
-pub call-unknown : (kind : Kind) (name : List ℕ) (a : At) → (call_read kind name a ≡ Err BadOperation) ↔ (operation_named kind name ≡ None)
+pub call-unknown : (kind : Kind) (name : List ℕ) (a : At)
+    → (call_read kind name a ≡ Err BadOperation) ↔ (operation_named kind name ≡ None)
 call-unknown kind name a = under_unknown (operation_named kind name) a

@@ -18,9 +18,27 @@ abbrev pub not_implemented : At → ValueFault
 not_implemented _ = Unsupported 14
 
 abbrev pub admin_row : AdminOperation → Row
-admin_row admin.ListOffers = record { name = codes "list_offers"; body = look_arm (Admin admin.ListOffers) (λ p. look.ListOffers p) (elim [ look.ListOffers x ↦ Some x | _ ↦ None ]) (λ _. refl) (λ _. refl) (ulong); result = shape.Ids }
-admin_row admin.ListProxies = record { name = codes "list_proxies"; body = look_arm (Admin admin.ListProxies) (λ p. look.ListProxies p) (elim [ look.ListProxies x ↦ Some x | _ ↦ None ]) (λ _. refl) (λ _. refl) (ulong); result = shape.Ids }
-admin_row admin.SetTypeRepos = record { name = codes "set_type_repos"; body = arm (Admin admin.SetTypeRepos) (λ x. absurd x) (λ _. None) (λ x. absurd x) (λ x. absurd x) (failure not_implemented); result = shape.Reference }
+admin_row admin.ListOffers = record {
+  name = codes "list_offers";
+  body =
+      look_arm (Admin admin.ListOffers) (λ p. look.ListOffers p) (elim [ look.ListOffers x ↦ Some x | _ ↦ None ])
+      (λ _. refl) (λ _. refl) (ulong);
+  result = shape.Ids;
+}
+admin_row admin.ListProxies = record {
+  name = codes "list_proxies";
+  body =
+      look_arm (Admin admin.ListProxies) (λ p. look.ListProxies p) (elim [ look.ListProxies x ↦ Some x | _ ↦ None ])
+      (λ _. refl) (λ _. refl) (ulong);
+  result = shape.Ids;
+}
+admin_row admin.SetTypeRepos = record {
+  name = codes "set_type_repos";
+  body =
+      arm (Admin admin.SetTypeRepos) (λ x. absurd x) (λ _. None) (λ x. absurd x) (λ x. absurd x)
+      (failure not_implemented);
+  result = shape.Reference;
+}
 
 abbrev pub admin_operations : List Operation
 admin_operations = Admin admin.ListOffers ∷ Admin admin.ListProxies ∷ Admin admin.SetTypeRepos ∷ []

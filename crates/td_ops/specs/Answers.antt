@@ -28,7 +28,9 @@ abbrev pub user_answer : Sound ValueFault Answered
 user_answer = variant (λ id. User id) (elim [ User id ↦ Some id | _ ↦ None ]) (λ _. refl) text
 
 abbrev pub system_answer : Sound ValueFault Answered
-system_answer = variant (λ p. System p.0 p.1.0 p.1.1) (elim [ System x y z ↦ Some (x, (y, z)) | _ ↦ None ]) (λ _. refl) (text & ulong & ulong)
+system_answer =
+    variant (λ p. System p.0 p.1.0 p.1.1) (elim [ System x y z ↦ Some (x, (y, z)) | _ ↦ None ]) (λ _. refl)
+    (text & ulong & ulong)
 
 abbrev pub no_answer : Sound ValueFault Answered
 no_answer = failure (λ a. BadValue a.place)
@@ -58,6 +60,8 @@ telling o = outcome_piece o
 -- the outcomes of an operation that can be written: a result of its shape, an exception, whose texts have no NUL and
 -- whose anys, TypeCodes and references are admitted
 abbrev pub AdmitsOutcome : Operation → Outcome → Type 0
-AdmitsOutcome operation (outcome.Done r) = (shape_of r ≡ (row operation).result) × (results (shape_of r)).format.admits r
+AdmitsOutcome operation (outcome.Done r) =
+    (shape_of r ≡ (row operation).result) × (results (shape_of r)).format.admits r
 AdmitsOutcome operation (outcome.User e) = (row_of e).members.format.admits e
-AdmitsOutcome operation (outcome.System kind minor completion) = ulong.format.admits minor × ulong.format.admits completion
+AdmitsOutcome operation (outcome.System kind minor completion) =
+    ulong.format.admits minor × ulong.format.admits completion

@@ -10,7 +10,8 @@ use Rattle.td_ops.specs.declared.attribute.NumberAttribute.TheVariants as number
 use Rattle.td_ops.specs.declared.attribute.FollowAttribute.{FollowAttribute}
 use Rattle.td_ops.specs.declared.attribute.FollowAttribute.TheVariants as follow
 use Rattle.td_ops.specs.declared.attribute.Attribute.{Attribute}
-use Rattle.td_ops.specs.declared.attribute.Attribute.TheVariants.{Reference, Truth, Number, Follow, RequestIdStem, Incarnation}
+use Rattle.td_ops.specs.declared.attribute.Attribute.TheVariants.{Reference, Truth, Number, Follow, RequestIdStem}
+use Rattle.td_ops.specs.declared.attribute.Attribute.TheVariants.{Incarnation}
 
 -- ---- names
 
@@ -54,13 +55,20 @@ attribute_name Incarnation = codes "incarnation"
 -- ---- what each interface declares
 
 abbrev pub trader_components : List Attribute
-trader_components = Reference reference.LookupIf ∷ Reference reference.RegisterIf ∷ Reference reference.LinkIf ∷ Reference reference.ProxyIf ∷ Reference reference.AdminIf ∷ []
+trader_components =
+    Reference reference.LookupIf ∷ Reference reference.RegisterIf ∷ Reference reference.LinkIf
+    ∷ Reference reference.ProxyIf ∷ Reference reference.AdminIf ∷ []
 
 abbrev pub support_attributes : List Attribute
-support_attributes = Truth truth.SupportsModifiableProperties ∷ Truth truth.SupportsDynamicProperties ∷ Truth truth.SupportsProxyOffers ∷ Reference reference.TypeRepos ∷ []
+support_attributes =
+    Truth truth.SupportsModifiableProperties ∷ Truth truth.SupportsDynamicProperties ∷ Truth truth.SupportsProxyOffers
+    ∷ Reference reference.TypeRepos ∷ []
 
 abbrev pub import_attributes : List Attribute
-import_attributes = Number number.DefSearchCard ∷ Number number.MaxSearchCard ∷ Number number.DefMatchCard ∷ Number number.MaxMatchCard ∷ Number number.DefReturnCard ∷ Number number.MaxReturnCard ∷ Number number.MaxList ∷ Number number.DefHopCount ∷ Number number.MaxHopCount ∷ Follow follow.DefFollowPolicy ∷ Follow follow.MaxFollowPolicy ∷ []
+import_attributes =
+    Number number.DefSearchCard ∷ Number number.MaxSearchCard ∷ Number number.DefMatchCard ∷ Number number.MaxMatchCard
+    ∷ Number number.DefReturnCard ∷ Number number.MaxReturnCard ∷ Number number.MaxList ∷ Number number.DefHopCount
+    ∷ Number number.MaxHopCount ∷ Follow follow.DefFollowPolicy ∷ Follow follow.MaxFollowPolicy ∷ []
 
 abbrev pub link_attributes : List Attribute
 link_attributes = Follow follow.MaxLinkFollowPolicy ∷ []
@@ -71,7 +79,9 @@ abbrev pub truths_set : List TruthAttribute
 truths_set = truth.SupportsModifiableProperties ∷ truth.SupportsDynamicProperties ∷ truth.SupportsProxyOffers ∷ []
 
 abbrev pub numbers_set : List NumberAttribute
-numbers_set = number.DefSearchCard ∷ number.MaxSearchCard ∷ number.DefMatchCard ∷ number.MaxMatchCard ∷ number.DefReturnCard ∷ number.MaxReturnCard ∷ number.MaxList ∷ number.DefHopCount ∷ number.MaxHopCount ∷ []
+numbers_set =
+    number.DefSearchCard ∷ number.MaxSearchCard ∷ number.DefMatchCard ∷ number.MaxMatchCard ∷ number.DefReturnCard
+    ∷ number.MaxReturnCard ∷ number.MaxList ∷ number.DefHopCount ∷ number.MaxHopCount ∷ []
 
 abbrev pub follows_set : List FollowAttribute
 follows_set = follow.DefFollowPolicy ∷ follow.MaxFollowPolicy ∷ follow.MaxLinkFollowPolicy ∷ []

@@ -1,7 +1,7 @@
--- Where the bytes of a request's body are no parameters of the operation, and where those of a reply's body are no result,
--- as conditions on the bytes (CORBA, chapter on General Inter-ORB Protocol, "Request Body" and "Reply Body", and chapter
--- "Standard Exceptions": BAD_OPERATION, MARSHAL and NO_IMPLEMENT). A fault is that of the first value that has no spelling,
--- all values before it having one.
+-- Where the bytes of a request's body are no parameters of the operation, and where those of a reply's body are no
+-- result, as conditions on the bytes (CORBA, chapter on General Inter-ORB Protocol, "Request Body" and "Reply Body",
+-- and chapter "Standard Exceptions": BAD_OPERATION, MARSHAL and NO_IMPLEMENT). A fault is that of the first value that
+-- has no spelling, all values before it having one.
 use Rattle.std.specs.Prelude.{◌≡◌, ℕ, false, List, Some}
 use Rattle.std.specs.List.{AllByRecursion}
 use Rattle.std.specs.Str.{bytes_eq}

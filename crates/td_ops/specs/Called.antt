@@ -12,7 +12,9 @@ use Rattle.td_ops.specs.declared.call.Look.TheVariants as look
 use Rattle.td_ops.specs.declared.call.IterCall.{IterCall}
 use Rattle.td_ops.specs.declared.call.IterCall.TheVariants as iter
 use Rattle.td_ops.specs.declared.operation.Operation.{Operation}
-use Rattle.td_ops.specs.declared.operation.Operation.TheVariants.{Query, Register, Link, Proxy, Admin, Iterator, Types, Get, SetTruth, SetNumber, SetFollow, SetRequestIdStem, IsA, NonExistent}
+use Rattle.td_ops.specs.declared.operation.Operation.TheVariants.{Query, Register, Link, Proxy, Admin, Iterator, Types}
+use Rattle.td_ops.specs.declared.operation.Operation.TheVariants.{Get, SetTruth, SetNumber, SetFollow, SetRequestIdStem}
+use Rattle.td_ops.specs.declared.operation.Operation.TheVariants.{IsA, NonExistent}
 use Rattle.td_ops.specs.declared.operation.RegisterOperation.TheVariants as register
 use Rattle.td_ops.specs.declared.operation.LinkOperation.TheVariants as link
 use Rattle.td_ops.specs.declared.operation.ProxyOperation.TheVariants as proxy
@@ -82,19 +84,25 @@ abbrev pub of_change : {X : Type 0} → (Change → Option X) → Call → Optio
 of_change from (call.Change c) = from c
 of_change from _ = None
 
-abbrev pub change_arm : {X : Type 0} (o : Operation) (to : X → Change) (from : Change → Option X) → ((x : X) → from (to x) ≡ Some x) → ((x : X) → o ≡ change_operation (to x)) → Sound ValueFault X → Arm ValueFault Operation Call operation_in
+abbrev pub change_arm : {X : Type 0} (o : Operation) (to : X → Change) (from : Change → Option X)
+    → ((x : X) → from (to x) ≡ Some x) → ((x : X) → o ≡ change_operation (to x)) → Sound ValueFault X
+    → Arm ValueFault Operation Call operation_in
 change_arm o to from back told g = arm o (λ x. call.Change (to x)) (of_change from) back told g
 
 abbrev pub of_look : {X : Type 0} → (Look → Option X) → Call → Option X
 of_look from (call.Look l) = from l
 of_look from _ = None
 
-abbrev pub look_arm : {X : Type 0} (o : Operation) (to : X → Look) (from : Look → Option X) → ((x : X) → from (to x) ≡ Some x) → ((x : X) → o ≡ look_operation (to x)) → Sound ValueFault X → Arm ValueFault Operation Call operation_in
+abbrev pub look_arm : {X : Type 0} (o : Operation) (to : X → Look) (from : Look → Option X)
+    → ((x : X) → from (to x) ≡ Some x) → ((x : X) → o ≡ look_operation (to x)) → Sound ValueFault X
+    → Arm ValueFault Operation Call operation_in
 look_arm o to from back told g = arm o (λ x. call.Look (to x)) (of_look from) back told g
 
 abbrev pub of_iterator : {X : Type 0} → (IterCall → Option X) → Call → Option X
 of_iterator from (call.Iter i) = from i
 of_iterator from _ = None
 
-abbrev pub iterator_arm : {X : Type 0} (o : Operation) (to : X → IterCall) (from : IterCall → Option X) → ((x : X) → from (to x) ≡ Some x) → ((x : X) → o ≡ iterator_operation (to x)) → Sound ValueFault X → Arm ValueFault Operation Call operation_in
+abbrev pub iterator_arm : {X : Type 0} (o : Operation) (to : X → IterCall) (from : IterCall → Option X)
+    → ((x : X) → from (to x) ≡ Some x) → ((x : X) → o ≡ iterator_operation (to x)) → Sound ValueFault X
+    → Arm ValueFault Operation Call operation_in
 iterator_arm o to from back told g = arm o (λ x. call.Iter (to x)) (of_iterator from) back told g

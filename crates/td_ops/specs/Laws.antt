@@ -16,11 +16,13 @@ use Rattle.td_ops.specs.Operations.{operations, operation_named, name_of}
 use Rattle.td_ops.specs.Calls.{Body, AdmitsCall, body_of, call_piece, call_read}
 use Rattle.td_ops.specs.Outcomes.{outcome_piece, outcome_status}
 use Rattle.td_ops.specs.Answers.{AdmitsOutcome, answered, outcome_read, telling}
-use Rattle.td_ops.specs.BodyFaults.{UnsupportedKind, Misspelling, IsUnknown, IsNotImplemented, IsMisspelled, answer_faults}
+use Rattle.td_ops.specs.BodyFaults.{UnsupportedKind, Misspelling, IsUnknown, IsNotImplemented, IsMisspelled}
+use Rattle.td_ops.specs.BodyFaults.{answer_faults}
 
 -- each operation of an object is found by its name
 abbrev pub AreFound : Type 0
-AreFound = (kind : Kind) → map (λ o. operation_named kind (name_of o)) (operations kind) ≡ map (λ o. Some o) (operations kind)
+AreFound =
+    (kind : Kind) → map (λ o. operation_named kind (name_of o)) (operations kind) ≡ map (λ o. Some o) (operations kind)
 
 abbrev pub SecondName : Type 0
 SecondName = (kind : Kind) → operation_named kind (codes "_not_existent") ≡ Some NonExistent
@@ -36,10 +38,13 @@ ReadAsSpelled = (kind : Kind) (name : List ℕ) (a : At) (c : Call) (next : At)
 -- what is spelled so is read, whatever follows
 abbrev pub SpelledIsRead : Type 0
 SpelledIsRead = (kind : Kind) (name : List ℕ) (a : At) (c : Call) (b rest : List ℕ) → a.origin ≤ a.place
-    → Body kind name a.order (a.place - a.origin) c b → a.rest ≡ b ++ rest → call_read kind name a ≡ Ok (c, after (length b) a)
+    → Body kind name a.order (a.place - a.origin) c b → a.rest ≡ b ++ rest
+    → call_read kind name a ≡ Ok (c, after (length b) a)
 
 abbrev pub UnknownIsRefused : Type 0
-UnknownIsRefused = (kind : Kind) (name : List ℕ) (a : At) → (call_read kind name a ≡ Err BadOperation) ↔ (operation_named kind name ≡ None)
+UnknownIsRefused =
+    (kind : Kind) (name : List ℕ) (a : At)
+    → (call_read kind name a ≡ Err BadOperation) ↔ (operation_named kind name ≡ None)
 
 -- what is spelled under an operation is a call of it
 abbrev pub IsCalled : Type 0
@@ -50,20 +55,24 @@ IsCalled = (operation : Operation) (order : Order) (place : ℕ) (c : Call) (b :
 abbrev pub CallReadsBack : Type 0
 CallReadsBack = (kind : Kind) (c : Call) (a : At) (rest : List ℕ)
     → operation_named kind (name_of (operation_in c)) ≡ Some (operation_in c) → AdmitsCall c → a.origin ≤ a.place
-    → length (call_piece c a.order (a.place - a.origin)) < 2 ^ 32 → a.rest ≡ call_piece c a.order (a.place - a.origin) ++ rest
+    → length (call_piece c a.order (a.place - a.origin)) < 2 ^ 32
+    → a.rest ≡ call_piece c a.order (a.place - a.origin) ++ rest
     → call_read kind (name_of (operation_in c)) a ≡ Ok (c, after (length (call_piece c a.order (a.place - a.origin))) a)
 
 -- what is written for an outcome is read, under its status, as what a client is told of it
 abbrev pub OutcomeReadsBack : Type 0
-OutcomeReadsBack = (c : Call) (o : Outcome) (a : At) (rest : List ℕ) → AdmitsOutcome (operation_in c) o → a.origin ≤ a.place
-    → length (outcome_piece o a.order (a.place - a.origin)) < 2 ^ 32 → a.rest ≡ outcome_piece o a.order (a.place - a.origin) ++ rest
+OutcomeReadsBack =
+    (c : Call) (o : Outcome) (a : At) (rest : List ℕ) → AdmitsOutcome (operation_in c) o → a.origin ≤ a.place
+    → length (outcome_piece o a.order (a.place - a.origin)) < 2 ^ 32
+    → a.rest ≡ outcome_piece o a.order (a.place - a.origin) ++ rest
     → outcome_read c (outcome_status o) a ≡ Ok (answered o, after (length (telling o a.order (a.place - a.origin))) a)
 
 -- ---- why a body is refused
 
 -- BAD_OPERATION, whatever the body
 abbrev pub BadOperationIsUnknown : Type 0
-BadOperationIsUnknown = (kind : Kind) (name : List ℕ) (a : At) → (call_read kind name a ≡ Err BadOperation) ↔ IsUnknown kind name
+BadOperationIsUnknown =
+    (kind : Kind) (name : List ℕ) (a : At) → (call_read kind name a ≡ Err BadOperation) ↔ IsUnknown kind name
 
 abbrev pub NoImplementIsLeftOut : Type 0
 NoImplementIsLeftOut = (kind : Kind) (name : List ℕ) (a : At) → a.origin ≤ a.place

@@ -9,15 +9,20 @@ use Rattle.td_value.specs.declared.key.Kind.{Kind}
 use Rattle.td_value.specs.declared.key.Kind.TheVariants as kind
 use Rattle.td_value.specs.Enumerations.{follow_option}
 use Rattle.td_ops.specs.declared.attribute.Attribute.{Attribute}
-use Rattle.td_ops.specs.declared.attribute.Attribute.TheVariants.{Reference, Truth, Number, Follow, RequestIdStem, Incarnation}
+use Rattle.td_ops.specs.declared.attribute.Attribute.TheVariants.{Reference, Truth, Number, Follow, RequestIdStem}
+use Rattle.td_ops.specs.declared.attribute.Attribute.TheVariants.{Incarnation}
 use Rattle.td_ops.specs.declared.call.Call.TheVariants as call
 use Rattle.td_ops.specs.declared.call.Change.TheVariants as change
 use Rattle.td_ops.specs.declared.call.Look.TheVariants as look
 use Rattle.td_ops.specs.declared.operation.Operation.{Operation}
-use Rattle.td_ops.specs.declared.operation.Operation.TheVariants.{Query, Register, Link, Proxy, Admin, Iterator, Types, Get, SetTruth, SetNumber, SetFollow, SetRequestIdStem, IsA, NonExistent}
+use Rattle.td_ops.specs.declared.operation.Operation.TheVariants.{Query, Register, Link, Proxy, Admin, Iterator, Types}
+use Rattle.td_ops.specs.declared.operation.Operation.TheVariants.{Get, SetTruth, SetNumber, SetFollow, SetRequestIdStem}
+use Rattle.td_ops.specs.declared.operation.Operation.TheVariants.{IsA, NonExistent}
 use Rattle.td_ops.specs.declared.shape.Shape.{Shape}
 use Rattle.td_ops.specs.declared.shape.Shape.TheVariants as shape
-use Rattle.td_ops.specs.Attributes.{attribute_name, truth_name, number_name, follow_name, trader_components, support_attributes, import_attributes, link_attributes, truths_set, numbers_set, follows_set}
+use Rattle.td_ops.specs.Attributes.{attribute_name, truth_name, number_name, follow_name, trader_components}
+use Rattle.td_ops.specs.Attributes.{support_attributes, import_attributes, link_attributes, truths_set, numbers_set}
+use Rattle.td_ops.specs.Attributes.{follows_set}
 use Rattle.td_ops.specs.Parameters.{query}
 use Rattle.td_ops.specs.Called.{Row, change_arm}
 use Rattle.td_ops.specs.Registers.{register_row, register_operations}
@@ -36,21 +41,58 @@ attribute_shape (Follow _) = shape.Follow
 attribute_shape RequestIdStem = shape.Stem
 attribute_shape Incarnation = shape.Incarnation
 
--- An attribute is read by its name behind "_get_". Admin sets it by its name behind "set_", which answers the old value.
+-- An attribute is read by its name behind "_get_". Admin sets it by its name behind "set_", which answers the old
+-- value.
 abbrev pub row : Operation → Row
-row Query = record { name = codes "query"; body = arm Query (λ q. call.Query q) (elim [ call.Query q ↦ Some q | _ ↦ None ]) (λ _. refl) (λ _. refl) query; result = shape.Found }
+row Query = record {
+  name = codes "query";
+  body = arm Query (λ q. call.Query q) (elim [ call.Query q ↦ Some q | _ ↦ None ]) (λ _. refl) (λ _. refl) query;
+  result = shape.Found;
+}
 row (Register o) = register_row o
 row (Link o) = link_row o
 row (Proxy o) = proxy_row o
 row (Admin o) = admin_row o
 row (Iterator o) = iterator_row o
 row (Types o) = types_row o
-row (Get a) = record { name = codes "_get_" ++ attribute_name a; body = bare_arm (call.Look (look.Get a)); result = attribute_shape a }
-row (SetTruth a) = record { name = codes "set_" ++ truth_name a; body = change_arm (SetTruth a) (λ v. change.SetTruth a v) (elim [ change.SetTruth _ v ↦ Some v | _ ↦ None ]) (λ _. refl) (λ _. refl) boolean; result = shape.Truth }
-row (SetNumber a) = record { name = codes "set_" ++ number_name a; body = change_arm (SetNumber a) (λ v. change.SetNumber a v) (elim [ change.SetNumber _ v ↦ Some v | _ ↦ None ]) (λ _. refl) (λ _. refl) ulong; result = shape.Number }
-row (SetFollow a) = record { name = codes "set_" ++ follow_name a; body = change_arm (SetFollow a) (λ v. change.SetFollow a v) (elim [ change.SetFollow _ v ↦ Some v | _ ↦ None ]) (λ _. refl) (λ _. refl) follow_option; result = shape.Follow }
-row SetRequestIdStem = record { name = codes "set_request_id_stem"; body = change_arm SetRequestIdStem (λ v. change.SetRequestIdStem v) (elim [ change.SetRequestIdStem v ↦ Some v | _ ↦ None ]) (λ _. refl) (λ _. refl) octets; result = shape.Stem }
-row IsA = record { name = codes "_is_a"; body = arm IsA (λ id. call.IsA id) (elim [ call.IsA id ↦ Some id | _ ↦ None ]) (λ _. refl) (λ _. refl) text; result = shape.Truth }
+row (Get a) = record {
+  name = codes "_get_" ++ attribute_name a;
+  body = bare_arm (call.Look (look.Get a));
+  result = attribute_shape a;
+}
+row (SetTruth a) = record {
+  name = codes "set_" ++ truth_name a;
+  body =
+      change_arm (SetTruth a) (λ v. change.SetTruth a v) (elim [ change.SetTruth _ v ↦ Some v | _ ↦ None ]) (λ _. refl)
+      (λ _. refl) boolean;
+  result = shape.Truth;
+}
+row (SetNumber a) = record {
+  name = codes "set_" ++ number_name a;
+  body =
+      change_arm (SetNumber a) (λ v. change.SetNumber a v) (elim [ change.SetNumber _ v ↦ Some v | _ ↦ None ])
+      (λ _. refl) (λ _. refl) ulong;
+  result = shape.Number;
+}
+row (SetFollow a) = record {
+  name = codes "set_" ++ follow_name a;
+  body =
+      change_arm (SetFollow a) (λ v. change.SetFollow a v) (elim [ change.SetFollow _ v ↦ Some v | _ ↦ None ])
+      (λ _. refl) (λ _. refl) follow_option;
+  result = shape.Follow;
+}
+row SetRequestIdStem = record {
+  name = codes "set_request_id_stem";
+  body =
+      change_arm SetRequestIdStem (λ v. change.SetRequestIdStem v)
+      (elim [ change.SetRequestIdStem v ↦ Some v | _ ↦ None ]) (λ _. refl) (λ _. refl) octets;
+  result = shape.Stem;
+}
+row IsA = record {
+  name = codes "_is_a";
+  body = arm IsA (λ id. call.IsA id) (elim [ call.IsA id ↦ Some id | _ ↦ None ]) (λ _. refl) (λ _. refl) text;
+  result = shape.Truth;
+}
 row NonExistent = record { name = codes "_non_existent"; body = bare_arm call.NonExistent; result = shape.Truth }
 
 -- the name that a client writes

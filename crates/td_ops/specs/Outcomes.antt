@@ -30,7 +30,8 @@ system_id system.NoMemory = codes "IDL:omg.org/CORBA/NO_MEMORY:1.0"
 
 -- its bytes: the id, the minor code, and whether the call was done
 abbrev pub system_piece : SystemKind → ℕ → ℕ → Piece
-system_piece kind minor completion = text.format.writes (system_id kind) then ulong.format.writes minor then ulong.format.writes completion
+system_piece kind minor completion =
+    text.format.writes (system_id kind) then ulong.format.writes minor then ulong.format.writes completion
 
 -- what is written for an outcome
 abbrev pub outcome_piece : Outcome → Piece

@@ -14,9 +14,28 @@ use Rattle.td_ops.specs.declared.shape.Shape.TheVariants as shape
 use Rattle.td_ops.specs.Called.{Row, change_arm, look_arm}
 
 abbrev pub proxy_row : ProxyOperation → Row
-proxy_row proxy.ExportProxy = record { name = codes "export_proxy"; body = change_arm (Proxy proxy.ExportProxy) (λ p. change.ExportProxy p.0 p.1.0 p.1.1.0 p.1.1.1.0 p.1.1.1.1.0 p.1.1.1.1.1) (elim [ change.ExportProxy x y z u v w ↦ Some (x, (y, (z, (u, (v, w))))) | _ ↦ None ]) (λ _. refl) (λ _. refl) (reference & text & sequence property & boolean & text & sequence policy); result = shape.Id }
-proxy_row proxy.WithdrawProxy = record { name = codes "withdraw_proxy"; body = change_arm (Proxy proxy.WithdrawProxy) (λ p. change.WithdrawProxy p) (elim [ change.WithdrawProxy x ↦ Some x | _ ↦ None ]) (λ _. refl) (λ _. refl) (text); result = shape.Nothing }
-proxy_row proxy.DescribeProxy = record { name = codes "describe_proxy"; body = look_arm (Proxy proxy.DescribeProxy) (λ p. look.DescribeProxy p) (elim [ look.DescribeProxy x ↦ Some x | _ ↦ None ]) (λ _. refl) (λ _. refl) (text); result = shape.Proxy }
+proxy_row proxy.ExportProxy = record {
+  name = codes "export_proxy";
+  body =
+      change_arm (Proxy proxy.ExportProxy) (λ p. change.ExportProxy p.0 p.1.0 p.1.1.0 p.1.1.1.0 p.1.1.1.1.0 p.1.1.1.1.1)
+      (elim [ change.ExportProxy x y z u v w ↦ Some (x, (y, (z, (u, (v, w))))) | _ ↦ None ]) (λ _. refl) (λ _. refl)
+      (reference & text & sequence property & boolean & text & sequence policy);
+  result = shape.Id;
+}
+proxy_row proxy.WithdrawProxy = record {
+  name = codes "withdraw_proxy";
+  body =
+      change_arm (Proxy proxy.WithdrawProxy) (λ p. change.WithdrawProxy p)
+      (elim [ change.WithdrawProxy x ↦ Some x | _ ↦ None ]) (λ _. refl) (λ _. refl) (text);
+  result = shape.Nothing;
+}
+proxy_row proxy.DescribeProxy = record {
+  name = codes "describe_proxy";
+  body =
+      look_arm (Proxy proxy.DescribeProxy) (λ p. look.DescribeProxy p)
+      (elim [ look.DescribeProxy x ↦ Some x | _ ↦ None ]) (λ _. refl) (λ _. refl) (text);
+  result = shape.Proxy;
+}
 
 abbrev pub proxy_operations : List Operation
 proxy_operations = Proxy proxy.ExportProxy ∷ Proxy proxy.WithdrawProxy ∷ Proxy proxy.DescribeProxy ∷ []

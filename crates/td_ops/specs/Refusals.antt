@@ -27,14 +27,16 @@ abbrev pub told : {X : Type 0} → Read ValueFault X → Result (X × At) OpsFau
 told (Ok x) = Ok x
 told (Err e) = Err (fault_of e)
 
--- What a call answered is what reading gives. Memory may run out in place of it, but not where the operation is unknown.
+-- What a call answered is what reading gives. Memory may run out in place of it, but not where the operation is
+-- unknown.
 abbrev pub Told : {X : Type 0} → At → Result X OpsFault → Result (X × At) OpsFault → Type 0
 Told new (Ok x) reading = reading ≡ Ok (x, new)
 Told new (Err Memory) reading = reading ≡ Err BadOperation → ⊥
 Told new (Err e) reading = reading ≡ Err e
 
 -- A public reader answers what reading gives, and what can be written. It is unchanged where it refuses.
-pub record Answers {X : Type 0} (admits : X → Type 0) (reading : Result (X × At) OpsFault) (old new : At) (result : Result X OpsFault) : Type 0 where
+pub record Answers {X : Type 0} (admits : X → Type 0) (reading : Result (X × At) OpsFault) (old new : At)
+    (result : Result X OpsFault) : Type 0 where
   pub gives : Told new result reading
   pub unchanged : OnErr result (new ≡ old)
   pub admitted : IfOk result admits

@@ -7,6 +7,7 @@ ghost use Rattle.td_ops.specs.Refusals.{Answers};
 ghost use Rattle.td_ops.specs.Called.{operation_in};
 ghost use Rattle.td_ops.specs.Answers.{answer_of, outcome_read, system_answer};
 ghost use Rattle.td_ops.specs.Shapes.{results};
+ghost use Rattle.td_ops.specs.declared.shape.Shape.TheVariants as shape;
 
 use crate::call::Call;
 use crate::called::operation_in;
@@ -98,25 +99,45 @@ fn read_reply(alloc: Global, r: &mut Reader, shape: Shape) -> Result<Reply, Valu
         Shape::Link => Ok(Reply::Link(LinkInfo::read(alloc, r)?)),
         Shape::Proxy => Ok(Reply::Proxy(ProxyInfo::read(alloc, r)?)),
         Shape::Typed => Ok(Reply::Typed(TypeStruct::read(alloc, r)?)),
-        Shape::Found => {
-            let (offers, (iterator, limits)) = <(List<Offer>, (Ior, List<Text>))>::read(alloc, r)?;
-            Ok(Reply::Found {
-                offers,
-                iterator,
-                limits,
-            })
-        }
-        Shape::Ids => {
-            let (ids, iterator) = <(List<Text>, Ior)>::read(alloc, r)?;
-            Ok(Reply::Ids { ids, iterator })
-        }
-        Shape::Batch => {
-            let (more, offers) = <(bool, List<Offer>)>::read(alloc, r)?;
-            Ok(Reply::Batch { more, offers })
-        }
-        Shape::IdBatch => {
-            let (more, ids) = <(bool, List<Text>)>::read(alloc, r)?;
-            Ok(Reply::IdBatch { more, ids })
-        }
+        Shape::Found => read_found(alloc, r),
+        Shape::Ids => read_ids(alloc, r),
+        Shape::Batch => read_batch(alloc, r),
+        Shape::IdBatch => read_id_batch(alloc, r),
     }
+}
+
+/// The answer to a query. Where it is refused, the reader may have moved.
+fn read_found(alloc: Global, r: &mut Reader) -> Result<Reply, ValueFault>
+    ensures { Gives is_memory r.new result ((results shape.Found).format.reads r.old) }
+{
+    let (offers, (iterator, limits)) = <(List<Offer>, (Ior, List<Text>))>::read(alloc, r)?;
+    Ok(Reply::Found {
+        offers,
+        iterator,
+        limits,
+    })
+}
+
+/// Ids and an iterator. Where they are refused, the reader may have moved.
+fn read_ids(alloc: Global, r: &mut Reader) -> Result<Reply, ValueFault>
+    ensures { Gives is_memory r.new result ((results shape.Ids).format.reads r.old) }
+{
+    let (ids, iterator) = <(List<Text>, Ior)>::read(alloc, r)?;
+    Ok(Reply::Ids { ids, iterator })
+}
+
+/// Offers of an iterator. Where they are refused, the reader may have moved.
+fn read_batch(alloc: Global, r: &mut Reader) -> Result<Reply, ValueFault>
+    ensures { Gives is_memory r.new result ((results shape.Batch).format.reads r.old) }
+{
+    let (more, offers) = <(bool, List<Offer>)>::read(alloc, r)?;
+    Ok(Reply::Batch { more, offers })
+}
+
+/// Ids of an iterator. Where they are refused, the reader may have moved.
+fn read_id_batch(alloc: Global, r: &mut Reader) -> Result<Reply, ValueFault>
+    ensures { Gives is_memory r.new result ((results shape.IdBatch).format.reads r.old) }
+{
+    let (more, ids) = <(bool, List<Text>)>::read(alloc, r)?;
+    Ok(Reply::IdBatch { more, ids })
 }

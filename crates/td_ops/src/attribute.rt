@@ -9,7 +9,7 @@ use std::alloc::Global;
 use td_cdr::{Memory, Twin};
 
 /// An attribute whose value is a reference.
-#[derive(Clone, Copy, Debug, PartialEq, Eq)]
+#[derive(Clone, Copy, PartialEq, Eq)]
 pub enum ReferenceAttribute {
     LookupIf,
     RegisterIf,
@@ -20,7 +20,7 @@ pub enum ReferenceAttribute {
 }
 
 /// An attribute whose value is a truth value.
-#[derive(Clone, Copy, Debug, PartialEq, Eq)]
+#[derive(Clone, Copy, PartialEq, Eq)]
 pub enum TruthAttribute {
     SupportsModifiableProperties,
     SupportsDynamicProperties,
@@ -28,7 +28,7 @@ pub enum TruthAttribute {
 }
 
 /// An attribute whose value is an unsigned long.
-#[derive(Clone, Copy, Debug, PartialEq, Eq)]
+#[derive(Clone, Copy, PartialEq, Eq)]
 pub enum NumberAttribute {
     DefSearchCard,
     MaxSearchCard,
@@ -42,7 +42,7 @@ pub enum NumberAttribute {
 }
 
 /// An attribute whose value is a rule of following links.
-#[derive(Clone, Copy, Debug, PartialEq, Eq)]
+#[derive(Clone, Copy, PartialEq, Eq)]
 pub enum FollowAttribute {
     DefFollowPolicy,
     MaxFollowPolicy,
@@ -50,7 +50,7 @@ pub enum FollowAttribute {
 }
 
 /// An attribute.
-#[derive(Clone, Copy, Debug, PartialEq, Eq)]
+#[derive(Clone, Copy, PartialEq, Eq)]
 pub enum Attribute {
     Reference(ReferenceAttribute),
     Truth(TruthAttribute),

@@ -160,13 +160,17 @@ impl Spelled for Query {
     ghost faults = { query.faults };
 
     fn read(alloc: Global, r: &mut Reader) -> Result<Query, ValueFault> {
+        let (service_type, (constraint, (preference, (policies, (desired, how_many))))) = <(
+            Text,
+            (Text, (Text, (List<Policy>, (SpecifiedProps, u32)))),
+        )>::read(alloc, r)?;
         Ok(Query {
-            service_type: Text::read(alloc, r)?,
-            constraint: Text::read(alloc, r)?,
-            preference: Text::read(alloc, r)?,
-            policies: List::read(alloc, r)?,
-            desired: SpecifiedProps::read(alloc, r)?,
-            how_many: u32::read(alloc, r)?,
+            service_type,
+            constraint,
+            preference,
+            policies,
+            desired,
+            how_many,
         })
     }
 
@@ -194,11 +198,15 @@ impl Spelled for AddLink {
     ghost faults = { add_link.faults };
 
     fn read(alloc: Global, r: &mut Reader) -> Result<AddLink, ValueFault> {
+        let (name, (target, (def_pass_on, limiting))) = <(
+            Text,
+            (Ior, (FollowOption, FollowOption)),
+        )>::read(alloc, r)?;
         Ok(AddLink {
-            name: Text::read(alloc, r)?,
-            target: Ior::read(alloc, r)?,
-            def_pass_on: FollowOption::read(alloc, r)?,
-            limiting: FollowOption::read(alloc, r)?,
+            name,
+            target,
+            def_pass_on,
+            limiting,
         })
     }
 

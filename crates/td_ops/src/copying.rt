@@ -6,7 +6,7 @@ ghost use Rattle.td_ops.specs.declared.call.Change.TheVariants as change;
 use crate::call::{AddLink, Call, Change, IterCall, Look, Query};
 use std::alloc::Global;
 use td_cdr::{List, Memory, Text, Twin, copy_four, copy_three, copy_two};
-use td_value::{FollowOption, Ior, Policy, Property};
+use td_value::{FollowOption, Ior, Policy, PropStruct, Property};
 
 impl Twin for Call {
     fn copy(&self, alloc: Global) -> Result<Call, Memory> {
@@ -62,19 +62,7 @@ impl Twin for Change {
                 reference,
                 service_type,
                 properties,
-            } => {
-                let (reference, (service_type, properties)) = copy_three(
-                    alloc,
-                    reference,
-                    service_type,
-                    properties,
-                )?;
-                Ok(Change::Export {
-                    reference,
-                    service_type,
-                    properties,
-                })
-            }
+            } => copy_exported(alloc, reference, service_type, properties),
             Change::Withdraw { id } => Ok(Change::Withdraw {
                 id: id.copy(alloc)?,
             }),
@@ -82,24 +70,11 @@ impl Twin for Change {
                 id,
                 deleted,
                 changed,
-            } => {
-                let (id, (deleted, changed)) = copy_three(alloc, id, deleted, changed)?;
-                Ok(Change::Modify {
-                    id,
-                    deleted,
-                    changed,
-                })
-            }
+            } => copy_modified(alloc, id, deleted, changed),
             Change::WithdrawUsingConstraint {
                 service_type,
                 constraint,
-            } => {
-                let (service_type, constraint) = copy_two(alloc, service_type, constraint)?;
-                Ok(Change::WithdrawUsingConstraint {
-                    service_type,
-                    constraint,
-                })
-            }
+            } => copy_constrained(alloc, service_type, constraint),
             Change::AddLink {
                 name,
                 target,
@@ -160,21 +135,7 @@ impl Twin for Change {
                 if_name,
                 props,
                 super_types,
-            } => {
-                let (name, (if_name, (props, super_types))) = copy_four(
-                    alloc,
-                    name,
-                    if_name,
-                    props,
-                    super_types,
-                )?;
-                Ok(Change::AddType {
-                    name,
-                    if_name,
-                    props,
-                    super_types,
-                })
-            }
+            } => copy_added_type(alloc, name, if_name, props, super_types),
             Change::RemoveType { name } => Ok(Change::RemoveType {
                 name: name.copy(alloc)?,
             }),
@@ -229,6 +190,81 @@ impl Twin for IterCall {
             IterCall::Destroy => Ok(IterCall::Destroy),
         }
     }
+}
+
+/// A copy of an offer that is to be exported.
+fn copy_exported(
+    alloc: Global,
+    reference: &Ior,
+    service_type: &Text,
+    properties: &List<Property>,
+) -> Result<Change, Memory>
+    ensures { IfOk result (λ twin. twin ≡ change.Export reference.now service_type.now properties.now) }
+{
+    let (reference, (service_type, properties)) = copy_three(
+        alloc,
+        reference,
+        service_type,
+        properties,
+    )?;
+    Ok(Change::Export {
+        reference,
+        service_type,
+        properties,
+    })
+}
+
+/// A copy of what an offer is to be modified by.
+fn copy_modified(
+    alloc: Global,
+    id: &Text,
+    deleted: &List<Text>,
+    changed: &List<Property>,
+) -> Result<Change, Memory>
+    ensures { IfOk result (λ twin. twin ≡ change.Modify id.now deleted.now changed.now) }
+{
+    let (id, (deleted, changed)) = copy_three(alloc, id, deleted, changed)?;
+    Ok(Change::Modify {
+        id,
+        deleted,
+        changed,
+    })
+}
+
+/// A copy of a withdrawal by a constraint.
+fn copy_constrained(alloc: Global, service_type: &Text, constraint: &Text) -> Result<Change, Memory>
+    ensures { IfOk result (λ twin. twin ≡ change.WithdrawUsingConstraint service_type.now constraint.now) }
+{
+    let (service_type, constraint) = copy_two(alloc, service_type, constraint)?;
+    Ok(Change::WithdrawUsingConstraint {
+        service_type,
+        constraint,
+    })
+}
+
+/// A copy of a service type that is to be added.
+fn copy_added_type(
+    alloc: Global,
+    name: &Text,
+    if_name: &Text,
+    props: &List<PropStruct>,
+    super_types: &List<Text>,
+) -> Result<Change, Memory>
+    ensures { IfOk result (λ twin. twin ≡ change.AddType name.now if_name.now props.now super_types.now) }
+{
+    let (name, (if_name, (props, super_types))) = copy_four(
+        alloc,
+        name,
+        if_name,
+        props,
+        super_types,
+    )?;
+    Ok(Change::AddType {
+        name,
+        if_name,
+        props,
+        super_types,
+    })
 }
 
 /// A copy of a link that is to be added.

@@ -1,8 +1,12 @@
 //! Copies of outcomes.
 
+ghost use Rattle.std.specs.Prelude.{◌≡◌, IfOk};
+ghost use Rattle.td_ops.specs.declared.outcome.Reply.TheVariants as reply;
+
 use crate::outcome::{Answered, Outcome, Reply, SystemKind};
 use std::alloc::Global;
-use td_cdr::{Memory, Twin, copy_three, copy_two};
+use td_cdr::{List, Memory, Text, Twin, copy_three, copy_two};
+use td_value::{Ior, Offer};
 
 impl Twin for SystemKind {
     fn copy(&self, _alloc: Global) -> Result<SystemKind, Memory> {
@@ -30,18 +34,8 @@ impl Twin for Reply {
                 offers,
                 iterator,
                 limits,
-            } => {
-                let (offers, (iterator, limits)) = copy_three(alloc, offers, iterator, limits)?;
-                Ok(Reply::Found {
-                    offers,
-                    iterator,
-                    limits,
-                })
-            }
-            Reply::Ids { ids, iterator } => {
-                let (ids, iterator) = copy_two(alloc, ids, iterator)?;
-                Ok(Reply::Ids { ids, iterator })
-            }
+            } => copy_found(alloc, offers, iterator, limits),
+            Reply::Ids { ids, iterator } => copy_ids(alloc, ids, iterator),
             Reply::Batch { more, offers } => Ok(Reply::Batch {
                 more: *more,
                 offers: offers.copy(alloc)?,
@@ -52,6 +46,31 @@ impl Twin for Reply {
             }),
         }
     }
+}
+
+/// A copy of the answer to a query.
+fn copy_found(
+    alloc: Global,
+    offers: &List<Offer>,
+    iterator: &Ior,
+    limits: &List<Text>,
+) -> Result<Reply, Memory>
+    ensures { IfOk result (λ twin. twin ≡ reply.Found offers.now iterator.now limits.now) }
+{
+    let (offers, (iterator, limits)) = copy_three(alloc, offers, iterator, limits)?;
+    Ok(Reply::Found {
+        offers,
+        iterator,
+        limits,
+    })
+}
+
+/// A copy of ids and an iterator.
+fn copy_ids(alloc: Global, ids: &List<Text>, iterator: &Ior) -> Result<Reply, Memory>
+    ensures { IfOk result (λ twin. twin ≡ reply.Ids ids.now iterator.now) }
+{
+    let (ids, iterator) = copy_two(alloc, ids, iterator)?;
+    Ok(Reply::Ids { ids, iterator })
 }
 
 impl Twin for Outcome {

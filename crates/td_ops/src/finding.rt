@@ -3,12 +3,13 @@
 ghost use Rattle.std.specs.Prelude.{◌≡◌, [], ◌∷◌, ◌++◌};
 ghost use Rattle.td_cdr.specs.Format.{value_named};
 ghost use Rattle.td_value.specs.declared.key.Kind.TheVariants as kind;
-ghost use Rattle.td_ops.specs.declared.operation.Operation.TheVariants.{Get, SetRequestIdStem};
+ghost use Rattle.td_ops.specs.declared.operation.Operation.TheVariants.{Get};
 ghost use Rattle.td_ops.specs.declared.attribute.Attribute.TheVariants.{Incarnation, RequestIdStem};
 ghost use Rattle.td_ops.specs.Iterators.{iterator_operations};
 ghost use Rattle.td_ops.specs.Operations.{name_of, operations, object_operations, trader_operations, first_name};
-ghost use Rattle.td_ops.specs.Operations.{component_readings, support_readings, import_readings, link_readings, admin_readings};
-ghost use Rattle.td_ops.specs.Operations.{setting_operations, truth_settings, number_settings, follow_settings, operation_named};
+ghost use Rattle.td_ops.specs.Operations.{component_readings, support_readings, import_readings, link_readings};
+ghost use Rattle.td_ops.specs.Operations.{admin_readings};
+ghost use Rattle.td_ops.specs.Operations.{setting_operations, operation_named};
 
 use crate::attribute::{
     Attribute, FollowAttribute, NumberAttribute, ReferenceAttribute, TruthAttribute,
@@ -287,46 +288,6 @@ fn support_or_object(name: &[u8]) -> Option<Operation>
     }
 }
 
-/// A setting of an attribute.
-#[tactic(auto, using(crate::proofs::Named::value_named_append))]
-fn setting_named(name: &[u8]) -> Option<Operation>
-    ensures { result ≡ value_named name_of setting_operations name.now }
-{
-    match truth_set_named(name) {
-        Some(operation) => Some(operation),
-        None => number_setting_named(name),
-    }
-}
-
-/// A setting of a number or of what stands behind the numbers.
-#[tactic(auto, using(crate::proofs::Named::value_named_append))]
-fn number_setting_named(name: &[u8]) -> Option<Operation>
-    ensures { result ≡ value_named name_of (number_settings ++ follow_settings ++ SetRequestIdStem ∷ []) name.now }
-{
-    match number_set_named(name) {
-        Some(operation) => Some(operation),
-        None => follow_setting_named(name),
-    }
-}
-
-/// A setting of a rule or of the stem.
-#[tactic(auto, using(crate::proofs::Named::value_named_append))]
-fn follow_setting_named(name: &[u8]) -> Option<Operation>
-    ensures { result ≡ value_named name_of (follow_settings ++ SetRequestIdStem ∷ []) name.now }
-{
-    match follow_set_named(name) {
-        Some(operation) => Some(operation),
-        None => stem_set_named(name),
-    }
-}
-
-/// The setting of the stem.
-fn stem_set_named(name: &[u8]) -> Option<Operation>
-    ensures { result ≡ value_named name_of (SetRequestIdStem ∷ []) name.now }
-{
-    find_named(&[Operation::SetRequestIdStem], name)
-}
-
 /// An attribute of the interface TraderComponents that is read.
 fn component_named(name: &[u8]) -> Option<Operation>
     ensures { result ≡ value_named name_of component_readings name.now }
@@ -380,26 +341,15 @@ fn import_named(name: &[u8]) -> Option<Operation>
     )
 }
 
-/// An attribute that Admin sets.
-fn truth_set_named(name: &[u8]) -> Option<Operation>
-    ensures { result ≡ value_named name_of truth_settings name.now }
+/// A setting of an attribute.
+fn setting_named(name: &[u8]) -> Option<Operation>
+    ensures { result ≡ value_named name_of setting_operations name.now }
 {
     find_named(
         &[
             Operation::SetTruth(TruthAttribute::SupportsModifiableProperties),
             Operation::SetTruth(TruthAttribute::SupportsDynamicProperties),
             Operation::SetTruth(TruthAttribute::SupportsProxyOffers),
-        ],
-        name,
-    )
-}
-
-/// An attribute that Admin sets.
-fn number_set_named(name: &[u8]) -> Option<Operation>
-    ensures { result ≡ value_named name_of number_settings name.now }
-{
-    find_named(
-        &[
             Operation::SetNumber(NumberAttribute::DefSearchCard),
             Operation::SetNumber(NumberAttribute::MaxSearchCard),
             Operation::SetNumber(NumberAttribute::DefMatchCard),
@@ -409,20 +359,10 @@ fn number_set_named(name: &[u8]) -> Option<Operation>
             Operation::SetNumber(NumberAttribute::MaxList),
             Operation::SetNumber(NumberAttribute::DefHopCount),
             Operation::SetNumber(NumberAttribute::MaxHopCount),
-        ],
-        name,
-    )
-}
-
-/// An attribute that Admin sets.
-fn follow_set_named(name: &[u8]) -> Option<Operation>
-    ensures { result ≡ value_named name_of follow_settings name.now }
-{
-    find_named(
-        &[
             Operation::SetFollow(FollowAttribute::DefFollowPolicy),
             Operation::SetFollow(FollowAttribute::MaxFollowPolicy),
             Operation::SetFollow(FollowAttribute::MaxLinkFollowPolicy),
+            Operation::SetRequestIdStem,
         ],
         name,
     )

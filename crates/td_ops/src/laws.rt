@@ -17,7 +17,8 @@ ghost use Rattle.td_ops.specs.Answers.{answer_of};
 ghost use Rattle.td_ops.specs.Laws.{AreFound, SecondName, RepositoryStays, ReadAsSpelled, SpelledIsRead};
 ghost use Rattle.td_ops.specs.BodyFaults.{parameter_faults, answer_faults};
 ghost use Rattle.td_ops.specs.Laws.{UnknownIsRefused, IsCalled, CallReadsBack, OutcomeReadsBack};
-ghost use Rattle.td_ops.specs.Laws.{BadOperationIsUnknown, NoImplementIsLeftOut, MarshalIsMisspelled, ReplyIsLeftOut, ReplyIsMisspelled};
+ghost use Rattle.td_ops.specs.Laws.{BadOperationIsUnknown, NoImplementIsLeftOut, MarshalIsMisspelled, ReplyIsLeftOut};
+ghost use Rattle.td_ops.specs.Laws.{ReplyIsMisspelled};
 
 /// No name stands twice among the operations of an object, and each is found by its name. The second
 /// name `_not_existent` finds the same operation as `_non_existent`. `set_type_repos` is not
@@ -50,7 +51,8 @@ pub fn bodies_are_refused()
     ensures unknown { BadOperationIsUnknown }
     ensures not_implemented { NoImplementIsLeftOut }
     ensures misspelled { MarshalIsMisspelled }
-    ensures replies { (operation : Operation) (status : ℕ) → Refuses (answer_faults operation status) (answer_of operation status).format.reads }
+    ensures replies { (operation : Operation) (status : ℕ)
+        → Refuses (answer_faults operation status) (answer_of operation status).format.reads }
     ensures reply_not_implemented { ReplyIsLeftOut }
     ensures reply_misspelled { ReplyIsMisspelled }
 {}

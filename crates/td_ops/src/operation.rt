@@ -18,7 +18,7 @@ use std::alloc::Global;
 use td_cdr::{Memory, Named, Twin};
 
 /// An operation of an object, by the interface that declares it.
-#[derive(Clone, Copy, Debug, PartialEq, Eq)]
+#[derive(Clone, Copy, PartialEq, Eq)]
 pub enum Operation {
     Query,
     Register(RegisterOperation),
@@ -39,7 +39,7 @@ pub enum Operation {
 }
 
 /// The operations of the interface Register.
-#[derive(Clone, Copy, Debug, PartialEq, Eq)]
+#[derive(Clone, Copy, PartialEq, Eq)]
 pub enum RegisterOperation {
     Export,
     Withdraw,
@@ -50,7 +50,7 @@ pub enum RegisterOperation {
 }
 
 /// The operations of the interface Link.
-#[derive(Clone, Copy, Debug, PartialEq, Eq)]
+#[derive(Clone, Copy, PartialEq, Eq)]
 pub enum LinkOperation {
     AddLink,
     RemoveLink,
@@ -60,7 +60,7 @@ pub enum LinkOperation {
 }
 
 /// The operations of the interface Proxy.
-#[derive(Clone, Copy, Debug, PartialEq, Eq)]
+#[derive(Clone, Copy, PartialEq, Eq)]
 pub enum ProxyOperation {
     ExportProxy,
     WithdrawProxy,
@@ -68,7 +68,7 @@ pub enum ProxyOperation {
 }
 
 /// The operations of the interface Admin, but for its attributes.
-#[derive(Clone, Copy, Debug, PartialEq, Eq)]
+#[derive(Clone, Copy, PartialEq, Eq)]
 pub enum AdminOperation {
     ListOffers,
     ListProxies,
@@ -76,7 +76,7 @@ pub enum AdminOperation {
 }
 
 /// The operations of the interface OfferIterator and OfferIdIterator.
-#[derive(Clone, Copy, Debug, PartialEq, Eq)]
+#[derive(Clone, Copy, PartialEq, Eq)]
 pub enum IteratorOperation {
     MaxLeft,
     NextN,
@@ -84,7 +84,7 @@ pub enum IteratorOperation {
 }
 
 /// The operations of the interface ServiceTypeRepository, but for its attribute.
-#[derive(Clone, Copy, Debug, PartialEq, Eq)]
+#[derive(Clone, Copy, PartialEq, Eq)]
 pub enum TypesOperation {
     AddType,
     RemoveType,

@@ -4,6 +4,7 @@ ghost use Rattle.std.specs.Prelude.{◌≡◌};
 ghost use Rattle.td_cdr.specs.Format.{Gives};
 ghost use Rattle.td_cdr.specs.ValueFaults.{is_memory};
 ghost use Rattle.td_ops.specs.Registers.{register_row};
+ghost use Rattle.td_ops.specs.declared.operation.RegisterOperation.TheVariants as register;
 
 use crate::call::{Call, Change, Look};
 use crate::operation::RegisterOperation;
@@ -20,37 +21,47 @@ pub(crate) fn read_register(
     ensures { Gives is_memory r.new result ((register_row operation).body.format.reads r.old) }
 {
     match operation {
-        RegisterOperation::Export => {
-            let (reference, (service_type, properties)) = <(Ior, (Text, List<Property>))>::read(
-                alloc, r,
-            )?;
-            Ok(Call::Change(Change::Export {
-                reference,
-                service_type,
-                properties,
-            }))
-        }
+        RegisterOperation::Export => read_export(alloc, r),
         RegisterOperation::Withdraw => Ok(Call::Change(Change::Withdraw {
             id: Text::read(alloc, r)?,
         })),
         RegisterOperation::Describe => Ok(Call::Look(Look::Describe {
             id: Text::read(alloc, r)?,
         })),
-        RegisterOperation::Modify => {
-            let (id, (deleted, changed)) = <(Text, (List<Text>, List<Property>))>::read(alloc, r)?;
-            Ok(Call::Change(Change::Modify {
-                id,
-                deleted,
-                changed,
-            }))
-        }
-        RegisterOperation::WithdrawUsingConstraint => {
-            let (service_type, constraint) = <(Text, Text)>::read(alloc, r)?;
-            Ok(Call::Change(Change::WithdrawUsingConstraint {
-                service_type,
-                constraint,
-            }))
-        }
+        RegisterOperation::Modify => read_modify(alloc, r),
+        RegisterOperation::WithdrawUsingConstraint => read_withdraw_using_constraint(alloc, r),
         RegisterOperation::Resolve => Ok(Call::Resolve(List::read(alloc, r)?)),
     }
+}
+
+fn read_export(alloc: Global, r: &mut Reader) -> Result<Call, ValueFault>
+    ensures { Gives is_memory r.new result ((register_row register.Export).body.format.reads r.old) }
+{
+    let (reference, (service_type, properties)) = <(Ior, (Text, List<Property>))>::read(alloc, r)?;
+    Ok(Call::Change(Change::Export {
+        reference,
+        service_type,
+        properties,
+    }))
+}
+
+fn read_modify(alloc: Global, r: &mut Reader) -> Result<Call, ValueFault>
+    ensures { Gives is_memory r.new result ((register_row register.Modify).body.format.reads r.old) }
+{
+    let (id, (deleted, changed)) = <(Text, (List<Text>, List<Property>))>::read(alloc, r)?;
+    Ok(Call::Change(Change::Modify {
+        id,
+        deleted,
+        changed,
+    }))
+}
+
+fn read_withdraw_using_constraint(alloc: Global, r: &mut Reader) -> Result<Call, ValueFault>
+    ensures { Gives is_memory r.new result ((register_row register.WithdrawUsingConstraint).body.format.reads r.old) }
+{
+    let (service_type, constraint) = <(Text, Text)>::read(alloc, r)?;
+    Ok(Call::Change(Change::WithdrawUsingConstraint {
+        service_type,
+        constraint,
+    }))
 }

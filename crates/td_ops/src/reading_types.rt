@@ -4,6 +4,7 @@ ghost use Rattle.std.specs.Prelude.{◌≡◌};
 ghost use Rattle.td_cdr.specs.Format.{Gives};
 ghost use Rattle.td_cdr.specs.ValueFaults.{is_memory};
 ghost use Rattle.td_ops.specs.Types.{types_row};
+ghost use Rattle.td_ops.specs.declared.operation.TypesOperation.TheVariants as types;
 ghost use Rattle.td_ops.specs.Iterators.{iterator_row};
 
 use crate::call::{Call, Change, IterCall, Look};
@@ -12,7 +13,8 @@ use std::alloc::Global;
 use td_cdr::{List, Reader, Spelled, Text, ValueFault};
 use td_value::{PropStruct, SpecifiedServiceTypes};
 
-/// The parameters of an operation of ServiceTypeRepository, but for its attribute. Where they are refused, the reader may have moved.
+/// The parameters of an operation of ServiceTypeRepository, but for its attribute. Where they are refused, the reader
+/// may have moved.
 pub(crate) fn read_types(
     alloc: Global,
     r: &mut Reader,
@@ -21,18 +23,7 @@ pub(crate) fn read_types(
     ensures { Gives is_memory r.new result ((types_row operation).body.format.reads r.old) }
 {
     match operation {
-        TypesOperation::AddType => {
-            let (name, (if_name, (props, super_types))) = <(
-                Text,
-                (Text, (List<PropStruct>, List<Text>)),
-            )>::read(alloc, r)?;
-            Ok(Call::Change(Change::AddType {
-                name,
-                if_name,
-                props,
-                super_types,
-            }))
-        }
+        TypesOperation::AddType => read_add_type(alloc, r),
         TypesOperation::RemoveType => Ok(Call::Change(Change::RemoveType {
             name: Text::read(alloc, r)?,
         })),
@@ -54,7 +45,23 @@ pub(crate) fn read_types(
     }
 }
 
-/// The parameters of an operation of OfferIterator and OfferIdIterator. Where they are refused, the reader may have moved.
+fn read_add_type(alloc: Global, r: &mut Reader) -> Result<Call, ValueFault>
+    ensures { Gives is_memory r.new result ((types_row types.AddType).body.format.reads r.old) }
+{
+    let (name, (if_name, (props, super_types))) = <(
+        Text,
+        (Text, (List<PropStruct>, List<Text>)),
+    )>::read(alloc, r)?;
+    Ok(Call::Change(Change::AddType {
+        name,
+        if_name,
+        props,
+        super_types,
+    }))
+}
+
+/// The parameters of an operation of OfferIterator and OfferIdIterator. Where they are refused, the reader may have
+/// moved.
 pub(crate) fn read_iterator(
     alloc: Global,
     r: &mut Reader,

@@ -3,7 +3,8 @@
 ghost use Rattle.std.specs.Prelude.{◌≡◌, ◌≤◌, IsTrue, IsOk};
 ghost use Rattle.td_cdr.specs.Format.{Appends, Puts, ◌then◌};
 ghost use Rattle.td_cdr.specs.Sound.{ulong};
-ghost use Rattle.td_ops.specs.Outcomes.{FitsRoom, SufficesRoom, is_short, outcome_piece, outcome_status, system_id, system_piece};
+ghost use Rattle.td_ops.specs.Outcomes.{FitsRoom, SufficesRoom, is_short, outcome_piece, outcome_status, system_id};
+ghost use Rattle.td_ops.specs.Outcomes.{system_piece};
 ghost use Rattle.td_ops.specs.Shapes.{reply_piece};
 ghost use Rattle.td_ops.specs.declared.outcome.Outcome.TheVariants.{Done};
 ghost use Rattle.td_ops.specs.declared.outcome.Reply.TheVariants.{Batch, Follow, Id, IdBatch, Nothing, Stem};

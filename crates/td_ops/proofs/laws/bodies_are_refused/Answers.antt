@@ -1,4 +1,5 @@
-use Rattle.td_ops.proofs.Refused.{parameters-refused, unknown-refused, not_implemented-refused, misspelled-refused, answer-refused, answer-not_implemented, answer-misspelled}
+use Rattle.td_ops.proofs.Refused.{parameters-refused, unknown-refused, not_implemented-refused, misspelled-refused}
+use Rattle.td_ops.proofs.Refused.{answer-refused, answer-not_implemented, answer-misspelled}
 use Rattle.td_ops.proofs.laws.bodies_are_refused.Goals as goal
 
 pub returns-clause-parameters : goal.returns-clause-parameters

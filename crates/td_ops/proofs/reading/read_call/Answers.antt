@@ -6,4 +6,5 @@ pub returns : goal.returns
 returns c =
     let is = rw c.copied-next.ensures at c.in_ok-call.ensures in
     let octets = rw c.left.ensures.left at c.see_octets.ensures in
-    call-answered c.args.kind.now c.args.operation.now c.args.body.now c.read_parameters.new.r c.in-Some.operation c.in_ok-call.call (sym c.in-Some.ensures) c.left.ensures.inside octets is
+    call-answered c.args.kind.now c.args.operation.now c.args.body.now c.read_parameters.new.r c.in-Some.operation
+    c.in_ok-call.call (sym c.in-Some.ensures) c.left.ensures.inside octets is
