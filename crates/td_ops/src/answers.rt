@@ -14,7 +14,6 @@ use crate::called::operation_in;
 use crate::fault::OpsFault;
 use crate::operation::{Operation, result_shape};
 use crate::outcome::{Answered, Reply};
-use crate::reading::see_octets;
 use crate::shape::Shape;
 use std::alloc::Global;
 use td_cdr::{List, Octets, Reader, Spelled, Text, ValueFault};
@@ -42,7 +41,6 @@ pub fn read_outcome(
         Answers reply.format.admits (outcome_read call.now status body.old) body.old body.new result }
 {
     let operation = operation_in(call);
-    see_octets(body.left());
     let mut next = body.copied();
     let answer = read_answer(alloc, &mut next, operation, status)?;
     *body = next;

@@ -3,7 +3,6 @@
 ghost use Rattle.std.specs.Prelude.{◌≡◌};
 ghost use Rattle.td_cdr.specs.Format.{Gives};
 ghost use Rattle.td_cdr.specs.ValueFaults.{is_memory};
-ghost use Rattle.td_cdr.specs.Lawful.{AreOctets};
 ghost use Rattle.td_ops.specs.Refusals.{Answers};
 ghost use Rattle.td_ops.specs.Calls.{AdmitsCall, call_read};
 ghost use Rattle.td_ops.specs.Operations.{row};
@@ -40,18 +39,10 @@ pub fn read_call(
     let Some(operation) = operation_named(kind, operation) else {
         return Err(OpsFault::BadOperation);
     };
-    see_octets(body.left());
     let mut next = body.copied();
     let call = read_parameters(alloc, &mut next, operation)?;
     *body = next;
     Ok(call)
-}
-
-/// Nothing is done: the contract says what a slice's type says.
-pub(crate) fn see_octets(bytes: &[u8])
-    ensures { AreOctets bytes.now }
-{
-    let _count = bytes.len();
 }
 
 /// The parameters of an operation. Where they are refused, the reader may have moved.

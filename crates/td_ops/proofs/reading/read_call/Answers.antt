@@ -4,7 +4,6 @@ use Rattle.td_ops.proofs.reading.read_call.Goals as goal
 
 pub returns : goal.returns
 returns c =
-    let is = rw c.copied-next.ensures at c.in_ok-call.ensures in
-    let octets = rw c.left.ensures.left at c.see_octets.ensures in
+    let is = rw c.copied-next.ensures.same at c.in_ok-call.ensures in
     call-answered c.args.kind.now c.args.operation.now c.args.body.now c.read_parameters.new.r c.in-Some.operation
-    c.in_ok-call.call (sym c.in-Some.ensures) c.left.ensures.inside octets is
+    c.in_ok-call.call (sym c.in-Some.ensures) c.copied-next.ensures.inside c.copied-next.ensures.octets is
