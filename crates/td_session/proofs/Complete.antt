@@ -1,6 +1,8 @@
--- A stream of whole messages that are all to be answered is served whole.
-use Rattle.std.proofs.Common.{◌≡◌, ◌⊎◌, ℕ, ◌+◌, ◌<◌, cond, List, [], ◌∷◌, ◌++◌, All, count_by, length, take, drop, Option, Some, None, Ok, Err, refl, sym, ap, subst, ◌∙◌, inl, inr, arith, length-append, drop_at}
-use Rattle.std.specs.List.{concat}
+-- A stream of whole messages to a server is served up to the first that closes the session.
+use Rattle.std.proofs.Common.{◌≡◌, ◌⊎◌, ℕ, ◌+◌, ◌<◌, Bool, true, false, cond, not, List, [], ◌∷◌, ◌++◌, All, count_by}
+use Rattle.std.proofs.Common.{length, take, drop, Option, Some, None, Ok, Err, refl, sym, ap, subst, ◌∙◌, inl, inr}
+use Rattle.std.proofs.Common.{arith, length-append, drop_at, one-add}
+use Rattle.std.specs.List.{concat, before_first, position_or_len}
 use Rattle.std.proofs.lemmas.List.{append-nil}
 use Rattle.std.proofs.lemmas.List.Elements.{All-head, All-tail, All-rest}
 use Rattle.std.proofs.lemmas.List.Sums.{sum_by-cons, sum_by-append}
@@ -14,12 +16,15 @@ use Rattle.td_giop.proofs.Framing.{same_size, bad_header, bad-append}
 use Rattle.td_giop.proofs.Cuts.{front_within, fronts_fed, message_front}
 use Rattle.td_session.specs.declared.end.Cause.{Cause}
 use Rattle.td_session.specs.declared.end.End.{End}
-use Rattle.td_session.specs.declared.end.End.TheVariants.{Closed, Broken, Truncated, ReadFault, WriteFault, Long, Memory}
+use Rattle.td_session.specs.declared.end.End.TheVariants.{Closed, Broken, Truncated, ReadFault, WriteFault, Long}
+use Rattle.td_session.specs.declared.end.End.TheVariants.{Memory}
 use Rattle.td_session.specs.declared.store.FirstStore.{FirstStore}
 use Rattle.td_session.specs.Outside.{Outside}
-use Rattle.td_session.specs.Steps.{Step, answers, closes, breaks, step_of, Turn, message_limit, is_request}
-use Rattle.td_session.specs.Sessions.{output, messages_of, requests, Meets, HasReason, Gives, Serves, bytes_limit, request_limit}
-use Rattle.td_session.specs.Completeness.{IsAnswered, IsServable, NoneFailed, IsComplete}
+use Rattle.td_session.specs.Steps.{Step, closes, breaks, step_of, Turn, Served, message_limit, is_request}
+use Rattle.td_session.specs.Sessions.{output, messages_of, requests, Meets, HasReason, Gives, Serves, bytes_limit}
+use Rattle.td_session.specs.Sessions.{request_limit}
+use Rattle.td_session.specs.Completeness.{IsForServer, is_closing, IsServable, NoneFailed, IsComplete, Completes}
+use Rattle.td_session.proofs.ByType.{never_breaks, closes_only, turn_open}
 
 -- ---- messages in front of a stream
 
@@ -35,12 +40,13 @@ same_front limit s m n p q =
     p.bytes ∙ ap (λ (k : ℕ). take k s) e ∙ sym q.bytes
 
 -- messages one after the other stand in front of the stream that they make
-fronts_of : (limit : ℕ) (ms : List (List ℕ)) → All (IsMessage limit) ms → Fronts limit (concat ms) ms []
-fronts_of limit [] each = refl
-fronts_of limit (m ∷ ms) each =
-    let left : drop (length m) (m ++ concat ms) ≡ concat ms = drop_at m (concat ms) (length m) refl in (
-      message_front limit m (concat ms) (All-head (IsMessage limit) m ms each),
-      subst (λ (x : List ℕ). Fronts limit x ms []) (sym left) (fronts_of limit ms (All-tail (IsMessage limit) m ms each)),
+fronts_of : (ms : List (List ℕ)) → All IsForServer ms → Fronts message_limit (concat ms) ms []
+fronts_of [] each = refl
+fronts_of (m ∷ ms) each =
+    let left : drop (length m) (m ++ concat ms) ≡ concat ms = drop_at m (concat ms) (length m) refl in
+    let first : IsForServer m = All-head IsForServer m ms each in (
+      message_front message_limit m (concat ms) first.whole,
+      subst (λ (x : List ℕ). Fronts message_limit x ms []) (sym left) (fronts_of ms (All-tail IsForServer m ms each)),
     )
 
 -- which of a stream's messages are left, where some stand in front
@@ -49,18 +55,24 @@ record Left (limit : ℕ) (ms ns : List (List ℕ)) (rest : List ℕ) : Type 0 w
   pub are : ms ≡ ns ++ more
   pub fronts : Fronts limit rest more []
 
-left_of : (limit : ℕ) (s : List ℕ) (ms ns : List (List ℕ)) (rest : List ℕ) → Fronts limit s ms [] → Fronts limit s ns rest → Left limit ms ns rest
-left_of limit s ms [] rest p q = record { more = ms; are = refl; fronts = subst (λ (x : List ℕ). Fronts limit x ms []) q p }
+left_of : (limit : ℕ) (s : List ℕ) (ms ns : List (List ℕ)) (rest : List ℕ) → Fronts limit s ms []
+    → Fronts limit s ns rest → Left limit ms ns rest
+left_of limit s ms [] rest p q = record {
+  more = ms;
+  are = refl;
+  fronts = subst (λ (x : List ℕ). Fronts limit x ms []) q p;
+}
 left_of limit s [] (n ∷ ns) rest p q = absurd (no_front limit s n p q.0)
 left_of limit s (m ∷ ms) (n ∷ ns) rest p q =
     let mn = same_front limit s m n p.0 q.0 in
-    let there : Fronts limit (drop (length m) s) ns rest = subst (λ (x : List ℕ). Fronts limit (drop (length x) s) ns rest) (sym mn) q.1 in
+    let there : Fronts limit (drop (length m) s) ns rest =
+    subst (λ (x : List ℕ). Fronts limit (drop (length x) s) ns rest) (sym mn) q.1 in
     let ih = left_of limit (drop (length m) s) ms ns rest p.1 there in
-    record { more = ih.more; are = ap (λ (x : List ℕ). x ∷ ms) mn ∙ ap (λ (x : List (List ℕ)). n ∷ x) ih.are; fronts = ih.fronts }
-
-none_left : (limit : ℕ) (s : List ℕ) (more : List (List ℕ)) → Fronts limit s more [] → s ≡ [] → more ≡ []
-none_left limit s [] f e = refl
-none_left limit s (m ∷ more) f e = absurd (no_front limit s m e f.0)
+    record {
+      more = ih.more;
+      are = ap (λ (x : List ℕ). x ∷ ms) mn ∙ ap (λ (x : List (List ℕ)). n ∷ x) ih.are;
+      fronts = ih.fronts;
+    }
 
 all_behind : {X : Type 0} (P : X → Type 0) (xs ys zs : List X) → xs ≡ ys ++ zs → All P xs → All P zs
 all_behind P xs [] zs e h = subst (All P) e h
@@ -68,43 +80,68 @@ all_behind P xs (y ∷ ys) zs e h = all_behind P (ys ++ zs) ys zs refl (All-rest
 
 -- ---- what stands in front of what is left
 
--- nothing, or a message that is to be answered
-abbrev Stands : List ℕ → Type 0
-Stands s = (s ≡ []) ⊎ ((m : List ℕ) × Front message_limit s m × IsAnswered m)
+-- these messages, or nothing
+abbrev Stands : List ℕ → List (List ℕ) → Type 0
+Stands s [] = s ≡ []
+Stands s (m ∷ more) = Front message_limit s m × IsForServer m
 
-stands : (s : List ℕ) (more : List (List ℕ)) → Fronts message_limit s more [] → All IsAnswered more → Stands s
-stands s [] f all = inl f
-stands s (m ∷ more) f all = inr (m, f.0, All-head IsAnswered m more all)
+stands : (s : List ℕ) (more : List (List ℕ)) → Fronts message_limit s more [] → All IsForServer more → Stands s more
+stands s [] f all = f
+stands s (m ∷ more) f all = (f.0, All-head IsForServer m more all)
 
--- so a message in front is answered
-meets_answer : (store : FirstStore) (rest later : List ℕ) (step : Step) → Meets store rest step → Stands (rest ++ later) → (reply : List ℕ) × (after : FirstStore) × (step ≡ answers reply after)
-meets_answer store rest later step meets there =
-    let fed = fronts_fed message_limit rest later (meets.message ∷ []) (drop (length meets.message) rest) (meets.front, refl) in
-    elim there [
-      | inl e ↦ absurd (no_front message_limit (rest ++ later) meets.message e fed.0)
-      | inr other ↦
-          let same = same_front message_limit (rest ++ later) meets.message other.0 fed.0 other.1 in
-          let answered = other.2 store in
-          (answered.0, answered.1, sym meets.has_step ∙ ap (step_of store) same ∙ answered.2)
-    ]
+-- the first of them closes the session, or there is none
+abbrev AtClose : List (List ℕ) → Type 0
+AtClose [] = Unit {0}
+AtClose (m ∷ more) = is_closing m ≡ true
 
--- and there is no bad header
-no_fault : (rest later : List ℕ) (fault : FrameFault) → first_at message_limit rest ≡ Err fault → Stands (rest ++ later) → ⊥
-no_fault rest later fault bad there =
+-- the message that stands in front is the first of them
+the_first : (store : FirstStore) (rest later : List ℕ) (step : Step) (more : List (List ℕ)) → Meets store rest step
+    → Stands (rest ++ later) more → (P : List (List ℕ) → Type 0)
+    → ((m : List ℕ) (others : List (List ℕ)) → IsForServer m → step_of store m ≡ step → P (m ∷ others)) → P more
+the_first store rest later step [] meets there P f =
+    let fed =
+    fronts_fed message_limit rest later (meets.message ∷ []) (drop (length meets.message) rest)
+    (meets.front, refl) in
+    absurd (no_front message_limit (rest ++ later) meets.message there fed.0)
+the_first store rest later step (m ∷ more) meets there P f =
+    let fed =
+    fronts_fed message_limit rest later (meets.message ∷ []) (drop (length meets.message) rest)
+    (meets.front, refl) in
+    let same = same_front message_limit (rest ++ later) meets.message m fed.0 there.0 in
+    f m more there.1 (sym (ap (step_of store) same) ∙ meets.has_step)
+
+closes_first : (store : FirstStore) (rest later : List ℕ) (more : List (List ℕ)) → Meets store rest closes
+    → Stands (rest ++ later) more → AtClose more
+closes_first store rest later more meets there =
+    the_first store rest later closes more meets there AtClose (λ m others fit e. closes_only store m fit e)
+
+breaks_none : (store : FirstStore) (rest later : List ℕ) (cause : Cause) (more : List (List ℕ))
+    → Meets store rest (breaks cause) → Stands (rest ++ later) more → ⊥
+breaks_none store rest later cause more meets there =
+    the_first store rest later (breaks cause) more meets there (λ _. ⊥)
+    (λ m others fit e. never_breaks store m fit cause e)
+
+-- there is no bad header
+no_fault : (rest later : List ℕ) (fault : FrameFault) (more : List (List ℕ)) → first_at message_limit rest ≡ Err fault
+    → Stands (rest ++ later) more → ⊥
+no_fault rest later fault [] bad there =
     let stays = bad-append message_limit rest later fault bad in
-    let long = (subst (Judged message_limit (rest ++ later)) (bad_header message_limit (rest ++ later) fault stays) (judged message_limit (rest ++ later))).0 in
-    elim there [
-      | inl e ↦ (let none : length (rest ++ later) ≡ 0 = ap (length {A = ℕ}) e in omega (arith, none, long))
-      | inr other ↦ (let front = other.1 in cc (stays, front.size))
-    ]
+    let long =
+    (subst (Judged message_limit (rest ++ later)) (bad_header message_limit (rest ++ later) fault stays)
+    (judged message_limit (rest ++ later))).0 in
+    let none : length (rest ++ later) ≡ 0 = ap (length {A = ℕ}) there in omega (arith, none, long)
+no_fault rest later fault (m ∷ more) bad there =
+    let stays = bad-append message_limit rest later fault bad in let front = there.0 in cc (stays, front.size)
 
 -- and the messages that came are whole
-no_cut : (rest : List ℕ) → 0 < length rest → first_at message_limit rest ≡ Ok None → Stands rest → ⊥
-no_cut rest some none there =
-    elim there [
-      | inl e ↦ (let empty : length rest ≡ 0 = ap (length {A = ℕ}) e in omega (arith, empty, some))
-      | inr other ↦ (let front = other.1 in cc (none, front.size))
-    ]
+no_cut : (rest : List ℕ) (more : List (List ℕ)) → 0 < length rest → first_at message_limit rest ≡ Ok None
+    → Stands rest more → ⊥
+no_cut rest [] some none there = let empty : length rest ≡ 0 = ap (length {A = ℕ}) there in omega (arith, empty, some)
+no_cut rest (m ∷ more) some none there = let front = there.0 in cc (none, front.size)
+
+nothing_left : (s : List ℕ) (more : List (List ℕ)) → Stands s more → s ≡ [] → AtClose more
+nothing_left s [] there e = tt
+nothing_left s (m ∷ more) there e = absurd (no_front message_limit s m e there.0)
 
 -- ---- what came of the source
 
@@ -120,10 +157,15 @@ record Came (stream : List ℕ) (left : Option (List ℕ)) (bytes : List ℕ) : 
   pub left_is : left ≡ Some later
   pub parts : stream ≡ bytes ++ later
 
-came : (left0 left1 : Option (List ℕ)) (stream bytes : List ℕ) → left0 ≡ Some stream → Consumes left0 left1 bytes → Came stream left1 bytes
+came : (left0 left1 : Option (List ℕ)) (stream bytes : List ℕ) → left0 ≡ Some stream → Consumes left0 left1 bytes
+    → Came stream left1 bytes
 came None left1 stream bytes e c = absurd cc
 came (Some all) None stream bytes e c = absurd c
-came (Some all) (Some later) stream bytes e c = record { later = later; left_is = refl; parts = sym (known_same all stream e) ∙ c }
+came (Some all) (Some later) stream bytes e c = record {
+  later = later;
+  left_is = refl;
+  parts = sym (known_same all stream e) ∙ c;
+}
 
 at_end : (left : Option (List ℕ)) (later : List ℕ) → left ≡ Some later → IsAtEnd left → later ≡ []
 at_end None later e ended = absurd cc
@@ -138,68 +180,109 @@ requests_are (t ∷ turns) =
     ∙ ap (λ (n : ℕ). cond (is_request t.message) 1 0 + n) (requests_are turns)
     ∙ sym (sum_by-cons (λ (m : List ℕ). cond (is_request m) 1 0) t.message (messages_of turns))
 
--- the end is Closed with nothing left, or Memory
-abbrev Ends : End → List ℕ → Type 0
-Ends end s = ((end ≡ Closed) × (s ≡ [])) ⊎ (end ≡ Memory)
+-- the end is Closed at the first message that closes the session or behind all, or Memory
+abbrev Ends : End → List (List ℕ) → Type 0
+Ends end more = ((end ≡ Closed) × AtClose more) ⊎ (end ≡ Memory)
 
-abbrev answer_is : List ℕ → FirstStore → Step
-answer_is reply after = answers reply after
-
-closes_none : (reply : List ℕ) (after : FirstStore) → closes ≡ answer_is reply after → ⊥
-closes_none reply after e = cc
-
-breaks_none : (cause : Cause) (reply : List ℕ) (after : FirstStore) → breaks cause ≡ answer_is reply after → ⊥
-breaks_none cause reply after e = cc
-
-ends_so : (store : FirstStore) (end : End) (before after : Outside) (count asked : ℕ) (rest later : List ℕ) → HasReason store end before after count asked rest
-    → after.left ≡ Some later → Stands (rest ++ later) → asked < request_limit → count < bytes_limit → NoneFailed before after → Ends end (rest ++ later)
-ends_so store Closed before after count asked rest later reason left there few short unhurt =
+ends_so : (store : FirstStore) (end : End) (before after : Outside) (count asked : ℕ) (rest later : List ℕ)
+    (more : List (List ℕ))
+    → HasReason store end before after count asked rest → after.left ≡ Some later → Stands (rest ++ later) more
+    → asked < request_limit → count < bytes_limit → NoneFailed before after → Ends end more
+ends_so store Closed before after count asked rest later more reason left there few short unhurt =
     elim reason.1 [
-      | inl ended ↦ inl (refl, ap (λ (x : List ℕ). rest ++ x) (at_end after.left later left ended.2) ∙ append-nil rest ∙ ended.1)
-      | inr meets ↦ (let a = meets_answer store rest later closes meets there in absurd (closes_none a.0 a.1 a.2))
+      | inl ended ↦
+          let none : rest ++ later ≡ [] =
+          ap (λ (x : List ℕ). rest ++ x) (at_end after.left later left ended.2) ∙ append-nil rest ∙ ended.1 in
+          inl (refl, nothing_left (rest ++ later) more there none)
+      | inr meets ↦ inl (refl, closes_first store rest later more meets there)
     ]
-ends_so store (Broken place cause) before after count asked rest later reason left there few short unhurt =
+ends_so store (Broken place cause) before after count asked rest later more reason left there few short unhurt =
     elim reason.2 [
-      | inl bad ↦ absurd (no_fault rest later bad.0 bad.2 there)
-      | inr meets ↦ (let a = meets_answer store rest later (breaks cause) meets there in absurd (breaks_none cause a.0 a.1 a.2))
+      | inl bad ↦ absurd (no_fault rest later bad.0 more bad.2 there)
+      | inr meets ↦ absurd (breaks_none store rest later cause more meets there)
     ]
-ends_so store (Truncated place) before after count asked rest later reason left there few short unhurt =
+ends_so store (Truncated place) before after count asked rest later more reason left there few short unhurt =
     let inside = reason.2 in
-    let whole : rest ++ later ≡ rest = ap (λ (x : List ℕ). rest ++ x) (at_end after.left later left inside.ended) ∙ append-nil rest in
-    absurd (no_cut rest inside.began inside.not_whole (subst Stands whole there))
-ends_so store ReadFault before after count asked rest later reason left there few short unhurt = absurd (unhurt.reads reason.1.rose)
-ends_so store WriteFault before after count asked rest later reason left there few short unhurt = absurd (unhurt.writes reason)
-ends_so store Long before after count asked rest later reason left there few short unhurt =
+    let whole : rest ++ later ≡ rest =
+    ap (λ (x : List ℕ). rest ++ x) (at_end after.left later left inside.ended) ∙ append-nil rest in
+    absurd (no_cut rest more inside.began inside.not_whole (subst (λ (x : List ℕ). Stands x more) whole there))
+ends_so store ReadFault before after count asked rest later more reason left there few short unhurt =
+    absurd (unhurt.reads reason.1.rose)
+ends_so store WriteFault before after count asked rest later more reason left there few short unhurt =
+    absurd (unhurt.writes reason)
+ends_so store Long before after count asked rest later more reason left there few short unhurt =
     elim reason [
       | inl all ↦ absurd (omega (arith, all, few))
       | inr all ↦ (let taken = all.0 in absurd (omega (arith, taken, short)))
     ]
-ends_so store Memory before after count asked rest later reason left there few short unhurt = inr refl
+ends_so store Memory before after count asked rest later more reason left there few short unhurt = inr refl
+
+-- ---- the messages that were served
+
+closing_first : (m : List ℕ) (ms : List (List ℕ)) → is_closing m ≡ true → before_first is_closing (m ∷ ms) ≡ []
+closing_first m ms e = ap (λ (b : Bool). take (cond (not b) (1 + position_or_len is_closing ms) 0) (m ∷ ms)) e
+
+take_first : (m : List ℕ) (ms : List (List ℕ)) (n : ℕ) → take (1 + n) (m ∷ ms) ≡ m ∷ take n ms
+take_first m ms n = rw one-add refl
+
+closing_later : (m : List ℕ) (ms : List (List ℕ)) → is_closing m ≡ false
+    → before_first is_closing (m ∷ ms) ≡ m ∷ before_first is_closing ms
+closing_later m ms e =
+    ap (λ (b : Bool). take (cond (not b) (1 + position_or_len is_closing ms) 0) (m ∷ ms)) e
+    ∙ take_first m ms (position_or_len is_closing ms)
+
+-- they are those before the first that closes the session
+before_close : (store later : FirstStore) (ts : List Turn) (more : List (List ℕ)) → Served store ts later → AtClose more
+    → before_first is_closing (messages_of ts ++ more) ≡ messages_of ts
+before_close store later [] [] served at = refl
+before_close store later [] (m ∷ more) served at = closing_first m more at
+before_close store later (t ∷ ts) more served at =
+    closing_later t.message (messages_of ts ++ more) (turn_open store t served.0)
+    ∙ ap (λ (x : List (List ℕ)). t.message ∷ x) (before_close t.after later ts more served.1 at)
 
 -- ---- the law
 
-given_all : (before after : Outside) (output given : List ℕ) (end : End) → end ≡ Closed → Gives end before after output given → given ≡ output
-given_all before after output given end e gives = subst (λ (x : End). Gives x before after output given) e gives
+given_all : (before after : Outside) (turns : List Turn) (given : List ℕ) (end : End) → end ≡ Closed
+    → Gives end before after turns given → given ≡ output turns
+given_all before after turns given end e gives = subst (λ (x : End). Gives x before after turns given) e gives
 
-pub complete : (store later : FirstStore) (end : End) (before after : Outside) (stream : List ℕ) (messages : List (List ℕ)) → Serves store later end before after → before.left ≡ Some stream
-    → IsServable stream messages → NoneFailed before after → IsComplete store later end before after messages
-complete store later end before after stream messages f left servable unhurt =
+pub complete : (store later : FirstStore) (end : End) (before after : Outside) → Serves store later end before after
+    → Completes store later end before after
+complete store later end before after f stream messages left servable unhurt =
     let runs = f.runs in
     let source = came before.left after.left stream f.taken left runs.took in
     let asked = fronts_fed message_limit f.taken source.later (messages_of f.turns) f.rest runs.cut in
-    let served : Fronts message_limit stream (messages_of f.turns) (f.rest ++ source.later) = subst (λ (x : List ℕ). Fronts message_limit x (messages_of f.turns) (f.rest ++ source.later)) (sym source.parts) asked in
-    let all : Fronts message_limit stream messages [] = subst (λ (x : List ℕ). Fronts message_limit x messages []) (sym servable.joined) (fronts_of message_limit messages servable.whole) in
+    let served : Fronts message_limit stream (messages_of f.turns) (f.rest ++ source.later) =
+    subst (λ (x : List ℕ). Fronts message_limit x (messages_of f.turns) (f.rest ++ source.later)) (sym source.parts)
+    asked in
+    let all : Fronts message_limit stream messages [] =
+    subst (λ (x : List ℕ). Fronts message_limit x messages []) (sym servable.joined)
+    (fronts_of messages servable.each) in
     let l = left_of message_limit stream messages (messages_of f.turns) (f.rest ++ source.later) all served in
-    let there = stands (f.rest ++ source.later) l.more l.fronts (all_behind IsAnswered messages (messages_of f.turns) l.more l.are servable.answered) in
-    let counted : count_by is_request messages ≡ count_by is_request (messages_of f.turns) + count_by is_request l.more =
-    ap (count_by is_request) l.are ∙ sum_by-append (λ (m : List ℕ). cond (is_request m) 1 0) (messages_of f.turns) l.more in
+    let there =
+    stands (f.rest ++ source.later) l.more l.fronts
+    (all_behind IsForServer messages (messages_of f.turns) l.more l.are servable.each) in
+    let counted : count_by is_request messages
+    ≡ count_by is_request (messages_of f.turns) + count_by is_request l.more =
+    ap (count_by is_request) l.are
+    ∙ sum_by-append (λ (m : List ℕ). cond (is_request m) 1 0) (messages_of f.turns) l.more in
     let few : 0 + requests f.turns < request_limit = omega (arith, counted, requests_are f.turns, servable.few) in
-    let short : 0 + length f.taken < bytes_limit = omega (arith, ap (length {A = ℕ}) source.parts, length-append f.taken source.later, servable.short) in
-    elim (ends_so later end before after (0 + length f.taken) (0 + requests f.turns) f.rest source.later f.reason source.left_is there few short unhurt) [
+    let short : 0 + length f.taken < bytes_limit =
+    omega (arith, ap (length {A = ℕ}) source.parts, length-append f.taken source.later, servable.short) in
+    elim (ends_so later end before after (0 + length f.taken) (0 + requests f.turns) f.rest source.later l.more f.reason
+    source.left_is there few short unhurt) [
       | inl closed ↦
-          let none = none_left message_limit (f.rest ++ source.later) l.more l.fronts closed.1 in
-          let each : messages ≡ messages_of f.turns = l.are ∙ ap (λ (x : List (List ℕ)). messages_of f.turns ++ x) none ∙ append-nil (messages_of f.turns) in
-          let whole = given_all before after (output f.turns) f.given end closed.0 f.gives in
-          inl (closed.0, record { turns = f.turns; answered = runs.answered; all = sym each; gave = subst (Appends before.written after.written) whole runs.gave })
+          let each : messages_of f.turns ≡ before_first is_closing messages =
+          sym (ap (before_first is_closing) l.are ∙ before_close store later f.turns l.more runs.answered closed.1) in
+          let whole = given_all before after f.turns f.given end closed.0 f.gives in
+          inl (
+            closed.0,
+            record {
+              turns = f.turns;
+              answered = runs.answered;
+              all = each;
+              gave = subst (Appends before.written after.written) whole runs.gave;
+            },
+          )
       | inr memory ↦ inr memory
     ]

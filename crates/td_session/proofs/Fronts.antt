@@ -13,7 +13,7 @@ use Rattle.td_session.specs.Prepared.{IsMessage}
 use Rattle.td_session.specs.Steps.{message_limit}
 use Rattle.td_session.specs.Turns.{Responds, Finds}
 
-pub is_message : (s : Stream) (m : Raw) → s.limit ≡ 16777216 → IsRaw s m → IsMessage m
+pub is_message : (s : Stream) (m : Raw) → s.limit ≡ message_limit → IsRaw s m → IsMessage m
 is_message s m limited raw =
     let good = raw_good s m raw in
     record {
@@ -23,16 +23,19 @@ is_message s m limited raw =
       most = let most = raw.most in omega arith;
     }
 
-in_front : (s : Stream) (m : Raw) → s.limit ≡ 16777216 → IsRaw s m → Front message_limit s.rest m.bytes.now
+in_front : (s : Stream) (m : Raw) → s.limit ≡ message_limit → IsRaw s m → Front message_limit s.rest m.bytes.now
 in_front s m limited raw = subst (λ (n : ℕ). Front n s.rest m.bytes.now) limited (raw_front s m raw)
 
 -- what became of the message in front is what was found there
-pub finds : (store later : FirstStore) (s : Stream) (m : Raw) (result : Fronted) (w0 w1 : Option (List ℕ)) (f0 f1 : ℕ) → s.limit ≡ 16777216 → IsRaw s m
-    → Responds store later m.bytes.now result w0 w1 f0 f1 → Finds store later result s.rest w0 w1 f0 f1
+pub finds : (store later : FirstStore) (s : Stream) (m : Raw) (result : Fronted) (w0 w1 : Option (List ℕ)) (f0 f1 : ℕ)
+    → s.limit ≡ message_limit → IsRaw s m → Responds store later m.bytes.now result w0 w1 f0 f1
+    → Finds store later result s.rest w0 w1 f0 f1
 finds store later s m Nothing w0 w1 f0 f1 limited raw r = absurd r
 finds store later s m (Bad fault) w0 w1 f0 f1 limited raw r = absurd r
-finds store later s m Closes w0 w1 f0 f1 limited raw r = (record { message = m.bytes.now; front = in_front s m limited raw; has_step = r.0 }, r.1, r.2)
-finds store later s m (Breaks cause) w0 w1 f0 f1 limited raw r = (record { message = m.bytes.now; front = in_front s m limited raw; has_step = r.0 }, r.1, r.2)
+finds store later s m Closes w0 w1 f0 f1 limited raw r =
+    (record { message = m.bytes.now; front = in_front s m limited raw; has_step = r.0 }, r.1, r.2)
+finds store later s m (Breaks cause) w0 w1 f0 f1 limited raw r =
+    (record { message = m.bytes.now; front = in_front s m limited raw; has_step = r.0 }, r.1, r.2)
 finds store later s m (Answered request) w0 w1 f0 f1 limited raw r = record {
   turn = record { message = m.bytes.now; reply = r.0; after = later };
   front = in_front s m limited raw;
@@ -47,6 +50,7 @@ finds store later s m Unsent w0 w1 f0 f1 limited raw r = record {
   is_turn = r.1;
   left = refl;
   sent = r.2.0;
-  gave = r.2.1;
+  short = r.2.1;
+  gave = r.2.2;
   rose = r.3;
 }

@@ -1,3 +1,4 @@
+pub mod ByType
 pub mod Changes
 pub mod Complete
 pub mod Ends

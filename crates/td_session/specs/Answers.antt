@@ -1,5 +1,6 @@
 -- What a Request is answered with.
-use Rattle.std.specs.Prelude.{◌≡◌, ◌⊎◌, ℕ, ◌&&◌, Bool, nat_eq, if◌then◌else◌, List, [], ◌∷◌, length, drop, codes, Option, Some, None}
+use Rattle.std.specs.Prelude.{◌≡◌, ◌⊎◌, ℕ, ◌&&◌, Bool, nat_eq, if◌then◌else◌, List, [], ◌∷◌, length, drop, codes}
+use Rattle.std.specs.Prelude.{Option, Some, None}
 use Rattle.std.specs.List.{list_any, starts_with}
 use Rattle.std.specs.Str.{bytes_eq}
 use Rattle.td_cdr.specs.declared.order.Order.{Order}
@@ -27,7 +28,8 @@ names trader object key = starts_with nat_eq key trader && bytes_eq (drop (lengt
 -- the trader's objects: Lookup, Register, Link, Proxy, Admin and the type repository
 abbrev pub is_object : List ℕ → Bool
 is_object object =
-    list_any (λ known. bytes_eq object known) (codes "/L" ∷ codes "/R" ∷ codes "/K" ∷ codes "/P" ∷ codes "/A" ∷ codes "/T" ∷ [])
+    list_any (λ known. bytes_eq object known)
+    (codes "/L" ∷ codes "/R" ∷ codes "/K" ∷ codes "/P" ∷ codes "/A" ∷ codes "/T" ∷ [])
 
 -- a key names a live object
 unfoldable pub is_live : List ℕ → List ℕ → Bool
@@ -63,13 +65,16 @@ with_performed store p = comes p.outcome (record store { types = p.types })
 -- a Request with the key of a live object
 abbrev pub live_answer : FirstStore → Request → At → Answer
 live_answer store head body =
-    if is_types store.trader head.key then with_performed store (types_performed store.types (call_read kind.Types head.operation body))
-    else if is_lookup store.trader head.key && bytes_eq head.operation (codes "query") then query_answer store (plain_query store body)
+    if is_types store.trader head.key
+    then with_performed store (types_performed store.types (call_read kind.Types head.operation body))
+    else if is_lookup store.trader head.key && bytes_eq head.operation (codes "query")
+    then query_answer store (plain_query store body)
     else comes (system NoImplement 0) store
 
 -- first the key is looked at, then the operation, then its parameters
 unfoldable pub answer_of : FirstStore → Request → At → Answer
-answer_of store head body = if is_live store.trader head.key then live_answer store head body else comes (system ObjectNotExist 0) store
+answer_of store head body =
+    if is_live store.trader head.key then live_answer store head body else comes (system ObjectNotExist 0) store
 
 -- the store behind a Request
 unfoldable pub store_after : FirstStore → Request → At → FirstStore
@@ -100,8 +105,10 @@ unserved order head = if head.answered then outcome_reply order head.id (system 
 -- A Request was performed and its reply stands there, or memory was wanted and nothing changed.
 abbrev pub IsReplied : (store after : FirstStore) → Order → Request → At → List ℕ → Type 0
 IsReplied store after order head body bytes =
-    ((request_reply store order head body ≡ bytes) × (store_after store head body ≡ after)) ⊎ ((bytes ≡ unserved order head) × (after ≡ store))
+    ((request_reply store order head body ≡ bytes) × (store_after store head body ≡ after))
+    ⊎ ((bytes ≡ unserved order head) × (after ≡ store))
 
 -- the LocateReply: OBJECT_HERE for a live key, else UNKNOWN_OBJECT
 unfoldable pub locate_reply : FirstStore → Order → ℕ → List ℕ → List ℕ
-locate_reply store order id key = sealed order (locate_reply_written order id (if is_live store.trader key then 1 else 0))
+locate_reply store order id key =
+    sealed order (locate_reply_written order id (if is_live store.trader key then 1 else 0))

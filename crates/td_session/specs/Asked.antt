@@ -45,7 +45,9 @@ is_sure (Offers service_type) = false
 
 -- the Reply stands there, or NO_MEMORY, where the Reply isn't a short one
 abbrev pub IsSent : FirstStore → Order → ℕ → Told → List ℕ → Type 0
-IsSent store order id told bytes = (bytes ≡ told_reply store order id told) ⊎ (IsFalse (is_sure told) × (bytes ≡ outcome_reply order id (system NoMemory 0)))
+IsSent store order id told bytes =
+    (bytes ≡ told_reply store order id told)
+    ⊎ (IsFalse (is_sure told) × (bytes ≡ outcome_reply order id (system NoMemory 0)))
 
 -- the same, or no bytes where none is expected
 abbrev pub IsWritten : FirstStore → Order → Request → Told → List ℕ → Type 0

@@ -5,7 +5,8 @@ use Rattle.td_out.specs.Causes.{Rose}
 use Rattle.td_giop.specs.declared.fault.FrameFault.{FrameFault}
 use Rattle.td_giop.specs.Stream.{Stream}
 use Rattle.td_session.specs.declared.end.End.{End}
-use Rattle.td_session.specs.declared.end.End.TheVariants.{Closed, Broken, Truncated, ReadFault, WriteFault, Long, Memory}
+use Rattle.td_session.specs.declared.end.End.TheVariants.{Closed, Broken, Truncated, ReadFault, WriteFault, Long}
+use Rattle.td_session.specs.declared.end.End.TheVariants.{Memory}
 use Rattle.td_session.specs.Steps.{cause_of, message_error}
 
 -- at the end of the input a stream without a whole message is at the border of a message, or inside one
@@ -26,9 +27,12 @@ pub record Breaks (written0 written1 : Option (List ℕ)) (writes0 writes1 : ℕ
   pub later : writes0 ≤ writes1
 
 -- at a bad header a session ends as Long where it has taken all that it takes, and otherwise breaks off
-abbrev pub EndsAtBad : (start taken : ℕ) → FrameFault → End → (written0 written1 : Option (List ℕ)) → (writes0 writes1 : ℕ) → Type 0
-EndsAtBad start taken fault Long written0 written1 writes0 writes1 = (taken ≡ 2 ^ 40) × Appends written0 written1 [] × (writes0 ≤ writes1)
-EndsAtBad start taken fault (Broken place cause) written0 written1 writes0 writes1 = (taken ≢ 2 ^ 40) × (place ≡ start) × (cause ≡ cause_of fault) × Breaks written0 written1 writes0 writes1
+abbrev pub EndsAtBad : (start taken : ℕ) → FrameFault → End → (written0 written1 : Option (List ℕ))
+    → (writes0 writes1 : ℕ) → Type 0
+EndsAtBad start taken fault Long written0 written1 writes0 writes1 =
+    (taken ≡ 2 ^ 40) × Appends written0 written1 [] × (writes0 ≤ writes1)
+EndsAtBad start taken fault (Broken place cause) written0 written1 writes0 writes1 =
+    (taken ≢ 2 ^ 40) × (place ≡ start) × (cause ≡ cause_of fault) × Breaks written0 written1 writes0 writes1
 EndsAtBad start taken fault Closed written0 written1 writes0 writes1 = ⊥
 EndsAtBad start taken fault (Truncated place) written0 written1 writes0 writes1 = ⊥
 EndsAtBad start taken fault ReadFault written0 written1 writes0 writes1 = ⊥

@@ -32,4 +32,5 @@ pub record GoesOn (store later : FirstStore) (before after : Outside) (old new :
 -- the session goes on, or comes to its end
 abbrev pub Turns : FirstStore → FirstStore → Outside → Outside → Stand → Stand → Option End → Type 0
 Turns store later before after old new None = GoesOn store later before after old new
-Turns store later before after old new (Some end) = Finishes store later end before after old.stream.rest old.taken old.requests
+Turns store later before after old new (Some end) =
+    Finishes store later end before after old.stream.rest old.taken old.requests

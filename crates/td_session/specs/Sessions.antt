@@ -1,5 +1,6 @@
 -- What a session does, from one state of its source and its sink to another.
-use Rattle.std.specs.Prelude.{◌≡◌, ◌⊎◌, ℕ, ◌+◌, ◌^◌, ◌<◌, ◌≤◌, List, [], ◌++◌, map, count_by, length, take, Some, None, Ok, Err}
+use Rattle.std.specs.Prelude.{◌≡◌, ◌⊎◌, ℕ, ◌+◌, ◌^◌, ◌<◌, ◌≤◌, List, [], ◌∷◌, ◌++◌, map, count_by, length, take, Some}
+use Rattle.std.specs.Prelude.{None, Ok, Err}
 use Rattle.std.specs.List.{flat_map}
 use Rattle.std.specs.Io.KnownBytes.{Appends, Consumes, IsAtEnd}
 use Rattle.td_out.specs.Causes.{Rose}
@@ -8,10 +9,12 @@ use Rattle.td_giop.specs.Stream.{first_at}
 use Rattle.td_giop.specs.Cut.{Front, Fronts}
 use Rattle.td_session.specs.declared.end.Cause.{Cause}
 use Rattle.td_session.specs.declared.end.End.{End}
-use Rattle.td_session.specs.declared.end.End.TheVariants.{Closed, Broken, Truncated, ReadFault, WriteFault, Long, Memory}
+use Rattle.td_session.specs.declared.end.End.TheVariants.{Closed, Broken, Truncated, ReadFault, WriteFault, Long}
+use Rattle.td_session.specs.declared.end.End.TheVariants.{Memory}
 use Rattle.td_session.specs.declared.store.FirstStore.{FirstStore}
 use Rattle.td_session.specs.Outside.{Outside}
-use Rattle.td_session.specs.Steps.{Step, closes, breaks, step_of, Turn, Served, message_limit, is_request, cause_of, message_error}
+use Rattle.td_session.specs.Steps.{Step, closes, breaks, step_of, Turn, Served, message_limit, is_request, cause_of}
+use Rattle.td_session.specs.Steps.{message_error}
 
 -- how many bytes a session takes, and how many Requests it serves, at most
 abbrev pub bytes_limit : ℕ
@@ -33,7 +36,8 @@ requests turns = count_by (λ t. is_request t.message) turns
 -- Behind bytes that were taken before, more were taken. In front of them all stand the messages that were
 -- served, one after the other, each answered as its turn says, and the rest behind them. The later store is what they
 -- left. These bytes were given.
-pub record Runs (store later : FirstStore) (before after : Outside) (held : List ℕ) (turns : List Turn) (taken rest given : List ℕ) : Type 0 where
+pub record Runs (store later : FirstStore) (before after : Outside) (held : List ℕ) (turns : List Turn)
+    (taken rest given : List ℕ) : Type 0 where
   pub answered : Served store turns later
   pub took : Consumes before.left after.left taken
   pub cut : Fronts message_limit (held ++ taken) (messages_of turns) rest
@@ -58,7 +62,9 @@ ClosesAt store after count rest = ((count < bytes_limit) × (rest ≡ []) × IsA
 -- The header in front is bad, or the message in front can't be served.
 abbrev pub BreaksAt : FirstStore → ℕ → List ℕ → Cause → Type 0
 BreaksAt store count rest cause =
-    ((fault : FrameFault) × (count < bytes_limit) × (first_at message_limit rest ≡ Err fault) × (cause ≡ cause_of fault)) ⊎ Meets store rest (breaks cause)
+    ((fault : FrameFault) × (count < bytes_limit) × (first_at message_limit rest ≡ Err fault)
+    × (cause ≡ cause_of fault))
+    ⊎ Meets store rest (breaks cause)
 
 -- The input ended inside a message.
 pub record EndsInside (after : Outside) (count : ℕ) (rest : List ℕ) : Type 0 where
@@ -80,9 +86,11 @@ HasReason store (Broken place cause) before after count requests rest =
     (requests < request_limit) × (place + length rest ≡ count) × BreaksAt store count rest cause
 HasReason store (Truncated place) before after count requests rest =
     (requests < request_limit) × (place + length rest ≡ count) × EndsInside after count rest
-HasReason store ReadFault before after count requests rest = (requests < request_limit) × ReadFails before after count rest
+HasReason store ReadFault before after count requests rest =
+    (requests < request_limit) × ReadFails before after count rest
 HasReason store WriteFault before after count requests rest = Rose before.writes after.writes
-HasReason store Long before after count requests rest = (requests ≡ request_limit) ⊎ ((count ≡ bytes_limit) × IsServed rest)
+HasReason store Long before after count requests rest =
+    (requests ≡ request_limit) ⊎ ((count ≡ bytes_limit) × IsServed rest)
 HasReason store Memory before after count requests rest = Unit {0}
 
 -- a whole MessageError, or its front where the sink failed
@@ -91,24 +99,30 @@ pub record SendsError (before after : Outside) (output given : List ℕ) : Type 
   pub is : given ≡ output ++ take sent message_error
   pub whole : (sent ≡ 12) ⊎ Rose before.writes after.writes
 
--- some of it is unsent
-pub record SendsFront (output given : List ℕ) : Type 0 where
-  pub unsent : List ℕ
-  pub is : given ++ unsent ≡ output
+-- All answers were given but that of the last message, of which the sink took no more than a front: with it the session
+-- ended.
+pub record SendsFront (turns : List Turn) (given : List ℕ) : Type 0 where
+  pub answered : List Turn
+  pub last : Turn
+  pub are : turns ≡ answered ++ last ∷ []
+  pub sent : ℕ
+  pub is : given ≡ output answered ++ take sent last.reply
+  pub short : sent < length last.reply
 
--- what was given of the output by this end
-abbrev pub Gives : End → Outside → Outside → (output given : List ℕ) → Type 0
-Gives (Broken place cause) before after output given = SendsError before after output given
-Gives WriteFault before after output given = SendsFront output given
-Gives Closed before after output given = given ≡ output
-Gives (Truncated place) before after output given = given ≡ output
-Gives ReadFault before after output given = given ≡ output
-Gives Long before after output given = given ≡ output
-Gives Memory before after output given = given ≡ output
+-- what was given of the answers by this end
+abbrev pub Gives : End → Outside → Outside → List Turn → (given : List ℕ) → Type 0
+Gives (Broken place cause) before after turns given = SendsError before after (output turns) given
+Gives WriteFault before after turns given = SendsFront turns given
+Gives Closed before after turns given = given ≡ output turns
+Gives (Truncated place) before after turns given = given ≡ output turns
+Gives ReadFault before after turns given = given ≡ output turns
+Gives Long before after turns given = given ≡ output turns
+Gives Memory before after turns given = given ≡ output turns
 
 -- A session goes on to its end from where these bytes are held, so many were taken and so many Requests served; the
 -- later store is what it leaves.
-pub record Finishes (store later : FirstStore) (end : End) (before after : Outside) (held : List ℕ) (count requests_before : ℕ) : Type 0 where
+pub record Finishes (store later : FirstStore) (end : End) (before after : Outside) (held : List ℕ)
+    (count requests_before : ℕ) : Type 0 where
   -- each served message with its answer, in order
   pub turns : List Turn
   -- the bytes that are taken
@@ -121,7 +135,7 @@ pub record Finishes (store later : FirstStore) (end : End) (before after : Outsi
   pub bytes : count + length taken ≤ bytes_limit
   pub few : requests_before + requests turns ≤ request_limit
   pub reason : HasReason later end before after (count + length taken) (requests_before + requests turns) rest
-  pub gives : Gives end before after (output turns) given
+  pub gives : Gives end before after turns given
 
 -- A session, whole.
 abbrev pub Serves : FirstStore → FirstStore → End → Outside → Outside → Type 0

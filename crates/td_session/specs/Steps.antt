@@ -7,28 +7,33 @@ use Rattle.td_cdr.specs.declared.fault.CdrFault.TheVariants as cdr
 use Rattle.td_cdr.specs.Place.{At}
 use Rattle.td_giop.specs.declared.fault.FrameFault.{FrameFault}
 use Rattle.td_giop.specs.declared.fault.FrameFault.TheVariants as frame
+use Rattle.td_giop.specs.declared.header.TheConstants.{ORDER_PLACE, TYPE_PLACE}
+use Rattle.td_giop.specs.declared.limit.TheConstants.{SERVER_LIMIT}
+use Rattle.td_giop.specs.declared.message_type.TheConstants.{REQUEST, REPLY, CANCEL_REQUEST, LOCATE_REQUEST}
+use Rattle.td_giop.specs.declared.message_type.TheConstants.{LOCATE_REPLY}
 use Rattle.td_giop.specs.Header.{order_told}
 use Rattle.td_giop.specs.Heads.{Request, request_at, locate_at, cancel_at, behind_header}
 use Rattle.td_session.specs.declared.end.Cause.{Cause}
-use Rattle.td_session.specs.declared.end.Cause.TheVariants.{BadMagic, BadVersion, BadType, TooLarge, NotForServer, Header}
+use Rattle.td_session.specs.declared.end.Cause.TheVariants.{BadMagic, BadVersion, BadType, TooLarge, NotForServer}
+use Rattle.td_session.specs.declared.end.Cause.TheVariants.{Header}
 use Rattle.td_session.specs.declared.store.FirstStore.{FirstStore}
 use Rattle.td_session.specs.Answers.{request_reply, store_after, unserved, locate_reply}
 
 -- how many bytes may follow a header: 16 MiB
 abbrev pub message_limit : ℕ
-message_limit = 16777216
+message_limit = SERVER_LIMIT
 
 -- ---- a message
 
 -- the type that a message's header tells
 abbrev pub kind_of : List ℕ → ℕ
-kind_of message = slice_index message 7
+kind_of message = slice_index message TYPE_PLACE
 
 abbrev pub is_request : List ℕ → Bool
-is_request message = nat_eq (kind_of message) 0
+is_request message = nat_eq (kind_of message) REQUEST
 
 abbrev pub order_of : List ℕ → Order
-order_of message = order_told (slice_index message 6)
+order_of message = order_told (slice_index message ORDER_PLACE)
 
 -- behind the message's header
 abbrev pub behind : List ℕ → At
@@ -68,11 +73,12 @@ cancel_step store (Err fault) = breaks (broken_head fault)
 -- and LocateReply are for clients
 unfoldable pub step_of : FirstStore → List ℕ → Step
 step_of store message =
-    if nat_eq (kind_of message) 0 then request_step store (order_of message) (request_at (behind message))
-    else if nat_eq (kind_of message) 2 then cancel_step store (cancel_at (behind message))
-    else if nat_eq (kind_of message) 3 then locate_step store (order_of message) (locate_at (behind message))
-    else if nat_eq (kind_of message) 1 then breaks NotForServer
-    else if nat_eq (kind_of message) 4 then breaks NotForServer
+    if nat_eq (kind_of message) REQUEST then request_step store (order_of message) (request_at (behind message))
+    else if nat_eq (kind_of message) CANCEL_REQUEST then cancel_step store (cancel_at (behind message))
+    else if nat_eq (kind_of message) LOCATE_REQUEST
+    then locate_step store (order_of message) (locate_at (behind message))
+    else if nat_eq (kind_of message) REPLY then breaks NotForServer
+    else if nat_eq (kind_of message) LOCATE_REPLY then breaks NotForServer
     else closes
 
 -- ---- faults
@@ -99,7 +105,7 @@ pub record Turn : Type 0 where
 pub record WantsMemory (store : FirstStore) (t : Turn) : Type 0 where
   pub head : Request
   pub body : At
-  pub asked : kind_of t.message ≡ 0
+  pub asked : kind_of t.message ≡ REQUEST
   pub read : request_at (behind t.message) ≡ Ok (head, body)
   pub is : t.reply ≡ unserved (order_of t.message) head
   pub kept : t.after ≡ store

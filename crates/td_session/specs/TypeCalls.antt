@@ -1,13 +1,15 @@
 -- What the type repository's operations come to (OMG's Trading Object Service, interface
 -- CosTradingRepos::ServiceTypeRepository; CORBA's chapter "ORB Interface" for those of all objects).
-use Rattle.std.specs.Prelude.{◌≡◌, ◌⊎◌, ℕ, ◌+◌, ◌*◌, ◌^◌, Bool, false, IsTrue, ◌||◌, List, codes, Option, Some, None, Result, Ok, Err, IfOk, MatchResult}
+use Rattle.std.specs.Prelude.{◌≡◌, ◌⊎◌, ℕ, ◌+◌, ◌*◌, ◌^◌, Bool, false, IsTrue, ◌||◌, List, codes, Option, Some, None}
+use Rattle.std.specs.Prelude.{Result, Ok, Err, IfOk, MatchResult}
 use Rattle.std.specs.Str.{bytes_eq}
 use Rattle.td_cdr.specs.Place.{At}
 use Rattle.td_cdr.specs.declared.memory.Memory.{Memory as Wanting}
 use Rattle.td_value.specs.declared.structures.IncarnationNumber.{IncarnationNumber}
 use Rattle.td_value.specs.declared.unions.SpecifiedServiceTypes.{SpecifiedServiceTypes}
 use Rattle.td_value.specs.declared.unions.SpecifiedServiceTypes.TheVariants as listed
-use Rattle.td_types.specs.Calls.{Comes, add_type, remove_type, mask_type, unmask_type, describe_type, fully_describe_type, list_types}
+use Rattle.td_types.specs.Calls.{Comes, add_type, remove_type, mask_type, unmask_type, describe_type}
+use Rattle.td_types.specs.Calls.{fully_describe_type, list_types}
 use Rattle.td_types.specs.Repository.{Repository, halves}
 use Rattle.td_types.specs.declared.fault.RepoFault.{RepoFault}
 use Rattle.td_types.specs.declared.fault.RepoFault.TheVariants as fault
@@ -52,8 +54,10 @@ exception_of (fault.ServiceTypeExists name) = user.ServiceTypeExists name
 exception_of (fault.IllegalPropertyName name) = user.IllegalPropertyName name
 exception_of (fault.DuplicatePropertyName name) = user.DuplicatePropertyName name
 exception_of (fault.DuplicateServiceTypeName name) = user.DuplicateServiceTypeName name
-exception_of (fault.InterfaceTypeMismatch base_service base_if derived_service derived_if) = user.ReposInterfaceTypeMismatch base_service base_if derived_service derived_if
-exception_of (fault.ValueTypeRedefinition type_1 definition_1 type_2 definition_2) = user.ValueTypeRedefinition type_1 definition_1 type_2 definition_2
+exception_of (fault.InterfaceTypeMismatch base_service base_if derived_service derived_if) =
+    user.ReposInterfaceTypeMismatch base_service base_if derived_service derived_if
+exception_of (fault.ValueTypeRedefinition type_1 definition_1 type_2 definition_2) =
+    user.ValueTypeRedefinition type_1 definition_1 type_2 definition_2
 exception_of (fault.HasSubTypes the_type sub_type) = user.HasSubTypes the_type sub_type
 exception_of (fault.AlreadyMasked name) = user.AlreadyMasked name
 exception_of (fault.NotMasked name) = user.NotMasked name
@@ -85,11 +89,14 @@ since (listed.Since i) = Some (number_of i)
 
 -- the interfaces of the repository's object: its own, and that of all objects
 abbrev pub is_types_interface : List ℕ → Bool
-is_types_interface id = bytes_eq id (codes "IDL:omg.org/CosTradingRepos/ServiceTypeRepository:1.0") || bytes_eq id (codes "IDL:omg.org/CORBA/Object:1.0")
+is_types_interface id =
+    bytes_eq id (codes "IDL:omg.org/CosTradingRepos/ServiceTypeRepository:1.0")
+    || bytes_eq id (codes "IDL:omg.org/CORBA/Object:1.0")
 
 -- what a call of the type repository comes to; a request to it spells no other call
 unfoldable pub perform : Repository → Call → Performed
-perform r (call.Change (change.AddType name if_name props super_types)) = performs r (add_type r name if_name props super_types)
+perform r (call.Change (change.AddType name if_name props super_types)) =
+    performs r (add_type r name if_name props super_types)
 perform r (call.Change (change.RemoveType name)) = performs r (remove_type r name)
 perform r (call.Change (change.MaskType name)) = performs r (mask_type r name)
 perform r (call.Change (change.UnmaskType name)) = performs r (unmask_type r name)
@@ -101,8 +108,8 @@ perform r (call.IsA id) = performed (Done (reply.Truth (is_types_interface id)))
 perform r call.NonExistent = performed (Done (reply.Truth false)) r
 perform r c = performed (system NoImplement 0) r
 
--- An operation that the repository doesn't have is BAD_OPERATION; parameters that aren't in the grammar are MARSHAL, with
--- the place of their first fault, or NO_IMPLEMENT for a kind of value that isn't supported.
+-- An operation that the repository doesn't have is BAD_OPERATION; parameters that aren't in the grammar are MARSHAL,
+-- with the place of their first fault, or NO_IMPLEMENT for a kind of value that isn't supported.
 abbrev pub types_performed : Repository → Result (Call × At) OpsFault → Performed
 types_performed r (Ok read) = perform r read.0
 types_performed r (Err ops.BadOperation) = performed (system BadOperation 0) r

@@ -1,13 +1,17 @@
 //! What a Request and a LocateRequest are answered with.
 
-ghost use Rattle.std.specs.Prelude.{◌≡◌, ◌⊎◌, ◌≤◌, ◌<◌, true, IsTrue, [], length, OnOk, IsOk, IfOk, MatchResult, Ok, Err};
+ghost use Rattle.std.specs.Prelude.{◌≡◌, ◌⊎◌, ◌≤◌, ◌<◌, true, IsTrue, [], length, OnOk, IsOk, IfOk, MatchResult, Ok};
+ghost use Rattle.std.specs.Prelude.{Err};
 ghost use Rattle.td_giop.specs.Heads.{Request, request_at, locate_at, behind_header};
 ghost use Rattle.td_giop.specs.Written.{sealed, reply_start};
 ghost use Rattle.td_ops.specs.declared.outcome.Outcome.TheVariants.{Done};
 ghost use Rattle.td_ops.specs.declared.outcome.SystemKind.TheVariants.{NoMemory};
-ghost use Rattle.td_session.specs.Answers.{is_live, is_lookup, is_types, is_object, names, answer_of, live_answer, query_answer, reply, reply_with, outcome_reply, request_reply, unserved, locate_reply, IsReplied};
+ghost use Rattle.td_session.specs.Answers.{is_live, is_lookup, is_types, is_object, names, answer_of, live_answer};
+ghost use Rattle.td_session.specs.Answers.{query_answer, reply, reply_with, outcome_reply, request_reply, unserved};
+ghost use Rattle.td_session.specs.Answers.{locate_reply, IsReplied};
 ghost use Rattle.td_ops.specs.Outcomes.{is_short};
-ghost use Rattle.td_session.specs.Asked.{IsAnswer, IsPerformed, IsFew, IsWritten, IsSent, told_reply, is_sure, asked_of};
+ghost use Rattle.td_session.specs.Asked.{IsAnswer, IsPerformed, IsFew, IsWritten, IsSent, told_reply, is_sure};
+ghost use Rattle.td_session.specs.Asked.{asked_of};
 ghost use Rattle.td_session.specs.Rooms.{reply_in};
 ghost use Rattle.td_session.specs.Parts.{Puts};
 ghost use Rattle.td_session.specs.Queries.{plain_query};

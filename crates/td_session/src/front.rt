@@ -2,9 +2,9 @@
 
 ghost use Rattle.std.specs.Prelude.{◌≡◌, ◌≤◌};
 ghost use Rattle.td_session.specs.declared.store.FirstStore.{FirstStore as Stored};
-ghost use Rattle.td_session.specs.Steps.{broken_head};
+ghost use Rattle.td_session.specs.Steps.{broken_head, message_limit};
 ghost use Rattle.td_session.specs.Rooms.{reply_in};
-ghost use Rattle.td_session.specs.Prepared.{IsMessage, Prepares};
+ghost use Rattle.td_session.specs.Prepared.{IsMessage, IsRequest, IsCancelRequest, IsLocateRequest, Prepares};
 ghost use Rattle.td_session.specs.Turns.{Finds, Responds};
 
 use crate::answer::{answer_locate, answer_request, leave_empty};
@@ -14,19 +14,9 @@ use crate::room::Room;
 use crate::store::FirstStore;
 use std::alloc::Global;
 use td_cdr::CdrFault;
+use td_giop::message_type::{CANCEL_REQUEST, LOCATE_REPLY, LOCATE_REQUEST, REPLY, REQUEST};
 use td_giop::{FrameFault, Framer, Raw, read_cancel, read_locate, read_request};
 use td_out::Sink;
-
-/// The message types that a session tells apart.
-const REQUEST: u8 = 0;
-
-const REPLY: u8 = 1;
-
-const CANCEL_REQUEST: u8 = 2;
-
-const LOCATE_REQUEST: u8 = 3;
-
-const LOCATE_REPLY: u8 = 4;
 
 /// What stood in front of the stream, and what became of it.
 #[derive(Clone, Copy, Debug, PartialEq, Eq)]
@@ -62,8 +52,9 @@ pub(crate) fn serve_front<K: Sink>(
     framer: &mut Framer,
     sink: &mut K,
 ) -> Front
-    requires { framer.old.limit ≡ 16777216 }
-    ensures finds { Finds store.old store.new result framer.old.rest (K.written sink.old) (K.written sink.new) (K.faults sink.old) (K.faults sink.new) }
+    requires { framer.old.limit ≡ message_limit }
+    ensures finds { Finds store.old store.new result framer.old.rest (K.written sink.old) (K.written sink.new)
+        (K.faults sink.old) (K.faults sink.new) }
     ensures later { K.faults sink.old ≤ K.faults sink.new }
     ensures framer { framer.new ≡ framer.old }
 {
@@ -83,7 +74,8 @@ fn respond<K: Sink>(
     sink: &mut K,
 ) -> Front
     requires { IsMessage message.now }
-    ensures responds { Responds store.old store.new message.now.bytes.now result (K.written sink.old) (K.written sink.new) (K.faults sink.old) (K.faults sink.new) }
+    ensures responds { Responds store.old store.new message.now.bytes.now result (K.written sink.old)
+        (K.written sink.new) (K.faults sink.old) (K.faults sink.new) }
     ensures later { K.faults sink.old ≤ K.faults sink.new }
 {
     match prepare(alloc, store, room, message) {
@@ -120,7 +112,7 @@ fn prepare_request(
     message: &Raw<'_>,
 ) -> Prepared
     requires whole { IsMessage message.now }
-    requires kind { message.now.kind ≡ 0 }
+    requires kind { IsRequest message.now }
     ensures { Prepares store.old store.new message.now.bytes.now result (reply_in room.new) }
 {
     match read_request(message) {
@@ -136,7 +128,7 @@ fn prepare_request(
 #[tactic(auto, unfolding(crate::specs::Steps::step_of))]
 fn prepare_locate(store: &FirstStore, room: &mut Room, message: &Raw<'_>) -> Prepared
     requires whole { IsMessage message.now }
-    requires kind { message.now.kind ≡ 3 }
+    requires kind { IsLocateRequest message.now }
     ensures { Prepares store.now store.now message.now.bytes.now result (reply_in room.new) }
 {
     match read_locate(message) {
@@ -152,7 +144,7 @@ fn prepare_locate(store: &FirstStore, room: &mut Room, message: &Raw<'_>) -> Pre
 #[tactic(auto, unfolding(crate::specs::Steps::step_of))]
 fn prepare_cancel(room: &mut Room, message: &Raw<'_>) -> Prepared
     requires whole { IsMessage message.now }
-    requires kind { message.now.kind ≡ 2 }
+    requires kind { IsCancelRequest message.now }
     ensures { (store : Stored) → Prepares store store message.now.bytes.now result (reply_in room.new) }
 {
     match read_cancel(message) {

@@ -18,6 +18,3 @@ pub use laws::all_messages_are_served;
 pub use room::Room;
 pub use session::serve_connection;
 pub use store::{Address, FirstOffer, FirstStore};
-
-#[cfg(test)]
-mod tests;

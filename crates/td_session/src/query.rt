@@ -1,6 +1,7 @@
 //! The plain query: what its parameters ask for.
 
-ghost use Rattle.std.specs.Prelude.{◌≡◌, ◌≤◌, length, MatchOption, MatchResult, IfSome, None, Some, Ok, Err, ◌&&◌, IsTrue, true, false};
+ghost use Rattle.std.specs.Prelude.{◌≡◌, ◌≤◌, length, MatchOption, MatchResult, IfSome, None, Some, Ok, Err, ◌&&◌};
+ghost use Rattle.std.specs.Prelude.{IsTrue, true, false};
 ghost use Rattle.td_session.specs.Queries.{query_at, asks_nothing_more, is_served, plain_query};
 ghost use Rattle.td_session.specs.QueryBodies.{told};
 ghost use Rattle.td_session.specs.Replies.{offers_of};
@@ -28,7 +29,8 @@ struct QueryBody<'a> {
 /// The service type that a plain query asks for, whose offers are no more than may be given.
 #[tactic(auto, unfolding(crate::specs::Queries::plain_query))]
 pub(crate) fn asked_type<'a>(store: &FirstStore, body: &Reader<'a>) -> Option<&'a [u8]>
-    ensures value { MatchOption result (plain_query store.now body.now ≡ None) (λ t. plain_query store.now body.now ≡ Some t.now) }
+    ensures value { MatchOption result (plain_query store.now body.now ≡ None)
+        (λ t. plain_query store.now body.now ≡ Some t.now) }
     ensures few { IfSome result (λ t. length (offers_of t.now store.now) ≤ 100) }
 {
     let mut reader = body.copied();
@@ -40,8 +42,10 @@ pub(crate) fn asked_type<'a>(store: &FirstStore, body: &Reader<'a>) -> Option<&'
 
 /// The service type of a query that is plain.
 fn plain_type<'a>(store: &FirstStore, query: &QueryBody<'a>) -> Option<&'a [u8]>
-    ensures value { MatchOption result (asks_nothing_more (told query.now) && is_served store.now (told query.now) ≡ false)
-        (λ t. (asks_nothing_more (told query.now) && is_served store.now (told query.now) ≡ true) × (t.now ≡ query.now.service_type.now)) }
+    ensures value { MatchOption result
+        (asks_nothing_more (told query.now) && is_served store.now (told query.now) ≡ false)
+        (λ t. (asks_nothing_more (told query.now) && is_served store.now (told query.now) ≡ true)
+        × (t.now ≡ query.now.service_type.now)) }
     ensures few { IfSome result (λ t. length (offers_of t.now store.now) ≤ 100) }
 {
     if asks_nothing_more(query) && is_served(store, query) {

@@ -2,7 +2,8 @@
 
 ghost use Rattle.std.specs.Prelude.{◌≡◌, ◌≤◌, [], length, filter, OnOk};
 ghost use Rattle.td_session.specs.Parts.{Puts, each, sequence};
-ghost use Rattle.td_session.specs.Replies.{profile_part, offer_part, nil, found, is_of, offers_of, profile, reference, version};
+ghost use Rattle.td_session.specs.Replies.{profile_part, offer_part, nil, found, is_of, offers_of, profile, reference};
+ghost use Rattle.td_session.specs.Replies.{version};
 
 use crate::store::{FirstOffer, FirstStore};
 use td_cdr::{Memory, Order, Writer};
@@ -62,7 +63,8 @@ fn put_offers(
     service_type: &[u8],
     incarnation: u64,
 ) -> Result<(), Memory>
-    ensures { Puts (each offer_part (filter (is_of service_type.now incarnation) offers.now)) reply.old reply.new result }
+    ensures { Puts (each offer_part (filter (is_of service_type.now incarnation) offers.now)) reply.old reply.new
+        result }
 {
     for offer in offers {
         if is_of(service_type, incarnation, offer) {

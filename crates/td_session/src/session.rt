@@ -2,8 +2,9 @@
 
 ghost use Rattle.std.specs.Prelude.{◌≡◌, ◌+◌, ◌^◌, ◌<◌, ◌≤◌, length};
 ghost use Rattle.td_session.specs.Outside.{outside};
+ghost use Rattle.td_session.specs.Completeness.{Completes};
 ghost use Rattle.td_session.specs.Sessions.{Serves};
-ghost use Rattle.td_session.specs.Steps.{cause_of};
+ghost use Rattle.td_session.specs.Steps.{cause_of, message_limit};
 
 use crate::end::{Cause, End};
 use crate::front::{Front, serve_front};
@@ -12,11 +13,8 @@ use crate::room::Room;
 use crate::store::FirstStore;
 use std::alloc::Global;
 use td_cdr::Memory;
-use td_giop::{FrameFault, Framer};
+use td_giop::{FrameFault, Framer, SERVER_LIMIT};
 use td_out::{Sink, Source};
-
-/// How many bytes may follow a message's header: 16 MiB.
-const MESSAGE_LIMIT: u32 = 16777216;
 
 /// How many bytes a session takes at most.
 const BYTES_LIMIT: u64 = 1 << 40;
@@ -36,7 +34,7 @@ struct Session {
     /// How many Requests were served.
     requests: u64,
     ghost counted: { framer.start + length framer.rest ≡ taken },
-    ghost limited: { framer.limit ≡ 16777216 },
+    ghost limited: { framer.limit ≡ message_limit },
     ghost short: { taken ≤ 2 ^ 40 },
     ghost few: { requests ≤ 1000000 },
 }
@@ -57,7 +55,7 @@ impl Session {
         ensures { IfOk result (λ s. (s.framer.rest ≡ []) × (s.taken ≡ 0) × (s.requests ≡ 0)) }
     {
         Ok(Session {
-            framer: Framer::new(alloc, MESSAGE_LIMIT)?,
+            framer: Framer::new(alloc, SERVER_LIMIT)?,
             taken: 0,
             requests: 0,
         })
@@ -72,7 +70,11 @@ impl Session {
         source: &mut S,
         sink: &mut K,
     ) -> Option<End>
-        ensures { Turns store.old store.new (outside (S.left source.old) (S.faults source.old) (K.written sink.old) (K.faults sink.old)) (outside (S.left source.new) (S.faults source.new) (K.written sink.new) (K.faults sink.new)) (stand self.old.framer self.old.taken self.old.requests) (stand self.new.framer self.new.taken self.new.requests) result }
+        ensures { Turns store.old store.new
+            (outside (S.left source.old) (S.faults source.old) (K.written sink.old) (K.faults sink.old))
+            (outside (S.left source.new) (S.faults source.new) (K.written sink.new) (K.faults sink.new))
+            (stand self.old.framer self.old.taken self.old.requests)
+            (stand self.new.framer self.new.taken self.new.requests) result }
     {
         if self.requests == REQUEST_LIMIT {
             return Some(End::Long);
@@ -96,7 +98,10 @@ impl Session {
         requires served { first_at message_limit self.old.framer.rest ≡ Ok None }
         requires open { self.old.requests < 1000000 }
         ensures { (store : FirstStore) (w0 w1 : Option (List ℕ)) (f0 f1 : ℕ) → Appends w0 w1 [] → f0 ≤ f1
-            → Turns store store (outside (S.left source.old) (S.faults source.old) w0 f0) (outside (S.left source.new) (S.faults source.new) w1 f1) (stand self.old.framer self.old.taken self.old.requests) (stand self.new.framer self.new.taken self.new.requests) result }
+            → Turns store store (outside (S.left source.old) (S.faults source.old) w0 f0)
+            (outside (S.left source.new) (S.faults source.new) w1 f1)
+            (stand self.old.framer self.old.taken self.old.requests)
+            (stand self.new.framer self.new.taken self.new.requests) result }
     {
         if self.taken == BYTES_LIMIT {
             return Some(End::Long);
@@ -125,7 +130,8 @@ impl Session {
 
     /// How a session ends that is at a bad header.
     fn end_at_bad_header<K: Sink>(&self, sink: &mut K, fault: FrameFault) -> End
-        ensures { EndsAtBad self.now.framer.start self.now.taken fault result (K.written sink.old) (K.written sink.new) (K.faults sink.old) (K.faults sink.new) }
+        ensures { EndsAtBad self.now.framer.start self.now.taken fault result (K.written sink.old) (K.written sink.new)
+            (K.faults sink.old) (K.faults sink.new) }
     {
         if self.taken == BYTES_LIMIT {
             return End::Long;
@@ -156,6 +162,9 @@ fn cause_of(fault: FrameFault) -> Cause
 }
 
 /// Serves the messages of a source in order, and writes their replies to a sink, until the stream ends.
+///
+/// Where the source is whole messages that a server can be sent, within a session's limits, and none of the
+/// outside fails, those before the first CloseConnection or MessageError are all served, or memory is wanted.
 pub fn serve_connection<S: Source, K: Sink>(
     alloc: Global,
     store: &mut FirstStore,
@@ -163,7 +172,27 @@ pub fn serve_connection<S: Source, K: Sink>(
     source: &mut S,
     sink: &mut K,
 ) -> End
-    ensures { Serves store.old store.new result (outside (S.left source.old) (S.faults source.old) (K.written sink.old) (K.faults sink.old)) (outside (S.left source.new) (S.faults source.new) (K.written sink.new) (K.faults sink.new)) }
+    ensures serves { Serves store.old store.new result
+        (outside (S.left source.old) (S.faults source.old) (K.written sink.old) (K.faults sink.old))
+        (outside (S.left source.new) (S.faults source.new) (K.written sink.new) (K.faults sink.new)) }
+    ensures complete { Completes store.old store.new result
+        (outside (S.left source.old) (S.faults source.old) (K.written sink.old) (K.faults sink.old))
+        (outside (S.left source.new) (S.faults source.new) (K.written sink.new) (K.faults sink.new)) }
+{
+    serve_session(alloc, store, room, source, sink)
+}
+
+/// Serves a session, turn by turn.
+fn serve_session<S: Source, K: Sink>(
+    alloc: Global,
+    store: &mut FirstStore,
+    room: &mut Room,
+    source: &mut S,
+    sink: &mut K,
+) -> End
+    ensures { Serves store.old store.new result
+        (outside (S.left source.old) (S.faults source.old) (K.written sink.old) (K.faults sink.old))
+        (outside (S.left source.new) (S.faults source.new) (K.written sink.new) (K.faults sink.new)) }
 {
     let Ok(mut session) = Session::new(alloc) else {
         return End::Memory;

@@ -11,7 +11,8 @@ ghost use Rattle.td_ops.specs.Refusals.{Told};
 ghost use Rattle.td_ops.specs.declared.call.Call.{Call as Asked};
 ghost use Rattle.td_ops.specs.declared.call.Call.TheVariants as call;
 ghost use Rattle.td_ops.specs.declared.fault.OpsFault.{OpsFault};
-ghost use Rattle.td_session.specs.TypeCalls.{Performs, Keeps, performs, perform, performed, types_performed, reply_of, exception_of, number_of, since, is_types_interface, system};
+ghost use Rattle.td_session.specs.TypeCalls.{Performs, Keeps, performs, perform, performed, types_performed, reply_of};
+ghost use Rattle.td_session.specs.TypeCalls.{exception_of, number_of, since, is_types_interface, system};
 
 use std::alloc::Global;
 use td_cdr::{Memory, Reader};
@@ -46,7 +47,8 @@ pub(crate) fn answer_types(
     operation: &[u8],
     body: &Reader,
 ) -> Result<Outcome, Memory>
-    ensures performs { Performs (types_performed types.old (call_read kind.Types operation.now body.now)) types.old types.new result }
+    ensures performs { Performs (types_performed types.old (call_read kind.Types operation.now body.now)) types.old
+        types.new result }
     ensures keeps { Keeps types.old types.new result }
 {
     let mut reader = body.copied();
@@ -58,7 +60,8 @@ pub(crate) fn answer_types(
 
 /// What a Request comes to that wasn't read.
 fn refuse(fault: OpsFault) -> Result<Outcome, Memory>
-    ensures { (r : Repository) (reading : Result (Asked × At) OpsFault) (at : At) → Told at (Err fault) reading → Performs (types_performed r reading) r r result }
+    ensures { (r : Repository) (reading : Result (Asked × At) OpsFault) (at : At) → Told at (Err fault) reading
+        → Performs (types_performed r reading) r r result }
 {
     match fault {
         OpsFault::BadOperation => Ok(system(SystemKind::BadOperation, 0)),
@@ -152,7 +155,8 @@ fn number_of(incarnation: &IncarnationNumber) -> u64
 
 /// What the repository's answer is for a client.
 fn outcome_of(answer: Result<TypesReply, TypesFault>) -> Result<Outcome, Memory>
-    ensures { (comes : Comes) (old new : Repository) → Answers comes old new answer → Performs (performs old comes) old new result }
+    ensures { (comes : Comes) (old new : Repository) → Answers comes old new answer
+        → Performs (performs old comes) old new result }
 {
     match answer {
         Ok(reply) => Ok(Outcome::Done(reply_of(reply))),

@@ -1,0 +1,5 @@
+pub mod Commands
+pub mod Completeness
+pub mod Reports
+pub mod Runs
+pub mod Status

@@ -1,0 +1,96 @@
+//! The program over a runtime, and the status of its process.
+
+ghost use Rattle.std.specs.Prelude.{◌≡◌, map, string_bytes};
+ghost use Rattle.std.specs.Process.{exit_status};
+ghost use Rattle.td_session.specs.Outside.{outside};
+ghost use Rattle.td_command.specs.Completeness.{Completes};
+ghost use Rattle.td_command.specs.Reports.{Tells, line_of};
+ghost use Rattle.td_command.specs.Runs.{Runs, shelves};
+ghost use Rattle.td_command.specs.Status.{status_of};
+
+use crate::ended::Ended;
+use crate::report::report;
+use crate::command::run;
+use std::alloc::Global;
+use std::env;
+use std::io::{self, ErrorKind, Read, Write};
+use std::process::ExitCode;
+use std::rt::{Env, Files};
+use td_out::{FileTexts, Sink, Source, StdSink, StdSource, Texts};
+
+/// Does what the words say, as `run` does, and gives the process its status.
+pub fn run_program<F: Texts, S: Source, K: Sink, E: Sink>(
+    alloc: Global,
+    args: &[String],
+    files: &mut F,
+    source: &mut S,
+    sink: &mut K,
+    faults: &mut E,
+) -> ExitCode
+    ensures runs { Runs (map string_bytes args.now)
+        (shelves (F.told files.old) (F.faults files.old) (F.faults files.new))
+        (outside (S.left source.old) (S.faults source.old) (K.written sink.old) (K.faults sink.old))
+        (outside (S.left source.new) (S.faults source.new) (K.written sink.new) (K.faults sink.new))
+        (E.written faults.old) (E.written faults.new) (E.faults faults.old) (E.faults faults.new) (exit_status result) }
+    ensures complete { Completes (map string_bytes args.now)
+        (shelves (F.told files.old) (F.faults files.old) (F.faults files.new))
+        (outside (S.left source.old) (S.faults source.old) (K.written sink.old) (K.faults sink.old))
+        (outside (S.left source.new) (S.faults source.new) (K.written sink.new) (K.faults sink.new))
+        (exit_status result) }
+{
+    ExitCode::from(run(alloc, args, files, source, sink, faults))
+}
+
+/// What the program does whose words can't be had: the line and the status for it.
+pub fn refuse_words<E: Sink>(faults: &mut E, ended: Ended) -> ExitCode
+    ensures reported { Tells (line_of ended) (E.written faults.old) (E.written faults.new) (E.faults faults.old)
+        (E.faults faults.new) }
+    ensures status { exit_status result ≡ status_of ended }
+{
+    report(faults, ended);
+    ExitCode::from(ended.status())
+}
+
+/// The program over the words and the files of this runtime, and these streams.
+pub fn start<R: Env + Files + AllocGlobal, I: Read + Drop, O: Write + Drop, E: Write + Drop>(
+    rt: &R,
+    input: I,
+    output: O,
+    errors: E,
+) -> ExitCode {
+    let mut faults = StdSink::new(errors);
+    let words = match words(rt) {
+        Ok(words) => words,
+        Err(e) => return refuse_words(&mut faults, without_words(&e)),
+    };
+    let mut files = FileTexts::new(rt);
+    let mut source = StdSource::new(input);
+    let mut sink = StdSink::new(output);
+    run_program(
+        rt.alloc(),
+        words.as_slice(),
+        &mut files,
+        &mut source,
+        &mut sink,
+        &mut faults,
+    )
+}
+
+/// The words behind the program's name.
+fn words<R: Env + AllocGlobal>(rt: &R) -> io::Result<Vec<String>> {
+    let mut words = Vec::new(rt.alloc());
+    for word in env::args(rt)?.skip(1) {
+        words.push(word)?;
+    }
+    Ok(words)
+}
+
+/// How the program ends that can't have its words: for want of memory, or since one isn't text, so that they
+/// are no command.
+fn without_words(e: &io::Error) -> Ended {
+    if e.kind() == ErrorKind::OutOfMemory {
+        Ended::Memory
+    } else {
+        Ended::Usage
+    }
+}

@@ -1,0 +1,60 @@
+//! The line that a command leaves on the faults sink.
+
+ghost use Rattle.std.specs.Prelude.{◌≡◌, OnErr, OnOk};
+ghost use Rattle.std.specs.Io.KnownBytes.{Appends};
+ghost use Rattle.td_out.specs.Causes.{Rose};
+ghost use Rattle.td_command.specs.Reports.{Tells, line_of, status_line, numbered};
+
+use crate::ended::Ended;
+use itoa::Buffer;
+use td_out::{Failed, Sink};
+use td_session::End;
+
+/// Writes the line for a command that ended so. Where the sink fails, the rest of the line is lost.
+pub fn report<E: Sink>(faults: &mut E, ended: Ended)
+    ensures { Tells (line_of ended) (E.written faults.old) (E.written faults.new) (E.faults faults.old)
+        (E.faults faults.new) }
+{
+    let _ = match ended {
+        Ended::Usage => write_all(faults, b"usage\n"),
+        Ended::TooLong => write_all(faults, b"too long\n"),
+        Ended::Refused(number) => write_numbered(faults, b"line ", number, b": words\n"),
+        Ended::Served(End::Closed) => Ok(()),
+        other => write_numbered(faults, b"status ", u32::from(other.status()), b"\n"),
+    };
+}
+
+/// Writes a number in decimal between two texts.
+fn write_numbered<E: Sink>(
+    sink: &mut E,
+    before: &[u8],
+    number: u32,
+    after: &[u8],
+) -> Result<(), Failed>
+    ensures { Tells (numbered before.now number after.now) (E.written sink.old) (E.written sink.new) (E.faults sink.old)
+        (E.faults sink.new) }
+{
+    let mut buffer = Buffer::new();
+    write_all(sink, before)?;
+    write_all(sink, buffer.format(number).as_bytes())?;
+    write_all(sink, after)
+}
+
+/// Writes all of a text.
+///
+/// # Errors
+///
+/// `Failed` only where the sink failed; the front of the text that it had taken is written.
+fn write_all<E: Sink>(sink: &mut E, text: &[u8]) -> Result<(), Failed>
+    ensures tells { Tells text.now (E.written sink.old) (E.written sink.new) (E.faults sink.old) (E.faults sink.new) }
+    ensures whole { OnOk result (Appends (E.written sink.old) (E.written sink.new) text.now) }
+    ensures failed { OnErr result (Rose (E.faults sink.old) (E.faults sink.new)) }
+{
+    let mut rest = text;
+    while !rest.is_empty() {
+        let size = sink.write(rest)?;
+        let (_told, left) = rest.split_at(size);
+        rest = left;
+    }
+    Ok(())
+}

@@ -1,4 +1,0 @@
-pub mod Commands
-pub mod Reports
-pub mod Runs
-pub mod Status
