@@ -14,6 +14,7 @@ use Rattle.td_giop.specs.Header.{Judged}
 use Rattle.td_giop.proofs.Judged.{judged}
 use Rattle.td_giop.proofs.Framing.{same_size, bad_header, bad-append}
 use Rattle.td_giop.proofs.Cuts.{front_within, fronts_fed, message_front}
+use Rattle.td_giop.proofs.Cuts.{same_front}
 use Rattle.td_session.specs.declared.end.Cause.{Cause}
 use Rattle.td_session.specs.declared.end.End.{End}
 use Rattle.td_session.specs.declared.end.End.TheVariants.{Closed, Broken, Truncated, ReadFault, WriteFault, Long}
@@ -33,11 +34,6 @@ no_front limit s m e front =
     let w = front_within limit s m front in
     let none : length s ≡ 0 = ap (length {A = ℕ}) e in
     omega (arith, w.0, w.1, none)
-
-same_front : (limit : ℕ) (s m n : List ℕ) → Front limit s m → Front limit s n → m ≡ n
-same_front limit s m n p q =
-    let e = same_size (length m) (length n) (sym p.size ∙ q.size) in
-    p.bytes ∙ ap (λ (k : ℕ). take k s) e ∙ sym q.bytes
 
 -- messages one after the other stand in front of the stream that they make
 fronts_of : (ms : List (List ℕ)) → All IsForServer ms → Fronts message_limit (concat ms) ms []

@@ -1,6 +1,7 @@
 //! The session: messages are served in order until the stream ends.
 
 ghost use Rattle.std.specs.Prelude.{◌≡◌, ◌+◌, ◌^◌, ◌<◌, ◌≤◌, length};
+ghost use Rattle.td_types.specs.Repository.{IsRepository};
 ghost use Rattle.td_session.specs.Outside.{outside};
 ghost use Rattle.td_session.specs.Completeness.{Completes};
 ghost use Rattle.td_session.specs.Sessions.{Serves};
@@ -164,7 +165,8 @@ fn cause_of(fault: FrameFault) -> Cause
 /// Serves the messages of a source in order, and writes their replies to a sink, until the stream ends.
 ///
 /// Where the source is whole messages that a server can be sent, within a session's limits, and none of the
-/// outside fails, those before the first CloseConnection or MessageError are all served, or memory is wanted.
+/// outside fails, those before the first CloseConnection or MessageError are all served, or memory is wanted. The
+/// type repository that is left keeps its invariant.
 pub fn serve_connection<S: Source, K: Sink>(
     alloc: Global,
     store: &mut FirstStore,
@@ -178,8 +180,12 @@ pub fn serve_connection<S: Source, K: Sink>(
     ensures complete { Completes store.old store.new result
         (outside (S.left source.old) (S.faults source.old) (K.written sink.old) (K.faults sink.old))
         (outside (S.left source.new) (S.faults source.new) (K.written sink.new) (K.faults sink.new)) }
+    ensures valid { IsRepository store.new.types }
 {
-    serve_session(alloc, store, room, source, sink)
+    let end = serve_session(alloc, store, room, source, sink);
+    // (what this call tells is what the repository keeps to)
+    let _ = store.types.incarnation();
+    end
 }
 
 /// Serves a session, turn by turn.

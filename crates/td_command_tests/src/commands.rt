@@ -1,0 +1,252 @@
+//! Commands over texts, sources and sinks in memory, with every status but the one for want of memory.
+
+use std::alloc::Global;
+use std::process::{Abort, ExitCode};
+use std::test::Fail;
+use td_cdr::{List, Memory, Octets, Text};
+use td_command::{run, run_program};
+use td_out::{MemSink, MemSource, MemTexts};
+
+/// The file of the worked queries.
+const PRINTERS: &[u8] = b"address h 9\ntrader A\ntype Printer IDL:Printer:1.0\n\
+    offer Printer ref:IDL:Printer:1.0,h,9,p1\n\
+    offer Printer ref:IDL:Printer:1.0,h,9,p2\n";
+
+/// The same without its offers.
+const NO_OFFERS: &[u8] = b"address h 9\ntrader A\ntype Printer IDL:Printer:1.0\n";
+
+/// A file whose third line doesn't fit.
+const BROKEN: &[u8] = b"address h 9\ntrader A\ntype Printer\n";
+
+/// A query for the printers, of at most ten.
+const QUERY: &[u8] = b"GIOP\x01\0\0\0\0\0\0\x4c\
+    \0\0\0\0\0\0\0\x01\
+    \x01\0\0\0\0\0\0\x03\
+    A/L\0\0\0\0\x06\
+    query\0\0\0\0\0\0\0\
+    \0\0\0\x08\
+    Printer\0\0\0\0\x01\
+    \0\0\0\0\0\0\0\x01\
+    \0\0\0\0\0\0\0\0\
+    \0\0\0\0\0\0\0\x0a";
+
+/// Its reply, with two offers.
+const FOUND: &[u8] = b"GIOP\x01\0\0\x01\0\0\0\x90\
+    \0\0\0\0\0\0\0\x01\0\0\0\0\
+    \0\0\0\x02\
+    \0\0\0\x10IDL:Printer:1.0\0\
+    \0\0\0\x01\0\0\0\0\
+    \0\0\0\x12\0\x01\0\0\0\0\0\x02h\0\0\x09\0\0\0\x02p1\
+    \0\0\0\0\0\0\
+    \0\0\0\x10IDL:Printer:1.0\0\
+    \0\0\0\x01\0\0\0\0\
+    \0\0\0\x12\0\x01\0\0\0\0\0\x02h\0\0\x09\0\0\0\x02p2\
+    \0\0\0\0\0\0\
+    \0\0\0\x01\0\0\0\0\0\0\0\0\
+    \0\0\0\0";
+
+/// Its reply, with no offers.
+const FOUND_NONE: &[u8] = b"GIOP\x01\0\0\x01\0\0\0\x20\
+    \0\0\0\0\0\0\0\x01\0\0\0\0\
+    \0\0\0\0\
+    \0\0\0\x01\0\0\0\0\0\0\0\0\
+    \0\0\0\0";
+
+/// A CloseConnection, a LocateReply, which no client sends, and a MessageError.
+const CLOSE_CONNECTION: &[u8] = b"GIOP\x01\0\0\x05\0\0\0\0";
+
+const LOCATE_REPLY: &[u8] = b"GIOP\x01\0\0\x04\0\0\0\x08\0\0\0\x05\0\0\0\x01";
+
+const ERROR: &[u8] = b"GIOP\x01\0\0\x06\0\0\0\0";
+
+/// A Request that expects no reply, with an empty key and an empty operation.
+const SHORT_REQUEST: &[u8] = b"GIOP\x01\0\0\0\0\0\0\x18\
+    \0\0\0\0\0\0\0\x01\
+    \0\0\0\0\0\0\0\0\
+    \0\0\0\0\0\0\0\0";
+
+/// A command: its words, its input, and the calls of the source and the sink that fail.
+#[derive(Clone, Copy)]
+struct Command<'a> {
+    words: &'a [&'a str],
+    input: &'a [u8],
+    reads_failing: &'a [u64],
+    writes_failing: &'a [u64],
+}
+
+/// `pipe` with a file of this name and this input.
+const fn piped<'a>(words: &'a [&'a str], input: &'a [u8]) -> Command<'a> {
+    Command {
+        words,
+        input,
+        reads_failing: &[],
+        writes_failing: &[],
+    }
+}
+
+/// What a command answers, writes, and leaves on the faults sink.
+#[derive(Clone, Copy)]
+struct Expected<'a> {
+    status: u8,
+    written: &'a [u8],
+    line: &'a [u8],
+}
+
+const fn ending<'a>(status: u8, written: &'a [u8], line: &'a [u8]) -> Expected<'a> {
+    Expected {
+        status,
+        written,
+        line,
+    }
+}
+
+fn texts(alloc: Global) -> Result<MemTexts, Memory> {
+    let mut files = List::new(alloc);
+    for (name, text) in [
+        ("printers", PRINTERS),
+        ("none", NO_OFFERS),
+        ("broken", BROKEN),
+    ] {
+        let name = Text::from_slice(alloc, name.as_bytes())?;
+        files.push((name, Octets::from_slice(alloc, text)?))?;
+    }
+    Ok(MemTexts::new(files, List::new(alloc)))
+}
+
+fn words(alloc: Global, words: &[&str]) -> Result<Vec<String>, Fail> {
+    let mut all = Vec::new(alloc);
+    for word in words {
+        all.push(String::from_str(alloc, word)?)?;
+    }
+    Ok(all)
+}
+
+fn source(alloc: Global, command: &Command) -> Result<MemSource, Memory> {
+    let input = Octets::from_slice(alloc, command.input)?;
+    let failing = List::from_slice(alloc, command.reads_failing)?;
+    Ok(MemSource::new(input, List::new(alloc), failing))
+}
+
+/// Whether a command does as said.
+fn does(alloc: Global, command: &Command, expected: &Expected) -> Result<bool, Fail> {
+    let words = words(alloc, command.words)?;
+    let mut files = texts(alloc)?;
+    let mut source = source(alloc, command)?;
+    let mut sink = MemSink::new(alloc, List::from_slice(alloc, command.writes_failing)?);
+    let mut faults = MemSink::new(alloc, List::new(alloc));
+    let status = run(
+        alloc,
+        words.as_slice(),
+        &mut files,
+        &mut source,
+        &mut sink,
+        &mut faults,
+    );
+    Ok(
+        status == expected.status
+            && sink.written() == expected.written
+            && faults.written() == expected.line,
+    )
+}
+
+fn try_commands(rt: &impl Abort, alloc: Global, cases: &[(Command, Expected)]) -> Result<(), Fail> {
+    for (command, expected) in cases {
+        assert!(rt; does(alloc, command, expected)?);
+    }
+    Ok(())
+}
+
+#[test]
+fn words_and_files(rt: HostRuntime) -> Result<(), Fail> {
+    let cases = [
+        (piped(&["pipe", "printers"], QUERY), ending(0, FOUND, b"")),
+        (piped(&["pipe", "none"], QUERY), ending(0, FOUND_NONE, b"")),
+        (piped(&[], QUERY), ending(2, b"", b"usage\n")),
+        (piped(&["pipe"], QUERY), ending(2, b"", b"usage\n")),
+        (
+            piped(&["listen", "printers"], QUERY),
+            ending(2, b"", b"usage\n"),
+        ),
+        (
+            piped(&["pipe", "printers", "x"], QUERY),
+            ending(2, b"", b"usage\n"),
+        ),
+        (
+            piped(&["pipe", "broken"], QUERY),
+            ending(3, b"", b"line 3: words\n"),
+        ),
+        (
+            piped(&["pipe", "absent"], QUERY),
+            ending(10, b"", b"status 10\n"),
+        ),
+    ];
+    try_commands(&rt, rt.alloc(), &cases)
+}
+
+/// The words for a session with the printers.
+const PIPE: &[&str] = &["pipe", "printers"];
+
+#[test]
+fn sessions(rt: HostRuntime) -> Result<(), Fail> {
+    let read_fails = Command {
+        reads_failing: &[2],
+        ..piped(PIPE, QUERY)
+    };
+    let write_fails = Command {
+        writes_failing: &[1],
+        ..piped(PIPE, QUERY)
+    };
+    let cases = [
+        (piped(PIPE, CLOSE_CONNECTION), ending(0, b"", b"")),
+        (piped(PIPE, LOCATE_REPLY), ending(4, ERROR, b"status 4\n")),
+        (piped(PIPE, &QUERY[..87]), ending(5, b"", b"status 5\n")),
+        (read_fails, ending(6, FOUND, b"status 6\n")),
+        (write_fails, ending(7, b"", b"status 7\n")),
+    ];
+    try_commands(&rt, rt.alloc(), &cases)
+}
+
+/// So many times the same bytes.
+fn repeated(alloc: Global, bytes: &[u8], times: usize) -> Result<Vec<u8>, Memory> {
+    let mut all = Vec::new(alloc);
+    for _ in 0..times {
+        all.extend_from_slice(bytes)?;
+    }
+    Ok(all)
+}
+
+/// A session is too long with a million Requests.
+#[test]
+fn a_long_session(rt: HostRuntime) -> Result<(), Fail> {
+    let input = repeated(rt.alloc(), SHORT_REQUEST, 1000000)?;
+    let command = piped(PIPE, input.as_slice());
+    assert!(rt; does(rt.alloc(), &command, &ending(8, b"", b"status 8\n"))?);
+    Ok(())
+}
+
+/// A file of more than 64 MiB.
+fn is_too_long(alloc: Global) -> Result<bool, Fail> {
+    let text = Octets::from_vec(vec![in alloc; b'#'; 67108865]?);
+    let mut named = List::new(alloc);
+    named.push((Text::from_slice(alloc, b"printers")?, text))?;
+    let mut files = MemTexts::new(named, List::new(alloc));
+    let words = words(alloc, PIPE)?;
+    let mut source = source(alloc, &piped(PIPE, QUERY))?;
+    let mut sink = MemSink::new(alloc, List::new(alloc));
+    let mut faults = MemSink::new(alloc, List::new(alloc));
+    let status = run_program(
+        alloc,
+        words.as_slice(),
+        &mut files,
+        &mut source,
+        &mut sink,
+        &mut faults,
+    );
+    Ok(status == ExitCode::from(3) && faults.written() == b"too long\n".as_slice())
+}
+
+#[test]
+fn a_long_file(rt: HostRuntime) -> Result<(), Fail> {
+    assert!(rt; is_too_long(rt.alloc())?);
+    Ok(())
+}
