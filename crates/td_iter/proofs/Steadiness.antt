@@ -1,0 +1,225 @@
+-- An offer is at most twice as long in one place as in another.
+use Rattle.std.proofs.Common.{◌≡◌, ℕ, zero, suc, List, [], ◌∷◌, map, Option, Some, None, sym, ap, subst, ◌∙◌, arith}
+use Rattle.td_cdr.specs.declared.value_fault.ValueFault.{ValueFault}
+use Rattle.td_cdr.specs.Gap.{flag}
+use Rattle.td_cdr.specs.Format.{Piece, none_or, ◌then◌, row}
+use Rattle.td_cdr.specs.Sound.{Sound, text}
+use Rattle.td_codes.specs.declared.code.TypeCode.{TypeCode, out-TypeCode, ind-TypeCode, map-TypeCode, roll-TypeCode, out-roll-TypeCode}
+use Rattle.td_codes.specs.WritingCodes.{written, written_arm, written_member, written_parts, written-code_layer, written_arm-is, written_member-is, code_layer, kind_piece, header_piece, head_piece, enclosed}
+use Rattle.td_codes.specs.declared.kinds.CodeKind.{CodeKind}
+use Rattle.td_codes.specs.declared.kinds.CodeKind.TheVariants as kind
+use Rattle.td_codes.specs.Kinds.{number_of}
+use Rattle.std.specs.Int.{w32, cast_unsigned}
+use Rattle.td_codes.specs.Codes.{codes, code_formats}
+use Rattle.td_codes.specs.declared.mode.Mode.{Mode}
+use Rattle.td_codes.specs.declared.mode.Mode.TheVariants.{Outer}
+use Rattle.td_value.specs.declared.structures.Offer.{Offer}
+use Rattle.td_value.specs.declared.structures.Property.{Property}
+use Rattle.td_value.specs.Structures.{offer, property}
+use Rattle.td_codes.specs.declared.code.TypeCode.TheOpen as c
+use Rattle.td_codes.specs.declared.code.Value.{Value, out-Value}
+use Rattle.td_codes.specs.declared.code.Any.{Any}
+use Rattle.td_codes.specs.declared.code.Arm.{Arm, roll-Arm}
+use Rattle.td_codes.specs.declared.code.Member.{Member, roll-Member}
+use Rattle.td_codes.specs.declared.label.Label.{Label}
+use Rattle.td_codes.specs.declared.label.Label.TheVariants.{One, Two, Four, Eight}
+use Rattle.td_codes.specs.Formats.{number_piece}
+use Rattle.td_codes.specs.Labels.{Layer, Held, label_of, label_piece, plain_piece}
+use Rattle.td_codes.specs.References.{reference}
+use Rattle.td_codes.specs.Values.{index_of, branch_of, each, branch_piece, union_piece, items_piece, sequence_piece, layer, text_in, any_in, code_in, reference_in, struct_in, items_in, values, anys, any_value}
+use Rattle.td_iter.specs.Filling.{counted}
+use Rattle.td_iter.proofs.Lengths.{Steady, one-steady, two-steady, four-steady, eight-steady, octets-length, none-steady, then-steady, rows-steady, counted-steady, text-steady, reference-steady}
+
+pub label-steady : (l : Label) → Steady (label_piece l)
+label-steady (One n) = one-steady n
+label-steady (Two n) = two-steady n
+label-steady (Four n) = four-steady n
+label-steady (Eight n) = eight-steady n
+
+plain-steady : (v : Value) → Steady (plain_piece v)
+plain-steady v = label-steady (label_of v)
+
+or_none-steady : {X : Type 0} (write : X → Piece) → ((x : X) → Steady (write x)) → (o : Option X)
+    → Steady (none_or write o)
+or_none-steady write h (Some x) = h x
+or_none-steady write h None = none-steady
+
+module _ (any : Sound ValueFault Any) (code : Sound ValueFault TypeCode) (inner : TypeCode → Sound ValueFault Value)
+    (any-steady : (a : Any) → Steady (any.format.writes a)) (code-steady : (t : TypeCode)
+    → Steady (code.format.writes t))
+    (inner-steady : (t : TypeCode) (v : Value) → Steady ((inner t).format.writes v)) where
+  each-steady : (ms : List Member) (vs : List Value) → Steady ((each any code inner ms).format.writes vs)
+  each-steady [] vs = none-steady
+  each-steady (m ∷ ms) [] = none-steady
+  each-steady (m ∷ ms) (v ∷ vs) =
+      then-steady ((inner m.code).format.writes v) ((each any code inner ms).format.writes vs)
+      (inner-steady m.code v) (each-steady ms vs)
+
+  branch-steady : (o : Option Arm) (v : Option Value) → Steady (branch_piece any code inner o v)
+  branch-steady None v = none-steady
+  branch-steady (Some chosen) None = none-steady
+  branch-steady (Some chosen) (Some v) = inner-steady chosen.code v
+
+  union-steady : (default : Option ℕ) (arms : List Arm) (l : Held) → Steady (union_piece any code inner default arms l)
+  union-steady default arms (c.Value::Union label arm) =
+      then-steady (plain_piece label) (branch_piece any code inner (branch_of default label arms) arm)
+      (plain-steady label) (branch-steady (branch_of default label arms) arm)
+  union-steady default arms l = none-steady
+
+  pub layer-steady : (n : ℕ) (l : Layer) (v : Value) → Steady ((layer any code inner n l).format.writes v)
+  layer-steady n c.Null v = none-steady
+  layer-steady n c.Void v = none-steady
+  layer-steady n c.TypeCode::Short v = plain-steady v
+  layer-steady n c.TypeCode::Long v = plain-steady v
+  layer-steady n c.TypeCode::UShort v = plain-steady v
+  layer-steady n c.TypeCode::ULong v = plain-steady v
+  layer-steady n c.TypeCode::Boolean v = plain-steady v
+  layer-steady n c.TypeCode::Char v = plain-steady v
+  layer-steady n c.TypeCode::Octet v = plain-steady v
+  layer-steady n c.TypeCode::LongLong v = plain-steady v
+  layer-steady n c.TypeCode::ULongLong v = plain-steady v
+  layer-steady n c.AnyCode v = or_none-steady any.format.writes any-steady (any_in (out-Value v))
+  layer-steady n c.TypeCode::Code v = or_none-steady code.format.writes code-steady (code_in (out-Value v))
+  layer-steady n (c.TypeCode::Str bound) v = or_none-steady text.format.writes text-steady (text_in (out-Value v))
+  layer-steady n (c.TypeCode::ObjRef id name) v =
+      or_none-steady reference.format.writes reference-steady (reference_in (out-Value v))
+  layer-steady n (c.TypeCode::Struct id name members) v =
+      or_none-steady (each any code inner members).format.writes (each-steady members) (struct_in (out-Value v))
+  layer-steady n (c.TypeCode::Union id name switch default arms) v = union-steady (index_of default) arms (out-Value v)
+  layer-steady n (c.TypeCode::Enum id name names) v = plain-steady v
+  layer-steady n (c.Sequence item bound) v =
+      or_none-steady (sequence_piece any code inner item) (counted-steady (inner item).format.writes
+      (inner-steady item)) (items_in (out-Value v))
+  layer-steady n (c.Array item len) v =
+      or_none-steady (items_piece any code inner item) (rows-steady (inner item).format.writes (inner-steady item))
+      (items_in (out-Value v))
+  layer-steady n (c.Alias id name item) v = inner-steady item v
+  layer-steady n (c.Except id name members) v = none-steady
+
+enclosed-steady : (inner : Piece) → Steady inner → Steady (enclosed inner)
+enclosed-steady inner h = record {
+  long = λ o u place base. omega (
+    arith,
+    h.long o u 1 1,
+    octets-length o place (flag o ∷ inner o 1),
+    octets-length u base (flag u ∷ inner u 1),
+  );
+}
+
+header-steady : (id name : List ℕ) → Steady (header_piece id name)
+header-steady id name = then-steady (text.format.writes id) (text.format.writes name) (text-steady id)
+    (text-steady name)
+
+mapped-steady : {X Y : Type 0} (f : X → Y) (write : Y → Piece) → ((x : X) → Steady (write (f x))) → (xs : List X)
+    → Steady (row (map write (map f xs)))
+mapped-steady f write h [] = none-steady
+mapped-steady f write h (x ∷ xs) =
+    then-steady (write (f x)) (row (map write (map f xs))) (h x) (mapped-steady f write h xs)
+
+kind-steady : (k : CodeKind) → Steady (kind_piece k)
+kind-steady k = four-steady (number_of k)
+
+module _ {T V A R M : Type 0} (ft : T → TypeCode) (fv : V → Value) (fa : A → Any) (fr : R → Arm) (fm : M → Member)
+    (st : (t : T) → Steady (written (ft t))) (sr : (r : R) → Steady (written_arm (fr r))) (sm : (m : M)
+    → Steady (written_member (fm m))) where
+  behind_kind : (k : CodeKind) (inner : Piece) → Steady inner → Steady (kind_piece k then enclosed inner)
+  behind_kind k inner h = then-steady (kind_piece k) (enclosed inner) (kind-steady k) (enclosed-steady inner h)
+
+  listed : (id name : List ℕ) (n : ℕ) (rest : Piece) → Steady rest
+      → Steady (header_piece id name then number_piece 4 n then rest)
+  listed id name n rest h = then-steady (header_piece id name) (number_piece 4 n then rest) (header-steady id name)
+      (then-steady (number_piece 4 n) rest (four-steady n) h)
+
+  code_parts-steady : (y : c.TypeCode-F T V A R M)
+      → Steady (code_layer (written_parts (map-TypeCode T V A R M TypeCode Value Any Arm Member ft fv fa fr fm y)))
+  code_parts-steady c.Null = kind-steady kind.Null
+  code_parts-steady c.Void = kind-steady kind.Void
+  code_parts-steady c.TypeCode::Short = kind-steady kind.Short
+  code_parts-steady c.TypeCode::Long = kind-steady kind.Long
+  code_parts-steady c.TypeCode::UShort = kind-steady kind.UShort
+  code_parts-steady c.TypeCode::ULong = kind-steady kind.ULong
+  code_parts-steady c.TypeCode::Boolean = kind-steady kind.Boolean
+  code_parts-steady c.TypeCode::Char = kind-steady kind.Char
+  code_parts-steady c.TypeCode::Octet = kind-steady kind.Octet
+  code_parts-steady c.AnyCode = kind-steady kind.AnyCode
+  code_parts-steady c.TypeCode::Code = kind-steady kind.Code
+  code_parts-steady (c.TypeCode::ObjRef id name) = behind_kind kind.ObjRef _ (header-steady id name)
+  code_parts-steady (c.TypeCode::Struct id name members) =
+      behind_kind kind.Struct _ (listed id name _ _ (mapped-steady fm written_member sm members))
+  code_parts-steady (c.TypeCode::Union id name switch default arms) =
+      behind_kind kind.Union _ (then-steady (header_piece id name then written (ft switch)) _
+      (then-steady (header_piece id name) (written (ft switch)) (header-steady id name) (st switch))
+      (then-steady (head_piece default _) _ (then-steady (number_piece 4 (cast_unsigned w32 default))
+      (number_piece 4 _) (four-steady _) (four-steady _)) (mapped-steady fr written_arm sr arms)))
+  code_parts-steady (c.TypeCode::Enum id name names) =
+      behind_kind kind.Enum _ (listed id name _ _ (rows-steady text.format.writes text-steady names))
+  code_parts-steady (c.TypeCode::Str bound) =
+      then-steady (kind_piece kind.Str) (number_piece 4 bound) (kind-steady kind.Str) (four-steady bound)
+  code_parts-steady (c.Sequence item bound) =
+      behind_kind kind.Sequence _ (then-steady (written (ft item)) (number_piece 4 bound) (st item)
+      (four-steady bound))
+  code_parts-steady (c.Array item len) =
+      behind_kind kind.Array _ (then-steady (written (ft item)) (number_piece 4 len) (st item) (four-steady len))
+  code_parts-steady (c.Alias id name item) =
+      behind_kind kind.Alias _ (then-steady (header_piece id name) (written (ft item)) (header-steady id name)
+      (st item))
+  code_parts-steady (c.Except id name members) =
+      behind_kind kind.Except _ (listed id name _ _ (mapped-steady fm written_member sm members))
+  code_parts-steady c.TypeCode::LongLong = kind-steady kind.LongLong
+  code_parts-steady c.TypeCode::ULongLong = kind-steady kind.ULongLong
+
+rolled : (x : Layer) → written (roll-TypeCode x) ≡ code_layer (written_parts x)
+rolled x = written-code_layer (roll-TypeCode x) ∙ ap (λ (l : Layer). code_layer (written_parts l)) (out-roll-TypeCode x)
+
+arm-made : (a : Arm) → Steady (written a.code) → Steady (written_arm a)
+arm-made a h =
+    subst Steady (sym (written_arm-is a)) (then-steady (label_piece (label_of a.label))
+    (text.format.writes a.name then written a.code) (label-steady (label_of a.label))
+    (then-steady (text.format.writes a.name) (written a.code) (text-steady a.name) h))
+
+member-made : (m : Member) → Steady (written m.code) → Steady (written_member m)
+member-made m h =
+    subst Steady (sym (written_member-is m)) (then-steady (text.format.writes m.name) (written m.code)
+    (text-steady m.name) h)
+
+-- each part of a layer stands with its proof
+pub code-steady : (t : TypeCode) → Steady (written t)
+code-steady = ind-TypeCode (λ t. Steady (written t)) (λ v. Unit {0}) (λ a. Unit {0}) (λ a. Steady (written_arm a))
+    (λ m. Steady (written_member m))
+    (λ x y is. subst Steady (sym (rolled x)) (subst (λ (l : Layer). Steady (code_layer (written_parts l))) is
+    (code_parts-steady (λ e. e.0) (λ e. e.0) (λ e. e.0) (λ e. e.0) (λ e. e.0) (λ e. e.1) (λ e. e.1) (λ e. e.1)
+    y)))
+    (λ x y is. tt) (λ x y is. tt)
+    (λ x y is. arm-made (roll-Arm x) (subst (λ (t : TypeCode). Steady (written t)) (ap (λ z. z.code) is) y.code.1))
+    (λ x y is. member-made (roll-Member x) (subst (λ (t : TypeCode). Steady (written t)) (ap (λ z. z.code) is)
+    y.code.1))
+
+codes-steady : (n : ℕ) (mode : Mode) (t : TypeCode) → Steady ((codes n mode).format.writes t)
+codes-steady n mode t = subst (λ (w : TypeCode → Piece). Steady (w t)) (sym (code_formats n mode).writes)
+    (code-steady t)
+
+values-steady : (any : Sound ValueFault Any) (code : Sound ValueFault TypeCode)
+    → ((a : Any) → Steady (any.format.writes a)) → ((t : TypeCode) → Steady (code.format.writes t))
+    → (n : ℕ) (t : TypeCode) (v : Value) → Steady ((values any code n t).format.writes v)
+unfolding values
+values-steady any code a c zero t v = none-steady
+values-steady any code a c (suc n) t v = layer-steady any code (values any code n) a c (values-steady any code a c n)
+    n (out-TypeCode t) v
+
+anys-steady : (n : ℕ) (a : Any) → Steady ((anys n).format.writes a)
+unfolding anys
+anys-steady zero a = then-steady ((codes zero Outer).format.writes a.code) (λ order place. [])
+    (codes-steady zero Outer a.code) none-steady
+anys-steady (suc n) a =
+    then-steady ((codes (suc n) Outer).format.writes a.code)
+    ((values (anys n) (codes n Outer) (suc n) a.code).format.writes a.value)
+    (codes-steady (suc n) Outer a.code) (values-steady (anys n) (codes n Outer) (anys-steady n)
+    (codes-steady n Outer) (suc n) a.code a.value)
+
+property-steady : (p : Property) → Steady (property.format.writes p)
+property-steady p = then-steady (text.format.writes p.name) (any_value.format.writes p.value) (text-steady p.name)
+    (anys-steady 16 p.value)
+
+pub offer-steady : (o : Offer) → Steady (offer.format.writes o)
+offer-steady o = then-steady (reference.format.writes o.reference) (counted property.format.writes o.properties)
+    (reference-steady o.reference) (counted-steady property.format.writes property-steady o.properties)

@@ -1,0 +1,52 @@
+-- How a reply is filled with items while they fit.
+use Rattle.std.specs.Prelude.{◌≡◌, ℕ, ◌+◌, ◌≤◌, Bool, true, false, List, ◌++◌, length, map, take, drop}
+use Rattle.std.specs.Int.{from_bool}
+use Rattle.td_cdr.specs.declared.order.Order.{Order}
+use Rattle.td_cdr.specs.declared.order.Order.TheVariants.{Big, Little}
+use Rattle.td_cdr.specs.Format.{Piece, ◌then◌, row}
+use Rattle.td_cdr.specs.Gap.{gap}
+use Rattle.td_cdr.specs.Writing.{Draft}
+use Rattle.td_codes.specs.Formats.{is_some, number_piece}
+use Rattle.td_iter.specs.declared.limits.TheConstants.{LARGEST_MESSAGE}
+use Rattle.td_iter.specs.declared.filling.Tail.{Tail}
+use Rattle.td_iter.specs.Batches.{IsGreatest}
+
+-- items behind their number
+abbrev pub counted : {X : Type 0} → (X → Piece) → List X → Piece
+counted write items = number_piece 4 (length items) then row (map write items)
+
+-- whether some are left, and then the items
+abbrev pub next_piece : {X : Type 0} → (X → Piece) → List X → Bool → Piece
+next_piece write items more = number_piece 1 (from_bool more) then counted write items
+
+-- the items, and then what depends on whether some are left
+abbrev pub first_piece : {X : Type 0} → (X → Piece) → (Bool → Piece) → List X → Bool → Piece
+first_piece write tail items more = counted write items then tail more
+
+-- a boolean and the padding of zeros that follows it at a multiple of four, as one number
+abbrev pub padded_flag : Order → Bool → ℕ
+padded_flag Big true = 16777216
+padded_flag Little true = 1
+padded_flag order false = 0
+
+-- how many bytes stand behind the items
+abbrev pub behind : Tail → Bool → ℕ
+behind tail true = tail.more
+behind tail false = tail.done
+
+-- where a message ends whose items end here, with so many bytes behind from the next multiple of four on
+abbrev pub reach : ℕ → ℕ → ℕ
+reach here size = here + gap 4 here + size
+
+module _ {X : Type 0} (piece : List X → Piece) (tail : Tail) (items : List X) (old : Draft) where
+  -- where the first k end
+  abbrev pub end_of : ℕ → ℕ
+  end_of k = length old.bytes + length (piece (take k items) old.order (length old.bytes))
+
+  abbrev pub FitsTail : ℕ → Type 0
+  FitsTail k = reach (end_of k) (behind tail (is_some (drop k items))) ≤ LARGEST_MESSAGE
+
+  -- as many as fit were written: the first k
+  pub record Fills (n : ℕ) (new : Draft) (k : ℕ) : Type 0 where
+    pub is_greatest : IsGreatest FitsTail n (length items) k
+    pub bytes : new.bytes ≡ old.bytes ++ piece (take k items) old.order (length old.bytes)

@@ -1,0 +1,5 @@
+pub mod Batches
+pub mod Desks
+pub mod Filling
+pub mod Heads
+pub mod Lends

@@ -1,0 +1,185 @@
+//! The iterators that a connection keeps.
+
+ghost use Rattle.std.specs.Prelude.{◌≡◌, ◌<◌, ◌≤◌, ◌^◌, ◌-◌, ◌+◌, ◌++◌, [], length, take, drop, nat_lt, Some, IfOk};
+ghost use Rattle.std.specs.Vec.{vec_capacity};
+ghost use Rattle.std.specs.Option.{option_copied_mut};
+ghost use Rattle.std.specs.Borrow.{Lends, sem};
+ghost use Rattle.td_iter.specs.Desks.{added, is_called, is_live, item_at, item_of, place_of, removed};
+
+use crate::item::Item;
+use std::alloc::Global;
+use std::marker::Model;
+use td_cdr::{Memory, Text};
+
+/// How many iterators a connection keeps at most.
+const MOST_ITEMS: usize = 256;
+
+/// An iterator: the name of the trader that answered, its number, and what is left.
+#[derive(Drop)]
+pub struct Entry {
+    pub(crate) trader: Text,
+    pub(crate) number: u64,
+    pub(crate) item: Item,
+}
+
+impl Entry {
+    ghost use Rattle.td_iter.specs.contracts.desk.Entry as entry;
+    ghost use Rattle.td_iter.specs.contracts.item.Item as an_item;
+
+    /// What is left.
+    fn item_mut(&mut self) -> &mut Item
+        ensures* writes_back { sem 𝓛 (Lends entry.the_row an_item.the_row self.entry result
+            (λ item. record self.entry.now { item = item })) }
+        ensures value { result.now ≡ self.old.item }
+    {
+        &mut self.item
+    }
+}
+
+/// The iterators of a connection, oldest first: at most 256, whose places are taken at once. A new one
+/// drops the oldest. Contracts see the list of them, and the number that the next one gets.
+#[derive(Drop)]
+pub struct Desk {
+    entries: Vec<Entry>,
+    next: u64,
+}
+
+impl Model for Desk {
+    ghost use Rattle.std.specs.Prelude.{List, ℕ, length, ◌≤◌, ◌^◌};
+    ghost use Rattle.std.specs.Vec.{vec_capacity};
+    ghost use Rattle.std.specs.Coded.{codes};
+    ghost use Rattle.td_codes.specs.contracts.code.TypeCode as code;
+    ghost use Rattle.td_codes.specs.contracts.code.Value as value;
+    ghost use Rattle.td_iter.specs.declared.desk.Entry.{Entry as an_entry};
+
+    ghost Value = { List an_entry × ℕ };
+
+    ghost coded = { Prim.hlevel (codes, code.the_row.coded, value.the_row.coded) };
+
+    ghost view = { λ d. (d.entries.items, d.next) };
+
+    ghost invariant = { λ d. (length d.entries.items ≤ 256) × (256 ≤ vec_capacity d.entries) × (d.next ≤ 2 ^ 63) };
+}
+
+impl Desk {
+    ghost use Rattle.td_iter.specs.Lends.{lends_at, lends_item};
+
+    /// A desk without iterators, with places for 256. The first one gets this number.
+    ///
+    /// # Errors
+    ///
+    /// `Memory` for want of memory alone.
+    pub fn new(alloc: Global, first: u64) -> Result<Desk, Memory>
+        requires low { 1 ≤ first }
+        requires high { first ≤ 2 ^ 62 }
+        ensures { IfOk result (λ d. d ≡ ([], first)) }
+    {
+        Ok(Desk {
+            entries: Vec::with_capacity(alloc, MOST_ITEMS)?,
+            next: first,
+        })
+    }
+
+    /// The number that the next one gets.
+    pub fn next_number(&self) -> u64
+        ensures { result ≡ self.now.1 }
+    {
+        self.next
+    }
+
+    /// Adds an iterator, and answers its number. Of 256 the oldest is dropped. Takes no memory.
+    pub fn add(&mut self, trader: Text, item: Item) -> u64
+        requires { self.old.1 < 2 ^ 63 }
+        ensures number { result ≡ self.old.1 }
+        ensures added { self.new ≡ added trader item self.old }
+    {
+        let number = self.next;
+        make_room(&mut self.entries);
+        self.entries.push_reserved(Entry {
+            trader,
+            number,
+            item,
+        });
+        self.next = number + 1;
+        number
+    }
+
+    /// What is left of the iterator of this trader and number, for reading on. Takes no memory.
+    pub fn get_mut(&mut self, trader: &Text, number: u64) -> Option<&mut Item>
+        ensures* writes_back { sem 𝓛 (lends_item self.entry trader.now number result) }
+        ensures value { option_copied_mut result ≡ item_of trader.now number self.old }
+    {
+        let place = place_of(self.entries.as_slice(), trader, number);
+        if place < self.entries.len() {
+            Some(self.item_mut(place))
+        } else {
+            None
+        }
+    }
+
+    /// What is left of the iterator at a place.
+    fn item_mut(&mut self, place: usize) -> &mut Item
+        requires { place < length self.old.0 }
+        ensures* writes_back { sem 𝓛 (lends_at self.entry place result) }
+        ensures value { item_at self.old.0 place ≡ Some result.now }
+    {
+        self.entries[place].item_mut()
+    }
+
+    /// Takes the iterator of this trader and number away, and answers whether there was one. Takes no
+    /// memory.
+    pub fn remove(&mut self, trader: &Text, number: u64) -> bool
+        ensures found { result ≡ is_live trader.now number self.old }
+        ensures removed { self.new ≡ removed trader.now number self.old }
+    {
+        let place = place_of(self.entries.as_slice(), trader, number);
+        take_out(&mut self.entries, place)
+    }
+}
+
+/// Drops the oldest where there are as many as may be.
+fn make_room(entries: &mut Vec<Entry>)
+    requires { length entries.old.items ≤ 256 }
+    ensures items { entries.new.items ≡ drop (length entries.old.items - 255) entries.old.items }
+    ensures capacity { vec_capacity entries.new ≡ vec_capacity entries.old }
+{
+    if entries.len() == MOST_ITEMS {
+        let _oldest = entries.remove(0);
+    }
+}
+
+/// Takes the entry at a place away, and answers whether there was one.
+fn take_out(entries: &mut Vec<Entry>, place: usize) -> bool
+    requires { place ≤ length entries.old.items }
+    ensures found { result ≡ nat_lt place (length entries.old.items) }
+    ensures items { entries.new.items ≡ take place entries.old.items ++ drop (place + 1) entries.old.items }
+    ensures capacity { vec_capacity entries.new ≡ vec_capacity entries.old }
+{
+    let found = place < entries.len();
+    if found {
+        let _removed = entries.remove(place);
+    }
+    found
+}
+
+/// Whether an entry has this number and is of this trader.
+fn is_called(entry: &Entry, trader: &Text, number: u64) -> bool
+    ensures { result ≡ is_called trader.now number entry.now }
+{
+    entry.number == number && entry.trader.as_slice() == trader.as_slice()
+}
+
+/// The place of the first that is called so; how many there are, where none is.
+fn place_of(entries: &[Entry], trader: &Text, number: u64) -> usize
+    ensures place { result ≡ place_of trader.now number entries.now }
+    ensures within { result ≤ length entries.now }
+{
+    let mut place = 0;
+    for entry in entries {
+        if is_called(entry, trader, number) {
+            return place;
+        }
+        place += 1;
+    }
+    place
+}

@@ -1,0 +1,193 @@
+//! The results of a query, of `list_offers` and of `list_proxies`: their first batch.
+
+ghost use Rattle.std.specs.Prelude.{◌≡◌, length, take, IfOk, OnErr, if◌then◌else◌};
+ghost use Rattle.td_cdr.specs.Sound.{◌&◌, sequence, text};
+ghost use Rattle.td_codes.specs.References.{reference};
+ghost use Rattle.td_iter.specs.Batches.{PutsBatch};
+ghost use Rattle.td_iter.specs.Heads.{nil, given_or_nil, offers_found, ids_found, IsSmallReference, AreLimits};
+ghost use Rattle.td_iter.specs.declared.limits.TheConstants.{REPLY_START};
+
+use crate::filling::{Tail, put_counted};
+use std::alloc::Global;
+use td_cdr::{List, Memory, Spelled, Text, Writer, put_two};
+use td_value::{Ior, Offer};
+
+/// The nil reference, which takes no memory.
+fn nil(alloc: Global) -> Ior
+    ensures { result ≡ nil }
+{
+    Ior {
+        id: Text::new(alloc),
+        profiles: List::new(alloc),
+    }
+}
+
+/// The given reference where something is left, else the nil one.
+fn given_or_nil<'a>(iterator: &'a Ior, nil: &'a Ior, more: bool) -> &'a Ior
+    ensures { result.now ≡ (if more then iterator.now else nil.now) }
+{
+    if more { iterator } else { nil }
+}
+
+/// Appends the result of a query: the batch for n offers, the iterator's reference where something is
+/// left, and the limits. Answers how many offers it has.
+///
+/// # Errors
+///
+/// `Memory` for want of memory alone; the writer is then unchanged.
+pub(crate) fn put_found(
+    alloc: Global,
+    w: &mut Writer,
+    offers: &[Offer],
+    n: u32,
+    iterator: &Ior,
+    limits: &List<Text>,
+) -> Result<usize, Memory>
+    requires start { length w.old.bytes ≡ REPLY_START }
+    requires reference { IsSmallReference iterator.now }
+    requires limits { AreLimits limits.now }
+    ensures puts { IfOk result (λ k. PutsBatch (offers_found iterator.now limits.now) offers.now n w.old w.new k) }
+    ensures err { OnErr result (w.new.bytes ≡ w.old.bytes) }
+    ensures order { w.new.order ≡ w.old.order }
+{
+    let held = w.len();
+    match append_found(alloc, w, offers, n, iterator, limits) {
+        Ok(count) => Ok(count),
+        Err(memory) => {
+            w.cut(held);
+            Err(memory)
+        }
+    }
+}
+
+/// The same. Where it fails, some may be written.
+fn append_found(
+    alloc: Global,
+    w: &mut Writer,
+    offers: &[Offer],
+    n: u32,
+    iterator: &Ior,
+    limits: &List<Text>,
+) -> Result<usize, Memory>
+    requires start { length w.old.bytes ≡ REPLY_START }
+    requires reference { IsSmallReference iterator.now }
+    requires limits { AreLimits limits.now }
+    ensures puts { IfOk result (λ k. PutsBatch (offers_found iterator.now limits.now) offers.now n w.old w.new k) }
+    ensures kept { OnErr result (take (length w.old.bytes) w.new.bytes ≡ w.old.bytes) }
+    ensures order { w.new.order ≡ w.old.order }
+{
+    let none = nil(alloc);
+    let more = found_size(alloc, w, iterator, limits)?;
+    let done = found_size(alloc, w, &none, limits)?;
+    let count = put_counted(alloc, w, offers, n, Tail { more, done })?;
+    let reference = given_or_nil(iterator, &none, count < offers.len());
+    put_two(alloc, w, reference, limits)?;
+    Ok(count)
+}
+
+/// How many bytes a reference and limits come to behind what the writer holds, which is as before.
+///
+/// # Errors
+///
+/// `Memory` for want of memory alone.
+fn found_size(
+    alloc: Global,
+    w: &mut Writer,
+    iterator: &Ior,
+    limits: &List<Text>,
+) -> Result<usize, Memory>
+    ensures size { IfOk result (λ n. n ≡
+        length ((reference & sequence text).format.writes (iterator.now, limits.now)
+        w.old.order (length w.old.bytes))) }
+    ensures same { w.new.bytes ≡ w.old.bytes }
+    ensures order { w.new.order ≡ w.old.order }
+{
+    let held = w.len();
+    match put_two(alloc, w, iterator, limits) {
+        Ok(()) => {
+            let size = w.len() - held;
+            w.cut(held);
+            Ok(size)
+        }
+        Err(memory) => {
+            w.cut(held);
+            Err(memory)
+        }
+    }
+}
+
+/// Appends the result of `list_offers` or `list_proxies`: the batch for n ids, and the iterator's
+/// reference where something is left. Answers how many ids it has.
+///
+/// # Errors
+///
+/// `Memory` for want of memory alone; the writer is then unchanged.
+pub(crate) fn put_ids(
+    alloc: Global,
+    w: &mut Writer,
+    ids: &[Text],
+    n: u32,
+    iterator: &Ior,
+) -> Result<usize, Memory>
+    requires start { length w.old.bytes ≡ REPLY_START }
+    requires reference { IsSmallReference iterator.now }
+    ensures puts { IfOk result (λ k. PutsBatch (ids_found iterator.now) ids.now n w.old w.new k) }
+    ensures err { OnErr result (w.new.bytes ≡ w.old.bytes) }
+    ensures order { w.new.order ≡ w.old.order }
+{
+    let held = w.len();
+    match append_ids(alloc, w, ids, n, iterator) {
+        Ok(count) => Ok(count),
+        Err(memory) => {
+            w.cut(held);
+            Err(memory)
+        }
+    }
+}
+
+/// The same. Where it fails, some may be written.
+fn append_ids(
+    alloc: Global,
+    w: &mut Writer,
+    ids: &[Text],
+    n: u32,
+    iterator: &Ior,
+) -> Result<usize, Memory>
+    requires start { length w.old.bytes ≡ REPLY_START }
+    requires reference { IsSmallReference iterator.now }
+    ensures puts { IfOk result (λ k. PutsBatch (ids_found iterator.now) ids.now n w.old w.new k) }
+    ensures kept { OnErr result (take (length w.old.bytes) w.new.bytes ≡ w.old.bytes) }
+    ensures order { w.new.order ≡ w.old.order }
+{
+    let none = nil(alloc);
+    let more = reference_size(alloc, w, iterator)?;
+    let done = reference_size(alloc, w, &none)?;
+    let count = put_counted(alloc, w, ids, n, Tail { more, done })?;
+    given_or_nil(iterator, &none, count < ids.len()).write(alloc, w)?;
+    Ok(count)
+}
+
+/// How many bytes a reference comes to behind what the writer holds, which is as before.
+///
+/// # Errors
+///
+/// `Memory` for want of memory alone.
+fn reference_size(alloc: Global, w: &mut Writer, iterator: &Ior) -> Result<usize, Memory>
+    ensures size { IfOk result (λ n. n ≡
+        length (reference.format.writes iterator.now w.old.order (length w.old.bytes))) }
+    ensures same { w.new.bytes ≡ w.old.bytes }
+    ensures order { w.new.order ≡ w.old.order }
+{
+    let held = w.len();
+    match iterator.write(alloc, w) {
+        Ok(()) => {
+            let size = w.len() - held;
+            w.cut(held);
+            Ok(size)
+        }
+        Err(memory) => {
+            w.cut(held);
+            Err(memory)
+        }
+    }
+}

@@ -1,0 +1,112 @@
+//! Iterators over offers.
+
+ghost use Rattle.std.specs.Prelude.{◌≡◌, ◌<◌, ◌^◌, length, IfOk, OnOk, OnErr};
+ghost use Rattle.td_iter.specs.Batches.{GivesBatch};
+ghost use Rattle.td_iter.specs.Heads.{offers_found, next_offers, AreSmallOffers, IsSmallReference, AreLimits};
+ghost use Rattle.td_iter.specs.declared.limits.TheConstants.{REPLY_START};
+
+use crate::first::put_found;
+use crate::next::put_next;
+use std::alloc::Global;
+use std::marker::Model;
+use td_cdr::{List, Memory, Text, Writer};
+use td_value::{Ior, Offer};
+
+/// The offers that are left of an answer, which contracts see as their list (OMG's Trading Object
+/// Service, interface OfferIterator).
+#[derive(Drop)]
+pub struct OfferIter {
+    offers: List<Offer>,
+    /// How many of them were given.
+    given: usize,
+}
+
+impl Model for OfferIter {
+    ghost use Rattle.std.specs.Prelude.{List as Row, drop, length, ◌≤◌, ◌<◌, ◌^◌};
+    ghost use Rattle.std.specs.Coded.{codes};
+    ghost use Rattle.td_codes.specs.contracts.code.TypeCode as code;
+    ghost use Rattle.td_codes.specs.contracts.code.Value as value;
+    ghost use Rattle.td_value.specs.declared.structures.Offer.{Offer as an_offer};
+    ghost use Rattle.td_iter.specs.Heads.{AreSmallOffers as are_small};
+
+    ghost Value = { Row an_offer };
+
+    ghost coded = { Prim.hlevel (codes, code.the_row.coded, value.the_row.coded) };
+
+    ghost view = { λ it. drop it.given it.offers };
+
+    ghost invariant = { λ it.
+        (it.given ≤ length it.offers) × (length it.offers < 2 ^ 32) × are_small (drop it.given it.offers) };
+}
+
+impl OfferIter {
+    /// An iterator over these offers, each of at most 6 MiB.
+    pub fn new(left: List<Offer>) -> OfferIter
+        requires few { length left < 2 ^ 32 }
+        requires small { AreSmallOffers left }
+        ensures { result ≡ left }
+    {
+        OfferIter {
+            offers: left,
+            given: 0,
+        }
+    }
+
+    /// How many are left.
+    pub fn max_left(&self) -> u32
+        ensures { result ≡ length self.now }
+    {
+        (self.offers.len() - self.given) as u32
+    }
+
+    /// Appends the result of a query: the batch for n offers, the iterator's reference where something
+    /// is left behind it and nil where nothing is, and the limits. Answers whether something is left.
+    /// The writer holds what stands before the body of a reply. Where n is at least 1 and something is
+    /// left, the batch isn't empty.
+    ///
+    /// # Errors
+    ///
+    /// `Memory` for want of memory alone; the iterator and what the writer holds are then unchanged.
+    pub fn first_batch(
+        &mut self,
+        alloc: Global,
+        n: u32,
+        w: &mut Writer,
+        iterator: &Ior,
+        limits: &List<Text>,
+    ) -> Result<bool, Memory>
+        requires start { length w.old.bytes ≡ REPLY_START }
+        requires reference { IsSmallReference iterator.now }
+        requires limits { AreLimits limits.now }
+        ensures batch { IfOk result (λ more.
+            GivesBatch (offers_found iterator.now limits.now) self.old n self.new w.old w.new more) }
+        ensures some { OnOk result (0 < n → 0 < length self.old → length self.new < length self.old) }
+        ensures err { OnErr result ((self.new ≡ self.old) × (w.new.bytes ≡ w.old.bytes)) }
+        ensures order { w.new.order ≡ w.old.order }
+    {
+        let (_given, left) = self.offers.as_slice().split_at(self.given);
+        let count = put_found(alloc, w, left, n, iterator, limits)?;
+        self.given += count;
+        Ok(self.given < self.offers.len())
+    }
+
+    /// Appends the result of `next_n`: whether something is left behind the batch for n offers, and the
+    /// batch. Answers whether something is left. The writer holds what stands before the body of a
+    /// reply. Where n is at least 1 and something is left, the batch isn't empty.
+    ///
+    /// # Errors
+    ///
+    /// `Memory` for want of memory alone; the iterator and what the writer holds are then unchanged.
+    pub fn next_n(&mut self, alloc: Global, n: u32, w: &mut Writer) -> Result<bool, Memory>
+        requires { length w.old.bytes ≡ REPLY_START }
+        ensures batch { IfOk result (λ more. GivesBatch next_offers self.old n self.new w.old w.new more) }
+        ensures some { OnOk result (0 < n → 0 < length self.old → length self.new < length self.old) }
+        ensures err { OnErr result ((self.new ≡ self.old) × (w.new.bytes ≡ w.old.bytes)) }
+        ensures order { w.new.order ≡ w.old.order }
+    {
+        let (_given, left) = self.offers.as_slice().split_at(self.given);
+        let count = put_next(alloc, w, left, n)?;
+        self.given += count;
+        Ok(self.given < self.offers.len())
+    }
+}
