@@ -1,3 +1,4 @@
+pub mod Candidates
 pub mod Homes
 pub mod Kept
 pub mod Lends
@@ -9,4 +10,5 @@ pub mod Puts
 pub mod Rings
 pub mod Slabs
 pub mod Slots
+pub mod Stores
 pub mod Walks

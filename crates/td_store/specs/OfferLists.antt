@@ -1,5 +1,7 @@
 -- Offers as a list by rising number.
 use Rattle.std.specs.Prelude.{◌≡◌, ℕ, ◌<◌, ◌≤◌, Bool, true, false, not, ◌==◌, is_some, if◌then◌else◌, List, find, filter, map, Option, Result, Ok, Err}
+use Rattle.std.specs.List.Sorted.{IsStrictlySortedBy}
+use Rattle.std.specs.Ordering.{nat_cmp}
 use Rattle.td_value.specs.declared.structures.Property.{Property}
 use Rattle.td_store.specs.declared.record.OfferRecord.{OfferRecord}
 use Rattle.td_store.specs.declared.fault.StoreFault.{StoreFault}
@@ -22,6 +24,10 @@ changed_offer number properties o = if is_numbered number o then record o { prop
 
 abbrev pub with_properties : ℕ → List Property → List OfferRecord → List OfferRecord
 with_properties number properties offers = map (changed_offer number properties) offers
+
+-- each number is below those after it
+abbrev pub NumbersRise : List OfferRecord → Type 0
+NumbersRise offers = IsStrictlySortedBy nat_cmp (map (λ o. o.number) offers)
 
 -- the offer's type had this incarnation
 abbrev pub is_of : ℕ → OfferRecord → Bool

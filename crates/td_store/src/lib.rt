@@ -1,4 +1,5 @@
-//! Offers, on a slab whose values stand on chains, and links (OMG's Trading Object Service).
+//! What a trader keeps: offers, on a slab whose values stand on chains, links, types and attributes
+//! (OMG's Trading Object Service).
 #![tactic(auto)]
 
 mod fault;
@@ -6,6 +7,7 @@ mod gathering;
 mod inserting;
 mod joint;
 mod links;
+mod local;
 mod looking;
 mod offers;
 mod record;
@@ -13,10 +15,13 @@ mod rings;
 mod slab;
 mod slot;
 mod steps;
+mod store;
 
 pub use fault::StoreFault;
 pub use links::Links;
+pub use local::Local;
 pub use offers::Offers;
 pub use record::{LinkRecord, OfferRecord, ProxyPart};
 pub use slab::Slab;
 pub use steps::Steps;
+pub use store::Store;

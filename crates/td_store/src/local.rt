@@ -1,0 +1,32 @@
+//! What a query is searched with at one trader.
+
+use crate::record::{LinkRecord, OfferRecord};
+use td_cdr::{List, Octets};
+use td_lang::{Constraint, Preference};
+use td_ops::Query;
+use td_policy::{Attributes, Effective, Stated};
+
+/// What a query is searched with at one trader, all of it as it stood at one point of the trader's
+/// history (interface CosTrading::Lookup, query). With a path the mark is 0, and there are no
+/// candidates and no links.
+#[derive(Drop)]
+pub struct Local {
+    /// How many changes the trader had accepted.
+    pub point: u64,
+    /// The number of the query's mark, from 1.
+    pub mark: u64,
+    /// The link that the first name of starting_trader leads over, where the policy is stated and names one.
+    pub path: Option<LinkRecord>,
+    pub query: Query,
+    /// The identifier of the query (request_id), its own or one that the trader made.
+    pub identifier: Option<Octets>,
+    pub stated: Stated,
+    pub effective: Effective,
+    pub attributes: Attributes,
+    pub constraint: Constraint,
+    pub preference: Preference,
+    /// The offers that are searched, by rising number.
+    pub candidates: List<OfferRecord>,
+    /// The links in the order of adding.
+    pub links: List<LinkRecord>,
+}
