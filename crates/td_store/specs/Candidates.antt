@@ -12,7 +12,8 @@ use Rattle.td_value.specs.declared.structures.Property.{Property}
 use Rattle.td_types.specs.Conforming.{conforms, subtypes}
 use Rattle.td_types.specs.Modes.{is_readonly}
 use Rattle.td_types.specs.Properties.{property_named, full_properties}
-use Rattle.td_types.specs.Repository.{ServiceType, incarnation_of}
+use Rattle.td_types.specs.Repository.{incarnation_of}
+use Rattle.td_types.specs.declared.entry.ServiceType.{ServiceType}
 use Rattle.td_policy.specs.declared.attributes.Attributes.{Attributes}
 use Rattle.td_policy.specs.declared.stated.Stated.{Stated}
 use Rattle.td_store.specs.OfferLists.{is_of}

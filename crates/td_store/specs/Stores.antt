@@ -11,7 +11,8 @@ use Rattle.td_value.specs.Structures.{policy, offer, offer_info, link_info, type
 use Rattle.td_value.specs.declared.structures.LinkInfo.{LinkInfo}
 use Rattle.td_value.specs.declared.structures.OfferInfo.{OfferInfo}
 use Rattle.td_types.specs.Descriptions.{description}
-use Rattle.td_types.specs.Repository.{Repository, ServiceType, IsRepository}
+use Rattle.td_types.specs.Repository.{Repository, IsRepository}
+use Rattle.td_types.specs.declared.entry.ServiceType.{ServiceType}
 use Rattle.td_policy.specs.declared.attributes.Attributes.{Attributes}
 use Rattle.td_store.specs.LinkLists.{most_links}
 use Rattle.td_store.specs.OfferLists.{NumbersRise, most_offers}
