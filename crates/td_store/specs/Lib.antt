@@ -1,6 +1,7 @@
 pub mod Candidates
 pub mod Homes
 pub mod Kept
+pub mod Laws
 pub mod Lends
 pub mod LinkLists
 pub mod LinkNames
@@ -8,6 +9,7 @@ pub mod OfferLists
 pub mod OfferPlaces
 pub mod Puts
 pub mod Rings
+pub mod Searches
 pub mod Slabs
 pub mod Slots
 pub mod Stores

@@ -43,6 +43,58 @@ pub(crate) fn gather<'a, T, L: Ledger>(
     Ok(())
 }
 
+/// The chain of an incarnation.
+fn chain_at(chains: &BTreeMap<u64, u32>, incarnation: u64) -> Option<u32>
+    ensures { result ≡ get nat_cmp chains.now incarnation }
+{
+    chains.get(&incarnation).copied()
+}
+
+/// Adds the values on a chain, if there is one.
+///
+/// # Errors
+///
+/// `Memory` for want of memory alone.
+fn gather_from<'a, T, L: Ledger>(
+    slab: &'a Slab<T>,
+    chain: Option<u32>,
+    into: &mut Vec<&'a T>,
+    steps: &mut Steps<L>,
+) -> Result<(), Memory>
+    ensures ok { OnOk result (map (λ r. r.now) into.new.items
+        ≡ map (λ r. r.now) into.old.items ++ values_on slab.now.slots (places_on slab.now.chains chain)) }
+    ensures steps { steps.new ≤ steps.old + 1 + length (values_on slab.now.slots (places_on slab.now.chains chain)) }
+{
+    match chain {
+        None => Ok(()),
+        Some(chain) => gather(slab, chain, into, steps),
+    }
+}
+
+/// Adds the values on the chains of these incarnations, chain by chain. At most one step for each
+/// incarnation, and one for each value.
+///
+/// # Errors
+///
+/// `Memory` for want of memory alone.
+pub(crate) fn gather_all<'a, T, L: Ledger>(
+    slab: &'a Slab<T>,
+    chains: &BTreeMap<u64, u32>,
+    incarnations: &[u64],
+    into: &mut Vec<&'a T>,
+    steps: &mut Steps<L>,
+) -> Result<(), Memory>
+    ensures ok { OnOk result (map (λ r. r.now) into.new.items
+        ≡ map (λ r. r.now) into.old.items ++ values_of slab.now.slots slab.now.chains chains.now incarnations.now) }
+    ensures steps { steps.new ≤ steps.old + length incarnations.now
+        + length (values_of slab.now.slots slab.now.chains chains.now incarnations.now) }
+{
+    for incarnation in incarnations {
+        gather_from(slab, chain_at(chains, *incarnation), into, steps)?;
+    }
+    Ok(())
+}
+
 /// The numbers of the offers on a chain, in its order.
 ///
 /// # Errors

@@ -2,22 +2,30 @@
 //! (OMG's Trading Object Service).
 #![tactic(auto)]
 
+mod condition;
 mod fault;
 mod gathering;
 mod inserting;
 mod joint;
+mod laws;
 mod links;
 mod local;
 mod looking;
 mod offers;
 mod record;
 mod rings;
+mod search;
 mod slab;
 mod slot;
 mod steps;
 mod store;
 
+pub use condition::{belongs, mode_of};
 pub use fault::StoreFault;
+pub use laws::{
+    candidates_conform, numbers_rise, plain_offers_are_searched, removing_leaves_the_others,
+    stores_stay_valid,
+};
 pub use links::Links;
 pub use local::Local;
 pub use offers::Offers;

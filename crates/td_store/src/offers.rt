@@ -1,19 +1,27 @@
 //! The offers of a trader.
 
-ghost use Rattle.std.specs.Prelude.{◌≡◌, ◌<◌, [], ◌∷◌, ◌++◌, length, map, filter, is_some, IfOk, OnOk, OnErr, option_copied};
+ghost use Rattle.std.specs.Prelude.{◌≡◌, ◌<◌, ◌≤◌, ◌+◌, [], ◌∷◌, ◌++◌, length, map, filter, is_some, IfOk, OnOk, OnErr, option_copied};
 ghost use Rattle.std.specs.List.{AllByRecursion};
+ghost use Rattle.td_store.specs.Candidates.{candidates, most_steps};
+ghost use Rattle.td_store.specs.Homes.{kind_chain};
 ghost use Rattle.td_store.specs.OfferLists.{most_offers, IsLimited, offer_of, without_offer, with_properties, is_of_kind};
 
+use crate::condition::is_exact;
 use crate::fault::StoreFault;
 use crate::gathering::numbers_on;
 use crate::inserting::{chain_for, put_offer};
 use crate::looking::{change_properties, look};
 use crate::record::OfferRecord;
+use crate::search::{candidates, conforming, searched};
 use crate::slab::Slab;
+use crate::steps::Steps;
 use std::alloc::Global;
 use std::collections::BTreeMap;
 use std::marker::Model;
-use td_cdr::{List, Memory};
+use std::sync::ledger::Ledger;
+use td_cdr::{List, Memory, Text};
+use td_policy::{Attributes, Stated};
+use td_types::Types;
 use td_value::Property;
 
 /// How many offers there are at most.
@@ -87,11 +95,7 @@ impl Offers {
         if self.numbers.len() >= MOST_OFFERS {
             return Err(StoreFault::Full);
         }
-        let of_kind = if offer.proxy.is_some() {
-            self.proxies
-        } else {
-            self.ordinary
-        };
+        let of_kind = self.chain_of_kind(offer.proxy.is_some());
         let of_type = chain_for(&mut self.slab, &mut self.chains, offer.incarnation)?;
         put_offer(&mut self.slab, &mut self.numbers, of_type, of_kind, offer)?;
         Ok(())
@@ -132,6 +136,46 @@ impl Offers {
         }
     }
 
+    /// The first so many offers that a query for a type searches, by rising number (interface
+    /// CosTrading::Lookup, query). It walks the chains of the types that conform and no others: at
+    /// most one step for each of these types, and one for each of their offers.
+    ///
+    /// # Errors
+    ///
+    /// `Memory` for want of memory alone.
+    pub fn candidates<L: Ledger>(
+        &self,
+        alloc: Global,
+        types: &Types,
+        attributes: &Attributes,
+        stated: &Stated,
+        asked: &Text,
+        count: u32,
+        steps: &mut Steps<L>,
+    ) -> Result<List<OfferRecord>, Memory>
+        ensures found { IfOk result (λ found. found
+            ≡ candidates types.now.types attributes.now stated.now asked.now count self.now) }
+        ensures steps { steps.new ≤ steps.old + most_steps types.now.types asked.now self.now }
+    {
+        let incarnations = searched(alloc, types, is_exact(stated), asked)?;
+        let offers = conforming(
+            alloc,
+            &self.slab,
+            &self.chains,
+            incarnations.as_slice(),
+            steps,
+        )?;
+        candidates(
+            alloc,
+            types,
+            attributes,
+            stated,
+            asked,
+            count,
+            offers.as_slice(),
+        )
+    }
+
     /// The numbers of the ordinary offers or of the proxy offers, rising.
     ///
     /// # Errors
@@ -140,7 +184,21 @@ impl Offers {
     pub fn ids(&self, alloc: Global, proxies: bool) -> Result<List<u32>, Memory>
         ensures { IfOk result (λ numbers. numbers ≡ map (λ o. o.number) (filter (is_of_kind proxies) self.now)) }
     {
-        let chain = if proxies { self.proxies } else { self.ordinary };
-        numbers_on(alloc, &self.slab, chain)
+        numbers_on(alloc, &self.slab, self.chain_of_kind(proxies))
+    }
+
+    /// The chain of the ordinary offers, or of the proxy offers. It takes the offers apart by all their
+    /// fields, so that a second list of offers beside the slab doesn't compile.
+    fn chain_of_kind(&self, proxies: bool) -> u32
+        ensures { result ≡ kind_chain proxies }
+    {
+        let Offers {
+            slab: _,
+            numbers: _,
+            chains: _,
+            ordinary,
+            proxies: of_proxies,
+        } = self;
+        if proxies { *of_proxies } else { *ordinary }
     }
 }

@@ -5,7 +5,6 @@ use Rattle.td_store.specs.Slabs.{value_at}
 use Rattle.td_store.specs.declared.record.OfferRecord.{OfferRecord}
 use Rattle.td_store.proofs.Offering.{chained-holds, chained-shows, unchanged-holds, unchanged-shows, put-holds, put-shows, keys-below, count-is-numbers}
 use Rattle.td_store.proofs.offers.Offers.insert.Goals as goal
-use Rattle.td_store.proofs.offers.Offers.insert.Goals.{then-is_some, else-is_some}
 
 pub returns-then-len-ge-MOST_OFFERS-clause-full : goal.returns-then-len-ge-MOST_OFFERS-clause-full
 returns-then-len-ge-MOST_OFFERS-clause-full c =
@@ -34,22 +33,16 @@ returns-in_err-put_offer-clause-full c =
 
 pub invariant_of-self-2 : goal.invariant_of-self-2
 invariant_of-self-2 c =
-    put-holds c.chain_for.new.slab c.put_offer.new.slab c.self.inside.numbers.entries c.put_offer.new.numbers.entries c.chain_for.new.chains c.self.inside.ordinary c.self.inside.proxies c.in_ok-of_type.of_type c.if-is_some.of_kind c.args.offer (chained-holds c.self.inside.slab c.chain_for.new.slab c.self.inside.numbers.entries c.self.inside.chains c.chain_for.new.chains c.self.inside.ordinary c.self.inside.proxies c.self.invariant c.chain_for.ensures.slots c.chain_for.ensures.places c.chain_for.ensures.of_types c.chain_for.ensures.chains)
+    put-holds c.chain_for.new.slab c.put_offer.new.slab c.self.inside.numbers.entries c.put_offer.new.numbers.entries c.chain_for.new.chains c.self.inside.ordinary c.self.inside.proxies c.in_ok-of_type.of_type c.chain_of_kind-of_kind.result c.args.offer (chained-holds c.self.inside.slab c.chain_for.new.slab c.self.inside.numbers.entries c.self.inside.chains c.chain_for.new.chains c.self.inside.ordinary c.self.inside.proxies c.self.invariant c.chain_for.ensures.slots c.chain_for.ensures.places c.chain_for.ensures.of_types c.chain_for.ensures.chains)
     c.in_ok-put_offer.ensures.put c.in_ok-of_type.ensures.found
-    (elim c.if-is_some.branch [
-      | then-is_some w ↦ w.of_kind-is ∙ (c.self.invariant.proxies_is ∙ ap kind_chain (sym (sym c.is_some.ensures ∙ w.if-is_some.true)))
-      | else-is_some w ↦ w.of_kind-is ∙ (c.self.invariant.ordinary_is ∙ ap kind_chain (sym (sym c.is_some.ensures ∙ w.if-is_some.false)))
-    ])
+    (c.chain_of_kind-of_kind.ensures ∙ ap kind_chain c.is_some.ensures)
     (keys-below (value_at c.self.inside.slab.slots) c.args.offer.number c.self.inside.numbers.entries c.self.invariant.homes.numbered (rw (← c.self.view_is) at c.requires.above)) c.put_offer.ensures.ordered
 
 pub returns-clause-added : goal.returns-clause-added
 returns-clause-added c =
-    put-shows c.chain_for.new.slab c.put_offer.new.slab c.self.inside.numbers.entries c.put_offer.new.numbers.entries c.chain_for.new.chains c.self.inside.ordinary c.self.inside.proxies c.in_ok-of_type.of_type c.if-is_some.of_kind c.args.offer (chained-holds c.self.inside.slab c.chain_for.new.slab c.self.inside.numbers.entries c.self.inside.chains c.chain_for.new.chains c.self.inside.ordinary c.self.inside.proxies c.self.invariant c.chain_for.ensures.slots c.chain_for.ensures.places c.chain_for.ensures.of_types c.chain_for.ensures.chains)
+    put-shows c.chain_for.new.slab c.put_offer.new.slab c.self.inside.numbers.entries c.put_offer.new.numbers.entries c.chain_for.new.chains c.self.inside.ordinary c.self.inside.proxies c.in_ok-of_type.of_type c.chain_of_kind-of_kind.result c.args.offer (chained-holds c.self.inside.slab c.chain_for.new.slab c.self.inside.numbers.entries c.self.inside.chains c.chain_for.new.chains c.self.inside.ordinary c.self.inside.proxies c.self.invariant c.chain_for.ensures.slots c.chain_for.ensures.places c.chain_for.ensures.of_types c.chain_for.ensures.chains)
     c.in_ok-put_offer.ensures.put c.in_ok-of_type.ensures.found
-    (elim c.if-is_some.branch [
-      | then-is_some w ↦ w.of_kind-is ∙ (c.self.invariant.proxies_is ∙ ap kind_chain (sym (sym c.is_some.ensures ∙ w.if-is_some.true)))
-      | else-is_some w ↦ w.of_kind-is ∙ (c.self.invariant.ordinary_is ∙ ap kind_chain (sym (sym c.is_some.ensures ∙ w.if-is_some.false)))
-    ])
+    (c.chain_of_kind-of_kind.ensures ∙ ap kind_chain c.is_some.ensures)
     (keys-below (value_at c.self.inside.slab.slots) c.args.offer.number c.self.inside.numbers.entries c.self.invariant.homes.numbered (rw (← c.self.view_is) at c.requires.above)) c.put_offer.ensures.ordered
     ∙ ap (λ (os : List OfferRecord). os ++ c.args.offer ∷ []) (chained-shows c.self.inside.slab c.chain_for.new.slab c.self.inside.numbers.entries c.self.inside.chains c.chain_for.new.chains c.self.inside.ordinary c.self.inside.proxies c.self.invariant c.chain_for.ensures.slots c.chain_for.ensures.places c.chain_for.ensures.of_types c.chain_for.ensures.chains ∙ c.self.view_is)
 
