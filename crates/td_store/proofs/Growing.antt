@@ -1,5 +1,6 @@
 -- The rings of no joints, and those after joints on no ring have been added.
-use Rattle.std.proofs.Common.{◌≡◌, ℕ, ◌+◌, ◌-◌, ◌*◌, ◌<◌, ◌≤◌, eqb, List, [], ◌∷◌, ◌++◌, length, get_or, suc, zero, refl, sym, ap, ◌∙◌, subst, arith}
+use Rattle.std.proofs.Common.{◌≡◌, ℕ, ◌+◌, ◌-◌, ◌*◌, ◌<◌, ◌≤◌, eqb, List, [], ◌∷◌, ◌++◌, length, get_or, suc, zero}
+use Rattle.std.proofs.Common.{refl, sym, ap, ◌∙◌, subst, arith}
 use Rattle.std.proofs.lemmas.List.{get_or_append_left, get_or-append_right, get_or_past}
 use Rattle.std.proofs.lemmas.Bool.{cases_lt, ne_eqb}
 use mathlib.Core.Path.{fun_ext}
@@ -23,18 +24,21 @@ three n q (suc (suc zero)) e = ap loop (omega arith)
 three n q (suc (suc (suc i))) e = refl
 
 -- three joints on no ring, past the end
-pub three-more : (js : List Joint) (n q : ℕ) → length js ≡ n → joint_at (js ++ loop n ∷ loop (n + 1) ∷ loop (n + 2) ∷ []) q ≡ joint_at js q
+pub three-more : (js : List Joint) (n q : ℕ) → length js ≡ n
+    → joint_at (js ++ loop n ∷ loop (n + 1) ∷ loop (n + 2) ∷ []) q ≡ joint_at js q
 three-more js n q e =
     either (cases_lt q (length js))
     (λ (h : q < length js). get_or_append_left js (loop n ∷ loop (n + 1) ∷ loop (n + 2) ∷ []) (loop q) q h)
     (λ (h : length js ≤ q).
     let past : joint_at js q ≡ loop q = get_or_past js q (loop q) h in
-    let right : joint_at (js ++ loop n ∷ loop (n + 1) ∷ loop (n + 2) ∷ []) q ≡ get_or (loop n ∷ loop (n + 1) ∷ loop (n + 2) ∷ []) (q - n) (loop q) =
+    let right : joint_at (js ++ loop n ∷ loop (n + 1) ∷ loop (n + 2) ∷ []) q
+    ≡ get_or (loop n ∷ loop (n + 1) ∷ loop (n + 2) ∷ []) (q - n) (loop q) =
     get_or-append_right js (loop n ∷ loop (n + 1) ∷ loop (n + 2) ∷ []) n q (loop q) e (omega arith) in
     right ∙ (three n q (q - n) (omega arith) ∙ sym past))
 
 -- so the joints make the same rings
-pub fits-same : (js ms : List Joint) (rings : ℕ → List ℕ) → ((q : ℕ) → joint_at ms q ≡ joint_at js q) → Fits js rings → Fits ms rings
+pub fits-same : (js ms : List Joint) (rings : ℕ → List ℕ) → ((q : ℕ) → joint_at ms q ≡ joint_at js q) → Fits js rings
+    → Fits ms rings
 fits-same js ms rings same f =
     let A : after ms ≡ after js = fun_ext (λ q. ap (λ z. z.after) (same q)) in
     record {

@@ -12,8 +12,8 @@ use Rattle.td_store.specs.Slabs.{Slab, value_at}
 use Rattle.td_store.specs.declared.record.OfferRecord.{OfferRecord}
 use Rattle.td_store.proofs.Homing.{ahead, made-cons}
 
-numbers-when : (k : ℕ) (x : Option OfferRecord) (os : List OfferRecord) (ks : List ℕ) → number_in x ≡ Some k → map (λ o. o.number) os ≡ ks
-    → map (λ o. o.number) (ahead x os) ≡ k ∷ ks
+numbers-when : (k : ℕ) (x : Option OfferRecord) (os : List OfferRecord) (ks : List ℕ) → number_in x ≡ Some k
+    → map (λ o. o.number) os ≡ ks → map (λ o. o.number) (ahead x os) ≡ k ∷ ks
 numbers-when k None os ks e h = absurd (let bad : ⊥ = cc in bad)
 numbers-when k (Some o) os ks e h =
     let same : o.number ≡ k = cc in
@@ -30,8 +30,8 @@ pub offers-rise : (value : ℕ → Option OfferRecord) (numbers : List (ℕ × �
     → IsStrictlySortedBy nat_cmp (keys_of numbers) → NumbersRise (offers_at value numbers)
 offers-rise value numbers h s = subst (IsStrictlySortedBy nat_cmp) (sym (numbers-are value numbers h)) s
 
-pub chained : (slab : Slab OfferRecord) (numbers : List (ℕ × ℕ)) (chains : BTreeMap ℕ ℕ) (ordinary proxies : ℕ) → HoldsOffers slab numbers chains ordinary proxies
-    → AreChained slab chains (offers_in slab numbers)
+pub chained : (slab : Slab OfferRecord) (numbers : List (ℕ × ℕ)) (chains : BTreeMap ℕ ℕ) (ordinary proxies : ℕ)
+    → HoldsOffers slab numbers chains ordinary proxies → AreChained slab chains (offers_in slab numbers)
 chained slab numbers chains ordinary proxies h = record {
   rise = offers-rise (value_at slab.slots) numbers h.homes.numbered h.homes.sorted;
   each = h.homes.of_types;

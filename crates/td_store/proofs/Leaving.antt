@@ -33,7 +33,8 @@ module _ (js ms : List Joint) (rings : ℕ → List ℕ) (x : ℕ) (f : Fits js 
       ap (before ms) jumps ∙ (r.before_at far ∙ sym e))
       (λ (m : q ≢ before js x).
       let far : after js q ≢ x = λ (d : after js q ≡ x). m (only_before q d) in
-      let other : after js q ≢ after js x = λ (d : after js q ≡ after js x). n (sym (f.forth q) ∙ (ap (before js) d ∙ f.forth x)) in
+      let other : after js q ≢ after js x =
+      λ (d : after js q ≡ after js x). n (sym (f.forth q) ∙ (ap (before js) d ∙ f.forth x)) in
       ap (before ms) (r.after_others q n m) ∙ (r.before_others (after js q) far other ∙ f.forth q)))
 
   left_back : (q : ℕ) → after ms (before ms q) ≡ q
@@ -47,7 +48,8 @@ module _ (js ms : List Joint) (rings : ℕ → List ℕ) (x : ℕ) (f : Fits js 
       ap (after ms) jumps ∙ (r.after_at far ∙ sym e))
       (λ (m : q ≢ after js x).
       let far : before js q ≢ x = λ (d : before js q ≡ x). m (only_after q d) in
-      let other : before js q ≢ before js x = λ (d : before js q ≡ before js x). n (sym (f.back q) ∙ (ap (after js) d ∙ f.back x)) in
+      let other : before js q ≢ before js x =
+      λ (d : before js q ≡ before js x). n (sym (f.back q) ∙ (ap (after js) d ∙ f.back x)) in
       ap (after ms) (r.before_others q n m) ∙ (r.after_others (before js q) far other ∙ f.back q)))
 
   left_owned : (k q : ℕ) → IsLink q → is_in q (without x (rings k)) ≡ eqb (ring ms q) (3 * k)
@@ -56,7 +58,8 @@ module _ (js ms : List Joint) (rings : ℕ → List ℕ) (x : ℕ) (f : Fits js 
       (λ (e : q ≡ x).
       let off : eqb x (3 * k) ≡ false = ne_eqb x (3 * k) (λ (d : x ≡ 3 * k). closes k (sym d)) in
       rw e (without-same x (rings k) ∙ (sym off ∙ ap (λ z. eqb z (3 * k)) (sym (ap (λ z. z.ring) r.own)))))
-      (λ (n : q ≢ x). without-is_in x q (rings k) n ∙ (f.owned k q l ∙ ap (λ z. eqb z (3 * k)) (sym (r.ring_others q n))))
+      (λ (n : q ≢ x). without-is_in x q (rings k) n
+      ∙ (f.owned k q l ∙ ap (λ z. eqb z (3 * k)) (sym (r.ring_others q n))))
 
   left_alone : (q : ℕ) → IsLink q → ((k : ℕ) → is_in q (without x (rings k)) ≡ false) → after ms q ≡ q
   left_alone q l h =
@@ -71,7 +74,9 @@ module _ (js ms : List Joint) (rings : ℕ → List ℕ) (x : ℕ) (f : Fits js 
   fits-left = record {
     forth = left_forth;
     back = left_back;
-    paths = λ k. skips-path (after js) (after ms) x (before js x) (after js x) (3 * k) (3 * k) (rings k) skips (closes k) (closes k) (f.paths k);
+    paths =
+        λ k. skips-path (after js) (after ms) x (before js x) (after js x) (3 * k) (3 * k) (rings k) skips (closes k)
+        (closes k) (f.paths k);
     owned = left_owned;
     alone = left_alone;
   }

@@ -1,5 +1,6 @@
 -- Links under their names, as the map keeps them.
-use Rattle.std.proofs.Common.{◌≡◌, ℕ, Bool, true, false, not, cond, inl, inr, List, [], ◌∷◌, ◌++◌, map, refl, sym, ap, ◌∙◌, Option, None, Some, Vec, Global}
+use Rattle.std.proofs.Common.{◌≡◌, ℕ, Bool, true, false, not, cond, inl, inr, List, [], ◌∷◌, ◌++◌, map, refl, sym, ap}
+use Rattle.std.proofs.Common.{◌∙◌, Option, None, Some, Vec, Global}
 use Rattle.std.specs.List.{filter, AllByRecursion, IsDistinct}
 use Rattle.std.specs.Map.{keys_of, values_of, lookup, set_value, remove_entry}
 use Rattle.std.specs.Option.{is_some}
@@ -30,45 +31,56 @@ chosen a b x y z p q = rw (p, q) refl
 
 -- ---- looking up
 
-pub found : (pairs : Pairs) (name : List ℕ) → HaveNames pairs → lookup (is_key name) pairs ≡ link_of (values_of pairs) name
+pub found : (pairs : Pairs) (name : List ℕ) → HaveNames pairs
+    → lookup (is_key name) pairs ≡ link_of (values_of pairs) name
 found [] name h = refl
 found (p ∷ pairs) name h =
-    chosen (is_key name p.0) (is_linked name p.1) (Some p.1) (lookup (is_key name) pairs) (link_of (values_of pairs) name)
+    chosen (is_key name p.0) (is_linked name p.1) (Some p.1) (lookup (is_key name) pairs)
+    (link_of (values_of pairs) name)
     (key_is name p.0 p.1 h.0) (found pairs name h.1)
 
 -- ---- adding
 
-pub is_new : (pairs : Pairs) (copied name : List ℕ) (key : Vec ℕ Global) → HaveNames pairs → copied ≡ name → key.items ≡ copied → link_of (values_of pairs) name ≡ None → lookup (λ k. bytes_eq key.items k.items) pairs ≡ None
+pub is_new : (pairs : Pairs) (copied name : List ℕ) (key : Vec ℕ Global) → HaveNames pairs → copied ≡ name
+    → key.items ≡ copied → link_of (values_of pairs) name ≡ None → lookup (λ k. bytes_eq key.items k.items) pairs ≡ None
 is_new pairs copied name key h p q fresh =
     ap (λ (n : List ℕ). lookup (is_key n) pairs) (q ∙ p) ∙ (found pairs name h ∙ fresh)
 
-pub names_push : (pairs : Pairs) (key : Vec ℕ Global) (e : LinkRecord) → HaveNames pairs → key.items ≡ e.name → HaveNames (pairs ++ (key, e) ∷ [])
+pub names_push : (pairs : Pairs) (key : Vec ℕ Global) (e : LinkRecord) → HaveNames pairs → key.items ≡ e.name
+    → HaveNames (pairs ++ (key, e) ∷ [])
 names_push [] key e h k = (k, tt)
 names_push (p ∷ pairs) key e h k = (h.0, names_push pairs key e h.1 k)
 
-pub values_push : (pairs : Pairs) (key : Vec ℕ Global) (e : LinkRecord) → values_of (pairs ++ (key, e) ∷ []) ≡ values_of pairs ++ e ∷ []
+pub values_push : (pairs : Pairs) (key : Vec ℕ Global) (e : LinkRecord)
+    → values_of (pairs ++ (key, e) ∷ []) ≡ values_of pairs ++ e ∷ []
 values_push pairs key e = map-append (λ (p : Vec ℕ Global × LinkRecord). p.1) pairs ((key, e) ∷ [])
 
 -- ---- removing
 
 -- no key after an equal one is this name
-apart : (name : List ℕ) (key : Vec ℕ Global) (pairs : Pairs) → HaveNames pairs → AllByRecursion (λ k. same_key key k ≡ false) (keys_of pairs) → name ≡ key.items → without_link name (values_of pairs) ≡ values_of pairs
+apart : (name : List ℕ) (key : Vec ℕ Global) (pairs : Pairs) → HaveNames pairs
+    → AllByRecursion (λ k. same_key key k ≡ false) (keys_of pairs) → name ≡ key.items
+    → without_link name (values_of pairs) ≡ values_of pairs
 apart name key [] h d same = refl
 apart name key (p ∷ pairs) h d same =
-    let other : is_linked name p.1 ≡ false = sym (key_is name p.0 p.1 h.0) ∙ (ap (λ (n : List ℕ). bytes_eq n p.0.items) same ∙ d.0) in
+    let other : is_linked name p.1 ≡ false =
+    sym (key_is name p.0 p.1 h.0) ∙ (ap (λ (n : List ℕ). bytes_eq n p.0.items) same ∙ d.0) in
     rw other (ap (λ (es : List LinkRecord). p.1 ∷ es) (apart name key pairs h.1 d.1 same))
 
-pub removed : (pairs : Pairs) (name : List ℕ) → HaveNames pairs → IsDistinct same_key (keys_of pairs) → values_of (remove_entry (is_key name) pairs) ≡ without_link name (values_of pairs)
+pub removed : (pairs : Pairs) (name : List ℕ) → HaveNames pairs → IsDistinct same_key (keys_of pairs)
+    → values_of (remove_entry (is_key name) pairs) ≡ without_link name (values_of pairs)
 removed [] name h d = refl
 removed (p ∷ pairs) name h d =
     let k = key_is name p.0 p.1 h.0 in
     elim (cases_Bool (is_key name p.0)) [
       | inl here ↦
           let named : is_linked name p.1 ≡ true = sym k ∙ here in
-          rw (here, named) (sym (apart name p.0 pairs h.1 (IsDistinct-head same_key p.0 (keys_of pairs) d) (bytes_same name p.0.items here)))
+          rw (here, named) (sym (apart name p.0 pairs h.1 (IsDistinct-head same_key p.0 (keys_of pairs) d)
+          (bytes_same name p.0.items here)))
       | inr other ↦
           let unnamed : is_linked name p.1 ≡ false = sym k ∙ other in
-          rw (other, unnamed) (ap (λ (es : List LinkRecord). p.1 ∷ es) (removed pairs name h.1 (IsDistinct-tail same_key p.0 (keys_of pairs) d)))
+          rw (other, unnamed) (ap (λ (es : List LinkRecord). p.1 ∷ es)
+          (removed pairs name h.1 (IsDistinct-tail same_key p.0 (keys_of pairs) d)))
     ]
 
 pub names_removed : (pairs : Pairs) (name : List ℕ) → HaveNames pairs → HaveNames (remove_entry (is_key name) pairs)

@@ -1,5 +1,6 @@
 -- Offers in the one order of their numbers.
-use Rattle.std.proofs.Common.{◌≡◌, ℕ, ◌+◌, ◌<◌, ◌≤◌, Bool, true, false, cond, eqb, ltb, List, [], ◌∷◌, length, get_or, map, suc, Option, Some, refl, sym, ap, ◌∙◌, arith, ◌⊎◌, ⊎_elim}
+use Rattle.std.proofs.Common.{◌≡◌, ℕ, ◌+◌, ◌<◌, ◌≤◌, Bool, true, false, cond, eqb, ltb, List, [], ◌∷◌, length, get_or}
+use Rattle.std.proofs.Common.{map, suc, Option, Some, refl, sym, ap, ◌∙◌, arith, ◌⊎◌, ⊎_elim}
 use Rattle.std.specs.List.{sum_by, AllByRecursion}
 use Rattle.std.specs.List.Sorted.{IsPermutation, IsNonDecreasingBy, IsStrictlySortedBy}
 use Rattle.std.specs.Ordering.{nat_cmp}
@@ -49,13 +50,13 @@ same-numbers low high [] (y ∷ ys) rx ry same = absurd (omega (arith, same (λ 
 same-numbers low high (x ∷ xs) [] rx ry same = absurd (omega (arith, same (λ z. 1), sum_by-cons (λ z. 1) x xs))
 same-numbers low high (x ∷ xs) (y ∷ ys) rx ry same =
     let equal : x ≡ y =
-        ⊎_elim (λ (e : x ≡ y). e)
-        (λ (u : (x < y) ⊎ (y < x)). ⊎_elim
-            (λ (l : x < y). absurd (first-same x y xs ys rx.1 ry.1 same l))
-            (λ (l : y < x). absurd (first-same y x ys xs ry.1 rx.1 (λ f. sym (same f)) l)) u) (cases_order x y) in
+    ⊎_elim (λ (e : x ≡ y). e)
+    (λ (u : (x < y) ⊎ (y < x)). ⊎_elim
+    (λ (l : x < y). absurd (first-same x y xs ys rx.1 ry.1 same l))
+    (λ (l : y < x). absurd (first-same y x ys xs ry.1 rx.1 (λ f. sym (same f)) l)) u) (cases_order x y) in
     ap (λ z. z ∷ xs) equal
     ∙ ap (λ (t : List ℕ). y ∷ t) (same-numbers x y xs ys rx.1 ry.1
-        (λ f. tails f x y (sum_by f xs) (sum_by f ys) equal (sym (sum_by-cons f x xs) ∙ (same f ∙ sum_by-cons f y ys))))
+    (λ f. tails f x y (sum_by f xs) (sum_by f ys) equal (sym (sum_by-cons f x xs) ∙ (same f ∙ sum_by-cons f y ys))))
 
 tail-sorted : {X : Type 0} (n : X → ℕ) (x : X) (xs : List X) → IsNonDecreasingBy n (x ∷ xs) → IsNonDecreasingBy n xs
 tail-sorted n x xs s i j d le l = s (suc i) (suc j) d (omega arith) (omega arith)
@@ -82,7 +83,7 @@ pub one-order : {X : Type 0} (n : X → ℕ) (known : ℕ → Option X) (xs ys :
     → map known (map n xs) ≡ map (λ x. Some x) xs → map known (map n ys) ≡ map (λ x. Some x) ys → xs ≡ ys
 one-order n known xs ys p rx ry kx ky =
     same-somes xs ys (sym kx ∙ (ap (map known) (same-numbers 0 0 (map n xs) (map n ys) rx ry
-        (λ f. sym (sum_by-IsPermutation f (map n xs) (map n ys) (IsPermutation-map n xs ys p)))) ∙ ky))
+    (λ f. sym (sum_by-IsPermutation f (map n xs) (map n ys) (IsPermutation-map n xs ys p)))) ∙ ky))
 
 -- ---- offers whose numbers rise
 
@@ -94,7 +95,8 @@ less-when false false e = absurd (let bad : ⊥ = cc in bad)
 pub below-from_less : (a b : ℕ) → nat_cmp a b ≡ Less → a < b
 below-from_less a b e = ltb-true a b (less-when (ltb a b) (eqb a b) e)
 
-ascends-below : (low : ℕ) (xs : List ℕ) → IsStrictlySortedBy nat_cmp xs → AllByRecursion (λ x. low ≤ x) xs → Ascends low xs
+ascends-below : (low : ℕ) (xs : List ℕ) → IsStrictlySortedBy nat_cmp xs → AllByRecursion (λ x. low ≤ x) xs
+    → Ascends low xs
 unfolding IsStrictlySortedBy
 ascends-below low [] s l = tt
 ascends-below low (x ∷ xs) s l = (l.0, ascends-below x xs s.1 (further xs s.0))
@@ -110,17 +112,22 @@ all-at-least-0 (x ∷ xs) = (omega arith, all-at-least-0 xs)
 pub offers-ascend : (os : List OfferRecord) → NumbersRise os → Ascends 0 (map (λ o. o.number) os)
 offers-ascend os r = ascends-below 0 (map (λ o. o.number) os) r (all-at-least-0 (map (λ o. o.number) os))
 
-behind : (o : OfferRecord) (whole os : List OfferRecord) → AllByRecursion (λ y. nat_cmp o.number y ≡ Less) (map (λ x. x.number) os)
-    → AllByRecursion (λ x. offer_of whole x.number ≡ Some x) os → AllByRecursion (λ x. offer_of (o ∷ whole) x.number ≡ Some x) os
+behind : (o : OfferRecord) (whole os : List OfferRecord)
+    → AllByRecursion (λ y. nat_cmp o.number y ≡ Less) (map (λ x. x.number) os)
+    → AllByRecursion (λ x. offer_of whole x.number ≡ Some x) os
+    → AllByRecursion (λ x. offer_of (o ∷ whole) x.number ≡ Some x) os
 behind o whole [] l h = tt
 behind o whole (x ∷ os) l h =
     let b = below-from_less o.number x.number l.0 in
-    let other : eqb o.number x.number ≡ false = ne_eqb o.number x.number (λ (e : o.number ≡ x.number). absurd (omega (arith, b, e))) in
+    let other : eqb o.number x.number ≡ false =
+    ne_eqb o.number x.number (λ (e : o.number ≡ x.number). absurd (omega (arith, b, e))) in
     (ap (λ t. cond t (Some o) (offer_of whole x.number)) other ∙ h.0, behind o whole os l.1 h.1)
 
 -- each offer is found by its number
 pub found-each : (os : List OfferRecord) → NumbersRise os → AllByRecursion (λ o. offer_of os o.number ≡ Some o) os
 unfolding IsStrictlySortedBy
 found-each [] r = tt
-found-each (o ∷ os) r =
-    (ap (λ t. cond t (Some o) (offer_of os o.number)) (eq-eqb o.number o.number refl), behind o os os r.0 (found-each os r.1))
+found-each (o ∷ os) r = (
+  ap (λ t. cond t (Some o) (offer_of os o.number)) (eq-eqb o.number o.number refl),
+  behind o os os r.0 (found-each os r.1),
+)

@@ -1,5 +1,6 @@
 -- An offer that is put on the slab and noted under its number, or taken back.
-use Rattle.std.proofs.Common.{◌≡◌, ℕ, ◌+◌, ◌<◌, Bool, true, false, not, cond, ◌||◌, eqb, ltb, List, [], ◌∷◌, ◌++◌, length, map, Option, Some, None, refl, sym, ap, ◌∙◌, subst, arith}
+use Rattle.std.proofs.Common.{◌≡◌, ℕ, ◌+◌, ◌<◌, Bool, true, false, not, cond, ◌||◌, eqb, ltb, List, [], ◌∷◌, ◌++◌}
+use Rattle.std.proofs.Common.{length, map, Option, Some, None, refl, sym, ap, ◌∙◌, subst, arith}
 use Rattle.std.specs.BTreeMap.{insert_entry}
 use Rattle.std.specs.List.{filter, AllByRecursion}
 use Rattle.std.specs.Option.{MatchOption}
@@ -20,7 +21,8 @@ use Rattle.td_store.proofs.Offering.{chain-map}
 compared : (n k : ℕ) → k < n → nat_cmp n k ≡ Greater
 compared n k l = rw (le-ltb n k (omega (arith, l)), ne_eqb n k (λ (e : n ≡ k). absurd (omega (arith, e, l)))) refl
 
-pub insert-last : {X : Type 0} (n : ℕ) (v : X) (es : List (ℕ × X)) → AllByRecursion (λ e. e.0 < n) es → insert_entry nat_cmp es n v ≡ es ++ (n, v) ∷ []
+pub insert-last : {X : Type 0} (n : ℕ) (v : X) (es : List (ℕ × X)) → AllByRecursion (λ e. e.0 < n) es
+    → insert_entry nat_cmp es n v ≡ es ++ (n, v) ∷ []
 insert-last n v [] h = refl
 insert-last n v (e ∷ es) h = rw (compared n e.0 h.0) (ap (λ xs. e ∷ xs) (insert-last n v es h.1))
 
@@ -30,14 +32,16 @@ matched {X = X} r x A B e m = subst (λ (o : Option X). MatchOption o A B) e m
 gone-last : (p : ℕ) (ps : List ℕ) → is_in p ps ≡ false → without p (ps ++ p ∷ []) ≡ ps
 gone-last p ps off =
     filter-append (λ (y : ℕ). not (eqb y p)) ps (p ∷ [])
-    ∙ (ap (λ (xs : List ℕ). xs ++ without p (p ∷ [])) (without-absent p ps off) ∙ (ap (λ (b : Bool). ps ++ cond (not b) (p ∷ []) []) (eq-eqb p p refl) ∙ append-nil ps))
+    ∙ (ap (λ (xs : List ℕ). xs ++ without p (p ∷ [])) (without-absent p ps off)
+    ∙ (ap (λ (b : Bool). ps ++ cond (not b) (p ∷ []) []) (eq-eqb p p refl) ∙ append-nil ps))
 
 back-when : (b : Bool) (p : ℕ) (ps : List ℕ) → is_in p ps ≡ false → without p (cond b (ps ++ p ∷ []) ps) ≡ ps
 back-when true p ps off = gone-last p ps off
 back-when false p ps off = without-absent p ps off
 
 -- put and taken back
-pub put-back : (old mid new : Slab OfferRecord) (a b : ℕ) (o : OfferRecord) (p : ℕ) → Puts old mid a b o p → Takes mid new p → IsAsBefore old new
+pub put-back : (old mid new : Slab OfferRecord) (a b : ℕ) (o : OfferRecord) (p : ℕ) → Puts old mid a b o p
+    → Takes mid new p → IsAsBefore old new
 put-back old mid new a b o p put taken = record {
   values = λ q. either (cases_eq q p)
       (λ (e : q ≡ p). rw e (taken.value ∙ sym put.unused))

@@ -11,7 +11,8 @@ use Rattle.td_store.proofs.Sets.{at-same, at-other, at-past}
 -- ---- one field of one joint is written
 
 -- a part of a joint that the write keeps
-kept : {Y : Type 0} (part : Joint → Y) (js : List Joint) (i q : ℕ) (u v : Joint) → i < length js → u ≡ joint_at js i → part v ≡ part u → part (joint_at (set js i v) q) ≡ part (joint_at js q)
+kept : {Y : Type 0} (part : Joint → Y) (js : List Joint) (i q : ℕ) (u v : Joint) → i < length js → u ≡ joint_at js i
+    → part v ≡ part u → part (joint_at (set js i v) q) ≡ part (joint_at js q)
 kept part js i q u v l e p =
     either (cases_eq q i)
     (λ (s : q ≡ i). rw s (ap part (at-same js i v l) ∙ (p ∙ ap part e)))
@@ -32,22 +33,35 @@ abbrev pub rewired : List Joint → ℕ → ℕ → ℕ → ℕ → ℕ → Join
 rewired js a v c w x j s t = set (set (set js a (record s { after = v })) c (record t { before = w })) x j
 
 pub is-rewired : (js : List Joint) (a v c w x : ℕ) (j s t : Joint) → a < length js → c < length js → x < length js
-    → s ≡ joint_at js a → t ≡ joint_at (set js a (record s { after = v })) c → Rewired js (rewired js a v c w x j s t) a v c w x j
+    → s ≡ joint_at js a → t ≡ joint_at (set js a (record s { after = v })) c
+    → Rewired js (rewired js a v c w x j s t) a v c w x j
 is-rewired js a v c w x j s t la lc lx es et =
     let one : List Joint = set js a (record s { after = v }) in
     let two : List Joint = set one c (record t { before = w }) in
     let len_one : length one ≡ length js = length-set js a (record s { after = v }) in
     let len_two : length two ≡ length one = length-set one c (record t { before = w }) in
     let lc_one : c < length one = omega arith in
-    let after_two : (q : ℕ) → after two q ≡ after one q = λ q. kept (λ z. z.after) one c q t (record t { before = w }) lc_one et refl in
-    let before_one : (q : ℕ) → before one q ≡ before js q = λ q. kept (λ z. z.before) js a q s (record s { after = v }) la es refl in
-    let ring_two : (q : ℕ) → ring two q ≡ ring js q = λ q. kept (λ z. z.ring) one c q t (record t { before = w }) lc_one et refl ∙ kept (λ z. z.ring) js a q s (record s { after = v }) la es refl in
+    let after_two : (q : ℕ) → after two q ≡ after one q =
+    λ q. kept (λ z. z.after) one c q t (record t { before = w }) lc_one et refl in
+    let before_one : (q : ℕ) → before one q ≡ before js q =
+    λ q. kept (λ z. z.before) js a q s (record s { after = v }) la es refl in
+    let ring_two : (q : ℕ) → ring two q ≡ ring js q =
+    λ q. kept (λ z. z.ring) one c q t (record t { before = w }) lc_one et refl
+    ∙ kept (λ z. z.ring) js a q s (record s { after = v }) la es refl in
     record {
       own = at-same two x j (omega arith);
-      after_at = λ n. ap (λ z. z.after) (at-other two x a j n) ∙ (after_two a ∙ ap (λ z. z.after) (at-same js a (record s { after = v }) la));
-      after_others = λ q n m. ap (λ z. z.after) (at-other two x q j n) ∙ (after_two q ∙ ap (λ z. z.after) (at-other js a q (record s { after = v }) m));
-      before_at = λ n. ap (λ z. z.before) (at-other two x c j n) ∙ ap (λ z. z.before) (at-same one c (record t { before = w }) lc_one);
-      before_others = λ q n m. ap (λ z. z.before) (at-other two x q j n) ∙ (ap (λ z. z.before) (at-other one c q (record t { before = w }) m) ∙ before_one q);
+      after_at =
+          λ n. ap (λ z. z.after) (at-other two x a j n)
+          ∙ (after_two a ∙ ap (λ z. z.after) (at-same js a (record s { after = v }) la));
+      after_others =
+          λ q n m. ap (λ z. z.after) (at-other two x q j n)
+          ∙ (after_two q ∙ ap (λ z. z.after) (at-other js a q (record s { after = v }) m));
+      before_at =
+          λ n. ap (λ z. z.before) (at-other two x c j n)
+          ∙ ap (λ z. z.before) (at-same one c (record t { before = w }) lc_one);
+      before_others =
+          λ q n m. ap (λ z. z.before) (at-other two x q j n)
+          ∙ (ap (λ z. z.before) (at-other one c q (record t { before = w }) m) ∙ before_one q);
       ring_others = λ q n. ap (λ z. z.ring) (at-other two x q j n) ∙ ring_two q;
     }
 

@@ -1,6 +1,7 @@
 -- Which offers a query searches (OMG's Trading Object Service, "Lookup Interface", query, and "Policies" on
 -- exact_type_match, use_proxy_offers, use_dynamic_properties, use_modifiable_properties and search_card).
-use Rattle.std.specs.Prelude.{ℕ, Bool, true, false, not, ◌&&◌, ◌||◌, ◌==◌, if◌then◌else◌, List, filter, length, take, ◌+◌, Option, Some, None, is_none, unwrap_or}
+use Rattle.std.specs.Prelude.{ℕ, Bool, true, false, not, ◌&&◌, ◌||◌, ◌==◌, if◌then◌else◌, List, filter, length, take}
+use Rattle.std.specs.Prelude.{◌+◌, Option, Some, None, is_none, unwrap_or}
 use Rattle.std.specs.List.{list_any, list_all}
 use Rattle.std.specs.Str.{bytes_eq}
 use Rattle.td_codes.specs.Same.{shape}
@@ -73,7 +74,8 @@ is_fixed types type_name p = is_readonly (mode_of types type_name p.name)
 -- offers with a modifiable property are left out where these are supported and not used
 abbrev pub passes_modifiable : List ServiceType → Attributes → Stated → OfferRecord → Bool
 passes_modifiable types a s o =
-    (uses s.use_modifiable || not a.supports_modifiable_properties) || list_all (is_fixed types o.service_type) o.properties
+    (uses s.use_modifiable || not a.supports_modifiable_properties)
+    || list_all (is_fixed types o.service_type) o.properties
 
 -- ---- all together
 
@@ -82,7 +84,8 @@ is_candidate types a s asked o =
     ((has_asked_type types s asked o && passes_proxy a s o) && passes_dynamic a s o) && passes_modifiable types a s o
 
 -- the first so many of them, in the order of the offers
-abbrev pub candidates : List ServiceType → Attributes → Stated → (asked : List ℕ) → (count : ℕ) → List OfferRecord → List OfferRecord
+abbrev pub candidates : List ServiceType → Attributes → Stated → (asked : List ℕ) → (count : ℕ) → List OfferRecord
+    → List OfferRecord
 candidates types a s asked count offers = take count (filter (is_candidate types a s asked) offers)
 
 -- ---- how much is read

@@ -1,6 +1,7 @@
 -- Where offers stand: an offer's number leads to its place, and its place is on the chain of its type's incarnation
 -- and on that of its kind.
-use Rattle.std.specs.Prelude.{◌≡◌, ℕ, ◌<◌, ◌≤◌, Bool, true, false, List, [], ◌∷◌, filter, filter_map, length, Option, Some, None}
+use Rattle.std.specs.Prelude.{◌≡◌, ℕ, ◌<◌, ◌≤◌, Bool, true, false, List, [], ◌∷◌, filter, filter_map, length, Option}
+use Rattle.std.specs.Prelude.{Some, None}
 use Rattle.std.specs.List.{AllByRecursion}
 use Rattle.std.specs.List.Sorted.{IsStrictlySortedBy}
 use Rattle.std.specs.Map.{keys_of, lookup}
@@ -38,12 +39,14 @@ IsHome value e = number_in (value e.1) ≡ Some e.0
 
 -- Each number leads to the place of the offer of that number, and each offer's number to its place. The chains have
 -- the offers of their incarnation or kind, by rising number.
-pub record Homes (value : ℕ → Option OfferRecord) (chain : ℕ → List ℕ) (numbers : List (ℕ × ℕ)) (chains : ℕ → Option ℕ) : Type 0 where
+pub record Homes (value : ℕ → Option OfferRecord) (chain : ℕ → List ℕ) (numbers : List (ℕ × ℕ))
+    (chains : ℕ → Option ℕ) : Type 0 where
   pub numbered : AllByRecursion (IsHome value) numbers
   pub sorted : IsStrictlySortedBy nat_cmp (keys_of numbers)
   pub homed : (p : ℕ) (o : OfferRecord) → value p ≡ Some o → lookup (is_at (nat_cmp o.number)) numbers ≡ Some p
   pub of_types : (i : ℕ) → offers_on value (places_of chain (chains i)) ≡ filter (is_of i) (offers_at value numbers)
-  pub of_kinds : (proxies : Bool) → offers_on value (chain (kind_chain proxies)) ≡ filter (is_of_kind proxies) (offers_at value numbers)
+  pub of_kinds : (proxies : Bool)
+      → offers_on value (chain (kind_chain proxies)) ≡ filter (is_of_kind proxies) (offers_at value numbers)
 
 -- the chains of the kinds are there, and each incarnation's is another one
 pub record AreChains (chains : ℕ → Option ℕ) (count : ℕ) : Type 0 where
@@ -54,7 +57,8 @@ pub record AreChains (chains : ℕ → Option ℕ) (count : ℕ) : Type 0 where
 abbrev pub offers_in : Slab OfferRecord → List (ℕ × ℕ) → List OfferRecord
 offers_in slab numbers = offers_at (value_at slab.slots) numbers
 
-pub record HoldsOffers (slab : Slab OfferRecord) (numbers : List (ℕ × ℕ)) (chains : BTreeMap ℕ ℕ) (ordinary proxies : ℕ) : Type 0 where
+pub record HoldsOffers (slab : Slab OfferRecord) (numbers : List (ℕ × ℕ)) (chains : BTreeMap ℕ ℕ)
+    (ordinary proxies : ℕ) : Type 0 where
   pub homes : Homes (value_at slab.slots) (chain_of slab.chains) numbers (get nat_cmp chains)
   pub chains_are : AreChains (get nat_cmp chains) (length slab.chains)
   pub held_are : held slab.slots ≡ length numbers

@@ -1,5 +1,7 @@
--- How a slab is kept: place p has the links 3p + 1 and 3p + 2, chain c is ring c + 1, and the free places' first links are ring 0.
-use Rattle.std.specs.Prelude.{◌≡◌, ℕ, ◌+◌, ◌*◌, ◌/◌, ◌%◌, ◌==◌, cond, Some, None, ◌^◌, ◌<◌, ◌≤◌, Bool, true, false, not, ◌&&◌, nat_lt, List, [], length, Option, is_some, map}
+-- How a slab is kept: place p has the links 3p + 1 and 3p + 2, chain c is ring c + 1, and the free places' first links
+-- are ring 0.
+use Rattle.std.specs.Prelude.{◌≡◌, ℕ, ◌+◌, ◌*◌, ◌/◌, ◌%◌, ◌==◌, cond, Some, None, ◌^◌, ◌<◌, ◌≤◌, Bool, true, false, not}
+use Rattle.std.specs.Prelude.{◌&&◌, nat_lt, List, [], length, Option, is_some, map}
 use Rattle.std.specs.List.{range_with_len}
 use Rattle.td_store.specs.Slabs.{Slab, is_in, value_at, held}
 

@@ -1,5 +1,6 @@
 -- Rings of joints. Joint 3k closes ring k; every other joint is a link.
-use Rattle.std.specs.Prelude.{◌≡◌, ℕ, ◌+◌, ◌*◌, ◌%◌, ◌<◌, ◌⊎◌, false, ◌==◌, List, [], ◌∷◌, ◌++◌, cond, slice_index_or, refl}
+use Rattle.std.specs.Prelude.{◌≡◌, ℕ, ◌+◌, ◌*◌, ◌%◌, ◌<◌, ◌⊎◌, false, ◌==◌, List, [], ◌∷◌, ◌++◌, cond, slice_index_or}
+use Rattle.std.specs.Prelude.{refl}
 use Rattle.std.specs.Coded.{×_prop, le_prop, Coded-set, coded_ℕ, coded_bool}
 use Rattle.std.proofs.Common.{sym, ◌∙◌, ap, arith}
 use mathlib.Core.HLevel.{Σ_prop_path}
@@ -91,7 +92,9 @@ Fits-prop : (js : List Joint) (rings : ℕ → List ℕ) → IsProp (Fits js rin
 Fits-prop js rings = hlevel (ℕ-set, Coded-set coded_bool, le_prop, Path-prop)
 
 pub Linked-prop : (js : List Joint) → IsProp (Linked js)
-Linked-prop js l m = Σ_prop_path (Fits-prop js) (fun_ext (λ k. same_path (after js) (3 * k) k (l.0 k) (m.0 k) (l.1.paths k) (m.1.paths k)))
+Linked-prop js l m =
+    Σ_prop_path (Fits-prop js)
+    (fun_ext (λ k. same_path (after js) (3 * k) k (l.0 k) (m.0 k) (l.1.paths k) (m.1.paths k)))
 
 -- and so they are any family that fits
 pub rings_are : (js : List Joint) (l : Linked js) (rings : ℕ → List ℕ) → Fits js rings → (k : ℕ) → l.0 k ≡ rings k

@@ -1,8 +1,10 @@
 -- What a contract sees of a slab.
-use Rattle.std.specs.Prelude.{◌≡◌, ℕ, ◌+◌, ◌-◌, ◌<◌, Bool, false, not, ◌||◌, ◌==◌, cond, List, [], ◌∷◌, ◌++◌, length, count_by, Option, Some, None, is_some, slice_index_or, slice_set, filter, map, refl}
+use Rattle.std.specs.Prelude.{◌≡◌, ℕ, ◌+◌, ◌-◌, ◌<◌, Bool, false, not, ◌||◌, ◌==◌, cond, List, [], ◌∷◌, ◌++◌, length}
+use Rattle.std.specs.Prelude.{count_by, Option, Some, None, is_some, slice_index_or, slice_set, filter, map, refl}
 use Rattle.std.specs.Coded.{Coded, code_by, coded×, coded_ℕ, coded_list, coded_option}
 
--- the value or nothing at each place from 0 on, the places on each chain in the order of putting, and how many free places are kept
+-- the value or nothing at each place from 0 on, the places on each chain in the order of putting, and how many free
+-- places are kept
 pub record Slab (T : Type 0) : Type 0 where
   pub slots : List (Option T)
   pub chains : List (List ℕ)
@@ -63,7 +65,8 @@ module _ {T : Type 0} where
     pub held : held new.slots ≡ held old.slots + 1
     pub count : length new.chains ≡ length old.chains
     pub absent : (c : ℕ) → is_in place (chain_of old.chains c) ≡ false
-    pub chains : (c : ℕ) → chain_of new.chains c ≡ cond ((c == first) || (c == second)) (chain_of old.chains c ++ place ∷ []) (chain_of old.chains c)
+    pub chains : (c : ℕ) → chain_of new.chains c
+        ≡ cond ((c == first) || (c == second)) (chain_of old.chains c ++ place ∷ []) (chain_of old.chains c)
 
   -- the place has no value any more, and no chain has the place
   pub record Takes (old new : Slab T) (place : ℕ) : Type 0 where

@@ -7,12 +7,11 @@ use Rattle.std.specs.Str.{bytes_eq}
 use Rattle.td_cdr.specs.Sound.{text, sequence}
 use Rattle.td_cdr.specs.declared.order.Order.TheVariants.{Big}
 use Rattle.td_codes.specs.References.{reference}
-use Rattle.td_value.specs.Structures.{policy, offer, offer_info, link_info, type_struct}
+use Rattle.td_value.specs.Structures.{policy, offer, offer_info, link_info}
 use Rattle.td_value.specs.declared.structures.LinkInfo.{LinkInfo}
 use Rattle.td_value.specs.declared.structures.OfferInfo.{OfferInfo}
-use Rattle.td_types.specs.Descriptions.{description}
-use Rattle.td_types.specs.Repository.{Repository, IsRepository}
-use Rattle.td_types.specs.declared.entry.ServiceType.{ServiceType}
+use Rattle.td_types.specs.Repository.{IsRepository}
+use Rattle.td_types.specs.Writable.{IsWritable}
 use Rattle.td_policy.specs.declared.attributes.Attributes.{Attributes}
 use Rattle.td_store.specs.LinkLists.{most_links}
 use Rattle.td_store.specs.OfferLists.{NumbersRise, most_offers}
@@ -48,18 +47,6 @@ pub record AdmitsLink (l : LinkRecord) : Type 0 where
   pub name : text.format.admits l.name
   pub info : link_info.format.admits (link_info_of l)
 
-pub record AdmitsType (t : ServiceType) : Type 0 where
-  pub name : text.format.admits t.name
-  pub described : type_struct.format.admits (description t)
-
--- an interface and its declared bases
-abbrev pub AdmitsInterface : List ℕ × List (List ℕ) → Type 0
-AdmitsInterface i = text.format.admits i.0 × AllByRecursion (λ (id : List ℕ). text.format.admits id) i.1
-
-pub record AdmitsTypes (r : Repository) : Type 0 where
-  pub types : AllByRecursion AdmitsType r.types
-  pub interfaces : AllByRecursion AdmitsInterface r.interfaces
-
 -- the references among the attributes; the others can always be written
 pub record AdmitsAttributes (a : Attributes) : Type 0 where
   pub lookup_if : reference.format.admits a.lookup_if
@@ -92,7 +79,7 @@ pub record IsOffer (o : OfferRecord) : Type 0 where
 -- from 1 up to the last one given, its links of distinct names.
 pub record IsStore (s : Store) : Type 0 where
   pub types : IsRepository s.types
-  pub types_admitted : AdmitsTypes s.types
+  pub types_writable : IsWritable s.types
   pub offers : AllByRecursion IsOffer s.offers
   pub offers_rise : NumbersRise s.offers
   pub offers_counted : AllByRecursion (λ o. (0 < o.number) × (o.number ≤ s.last_offer)) s.offers

@@ -2,7 +2,8 @@
 
 ghost use Rattle.std.specs.Prelude.{◌≡◌};
 ghost use Rattle.std.specs.List.{list_any, list_all};
-ghost use Rattle.td_store.specs.Candidates.{belongs, has_asked_type, is_asked, is_candidate, is_dynamic, is_exact, is_fixed, mode_of, passes_dynamic, passes_modifiable, passes_proxy, uses};
+ghost use Rattle.td_store.specs.Candidates.{belongs, has_asked_type, is_asked, is_candidate, is_dynamic, is_exact};
+ghost use Rattle.td_store.specs.Candidates.{is_fixed, mode_of, passes_dynamic, passes_modifiable, passes_proxy, uses};
 ghost use Rattle.td_types.specs.Modes.{is_readonly};
 
 use crate::record::OfferRecord;
@@ -115,7 +116,11 @@ fn passes_modifiable(
 {
     uses(stated.use_modifiable)
         || !attributes.supports_modifiable_properties
-        || are_fixed(types, offer.service_type.as_slice(), offer.properties.as_slice())
+        || are_fixed(
+            types,
+            offer.service_type.as_slice(),
+            offer.properties.as_slice(),
+        )
 }
 
 /// Whether all of these are readonly.

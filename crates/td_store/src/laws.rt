@@ -19,14 +19,17 @@ ghost use Rattle.td_store.specs.declared.store.Store.{Store};
 /// The type of an offer that a query searches is there with the incarnation that it had when the
 /// offer came, and conforms to the asked type.
 pub fn candidates_conform()
-    ensures { (types : List ServiceType) (a : Attributes) (s : Stated) (asked : List ℕ) (count : ℕ) (offers : List OfferRecord) →
+    ensures { (types : List ServiceType) (a : Attributes) (s : Stated) (asked : List ℕ) (count : ℕ)
+        (offers : List OfferRecord)
+        →
         AllByRecursion (HasConformingType types asked) (candidates types a s asked count offers) }
 {}
 
 /// Where no policy is stated and no offer is a proxy offer or has a dynamic property, a query searches
 /// each offer whose type conforms.
 pub fn plain_offers_are_searched()
-    ensures { (types : List ServiceType) (a : Attributes) (asked : List ℕ) (offers : List OfferRecord) → AllByRecursion IsPlain offers →
+    ensures { (types : List ServiceType) (a : Attributes) (asked : List ℕ) (offers : List OfferRecord)
+        → AllByRecursion IsPlain offers →
         candidates types a nothing asked (length offers) offers ≡ filter (has_conforming_type types asked) offers }
 {}
 
@@ -35,7 +38,8 @@ pub fn numbers_rise()
     ensures none { NumbersRise [] }
     ensures insert { (offers : List OfferRecord) (o : OfferRecord) → NumbersRise offers →
         AllByRecursion (λ x. x.number < o.number) offers → NumbersRise (offers ++ o ∷ []) }
-    ensures remove { (offers : List OfferRecord) (number : ℕ) → NumbersRise offers → NumbersRise (without_offer number offers) }
+    ensures remove { (offers : List OfferRecord) (number : ℕ) → NumbersRise offers
+        → NumbersRise (without_offer number offers) }
     ensures modify { (offers : List OfferRecord) (number : ℕ) (properties : List Property) → NumbersRise offers →
         NumbersRise (with_properties number properties offers) }
 {}
@@ -50,13 +54,17 @@ pub fn removing_leaves_the_others()
 /// A store stays within its limits, and can be written: with one more offer of a new number, with one
 /// removed, with other properties of one, with one more link of a new name, and with one removed.
 pub fn stores_stay_valid()
-    ensures insert { (s : Store) (o : OfferRecord) → IsStore s → IsOffer o → s.last_offer < o.number → length s.offers < most_offers →
+    ensures insert { (s : Store) (o : OfferRecord) → IsStore s → IsOffer o → s.last_offer < o.number
+        → length s.offers < most_offers →
         IsStore (record s { offers = s.offers ++ o ∷ []; last_offer = o.number }) }
-    ensures remove { (s : Store) (number : ℕ) → IsStore s → IsStore (record s { offers = without_offer number s.offers }) }
+    ensures remove { (s : Store) (number : ℕ) → IsStore s
+        → IsStore (record s { offers = without_offer number s.offers }) }
     ensures modify { (s : Store) (number : ℕ) (properties : List Property) → IsStore s →
         ((o : OfferRecord) → offer_of s.offers number ≡ Some o → IsOffer (record o { properties = properties })) →
         IsStore (record s { offers = with_properties number properties s.offers }) }
-    ensures add_link { (s : Store) (l : LinkRecord) → IsStore s → AdmitsLink l → link_of s.links l.name ≡ None → length s.links < most_links →
+    ensures add_link { (s : Store) (l : LinkRecord) → IsStore s → AdmitsLink l → link_of s.links l.name ≡ None
+        → length s.links < most_links →
         IsStore (record s { links = s.links ++ l ∷ [] }) }
-    ensures remove_link { (s : Store) (name : List ℕ) → IsStore s → IsStore (record s { links = without_link name s.links }) }
+    ensures remove_link { (s : Store) (name : List ℕ) → IsStore s
+        → IsStore (record s { links = without_link name s.links }) }
 {}

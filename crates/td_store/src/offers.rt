@@ -1,10 +1,12 @@
 //! The offers of a trader.
 
-ghost use Rattle.std.specs.Prelude.{◌≡◌, ◌<◌, ◌≤◌, ◌+◌, [], ◌∷◌, ◌++◌, length, map, filter, is_some, IfOk, OnOk, OnErr, option_copied};
+ghost use Rattle.std.specs.Prelude.{◌≡◌, ◌<◌, ◌≤◌, ◌+◌, [], ◌∷◌, ◌++◌, length, map, filter, is_some, IfOk, OnOk, OnErr};
+ghost use Rattle.std.specs.Prelude.{option_copied};
 ghost use Rattle.std.specs.List.{AllByRecursion};
 ghost use Rattle.td_store.specs.Candidates.{candidates, most_steps};
 ghost use Rattle.td_store.specs.Homes.{kind_chain};
-ghost use Rattle.td_store.specs.OfferLists.{most_offers, IsLimited, offer_of, without_offer, with_properties, is_of_kind};
+ghost use Rattle.td_store.specs.OfferLists.{most_offers, IsLimited, offer_of, without_offer, with_properties};
+ghost use Rattle.td_store.specs.OfferLists.{is_of_kind};
 
 use crate::condition::is_exact;
 use crate::fault::StoreFault;

@@ -1,6 +1,7 @@
 //! Rings of joints, linked by index in both directions.
 
-ghost use Rattle.std.specs.Prelude.{◌≡◌, ◌<◌, ◌+◌, ◌*◌, ℕ, false, Ok, length, ◌^◌, OnOk, OnErr, [], ◌∷◌, ◌++◌, if◌then◌else◌, ◌==◌};
+ghost use Rattle.std.specs.Prelude.{◌≡◌, ◌<◌, ◌+◌, ◌*◌, ℕ, false, Ok, length, ◌^◌, OnOk, OnErr, [], ◌∷◌, ◌++◌};
+ghost use Rattle.std.specs.Prelude.{if◌then◌else◌, ◌==◌};
 ghost use Rattle.td_store.specs.Rings.{Linked, Linked-prop, IsLink, with_last, loop, after};
 ghost use Rattle.td_store.specs.Slabs.{is_in, without};
 

@@ -1,6 +1,8 @@
 //! A slab whose values stand on chains.
 
-ghost use Rattle.std.specs.Prelude.{◌≡◌, ◌≢◌, ◌+◌, ◌-◌, ◌*◌, ◌^◌, ◌<◌, ◌≤◌, ◌&&◌, ◌⊎◌, [], ◌∷◌, ◌++◌, ℕ, length, map, None, Some, IfOk, IfErr, OnOk, OnErr, OnSome, MatchOption, MatchResult, is_some, IsSome, ⊤, true, false, option_copied, option_map, slice_set};
+ghost use Rattle.std.specs.Prelude.{◌≡◌, ◌≢◌, ◌+◌, ◌-◌, ◌*◌, ◌^◌, ◌<◌, ◌≤◌, ◌&&◌, ◌⊎◌, [], ◌∷◌, ◌++◌, ℕ, length, map};
+ghost use Rattle.std.specs.Prelude.{None, Some, IfOk, IfErr, OnOk, OnErr, OnSome, MatchOption, MatchResult, is_some};
+ghost use Rattle.std.specs.Prelude.{IsSome, ⊤, true, false, option_copied, option_map, slice_set};
 ghost use Rattle.std.specs.Option.{option_copied_mut};
 ghost use Rattle.std.specs.Borrow.{sem};
 ghost use Rattle.td_store.specs.Slabs.{chain_of, value_at, held, is_in, first_of, IsNext, Puts, Takes};
@@ -37,7 +39,8 @@ impl<T> Model for Slab<T> {
 
     ghost view = { λ s. slab_of (map value_of s.values.items) s.rings.linked.0 s.count };
 
-    ghost invariant = { λ s. IsSlab (map value_of s.values.items) s.rings.linked.0 (length s.rings.joints.items) s.count };
+    ghost invariant = { λ s. IsSlab (map value_of s.values.items) s.rings.linked.0 (length s.rings.joints.items)
+        s.count };
 }
 
 impl<T> Slab<T> {

@@ -9,5 +9,7 @@ unreachable-requires g c =
 
 pub loop-next-preserved : goal.loop-next-preserved
 loop-next-preserved g c =
-    turns (λ r. r.now) _ _ c.in-Some.place _ _ c.args.into.now.items c.loop-next.into.items c.push.new.self.items _ _ _ c.in-Some-read.value
-    c.in-Some.is c.loop-next.invariant c.in-Some-read.ensures.value c.in-Some-read.ensures.next c.read.ensures.step c.in_ok-push-in-Some-read.ensures.items
+    turns (λ r. r.now) _ _ c.in-Some.place _ _ c.args.into.now.items c.loop-next.into.items c.push.new.self.items _ _ _
+    c.in-Some-read.value
+    c.in-Some.is c.loop-next.invariant c.in-Some-read.ensures.value c.in-Some-read.ensures.next c.read.ensures.step
+    c.in_ok-push-in-Some-read.ensures.items

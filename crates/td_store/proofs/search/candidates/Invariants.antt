@@ -11,5 +11,6 @@ invariant-loop-offer l =
     let test = is_candidate l.types.types l.attributes l.stated l.asked in
     record {
       few : length l.found ≤ l.count;
-      so_far : l.found ++ take (l.count - length l.found) (filter test (now (drop l.offer-index l.offers))) ≡ take l.count (filter test (now l.offers));
+      so_far : l.found ++ take (l.count - length l.found) (filter test (now (drop l.offer-index l.offers)))
+          ≡ take l.count (filter test (now l.offers));
     }

@@ -17,7 +17,8 @@ returns-then-is_on-clause-next c front back e =
     let l = c.args.rings.now.linked in
     let first = sym c.is_on.ensures.value ∙ c.if-is_on.true in
     c.place_at.ensures ∙ (ap next_place c.after.ensures.value
-    ∙ next-of _ _ c.args.ring c.args.place (3 * c.args.place + 1) (3 * c.args.place + 2) (l.0 c.args.ring) front back (l.1.paths c.args.ring) (sides_first c.args.place) (c.requires.apart first) e)
+    ∙ next-of _ _ c.args.ring c.args.place (3 * c.args.place + 1) (3 * c.args.place + 2) (l.0 c.args.ring) front back
+    (l.1.paths c.args.ring) (sides_first c.args.place) (c.requires.apart first) e)
 
 pub returns-then-is_on-2-clause-found : goal.returns-then-is_on-2-clause-found
 returns-then-is_on-2-clause-found c =
@@ -31,8 +32,10 @@ returns-then-is_on-2-clause-next c front back e =
     let l = c.args.rings.now.linked in
     let same : 3 * c.args.place + 1 + 1 ≡ 3 * c.args.place + 2 = omega arith in
     let first = sym c.is_on.ensures.value ∙ c.if-is_on.false in
-    c.place_at-then-is_on-2.ensures ∙ (ap next_place (c.after-then-is_on-2.ensures.value ∙ ap (λ z. after c.args.rings.now.joints.items z) same)
-    ∙ next-of _ _ c.args.ring c.args.place (3 * c.args.place + 2) (3 * c.args.place + 1) (l.0 c.args.ring) front back (l.1.paths c.args.ring) (sides_second c.args.place) first e)
+    c.place_at-then-is_on-2.ensures
+    ∙ (ap next_place (c.after-then-is_on-2.ensures.value ∙ ap (λ z. after c.args.rings.now.joints.items z) same)
+    ∙ next-of _ _ c.args.ring c.args.place (3 * c.args.place + 2) (3 * c.args.place + 1) (l.0 c.args.ring) front back
+    (l.1.paths c.args.ring) (sides_second c.args.place) first e)
 
 pub returns-clause-found : goal.returns-clause-found
 returns-clause-found c =

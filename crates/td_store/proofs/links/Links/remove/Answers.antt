@@ -5,12 +5,16 @@ use Rattle.td_store.proofs.links.Links.remove.Goals as goal
 
 pub invariant_of-self : goal.invariant_of-self
 invariant_of-self c = record {
-  names = rw c.shift_remove.ensures.entries (names_removed c.self.inside.named.entries c.as_slice.result.now c.self.invariant.names);
+  names =
+      rw c.shift_remove.ensures.entries
+      (names_removed c.self.inside.named.entries c.as_slice.result.now c.self.invariant.names);
   unique = c.shift_remove.ensures.unique;
 }
 
 pub returns-clause-value : goal.returns-clause-value
-returns-clause-value c = rw (← c.self.view_is, ← c.as_slice.ensures) (c.shift_remove.ensures.value ∙ found c.self.inside.named.entries c.as_slice.result.now c.self.invariant.names)
+returns-clause-value c =
+    rw (← c.self.view_is, ← c.as_slice.ensures)
+    (c.shift_remove.ensures.value ∙ found c.self.inside.named.entries c.as_slice.result.now c.self.invariant.names)
 
 pub returns-clause-others : goal.returns-clause-others
 returns-clause-others c =

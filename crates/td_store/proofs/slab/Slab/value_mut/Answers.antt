@@ -20,5 +20,9 @@ returns g c =
     let had = has-of _ _ _ c.args.place _ c.self.view_is c.requires in
     let at = slot-is items c.args.place _ (slot-within items c.args.place had) c.index_mut.ensures.value in (
       (refl, λ w. lent-view items _ _ c.args.place w _ c.self.view_is),
-      record { writes_back = tt; value = ap (λ (z : Slab g.row.T.Denot). value_at z.slots c.args.place) (sym c.self.view_is) ∙ (at ∙ c.value_mut.ensures.value) },
+      record {
+        writes_back = tt;
+        value = ap (λ (z : Slab g.row.T.Denot). value_at z.slots c.args.place) (sym c.self.view_is)
+            ∙ (at ∙ c.value_mut.ensures.value);
+      },
     )

@@ -1,0 +1,7 @@
+use Rattle.std.proofs.Common.{◌<◌, ◌+◌}
+use Rattle.std.specs.List.{AllByRecursion}
+use Rattle.td_store_tests.proofs.support.offers_of.Given as goal
+
+-- the next number is above all
+abbrev pub invariant-loop-i : goal.invariant-loop-i
+invariant-loop-i l = AllByRecursion (λ o. o.number < l.i + 1) l.offers
