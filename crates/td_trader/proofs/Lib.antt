@@ -1,0 +1,4 @@
+pub mod Extending
+pub mod IdNumbers
+pub mod Refusing
+pub mod Shapes

@@ -1,0 +1,15 @@
+pub mod Administration
+pub mod Applying
+pub mod Causes
+pub mod Examples
+pub mod Histories
+pub mod Ids
+pub mod Judged
+pub mod Laws
+pub mod Links
+pub mod Named
+pub mod Properties
+pub mod Proxies
+pub mod Registers
+pub mod Repositories
+pub mod Stores
