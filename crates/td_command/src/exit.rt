@@ -8,9 +8,9 @@ ghost use Rattle.td_command.specs.Reports.{Tells, line_of};
 ghost use Rattle.td_command.specs.Runs.{Runs, shelves};
 ghost use Rattle.td_command.specs.Status.{status_of};
 
+use crate::command::run;
 use crate::ended::Ended;
 use crate::report::report;
-use crate::command::run;
 use std::alloc::Global;
 use std::env;
 use std::io::{self, ErrorKind, Read, Write};

@@ -311,7 +311,7 @@ module _ (old : Slab OfferRecord) (numbers : List (ℕ × ℕ)) (chains : BTreeM
       subst (λ (s : Slab OfferRecord). HoldsOffers s numbers chains ordinary proxies) (sym (e ∙ is-now)) (record {
         homes =
             homes-changed (value_at old.slots) (value_at now.slots) (chain_of old.chains) numbers (get nat_cmp chains) n
-                p
+            p
             ps at-home.0 h.homes at-home.1 at-home.2 here others;
         chains_are = h.chains_are;
         held_are = still-held ∙ h.held_are;

@@ -23,7 +23,7 @@ loop-offer-preserved c =
             few = omega (arith, room, more);
             so_far =
                 turn-chosen (λ (r : Bor OfferRecord). r.now) test c.args.offers.now c.loop-offer.offer-index
-                    c.args.count
+                c.args.count
                 c.offer-item.result c.loop-offer.found c.if-is_candidate.found c.offer-item.is c.loop-offer-test.true
                 room c.loop-offer.invariant.so_far (sym c.is_candidate.ensures ∙ w.if-is_candidate.true) grown;
           }
@@ -34,7 +34,7 @@ loop-offer-preserved c =
             few = omega (arith, room, kept);
             so_far =
                 turn-passed (λ (r : Bor OfferRecord). r.now) test c.args.offers.now c.loop-offer.offer-index
-                    c.args.count
+                c.args.count
                 c.offer-item.result c.loop-offer.found c.if-is_candidate.found c.offer-item.is c.loop-offer-test.true
                 room c.loop-offer.invariant.so_far (sym c.is_candidate.ensures ∙ w.if-is_candidate.false) same;
           }

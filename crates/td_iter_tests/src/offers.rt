@@ -1,0 +1,73 @@
+//! The worked example: seven offers.
+
+use crate::making::{is_body, nil, no_limits, offers, started};
+use std::alloc::Global;
+use std::process::Abort;
+use std::test::Fail;
+use td_cdr::Order;
+use td_iter::OfferIter;
+
+/// Whether `next_n` gives these bytes, and tells whether some are left.
+fn gives(
+    alloc: Global,
+    left: &mut OfferIter,
+    n: u32,
+    digits: &str,
+    more: bool,
+) -> Result<bool, Fail> {
+    let mut w = started(alloc, Order::Little)?;
+    let told = left.next_n(alloc, n, &mut w)?;
+    Ok(told == more && is_body(alloc, &w, digits)?)
+}
+
+/// Whether the first batch for n has these bytes, and some are left.
+fn gives_first(alloc: Global, left: &mut OfferIter, n: u32, digits: &str) -> Result<bool, Fail> {
+    let mut w = started(alloc, Order::Big)?;
+    let more = left.first_batch(alloc, n, &mut w, &nil(alloc), &no_limits(alloc))?;
+    Ok(more && is_body(alloc, &w, digits)?)
+}
+
+/// The first batch of 1 and 2.
+const FIRST: &str =
+    "00000002000000023100000000000000000000000000000232000000000000000000000000000001000000000000000000000000";
+
+/// TRUE, and 3, 4, 5.
+const NEXT: &str =
+    "0100000003000000020000003300000000000000000000000200000034000000000000000000000002000000350000000000000000000000";
+
+/// FALSE, and 6, 7.
+const LAST: &str =
+    "00000000020000000200000036000000000000000000000002000000370000000000000000000000";
+
+/// FALSE, and none.
+const ENDED: &str = "0000000000000000";
+
+/// A first batch of none.
+const EMPTY: &str = "0000000000000001000000000000000000000000";
+
+/// TRUE, and none.
+const NONE: &str = "0100000000000000";
+
+#[test]
+fn seven_offers(rt: HostRuntime) -> Result<(), Fail> {
+    let alloc = rt.alloc();
+    let mut left = offers(alloc, b"1234567")?;
+    assert!(rt; gives_first(alloc, &mut left, 2, FIRST)?);
+    assert_eq!(rt; left.max_left(), 5);
+    assert!(rt; gives(alloc, &mut left, 3, NEXT, true)?);
+    assert!(rt; gives(alloc, &mut left, 9, LAST, false)?);
+    assert!(rt; gives(alloc, &mut left, 1, ENDED, false)?);
+    Ok(())
+}
+
+/// With no offer a query gives, all are left, and `next_n` for none leaves them.
+#[test]
+fn empty_batches(rt: HostRuntime) -> Result<(), Fail> {
+    let alloc = rt.alloc();
+    let mut left = offers(alloc, b"12")?;
+    assert!(rt; gives_first(alloc, &mut left, 0, EMPTY)?);
+    assert_eq!(rt; left.max_left(), 2);
+    assert!(rt; gives(alloc, &mut left, 0, NONE, true)?);
+    assert_eq!(rt; left.max_left(), 2);
+    Ok(())
+}
