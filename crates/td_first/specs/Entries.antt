@@ -1,5 +1,6 @@
 -- The lines of a file that aren't skipped, and what may follow what stands above.
-use Rattle.std.specs.Prelude.{codes, ◌≡◌, ℕ, nat_eq, nat_lt, is_some, Bool, false, not, ◌&&◌, List, [], ◌∷◌, ◌++◌, length, if◌then◌else◌, Option, Some, None, Result, Ok, Err}
+use Rattle.std.specs.Prelude.{codes, ◌≡◌, ℕ, nat_eq, nat_lt, is_some, Bool, false, not, ◌&&◌, List, [], ◌∷◌, ◌++◌}
+use Rattle.std.specs.Prelude.{length, if◌then◌else◌, Option, Some, None, Result, Ok, Err}
 use Rattle.std.specs.Str.{bytes_eq}
 use Rattle.td_cdr.specs.Names.{trader_name}
 use Rattle.td_types.specs.Calls.{Comes, add_type}
@@ -43,7 +44,9 @@ with_added draft (Err refusal) = None
 -- `type NAME IFID` comes after it and before any offer; the type is added as by a call, which may refuse it
 abbrev pub with_type : Draft → List ℕ → List ℕ → Option Draft
 with_type draft name interface =
-    if is_some draft.trader && nat_eq (length draft.offers) 0 then with_added draft (add_type draft.types name (interface_of interface) [] []) else None
+    if is_some draft.trader && nat_eq (length draft.offers) 0
+    then with_added draft (add_type draft.types name (interface_of interface) [] [])
+    else None
 
 -- the type of this name has this interface
 abbrev pub of_interface : List ℕ → Option ServiceType → Bool
@@ -58,7 +61,8 @@ abbrev pub with_offer : Draft → List ℕ → List ℕ → Option Draft
 with_offer draft name reference = do
   incarnation ← incarnation_of draft.types.types name
   offer ← offer_of name incarnation reference
-  when (nat_lt (length draft.offers) 100 && has_interface draft.types.types name offer.id) (record draft { offers = draft.offers ++ offer ∷ [] })
+  when (nat_lt (length draft.offers) 100 && has_interface draft.types.types name offer.id)
+      (record draft { offers = draft.offers ++ offer ∷ [] })
 
 -- a line of these words
 abbrev pub with_words : Draft → List (List ℕ) → Option Draft

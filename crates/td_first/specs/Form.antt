@@ -1,5 +1,6 @@
 -- The form of a file, as a relation of its lines and the store that they mean.
-use Rattle.std.specs.Prelude.{◌≡◌, ℕ, ◌+◌, ◌<◌, ◌≤◌, nat_eq, true, false, not, List, [], ◌∷◌, ◌++◌, codes, length, take, ◌⊎◌, Some, Ok, Err}
+use Rattle.std.specs.Prelude.{◌≡◌, ℕ, ◌+◌, ◌<◌, ◌≤◌, nat_eq, true, false, not, List, [], ◌∷◌, ◌++◌, codes, length, take}
+use Rattle.std.specs.Prelude.{◌⊎◌, Some, Ok, Err}
 use Rattle.std.specs.List.{filter, list_all, list_any}
 use Rattle.std.specs.Str.Lines.{lines}
 use Rattle.td_cdr.specs.Names.{trader_name}
@@ -95,13 +96,15 @@ Means all store = (list_all is_plain all ≡ true) × IsFile (kept all) store
 abbrev pub Begins : List (List ℕ) → Type 0
 Begins all = (more : List (List ℕ)) × (store : FirstStore) × Means (all ++ more) store
 
--- line n is the first that doesn't fit: those before it begin a file, and with it they don't; or all lines begin one, are
--- none, and n is one more than they are
+-- line n is the first that doesn't fit: those before it begin a file, and with it they don't; or all lines begin one,
+-- are none, and n is one more than they are
 abbrev pub IsFirstMisfit : List (List ℕ) → ℕ → Type 0
 IsFirstMisfit all n = (before : ℕ) × (n ≡ before + 1) × Begins (take before all)
-    × (((before < length all) × (Begins (take n all) → ⊥)) ⊎ ((before ≡ length all) × ((store : FirstStore) → Means all store → ⊥)))
+    × (((before < length all) × (Begins (take n all) → ⊥))
+    ⊎ ((before ≡ length all) × ((store : FirstStore) → Means all store → ⊥)))
 
--- a file is accepted exactly in the form, for the store that it means, and else refused at the first line that doesn't fit
+-- a file is accepted exactly in the form, for the store that it means, and else refused at the first line that doesn't
+-- fit
 pub record IsRead : Type 0 where
   pub accepted : (text : List ℕ) (store : FirstStore) → file_of text ≡ Ok store → Means (lines text) store
   pub accepts : (text : List ℕ) (store : FirstStore) → Means (lines text) store → file_of text ≡ Ok store

@@ -1,5 +1,6 @@
 -- A port is spelled in decimal without leading zeros.
-use Rattle.std.specs.Prelude.{ℕ, ◌+◌, ◌-◌, ◌*◌, nat_eq, nat_le, nat_lt, Bool, not, ◌&&◌, length, slice_index, List, [], ◌∷◌, if◌then◌else◌, Option, Some, None}
+use Rattle.std.specs.Prelude.{ℕ, ◌+◌, ◌-◌, ◌*◌, nat_eq, nat_le, nat_lt, Bool, not, ◌&&◌, length, slice_index, List, []}
+use Rattle.std.specs.Prelude.{◌∷◌, if◌then◌else◌, Option, Some, None}
 use Rattle.std.specs.List.{list_all}
 
 abbrev pub is_digit : ℕ → Bool

@@ -1,5 +1,6 @@
 -- A reference in the text form `ref:ID,HOST,PORT,KEY`, cut at its last three commas.
-use Rattle.std.specs.Prelude.{codes, ◌≡◌, ℕ, nat_eq, List, [], ◌∷◌, take, drop, if◌then◌else◌, Option, Some, None, Result, Ok, Err}
+use Rattle.std.specs.Prelude.{codes, ◌≡◌, ℕ, nat_eq, List, [], ◌∷◌, take, drop, if◌then◌else◌, Option, Some, None}
+use Rattle.std.specs.Prelude.{Result, Ok, Err}
 use Rattle.std.specs.Str.{bytes_eq}
 use Rattle.td_session.specs.declared.store.FirstOffer.{FirstOffer}
 use Rattle.td_first.specs.declared.fault.Misfit.{Misfit}
@@ -41,7 +42,14 @@ parts_of word = do
 
 -- the offer of a service type, as it is in this incarnation, whose object has this reference
 abbrev pub offer_with : List ℕ → ℕ → Parts → FirstOffer
-offer_with service_type incarnation parts = record { service_type = service_type; incarnation = incarnation; id = parts.id; host = parts.host; port = parts.port; key = parts.key }
+offer_with service_type incarnation parts = record {
+  service_type = service_type;
+  incarnation = incarnation;
+  id = parts.id;
+  host = parts.host;
+  port = parts.port;
+  key = parts.key;
+}
 
 abbrev pub offer_of : List ℕ → ℕ → List ℕ → Option FirstOffer
 offer_of service_type incarnation word = parts_of word >>= λ parts. Some (offer_with service_type incarnation parts)

@@ -23,8 +23,8 @@ abbrev pub or_line : {A B : Type 0} → ℕ → Option A → (A → Result B ℕ
 or_line n (Some x) f = f x
 or_line n None f = Err n
 
--- the lines that are left, of which the first has number n, after those that gave this draft: the store, or the number of
--- the first line that doesn't fit, which is one past the last where there are too few
+-- the lines that are left, of which the first has number n, after those that gave this draft: the store, or the number
+-- of the first line that doesn't fit, which is one past the last where there are too few
 abbrev pub rest_of_file : ℕ → Draft → List (List ℕ) → Result FirstStore ℕ
 rest_of_file n draft [] = or_line n (store_of draft) Ok
 rest_of_file n draft (line ∷ rest) = or_line n (with_line draft line) (λ more. rest_of_file (n + 1) more rest)

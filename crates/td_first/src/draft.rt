@@ -2,7 +2,8 @@
 
 ghost use Rattle.std.specs.Prelude.{◌≡◌, [], ◌∷◌, IfOk};
 ghost use Rattle.td_types.specs.Calls.{add_type};
-ghost use Rattle.td_first.specs.Entries.{with_address, with_trader, with_type, with_added, with_offer, with_words, with_line, interface_of, has_interface, taken, Takes};
+ghost use Rattle.td_first.specs.Entries.{with_address, with_trader, with_type, with_added, with_offer, with_words};
+ghost use Rattle.td_first.specs.Entries.{with_line, interface_of, has_interface, taken, Takes};
 ghost use Rattle.td_first.specs.Whole.{nothing_yet, store_of, or_line, Answers};
 
 use crate::fault::{FirstFault, Misfit};

@@ -42,7 +42,8 @@ struct Parts<'a> {
 
 #[tactic(auto, unfolding(crate::specs::Reference::parts_of))]
 fn parts_of(word: &[u8]) -> Option<Parts<'_>>
-    ensures { MatchOption result (parts_of word.now ≡ None) (λ p. parts_of word.now ≡ Some (record { id = p.id.now; host = p.host.now; port = p.port; key = p.key.now })) }
+    ensures { MatchOption result (parts_of word.now ≡ None)
+        (λ p. parts_of word.now ≡ Some (record { id = p.id.now; host = p.host.now; port = p.port; key = p.key.now })) }
 {
     let (rest, key) = cut_last(unmarked(word)?)?;
     let (rest, port) = cut_last(rest)?;

@@ -1,5 +1,6 @@
 -- What stands behind the items of a first batch.
-use Rattle.std.proofs.Common.{◌≡◌, ℕ, ◌+◌, ◌*◌, ◌%◌, ◌≤◌, Bool, true, false, if◌then◌else◌, List, [], ◌∷◌, ◌++◌, length, map, take, drop, refl, sym, ap, subst, ◌∙◌, arith, length-append, append_assoc}
+use Rattle.std.proofs.Common.{◌≡◌, ℕ, ◌+◌, ◌*◌, ◌%◌, ◌≤◌, Bool, true, false, if◌then◌else◌, List, [], ◌∷◌, ◌++◌, length}
+use Rattle.std.proofs.Common.{map, take, drop, refl, sym, ap, subst, ◌∙◌, arith, length-append, append_assoc}
 use Rattle.std.specs.List.{AllByRecursion}
 use Rattle.td_cdr.specs.declared.order.Order.{Order}
 use Rattle.td_cdr.specs.declared.order.Order.TheVariants.{Big}
@@ -14,9 +15,11 @@ use Rattle.td_iter.specs.declared.limits.TheConstants.{LARGEST_MESSAGE}
 use Rattle.td_iter.specs.declared.filling.Tail.{Tail}
 use Rattle.td_iter.specs.Batches.{PutsBatch, batch}
 use Rattle.td_iter.specs.Filling.{behind, reach, end_of, Fills, counted, first_piece}
-use Rattle.td_iter.specs.Heads.{nil, given_or_nil, IsLimit, AreLimits, IsSmallReference, hop_count, link_follow_rule, match_card, return_card, search_card}
+use Rattle.td_iter.specs.Heads.{nil, given_or_nil, IsLimit, AreLimits, IsSmallReference, hop_count, link_follow_rule}
+use Rattle.td_iter.specs.Heads.{match_card, return_card, search_card}
 use Rattle.td_iter.proofs.Greatest.{greatest_of_same}
-use Rattle.td_iter.proofs.Lengths.{Aligned, then-aligned, text-aligned, counted-aligned, reference-aligned, octets-length}
+use Rattle.td_iter.proofs.Lengths.{Aligned, then-aligned, text-aligned, counted-aligned, reference-aligned}
+use Rattle.td_iter.proofs.Lengths.{octets-length}
 use Rattle.td_iter.proofs.Counting.{counted-length}
 
 module _ {X : Type 0} (write : X → Piece) (last : Bool → Piece) (aligned : (b : Bool)

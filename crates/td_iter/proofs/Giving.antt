@@ -1,5 +1,6 @@
 -- What an iterator gives, and that a batch isn't empty.
-use Rattle.std.proofs.Common.{◌≡◌, ℕ, zero, suc, ◌+◌, ◌≤◌, ◌<◌, Bool, true, false, List, [], ◌∷◌, length, drop, nat_lt, sym, ap, subst, ◌∙◌, arith, length-append}
+use Rattle.std.proofs.Common.{◌≡◌, ℕ, zero, suc, ◌+◌, ◌≤◌, ◌<◌, Bool, true, false, List, [], ◌∷◌, length, drop, nat_lt}
+use Rattle.std.proofs.Common.{sym, ap, subst, ◌∙◌, arith, length-append}
 use Rattle.std.proofs.Math.Seq.{drop-nil}
 use Rattle.std.specs.Int.{from_bool}
 use Rattle.std.specs.List.{AllByRecursion}
@@ -17,7 +18,8 @@ use Rattle.td_value.specs.Structures.{offer}
 use Rattle.td_iter.specs.declared.limits.TheConstants.{REPLY_START}
 use Rattle.td_iter.specs.Batches.{PutsBatch, GivesBatch, FitsMessage}
 use Rattle.td_iter.specs.Filling.{counted, next_piece, first_piece}
-use Rattle.td_iter.specs.Heads.{given_or_nil, offers_found, ids_found, next_offers, next_ids, AreSmallOffers, AreSmallIds, AreLimits, IsSmallReference}
+use Rattle.td_iter.specs.Heads.{given_or_nil, offers_found, ids_found, next_offers, next_ids, AreSmallOffers}
+use Rattle.td_iter.specs.Heads.{AreSmallIds, AreLimits, IsSmallReference}
 use Rattle.td_iter.proofs.Loading.{some-left}
 use Rattle.td_iter.proofs.Lengths.{number-length}
 use Rattle.td_iter.proofs.Counting.{counted-length}

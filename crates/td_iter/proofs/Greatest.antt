@@ -1,5 +1,6 @@
 -- The greatest number of which something holds: there is one, and one only.
-use Rattle.std.proofs.Common.{◌≡◌, ℕ, zero, suc, ◌≤◌, Bool, true, false, List, [], ◌∷◌, ◌++◌, take, drop, nat_le, min, refl, ap, ◌∙◌, arith, append_assoc}
+use Rattle.std.proofs.Common.{◌≡◌, ℕ, zero, suc, ◌≤◌, Bool, true, false, List, [], ◌∷◌, ◌++◌, take, drop, nat_le, min}
+use Rattle.std.proofs.Common.{refl, ap, ◌∙◌, arith, append_assoc}
 use Rattle.td_iter.specs.Batches.{IsGreatest, Batches, ended, given, concatenated}
 
 pub greatest_is_one : {Holds : ℕ → Type 0} {n all j k : ℕ} → IsGreatest Holds n all j → IsGreatest Holds n all k → j ≡ k

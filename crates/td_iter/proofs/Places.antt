@@ -1,12 +1,15 @@
 -- The place of an entry on a desk.
-use Rattle.std.proofs.Common.{◌≡◌, ℕ, zero, suc, ◌+◌, ◌≤◌, ◌<◌, Bool, true, false, if◌then◌else◌, ◌||◌, List, [], ◌∷◌, length, set, drop, find, get_or, nat_lt, Option, Some, None, option_map, cond, refl, sym, ap, ◌∙◌, arith}
+use Rattle.std.proofs.Common.{◌≡◌, ℕ, zero, suc, ◌+◌, ◌≤◌, ◌<◌, Bool, true, false, if◌then◌else◌, ◌||◌, List, [], ◌∷◌}
+use Rattle.std.proofs.Common.{length, set, drop, find, get_or, nat_lt, Option, Some, None, option_map, cond, refl, sym}
+use Rattle.std.proofs.Common.{ap, ◌∙◌, arith}
 use Rattle.std.specs.List.{list_any}
 use Rattle.std.proofs.lemmas.Bool.{both_ways}
 use Rattle.std.proofs.lemmas.List.{drop_more, drop_all}
 use Rattle.td_cdr.specs.Format.{upwards}
 use Rattle.td_iter.specs.declared.desk.Entry.{Entry}
 use Rattle.td_iter.specs.declared.item.Item.{Item}
-use Rattle.td_iter.specs.Desks.{Live, Event, Add, Remove, Change, numbers_given, added, removed, with_item, is_called, place_of, placed, item_at, with_item_at}
+use Rattle.td_iter.specs.Desks.{Live, Event, Add, Remove, Change, numbers_given, added, removed, with_item, is_called}
+use Rattle.td_iter.specs.Desks.{place_of, placed, item_at, with_item_at}
 
 module _ (trader : List ℕ) (number : ℕ) where
   place-by : (b : Bool) (n len : ℕ) → n ≤ len → (if b then 0 else suc n) ≤ suc len

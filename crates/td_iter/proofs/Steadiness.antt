@@ -4,8 +4,11 @@ use Rattle.td_cdr.specs.declared.value_fault.ValueFault.{ValueFault}
 use Rattle.td_cdr.specs.Gap.{flag}
 use Rattle.td_cdr.specs.Format.{Piece, none_or, ◌then◌, row}
 use Rattle.td_cdr.specs.Sound.{Sound, text}
-use Rattle.td_codes.specs.declared.code.TypeCode.{TypeCode, out-TypeCode, ind-TypeCode, map-TypeCode, roll-TypeCode, out-roll-TypeCode}
-use Rattle.td_codes.specs.WritingCodes.{written, written_arm, written_member, written_parts, written-code_layer, written_arm-is, written_member-is, code_layer, kind_piece, header_piece, head_piece, enclosed}
+use Rattle.td_codes.specs.declared.code.TypeCode.{TypeCode, out-TypeCode, ind-TypeCode, map-TypeCode, roll-TypeCode}
+use Rattle.td_codes.specs.declared.code.TypeCode.{out-roll-TypeCode}
+use Rattle.td_codes.specs.WritingCodes.{written, written_arm, written_member, written_parts, written-code_layer}
+use Rattle.td_codes.specs.WritingCodes.{written_arm-is, written_member-is, code_layer, kind_piece, header_piece}
+use Rattle.td_codes.specs.WritingCodes.{head_piece, enclosed}
 use Rattle.td_codes.specs.declared.kinds.CodeKind.{CodeKind}
 use Rattle.td_codes.specs.declared.kinds.CodeKind.TheVariants as kind
 use Rattle.td_codes.specs.Kinds.{number_of}
@@ -26,9 +29,12 @@ use Rattle.td_codes.specs.declared.label.Label.TheVariants.{One, Two, Four, Eigh
 use Rattle.td_codes.specs.Formats.{number_piece}
 use Rattle.td_codes.specs.Labels.{Layer, Held, label_of, label_piece, plain_piece}
 use Rattle.td_codes.specs.References.{reference}
-use Rattle.td_codes.specs.Values.{index_of, branch_of, each, branch_piece, union_piece, items_piece, sequence_piece, layer, text_in, any_in, code_in, reference_in, struct_in, items_in, values, anys, any_value}
+use Rattle.td_codes.specs.Values.{index_of, branch_of, each, branch_piece, union_piece, items_piece, sequence_piece}
+use Rattle.td_codes.specs.Values.{layer, text_in, any_in, code_in, reference_in, struct_in, items_in, values, anys}
+use Rattle.td_codes.specs.Values.{any_value}
 use Rattle.td_iter.specs.Filling.{counted}
-use Rattle.td_iter.proofs.Lengths.{Steady, one-steady, two-steady, four-steady, eight-steady, octets-length, none-steady, then-steady, rows-steady, counted-steady, text-steady, reference-steady}
+use Rattle.td_iter.proofs.Lengths.{Steady, one-steady, two-steady, four-steady, eight-steady, octets-length}
+use Rattle.td_iter.proofs.Lengths.{none-steady, then-steady, rows-steady, counted-steady, text-steady, reference-steady}
 
 pub label-steady : (l : Label) → Steady (label_piece l)
 label-steady (One n) = one-steady n

@@ -1,6 +1,7 @@
 //! Items that are written while they fit.
 
-ghost use Rattle.std.specs.Prelude.{◌≡◌, ◌+◌, ◌≤◌, ◌<◌, ◌^◌, ◌&&◌, length, map, take, nat_lt, nat_le, if◌then◌else◌, IfOk, OnErr};
+ghost use Rattle.std.specs.Prelude.{◌≡◌, ◌+◌, ◌≤◌, ◌<◌, ◌^◌, ◌&&◌, length, map, take, nat_lt, nat_le, if◌then◌else◌};
+ghost use Rattle.std.specs.Prelude.{IfOk, OnErr};
 ghost use Rattle.td_cdr.specs.Format.{row};
 ghost use Rattle.td_iter.specs.Filling.{Fills, behind, counted, reach};
 

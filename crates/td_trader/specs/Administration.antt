@@ -9,13 +9,18 @@ use Rattle.td_value.specs.declared.enumerations.FollowOption.{FollowOption}
 use Rattle.td_ops.specs.declared.attribute.Attribute.{Attribute}
 use Rattle.td_ops.specs.declared.attribute.Attribute.TheVariants as attribute
 use Rattle.td_ops.specs.declared.attribute.FollowAttribute.{FollowAttribute}
-use Rattle.td_ops.specs.declared.attribute.FollowAttribute.TheVariants.{DefFollowPolicy, MaxFollowPolicy, MaxLinkFollowPolicy}
+use Rattle.td_ops.specs.declared.attribute.FollowAttribute.TheVariants.{DefFollowPolicy, MaxFollowPolicy}
+use Rattle.td_ops.specs.declared.attribute.FollowAttribute.TheVariants.{MaxLinkFollowPolicy}
 use Rattle.td_ops.specs.declared.attribute.NumberAttribute.{NumberAttribute}
-use Rattle.td_ops.specs.declared.attribute.NumberAttribute.TheVariants.{DefSearchCard, MaxSearchCard, DefMatchCard, MaxMatchCard, DefReturnCard, MaxReturnCard, MaxList, DefHopCount, MaxHopCount}
+use Rattle.td_ops.specs.declared.attribute.NumberAttribute.TheVariants.{DefSearchCard, MaxSearchCard, DefMatchCard}
+use Rattle.td_ops.specs.declared.attribute.NumberAttribute.TheVariants.{MaxMatchCard, DefReturnCard, MaxReturnCard}
+use Rattle.td_ops.specs.declared.attribute.NumberAttribute.TheVariants.{MaxList, DefHopCount, MaxHopCount}
 use Rattle.td_ops.specs.declared.attribute.ReferenceAttribute.{ReferenceAttribute}
-use Rattle.td_ops.specs.declared.attribute.ReferenceAttribute.TheVariants.{LookupIf, RegisterIf, LinkIf, ProxyIf, AdminIf, TypeRepos}
+use Rattle.td_ops.specs.declared.attribute.ReferenceAttribute.TheVariants.{LookupIf, RegisterIf, LinkIf, ProxyIf}
+use Rattle.td_ops.specs.declared.attribute.ReferenceAttribute.TheVariants.{AdminIf, TypeRepos}
 use Rattle.td_ops.specs.declared.attribute.TruthAttribute.{TruthAttribute}
-use Rattle.td_ops.specs.declared.attribute.TruthAttribute.TheVariants.{SupportsModifiableProperties, SupportsDynamicProperties, SupportsProxyOffers}
+use Rattle.td_ops.specs.declared.attribute.TruthAttribute.TheVariants.{SupportsModifiableProperties}
+use Rattle.td_ops.specs.declared.attribute.TruthAttribute.TheVariants.{SupportsDynamicProperties, SupportsProxyOffers}
 use Rattle.td_ops.specs.declared.outcome.Outcome.{Outcome}
 use Rattle.td_ops.specs.declared.outcome.Outcome.TheVariants.{Done, User}
 use Rattle.td_ops.specs.declared.outcome.Reply.{Reply}

@@ -2,7 +2,8 @@
 -- CosTrading). An offer's id is its number in decimal.
 use Rattle.std.specs.Prelude.{ℕ, nat_eq, ◌^◌, is_some, if◌then◌else◌, List, Option, None, Some, Ok, Err}
 use Rattle.std.specs.Fmt.{decimal}
-use Rattle.td_exceptions.specs.declared.exception.UserException.TheVariants.{IllegalOfferId, UnknownOfferId, ProxyOfferId, NotProxyOfferId}
+use Rattle.td_exceptions.specs.declared.exception.UserException.TheVariants.{IllegalOfferId, UnknownOfferId}
+use Rattle.td_exceptions.specs.declared.exception.UserException.TheVariants.{ProxyOfferId, NotProxyOfferId}
 use Rattle.td_ior.specs.Number.{number_below}
 use Rattle.td_store.specs.OfferLists.{offer_of}
 use Rattle.td_store.specs.declared.record.OfferRecord.{OfferRecord}

@@ -1,8 +1,12 @@
 -- Links to other traders (OMG's Trading Object Service, interface Link).
-use Rattle.std.specs.Prelude.{ℕ, nat_le, nat_lt, Bool, true, not, is_some, if◌then◌else◌, List, [], ◌∷◌, ◌++◌, length, map, Option, None, Some}
+use Rattle.std.specs.Prelude.{ℕ, nat_le, nat_lt, Bool, true, not, is_some, if◌then◌else◌, List, [], ◌∷◌, ◌++◌, length}
+use Rattle.std.specs.Prelude.{map, Option, None, Some}
 use Rattle.td_cdr.specs.Names.{word_name}
 use Rattle.td_codes.specs.declared.reference.Ior.{Ior}
-use Rattle.td_exceptions.specs.declared.exception.UserException.TheVariants.{IllegalLinkName, UnknownLinkName, DuplicateLinkName, InvalidLookupRef, DefaultFollowTooPermissive, LimitingFollowTooPermissive}
+use Rattle.td_exceptions.specs.declared.exception.UserException.TheVariants.{IllegalLinkName, UnknownLinkName}
+use Rattle.td_exceptions.specs.declared.exception.UserException.TheVariants.{DuplicateLinkName, InvalidLookupRef}
+use Rattle.td_exceptions.specs.declared.exception.UserException.TheVariants.{DefaultFollowTooPermissive}
+use Rattle.td_exceptions.specs.declared.exception.UserException.TheVariants.{LimitingFollowTooPermissive}
 use Rattle.td_ior.specs.Profiles.{iiop_of}
 use Rattle.td_value.specs.Enumerations.{follow_option_number}
 use Rattle.td_value.specs.declared.enumerations.FollowOption.{FollowOption}
@@ -12,7 +16,8 @@ use Rattle.td_ops.specs.declared.outcome.Reply.TheVariants as reply
 use Rattle.td_store.specs.LinkLists.{is_linked, link_of, without_link, most_links}
 use Rattle.td_store.specs.Stores.{link_info_of}
 use Rattle.td_store.specs.declared.record.LinkRecord.{LinkRecord}
-use Rattle.td_trader.specs.Causes.{Cause, Found, Comes, raise, raise_if, limit_if, ◌otherwise◌, there, given, tells, unless}
+use Rattle.td_trader.specs.Causes.{Cause, Found, Comes, raise, raise_if, limit_if, ◌otherwise◌, there, given, tells}
+use Rattle.td_trader.specs.Causes.{unless}
 use Rattle.td_trader.specs.Stores.{Store}
 
 -- the link of a name

@@ -1,7 +1,8 @@
 -- What is asked of an offer's properties (OMG's Trading Object Service, interface Register, export; the exceptions
 -- IllegalPropertyName, DuplicatePropertyName, PropertyTypeMismatch, ReadonlyDynamicProperty and
 -- MissingMandatoryProperty of module CosTrading).
-use Rattle.std.specs.Prelude.{ℕ, nat_lt, Bool, true, false, not, ◌&&◌, ◌||◌, if◌then◌else◌, List, [], ◌∷◌, length, find, Option, None, Some}
+use Rattle.std.specs.Prelude.{ℕ, nat_lt, Bool, true, false, not, ◌&&◌, ◌||◌, if◌then◌else◌, List, [], ◌∷◌, length, find}
+use Rattle.std.specs.Prelude.{Option, None, Some}
 use Rattle.std.specs.List.{list_any}
 use Rattle.std.specs.Str.{bytes_eq}
 use Rattle.td_cdr.specs.Names.{identifier}
@@ -15,7 +16,10 @@ use Rattle.td_codes.specs.declared.code.TypeCode.TheOpen as c
 use Rattle.td_codes.specs.declared.code.TypeCode.TheOpen.{Value-F}
 use Rattle.td_codes.specs.declared.code.Value.{Value, out-Value}
 use Rattle.td_codes.specs.declared.reference.Ior.{Ior}
-use Rattle.td_exceptions.specs.declared.exception.UserException.TheVariants.{IllegalPropertyName, DuplicatePropertyName, PropertyTypeMismatch, ReadonlyDynamicProperty, MissingMandatoryProperty}
+use Rattle.td_exceptions.specs.declared.exception.UserException.TheVariants.{IllegalPropertyName, DuplicatePropertyName}
+use Rattle.td_exceptions.specs.declared.exception.UserException.TheVariants.{PropertyTypeMismatch}
+use Rattle.td_exceptions.specs.declared.exception.UserException.TheVariants.{ReadonlyDynamicProperty}
+use Rattle.td_exceptions.specs.declared.exception.UserException.TheVariants.{MissingMandatoryProperty}
 use Rattle.td_types.specs.Modes.{is_mandatory, is_readonly}
 use Rattle.td_types.specs.Properties.{property_named}
 use Rattle.td_types.specs.Repository.{is_among}

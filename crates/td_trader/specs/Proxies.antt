@@ -1,7 +1,9 @@
 -- Proxy offers (OMG's Trading Object Service, interface Proxy).
-use Rattle.std.specs.Prelude.{ℕ, zero, suc, nat_lt, nat_eq, Bool, false, not, ◌+◌, ◌&&◌, ◌||◌, is_some, if◌then◌else◌, List, [], ◌∷◌, length, drop, Option, None, Some}
+use Rattle.std.specs.Prelude.{ℕ, zero, suc, nat_lt, nat_eq, Bool, false, not, ◌+◌, ◌&&◌, ◌||◌, is_some, if◌then◌else◌}
+use Rattle.std.specs.Prelude.{List, [], ◌∷◌, length, drop, Option, None, Some}
 use Rattle.td_codes.specs.declared.reference.Ior.{Ior}
-use Rattle.td_exceptions.specs.declared.exception.UserException.TheVariants.{InvalidLookupRef, IllegalRecipe, DuplicatePolicyName}
+use Rattle.td_exceptions.specs.declared.exception.UserException.TheVariants.{InvalidLookupRef, IllegalRecipe}
+use Rattle.td_exceptions.specs.declared.exception.UserException.TheVariants.{DuplicatePolicyName}
 use Rattle.td_ior.specs.Profiles.{iiop_of}
 use Rattle.td_lang.specs.Recipes.{part_in_front}
 use Rattle.td_lang.specs.declared.expr.Part.{Part}
@@ -14,7 +16,8 @@ use Rattle.td_ops.specs.declared.outcome.Reply.TheVariants as reply
 use Rattle.td_trader.specs.declared.refusal.Refusal.TheVariants.{NotSupported}
 use Rattle.td_store.specs.declared.record.OfferRecord.{OfferRecord}
 use Rattle.td_store.specs.declared.record.ProxyPart.{ProxyPart}
-use Rattle.td_trader.specs.Causes.{Cause, Comes, refused, raise_if, limit_if, unless_supported, ◌otherwise◌, given, tells, unless}
+use Rattle.td_trader.specs.Causes.{Cause, Comes, refused, raise_if, limit_if, unless_supported, ◌otherwise◌, given}
+use Rattle.td_trader.specs.Causes.{tells, unless}
 use Rattle.td_trader.specs.Ids.{id_of, number_in, proxy}
 use Rattle.td_trader.specs.Named.{open_type}
 use Rattle.td_trader.specs.Registers.{offer_cause, passes_limit, with_offer, exported, offers_without, no_more}

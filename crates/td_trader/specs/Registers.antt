@@ -1,10 +1,14 @@
 -- Offers that are exported, modified and withdrawn (OMG's Trading Object Service, interface Register).
-use Rattle.std.specs.Prelude.{ℕ, ◌+◌, nat_eq, nat_le, Bool, not, ◌&&◌, ◌||◌, is_some, List, [], ◌∷◌, ◌++◌, length, map, filter, find, Option, None, Some, Result, Ok, Err, unwrap_or}
+use Rattle.std.specs.Prelude.{ℕ, ◌+◌, nat_eq, nat_le, Bool, not, ◌&&◌, ◌||◌, is_some, List, [], ◌∷◌, ◌++◌, length, map}
+use Rattle.std.specs.Prelude.{filter, find, Option, None, Some, Result, Ok, Err, unwrap_or}
 use Rattle.std.specs.List.{list_any}
 use Rattle.std.specs.Str.{bytes_eq}
 use Rattle.td_codes.specs.declared.reference.Ior.{Ior}
 use Rattle.td_eval.specs.Values.{matching}
-use Rattle.td_exceptions.specs.declared.exception.UserException.TheVariants.{InvalidObjectRef, InterfaceTypeMismatch, NotImplemented, UnknownPropertyName, MandatoryProperty, ReadonlyProperty, IllegalConstraint, NoMatchingOffers}
+use Rattle.td_exceptions.specs.declared.exception.UserException.TheVariants.{InvalidObjectRef, InterfaceTypeMismatch}
+use Rattle.td_exceptions.specs.declared.exception.UserException.TheVariants.{NotImplemented, UnknownPropertyName}
+use Rattle.td_exceptions.specs.declared.exception.UserException.TheVariants.{MandatoryProperty, ReadonlyProperty}
+use Rattle.td_exceptions.specs.declared.exception.UserException.TheVariants.{IllegalConstraint, NoMatchingOffers}
 use Rattle.td_lang.specs.Constraints.{constraint_of}
 use Rattle.td_lang.specs.declared.expr.Constraint.{Constraint}
 use Rattle.td_lang.specs.declared.fault.LangFault.{LangFault}
@@ -25,7 +29,8 @@ use Rattle.td_store.specs.declared.record.OfferRecord.{OfferRecord}
 use Rattle.td_trader.specs.Causes.{Cause, Found, Comes, raise, raise_if, limit_if, ◌otherwise◌, given, tells, unless}
 use Rattle.td_trader.specs.Ids.{id_of, number_in, ordinary}
 use Rattle.td_trader.specs.Named.{known, open_type, demanded}
-use Rattle.td_trader.specs.Properties.{carries, is_dynamic, mode_of, name_cause, value_cause, properties_cause, missing, missing_cause, is_too_large}
+use Rattle.td_trader.specs.Properties.{carries, is_dynamic, mode_of, name_cause, value_cause, properties_cause, missing}
+use Rattle.td_trader.specs.Properties.{missing_cause, is_too_large}
 use Rattle.td_trader.specs.Stores.{Store}
 
 -- ---- export

@@ -3,7 +3,9 @@
 
 ghost use Rattle.std.specs.Prelude.{◌≡◌, IfOk};
 ghost use Rattle.td_ops.specs.declared.call.Change.TheVariants as change;
-ghost use Rattle.td_trader.specs.Administration.{attribute_reply, follow_of, get, number_of, reference_of, set_follow, set_number, set_request_id_stem, set_truth, truth_of, with_follow, with_number, with_truth};
+ghost use Rattle.td_trader.specs.Administration.{attribute_reply, follow_of, get, number_of, reference_of, set_follow};
+ghost use Rattle.td_trader.specs.Administration.{set_number, set_request_id_stem, set_truth, truth_of, with_follow};
+ghost use Rattle.td_trader.specs.Administration.{with_number, with_truth};
 ghost use Rattle.td_trader.specs.Judged.{Accepts, Tells};
 
 use crate::history::{Accepted, entry_of};

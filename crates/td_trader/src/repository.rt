@@ -10,7 +10,9 @@ ghost use Rattle.td_exceptions.specs.declared.exception.UserException.TheVariant
 ghost use Rattle.td_trader.specs.declared.refusal.Fault.TheVariants as fault;
 ghost use Rattle.td_trader.specs.declared.refusal.Refusal.TheVariants as refusal;
 ghost use Rattle.td_trader.specs.Judged.{Accepts, IsAnswer, Tells};
-ghost use Rattle.td_trader.specs.Repositories.{add_type, changes_types, describe_type, exception_of, fully_describe_type, list_types, mask_type, number_of, outcome_of, remove_type, reply_of, since, unmask_type};
+ghost use Rattle.td_trader.specs.Repositories.{add_type, changes_types, describe_type, exception_of};
+ghost use Rattle.td_trader.specs.Repositories.{fully_describe_type, list_types, mask_type, number_of, outcome_of};
+ghost use Rattle.td_trader.specs.Repositories.{remove_type, reply_of, since, unmask_type};
 ghost use Rattle.td_trader.specs.Stores.{Store as Kept};
 
 use crate::history::{Accepted, entry_of};
