@@ -8,7 +8,8 @@ use Rattle.td_cdr.specs.declared.order.Order.TheVariants.{Big, Little}
 use Rattle.td_cdr.specs.Format.{Piece, row}
 use Rattle.td_cdr.specs.Gap.{gap, bytes_of}
 use Rattle.td_cdr.specs.Writing.{Draft, written_number}
-use Rattle.td_codes.specs.Formats.{is_some, number_piece}
+use Rattle.td_cdr.specs.Format.{number as number_format}
+use Rattle.td_codes.specs.Formats.{is_some}
 use Rattle.td_iter.specs.declared.limits.TheConstants.{LARGEST_MESSAGE, REPLY_START}
 use Rattle.td_iter.specs.declared.filling.Tail.{Tail}
 use Rattle.td_iter.specs.Batches.{PutsBatch, batch}
@@ -41,8 +42,8 @@ pub counted-length : {X : Type 0} (write : X → Piece) (xs : List X) (order : O
     (row (map write xs) order (place + (gap 4 place + 4)))
 counted-length write xs order place =
     let n = number-length 4 order place (length xs) in
-    length-append (number_piece 4 (length xs) order place)
-    (row (map write xs) order (place + length (number_piece 4 (length xs) order place)))
+    length-append ((number_format 4).writes (length xs) order place)
+    (row (map write xs) order (place + length ((number_format 4).writes (length xs) order place)))
     ∙ ap (λ (k : ℕ). k + length (row (map write xs) order (place + k))) n
 
 module _ {X : Type 0} (write : X → Piece) (tail : Tail) (items : List X) where
@@ -118,15 +119,15 @@ behind-none true = refl
 behind-none false = refl
 
 flag-end : (order : Order) (b : Bool) (n : ℕ)
-    → 28 + length (number_piece 4 n order 28) ≡ (24 + length (number_piece 1 (from_bool b) order 24)) + length
-    (number_piece 4 n order (24 + length (number_piece 1 (from_bool b) order 24)))
+    → 28 + length ((number_format 4).writes n order 28) ≡ (24 + length ((number_format 1).writes (from_bool b) order 24)) + length
+    ((number_format 4).writes n order (24 + length ((number_format 1).writes (from_bool b) order 24)))
 flag-end order b n =
-    let flag : length (number_piece 1 (from_bool b) order 24) ≡ 1 = number-length 1 order 24 (from_bool b) in
+    let flag : length ((number_format 1).writes (from_bool b) order 24) ≡ 1 = number-length 1 order 24 (from_bool b) in
     omega (
       arith,
       number-length 4 order 28 n,
       flag,
-      number-length 4 order (24 + length (number_piece 1 (from_bool b) order 24)) n,
+      number-length 4 order (24 + length ((number_format 1).writes (from_bool b) order 24)) n,
     )
 
 -- a boolean and its padding are four bytes

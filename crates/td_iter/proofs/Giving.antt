@@ -11,7 +11,8 @@ use Rattle.td_cdr.specs.Gap.{gap}
 use Rattle.td_cdr.specs.Sound.{text}
 use Rattle.td_cdr.specs.Writing.{Draft}
 use Rattle.td_codes.specs.declared.reference.Ior.{Ior}
-use Rattle.td_codes.specs.Formats.{is_some, number_piece}
+use Rattle.td_cdr.specs.Format.{number as number_format}
+use Rattle.td_codes.specs.Formats.{is_some}
 use Rattle.td_codes.specs.References.{reference}
 use Rattle.td_value.specs.declared.structures.Offer.{Offer}
 use Rattle.td_value.specs.Structures.{offer}
@@ -101,7 +102,7 @@ module _ {X : Type 0} (write : X → Piece) (x : X) (xs : List X) (old : Draft)
   next-one =
       let here = length old.bytes in
       let b = is_some xs in
-      let front = number_piece 1 (from_bool b) old.order here in
+      let front = (number_format 1).writes (from_bool b) old.order here in
       omega (
         arith,
         start,

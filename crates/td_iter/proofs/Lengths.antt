@@ -12,7 +12,7 @@ use Rattle.td_cdr.specs.Writing.{written_number, written_octets}
 use Rattle.td_cdr.specs.Sound.{text}
 use Rattle.td_codes.specs.declared.reference.Ior.{Ior}
 use Rattle.td_codes.specs.declared.reference.Profile.{Profile}
-use Rattle.td_codes.specs.Formats.{number_piece}
+use Rattle.td_cdr.specs.Format.{number as number_format}
 use Rattle.td_codes.specs.References.{reference, profile}
 use Rattle.td_iter.specs.Filling.{counted}
 
@@ -44,7 +44,7 @@ octets-length order place v = omega (
 pub record Aligned (p : Piece) : Type 0 where
   pub long : (o u : Order) (place base : ℕ) → base % 4 ≡ 0 → length (p o place) ≡ gap 4 place + length (p u base)
 
-pub number-aligned : (v : ℕ) → Aligned (number_piece 4 v)
+pub number-aligned : (v : ℕ) → Aligned ((number_format 4).writes v)
 number-aligned v =
     record { long = λ o u place base e. omega (arith, e, number-length 4 o place v, number-length 4 u base v) }
 
@@ -102,14 +102,14 @@ all-mapped P f h [] = tt
 all-mapped P f h (x ∷ xs) = (h x, all-mapped P f h xs)
 
 pub counted-aligned : {X : Type 0} (f : X → Piece) → ((x : X) → Aligned (f x)) → (xs : List X) → Aligned (counted f xs)
-counted-aligned f h xs = row-aligned (number_piece 4 (length xs)) (map f xs) (number-aligned (length xs))
+counted-aligned f h xs = row-aligned ((number_format 4).writes (length xs)) (map f xs) (number-aligned (length xs))
     (all-mapped Aligned f h xs)
 
 pub text-aligned : (v : List ℕ) → Aligned (text.format.writes v)
 text-aligned v = octets-aligned (v ++ 0 ∷ [])
 
 profile-aligned : (p : Profile) → Aligned (profile.format.writes p)
-profile-aligned p = then-aligned (number_piece 4 p.tag) (λ order place. written_octets order place p.octets)
+profile-aligned p = then-aligned ((number_format 4).writes p.tag) (λ order place. written_octets order place p.octets)
     (number-aligned p.tag) (octets-aligned p.octets)
 
 pub reference-aligned : (r : Ior) → Aligned (reference.format.writes r)
@@ -121,16 +121,16 @@ reference-aligned r = then-aligned (text.format.writes r.id) (counted profile.fo
 pub record Steady (p : Piece) : Type 0 where
   pub long : (o u : Order) (place base : ℕ) → length (p o place) ≤ 2 * length (p u base)
 
-pub one-steady : (v : ℕ) → Steady (number_piece 1 v)
+pub one-steady : (v : ℕ) → Steady ((number_format 1).writes v)
 one-steady v = record { long = λ o u place base. omega (arith, number-length 1 o place v, number-length 1 u base v) }
 
-pub two-steady : (v : ℕ) → Steady (number_piece 2 v)
+pub two-steady : (v : ℕ) → Steady ((number_format 2).writes v)
 two-steady v = record { long = λ o u place base. omega (arith, number-length 2 o place v, number-length 2 u base v) }
 
-pub four-steady : (v : ℕ) → Steady (number_piece 4 v)
+pub four-steady : (v : ℕ) → Steady ((number_format 4).writes v)
 four-steady v = record { long = λ o u place base. omega (arith, number-length 4 o place v, number-length 4 u base v) }
 
-pub eight-steady : (v : ℕ) → Steady (number_piece 8 v)
+pub eight-steady : (v : ℕ) → Steady ((number_format 8).writes v)
 eight-steady v = record { long = λ o u place base. omega (arith, number-length 8 o place v, number-length 8 u base v) }
 
 pub octets-steady : (v : List ℕ) → Steady (λ order place. written_octets order place v)
@@ -161,14 +161,14 @@ pub rows-steady : {X : Type 0} (f : X → Piece) → ((x : X) → Steady (f x)) 
 rows-steady f h xs = row-steady (map f xs) (all-mapped Steady f h xs)
 
 pub counted-steady : {X : Type 0} (f : X → Piece) → ((x : X) → Steady (f x)) → (xs : List X) → Steady (counted f xs)
-counted-steady f h xs = then-steady (number_piece 4 (length xs)) (row (map f xs)) (four-steady (length xs))
+counted-steady f h xs = then-steady ((number_format 4).writes (length xs)) (row (map f xs)) (four-steady (length xs))
     (rows-steady f h xs)
 
 pub text-steady : (v : List ℕ) → Steady (text.format.writes v)
 text-steady v = octets-steady (v ++ 0 ∷ [])
 
 profile-steady : (p : Profile) → Steady (profile.format.writes p)
-profile-steady p = then-steady (number_piece 4 p.tag) (λ order place. written_octets order place p.octets)
+profile-steady p = then-steady ((number_format 4).writes p.tag) (λ order place. written_octets order place p.octets)
     (four-steady p.tag) (octets-steady p.octets)
 
 pub reference-steady : (r : Ior) → Steady (reference.format.writes r)

@@ -6,9 +6,9 @@ use Rattle.td_cdr.specs.Format.{Piece, none_or, ◌then◌, row}
 use Rattle.td_cdr.specs.Sound.{Sound, text}
 use Rattle.td_codes.specs.declared.code.TypeCode.{TypeCode, out-TypeCode, ind-TypeCode, map-TypeCode, roll-TypeCode}
 use Rattle.td_codes.specs.declared.code.TypeCode.{out-roll-TypeCode}
-use Rattle.td_codes.specs.WritingCodes.{written, written_arm, written_member, written_parts, written-code_layer}
-use Rattle.td_codes.specs.WritingCodes.{written_arm-is, written_member-is, code_layer, kind_piece, header_piece}
-use Rattle.td_codes.specs.WritingCodes.{head_piece, enclosed}
+use Rattle.td_codes.specs.WritingCodes.{code_piece, arm_piece, member_piece, layer_pieces, code_piece-layer}
+use Rattle.td_codes.specs.WritingCodes.{arm_piece-is, member_piece-is, code_layer, kind_piece, header_piece}
+use Rattle.td_codes.specs.WritingCodes.{head_piece, encapsulation_piece}
 use Rattle.td_codes.specs.declared.kinds.CodeKind.{CodeKind}
 use Rattle.td_codes.specs.declared.kinds.CodeKind.TheVariants as kind
 use Rattle.td_codes.specs.Kinds.{number_of}
@@ -26,7 +26,7 @@ use Rattle.td_codes.specs.declared.code.Arm.{Arm, roll-Arm}
 use Rattle.td_codes.specs.declared.code.Member.{Member, roll-Member}
 use Rattle.td_codes.specs.declared.label.Label.{Label}
 use Rattle.td_codes.specs.declared.label.Label.TheVariants.{One, Two, Four, Eight}
-use Rattle.td_codes.specs.Formats.{number_piece}
+use Rattle.td_cdr.specs.Format.{number as number_format}
 use Rattle.td_codes.specs.Labels.{Layer, Held, label_of, label_piece, plain_piece}
 use Rattle.td_codes.specs.References.{reference}
 use Rattle.td_codes.specs.Values.{index_of, branch_of, each, branch_piece, union_piece, items_piece, sequence_piece}
@@ -102,7 +102,7 @@ module _ (any : Sound ValueFault Any) (code : Sound ValueFault TypeCode) (inner 
   layer-steady n (c.Alias id name item) v = inner-steady item v
   layer-steady n (c.Except id name members) v = none-steady
 
-enclosed-steady : (inner : Piece) → Steady inner → Steady (enclosed inner)
+enclosed-steady : (inner : Piece) → Steady inner → Steady (encapsulation_piece inner)
 enclosed-steady inner h = record {
   long = λ o u place base. omega (
     arith,
@@ -126,18 +126,18 @@ kind-steady : (k : CodeKind) → Steady (kind_piece k)
 kind-steady k = four-steady (number_of k)
 
 module _ {T V A R M : Type 0} (ft : T → TypeCode) (fv : V → Value) (fa : A → Any) (fr : R → Arm) (fm : M → Member)
-    (st : (t : T) → Steady (written (ft t))) (sr : (r : R) → Steady (written_arm (fr r))) (sm : (m : M)
-    → Steady (written_member (fm m))) where
-  behind_kind : (k : CodeKind) (inner : Piece) → Steady inner → Steady (kind_piece k then enclosed inner)
-  behind_kind k inner h = then-steady (kind_piece k) (enclosed inner) (kind-steady k) (enclosed-steady inner h)
+    (st : (t : T) → Steady (code_piece (ft t))) (sr : (r : R) → Steady (arm_piece (fr r))) (sm : (m : M)
+    → Steady (member_piece (fm m))) where
+  behind_kind : (k : CodeKind) (inner : Piece) → Steady inner → Steady (kind_piece k then encapsulation_piece inner)
+  behind_kind k inner h = then-steady (kind_piece k) (encapsulation_piece inner) (kind-steady k) (enclosed-steady inner h)
 
   listed : (id name : List ℕ) (n : ℕ) (rest : Piece) → Steady rest
-      → Steady (header_piece id name then number_piece 4 n then rest)
-  listed id name n rest h = then-steady (header_piece id name) (number_piece 4 n then rest) (header-steady id name)
-      (then-steady (number_piece 4 n) rest (four-steady n) h)
+      → Steady (header_piece id name then (number_format 4).writes n then rest)
+  listed id name n rest h = then-steady (header_piece id name) ((number_format 4).writes n then rest) (header-steady id name)
+      (then-steady ((number_format 4).writes n) rest (four-steady n) h)
 
   code_parts-steady : (y : c.TypeCode-F T V A R M)
-      → Steady (code_layer (written_parts (map-TypeCode T V A R M TypeCode Value Any Arm Member ft fv fa fr fm y)))
+      → Steady (code_layer (layer_pieces (map-TypeCode T V A R M TypeCode Value Any Arm Member ft fv fa fr fm y)))
   code_parts-steady c.Null = kind-steady kind.Null
   code_parts-steady c.Void = kind-steady kind.Void
   code_parts-steady c.TypeCode::Short = kind-steady kind.Short
@@ -151,53 +151,53 @@ module _ {T V A R M : Type 0} (ft : T → TypeCode) (fv : V → Value) (fa : A �
   code_parts-steady c.TypeCode::Code = kind-steady kind.Code
   code_parts-steady (c.TypeCode::ObjRef id name) = behind_kind kind.ObjRef _ (header-steady id name)
   code_parts-steady (c.TypeCode::Struct id name members) =
-      behind_kind kind.Struct _ (listed id name _ _ (mapped-steady fm written_member sm members))
+      behind_kind kind.Struct _ (listed id name _ _ (mapped-steady fm member_piece sm members))
   code_parts-steady (c.TypeCode::Union id name switch default arms) =
-      behind_kind kind.Union _ (then-steady (header_piece id name then written (ft switch)) _
-      (then-steady (header_piece id name) (written (ft switch)) (header-steady id name) (st switch))
-      (then-steady (head_piece default _) _ (then-steady (number_piece 4 (cast_unsigned w32 default))
-      (number_piece 4 _) (four-steady _) (four-steady _)) (mapped-steady fr written_arm sr arms)))
+      behind_kind kind.Union _ (then-steady (header_piece id name then code_piece (ft switch)) _
+      (then-steady (header_piece id name) (code_piece (ft switch)) (header-steady id name) (st switch))
+      (then-steady (head_piece default _) _ (then-steady ((number_format 4).writes (cast_unsigned w32 default))
+      ((number_format 4).writes _) (four-steady _) (four-steady _)) (mapped-steady fr arm_piece sr arms)))
   code_parts-steady (c.TypeCode::Enum id name names) =
       behind_kind kind.Enum _ (listed id name _ _ (rows-steady text.format.writes text-steady names))
   code_parts-steady (c.TypeCode::Str bound) =
-      then-steady (kind_piece kind.Str) (number_piece 4 bound) (kind-steady kind.Str) (four-steady bound)
+      then-steady (kind_piece kind.Str) ((number_format 4).writes bound) (kind-steady kind.Str) (four-steady bound)
   code_parts-steady (c.Sequence item bound) =
-      behind_kind kind.Sequence _ (then-steady (written (ft item)) (number_piece 4 bound) (st item)
+      behind_kind kind.Sequence _ (then-steady (code_piece (ft item)) ((number_format 4).writes bound) (st item)
       (four-steady bound))
   code_parts-steady (c.Array item len) =
-      behind_kind kind.Array _ (then-steady (written (ft item)) (number_piece 4 len) (st item) (four-steady len))
+      behind_kind kind.Array _ (then-steady (code_piece (ft item)) ((number_format 4).writes len) (st item) (four-steady len))
   code_parts-steady (c.Alias id name item) =
-      behind_kind kind.Alias _ (then-steady (header_piece id name) (written (ft item)) (header-steady id name)
+      behind_kind kind.Alias _ (then-steady (header_piece id name) (code_piece (ft item)) (header-steady id name)
       (st item))
   code_parts-steady (c.Except id name members) =
-      behind_kind kind.Except _ (listed id name _ _ (mapped-steady fm written_member sm members))
+      behind_kind kind.Except _ (listed id name _ _ (mapped-steady fm member_piece sm members))
   code_parts-steady c.TypeCode::LongLong = kind-steady kind.LongLong
   code_parts-steady c.TypeCode::ULongLong = kind-steady kind.ULongLong
 
-rolled : (x : Layer) → written (roll-TypeCode x) ≡ code_layer (written_parts x)
-rolled x = written-code_layer (roll-TypeCode x) ∙ ap (λ (l : Layer). code_layer (written_parts l)) (out-roll-TypeCode x)
+rolled : (x : Layer) → code_piece (roll-TypeCode x) ≡ code_layer (layer_pieces x)
+rolled x = code_piece-layer (roll-TypeCode x) ∙ ap (λ (l : Layer). code_layer (layer_pieces l)) (out-roll-TypeCode x)
 
-arm-made : (a : Arm) → Steady (written a.code) → Steady (written_arm a)
+arm-made : (a : Arm) → Steady (code_piece a.code) → Steady (arm_piece a)
 arm-made a h =
-    subst Steady (sym (written_arm-is a)) (then-steady (label_piece (label_of a.label))
-    (text.format.writes a.name then written a.code) (label-steady (label_of a.label))
-    (then-steady (text.format.writes a.name) (written a.code) (text-steady a.name) h))
+    subst Steady (sym (arm_piece-is a)) (then-steady (label_piece (label_of a.label))
+    (text.format.writes a.name then code_piece a.code) (label-steady (label_of a.label))
+    (then-steady (text.format.writes a.name) (code_piece a.code) (text-steady a.name) h))
 
-member-made : (m : Member) → Steady (written m.code) → Steady (written_member m)
+member-made : (m : Member) → Steady (code_piece m.code) → Steady (member_piece m)
 member-made m h =
-    subst Steady (sym (written_member-is m)) (then-steady (text.format.writes m.name) (written m.code)
+    subst Steady (sym (member_piece-is m)) (then-steady (text.format.writes m.name) (code_piece m.code)
     (text-steady m.name) h)
 
 -- each part of a layer stands with its proof
-pub code-steady : (t : TypeCode) → Steady (written t)
-code-steady = ind-TypeCode (λ t. Steady (written t)) (λ v. Unit {0}) (λ a. Unit {0}) (λ a. Steady (written_arm a))
-    (λ m. Steady (written_member m))
-    (λ x y is. subst Steady (sym (rolled x)) (subst (λ (l : Layer). Steady (code_layer (written_parts l))) is
+pub code-steady : (t : TypeCode) → Steady (code_piece t)
+code-steady = ind-TypeCode (λ t. Steady (code_piece t)) (λ v. Unit {0}) (λ a. Unit {0}) (λ a. Steady (arm_piece a))
+    (λ m. Steady (member_piece m))
+    (λ x y is. subst Steady (sym (rolled x)) (subst (λ (l : Layer). Steady (code_layer (layer_pieces l))) is
     (code_parts-steady (λ e. e.0) (λ e. e.0) (λ e. e.0) (λ e. e.0) (λ e. e.0) (λ e. e.1) (λ e. e.1) (λ e. e.1)
     y)))
     (λ x y is. tt) (λ x y is. tt)
-    (λ x y is. arm-made (roll-Arm x) (subst (λ (t : TypeCode). Steady (written t)) (ap (λ z. z.code) is) y.code.1))
-    (λ x y is. member-made (roll-Member x) (subst (λ (t : TypeCode). Steady (written t)) (ap (λ z. z.code) is)
+    (λ x y is. arm-made (roll-Arm x) (subst (λ (t : TypeCode). Steady (code_piece t)) (ap (λ z. z.code) is) y.code.1))
+    (λ x y is. member-made (roll-Member x) (subst (λ (t : TypeCode). Steady (code_piece t)) (ap (λ z. z.code) is)
     y.code.1))
 
 codes-steady : (n : ℕ) (mode : Mode) (t : TypeCode) → Steady ((codes n mode).format.writes t)

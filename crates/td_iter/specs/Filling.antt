@@ -6,18 +6,19 @@ use Rattle.td_cdr.specs.declared.order.Order.TheVariants.{Big, Little}
 use Rattle.td_cdr.specs.Format.{Piece, ◌then◌, row}
 use Rattle.td_cdr.specs.Gap.{gap}
 use Rattle.td_cdr.specs.Writing.{Draft}
-use Rattle.td_codes.specs.Formats.{is_some, number_piece}
+use Rattle.td_cdr.specs.Format.{number as number_format}
+use Rattle.td_codes.specs.Formats.{is_some}
 use Rattle.td_iter.specs.declared.limits.TheConstants.{LARGEST_MESSAGE}
 use Rattle.td_iter.specs.declared.filling.Tail.{Tail}
 use Rattle.td_iter.specs.Batches.{IsGreatest}
 
 -- items behind their number
 abbrev pub counted : {X : Type 0} → (X → Piece) → List X → Piece
-counted write items = number_piece 4 (length items) then row (map write items)
+counted write items = (number_format 4).writes (length items) then row (map write items)
 
 -- whether some are left, and then the items
 abbrev pub next_piece : {X : Type 0} → (X → Piece) → List X → Bool → Piece
-next_piece write items more = number_piece 1 (from_bool more) then counted write items
+next_piece write items more = (number_format 1).writes (from_bool more) then counted write items
 
 -- the items, and then what depends on whether some are left
 abbrev pub first_piece : {X : Type 0} → (X → Piece) → (Bool → Piece) → List X → Bool → Piece
