@@ -3,7 +3,8 @@
 
 ghost use Rattle.std.specs.Prelude.{◌≡◌, IfOk};
 ghost use Rattle.std.specs.List.{list_all};
-ghost use Rattle.td_ior.specs.Number.{is_digit, leads_with_zero, numeral, number_of};
+ghost use Rattle.td_cdr.specs.Names.{is_digit};
+ghost use Rattle.td_ior.specs.Number.{leads_with_zero, numeral, number_of};
 ghost use Rattle.td_trader.specs.Ids.{id_of, number_in};
 
 use std::alloc::Global;
