@@ -17,18 +17,39 @@ use td_value::SpecifiedServiceTypes;
 #[test]
 fn a_type_comes_and_goes(rt: HostRuntime) -> Result<(), Fail> {
     let alloc = rt.alloc();
-    let mut store = empty_store(alloc)?;
-    assert!(rt; is_incarnation(added(alloc, &mut store)?, 1));
-    assert!(rt; is_there(added(alloc, &mut store)?));
-    assert!(rt; is_done(mask_type(&mut store, printer(alloc)?)));
-    assert!(rt; is_masked(mask_type(&mut store, printer(alloc)?)));
-    assert!(rt; is_done(unmask_type(&mut store, printer(alloc)?)));
-    assert!(rt; is_listed(&store)?);
-    assert!(rt; is_described(alloc, &store)?);
-    assert!(rt; is_done(remove_type(&mut store, printer(alloc)?)));
-    assert!(rt; is_unknown(remove_type(&mut store, printer(alloc)?)));
-    assert!(rt; is_incarnation(added(alloc, &mut store)?, 2));
+    assert!(rt; comes_and_goes(alloc)?);
     Ok(())
+}
+
+fn comes_and_goes(alloc: Global) -> Result<bool, Memory> {
+    let mut store = empty_store(alloc)?;
+    let passed = comes_then_goes(alloc, &mut store);
+    drop(store);
+    passed
+}
+
+fn comes_then_goes(alloc: Global, store: &mut Store) -> Result<bool, Memory> {
+    Ok(comes(alloc, store)? && goes(alloc, store)?)
+}
+
+fn comes(alloc: Global, store: &mut Store) -> Result<bool, Memory> {
+    Ok(
+        is_incarnation(added(alloc, store)?, 1)
+            && is_there(added(alloc, store)?)
+            && is_done(mask_type(store, printer(alloc)?))
+            && is_masked(mask_type(store, printer(alloc)?))
+            && is_done(unmask_type(store, printer(alloc)?)),
+    )
+}
+
+fn goes(alloc: Global, store: &mut Store) -> Result<bool, Memory> {
+    Ok(
+        is_one_name(list_types(store, &SpecifiedServiceTypes::All))
+            && is_described(alloc, store)?
+            && is_done(remove_type(store, printer(alloc)?))
+            && is_unknown(remove_type(store, printer(alloc)?))
+            && is_incarnation(added(alloc, store)?, 2),
+    )
 }
 
 fn printer(alloc: Global) -> Result<Text, Memory> {
@@ -91,21 +112,21 @@ fn is_unknown(answer: Result<Accepted, Fault>) -> bool {
     )
 }
 
-fn is_listed(store: &Store) -> Result<bool, Memory> {
-    match list_types(store, &SpecifiedServiceTypes::All)? {
-        Outcome::Done(Reply::Names(names)) => Ok(names.len() == 1),
-        _ => Ok(false),
+fn is_one_name(answer: Result<Outcome, Memory>) -> bool {
+    match &answer {
+        Ok(Outcome::Done(Reply::Names(names))) => names.len() == 1,
+        _ => false,
     }
 }
 
 fn is_described(alloc: Global, store: &Store) -> Result<bool, Memory> {
     let name = printer(alloc)?;
-    Ok(is_typed(describe_type(store, &name)?) && is_typed(fully_describe_type(store, &name)?))
+    Ok(is_typed(describe_type(store, &name)) && is_typed(fully_describe_type(store, &name)))
 }
 
-fn is_typed(outcome: Outcome) -> bool {
-    match &outcome {
-        Outcome::Done(Reply::Typed(described)) => {
+fn is_typed(answer: Result<Outcome, Memory>) -> bool {
+    match &answer {
+        Ok(Outcome::Done(Reply::Typed(described))) => {
             described.if_name.as_slice() == b"IDL:Printer:1.0".as_slice()
         }
         _ => false,

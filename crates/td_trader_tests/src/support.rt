@@ -9,16 +9,41 @@ use td_value::Ior;
 
 pub(crate) fn empty_store(alloc: Global) -> Result<Store, Memory> {
     let types = Types::new(alloc, List::new(alloc))?;
+    match parts(alloc) {
+        Ok((offers, (links, attributes))) => Ok(Store {
+            types,
+            offers,
+            links,
+            attributes,
+            last_offer: 0,
+        }),
+        Err(memory) => {
+            drop(types);
+            Err(memory)
+        }
+    }
+}
+
+fn parts(alloc: Global) -> Result<(Offers, (Links, Attributes)), Memory> {
     let offers = Offers::new(alloc)?;
+    match links_and_attributes(alloc) {
+        Ok(others) => Ok((offers, others)),
+        Err(memory) => {
+            drop(offers);
+            Err(memory)
+        }
+    }
+}
+
+fn links_and_attributes(alloc: Global) -> Result<(Links, Attributes), Memory> {
     let links = Links::new(alloc)?;
-    let attributes = attributes(alloc)?;
-    Ok(Store {
-        types,
-        offers,
-        links,
-        attributes,
-        last_offer: 0,
-    })
+    match attributes(alloc) {
+        Ok(attributes) => Ok((links, attributes)),
+        Err(memory) => {
+            drop(links);
+            Err(memory)
+        }
+    }
 }
 
 fn attributes(alloc: Global) -> Result<Attributes, Memory> {
