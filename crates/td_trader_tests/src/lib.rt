@@ -6,6 +6,10 @@ mod admin;
 #[cfg(test)]
 mod ids;
 #[cfg(test)]
+mod links;
+#[cfg(test)]
+mod offers;
+#[cfg(test)]
 mod repository;
 #[cfg(test)]
 mod support;

@@ -1,11 +1,13 @@
-//! A store without types, offers and links.
+//! A store without types, offers and links, and one with an offer of each kind and a link.
+
+ghost use Rattle.std.specs.Prelude.{◌≡◌, [], IfOk};
 
 use std::alloc::Global;
 use td_cdr::{List, Memory, Text};
 use td_policy::{Attributes, OwnReferences, default_attributes};
-use td_store::{Links, Offers, Store};
+use td_store::{LinkRecord, Links, OfferRecord, Offers, ProxyPart, Store, StoreFault};
 use td_types::Types;
-use td_value::Ior;
+use td_value::{FollowOption, Ior};
 
 pub(crate) fn empty_store(alloc: Global) -> Result<Store, Memory> {
     let types = Types::new(alloc, List::new(alloc))?;
@@ -67,4 +69,126 @@ fn nil(alloc: Global) -> Ior {
         id: Text::new(alloc),
         profiles: List::new(alloc),
     }
+}
+
+/// The text of a `&str`.
+pub(crate) fn text(alloc: Global, text: &str) -> Result<Text, Memory> {
+    Text::from_slice(alloc, text.as_bytes())
+}
+
+/// A store with an ordinary offer, a proxy offer and a link. The numbers are 7 and 8, and the link's name is `b`.
+pub(crate) fn kept_store(alloc: Global) -> Result<Store, Memory> {
+    let types = Types::new(alloc, List::new(alloc))?;
+    match kept_parts(alloc) {
+        Ok((offers, (links, attributes))) => Ok(Store {
+            types,
+            offers,
+            links,
+            attributes,
+            last_offer: 8,
+        }),
+        Err(memory) => {
+            drop(types);
+            Err(memory)
+        }
+    }
+}
+
+fn kept_parts(alloc: Global) -> Result<(Offers, (Links, Attributes)), Memory> {
+    let offers = kept_offers(alloc)?;
+    match kept_links(alloc) {
+        Ok(others) => Ok((offers, others)),
+        Err(memory) => {
+            drop(offers);
+            Err(memory)
+        }
+    }
+}
+
+fn kept_links(alloc: Global) -> Result<(Links, Attributes), Memory> {
+    let links = linked(alloc).or(Err(Memory))?;
+    match attributes(alloc) {
+        Ok(attributes) => Ok((links, attributes)),
+        Err(memory) => {
+            drop(links);
+            Err(memory)
+        }
+    }
+}
+
+fn kept_offers(alloc: Global) -> Result<Offers, Memory> {
+    offered(alloc).or(Err(Memory))
+}
+
+fn offered(alloc: Global) -> Result<Offers, StoreFault> {
+    let mut offers = Offers::new(alloc)?;
+    let added = add_both(alloc, &mut offers);
+    match added {
+        Ok(()) => Ok(offers),
+        Err(fault) => {
+            drop(offers);
+            Err(fault)
+        }
+    }
+}
+
+fn add_both(alloc: Global, offers: &mut Offers) -> Result<(), StoreFault>
+    requires { offers.old ≡ [] }
+{
+    offers.insert(offer(alloc, 7, None)?)?;
+    offers.insert(offer(alloc, 8, Some(proxy(alloc)?))?)
+}
+
+fn proxy(alloc: Global) -> Result<ProxyPart, Memory> {
+    Ok(ProxyPart {
+        if_match_all: true,
+        recipe: text(alloc, "$*")?,
+        policies: List::new(alloc),
+    })
+}
+
+fn offer(alloc: Global, number: u32, proxy: Option<ProxyPart>) -> Result<OfferRecord, Memory>
+    ensures { IfOk result (λ o. o.number ≡ number) }
+{
+    match text(alloc, "Printer") {
+        Ok(service_type) => Ok(OfferRecord {
+            number,
+            reference: nil(alloc),
+            service_type,
+            incarnation: 1,
+            properties: List::new(alloc),
+            proxy,
+        }),
+        Err(memory) => {
+            drop(proxy);
+            Err(memory)
+        }
+    }
+}
+
+fn linked(alloc: Global) -> Result<Links, StoreFault> {
+    let mut links = Links::new(alloc)?;
+    match add_link(alloc, &mut links) {
+        Ok(()) => Ok(links),
+        Err(fault) => {
+            drop(links);
+            Err(fault)
+        }
+    }
+}
+
+fn add_link(alloc: Global, links: &mut Links) -> Result<(), StoreFault>
+    requires { links.old ≡ [] }
+{
+    let name = text(alloc, "b")?;
+    links.insert(
+        alloc,
+        LinkRecord {
+            name,
+            target: nil(alloc),
+            register: nil(alloc),
+            def_pass_on: FollowOption::IfNoLocal,
+            limiting: FollowOption::Always,
+        },
+    )
 }
