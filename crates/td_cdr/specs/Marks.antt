@@ -1,5 +1,5 @@
 -- The identifiers of queries that a trader remembers, so that it searches for none of them twice (Trading Object
--- Service, "Request Id" of a query's policies). How many are remembered is this trader's choice.
+-- Service, the policy request_id of a query). How many are remembered is this trader's choice.
 use Rattle.std.specs.Prelude.{◌≡◌, ℕ, ◌+◌, ◌-◌, ◌<◌, ◌≤◌, ◌⊎◌, List, [], ◌∷◌, ◌++◌, nat_lt, cond, Option}
 use Rattle.std.specs.Prelude.{option_map}
 use Rattle.std.specs.List.{find}

@@ -40,6 +40,18 @@ impl<T> List<T> {
         }
     }
 
+    /// The empty list, with room for exactly so many elements.
+    ///
+    /// # Errors
+    ///
+    /// `Memory` for want of memory alone.
+    pub fn with_room(alloc: Global, count: usize) -> Result<List<T>, Memory>
+        ensures { IfOk result (λ l. l ≡ []) }
+    {
+        let items = Vec::with_capacity(alloc, count)?;
+        Ok(List { items })
+    }
+
     /// The elements of a `Vec`, in order.
     pub fn from_vec(items: Vec<T>) -> List<T>
         ensures { result ≡ items.items }
@@ -132,7 +144,7 @@ impl<T> DerefSlice for List<T> {
 
 impl<T: Twin + Drop> Twin for List<T> {
     fn copy(&self, alloc: Global) -> Result<List<T>, Memory> {
-        let mut twin = List::new(alloc);
+        let mut twin = List::with_room(alloc, self.len())?;
         for item in self.as_slice() {
             twin.push(item.copy(alloc)?)?;
         }

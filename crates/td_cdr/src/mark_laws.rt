@@ -1,5 +1,5 @@
-//! What holds of the marks by which a trader remembers the identifiers of queries (Trading Object Service, "Request
-//! Id" of a query's policies), as functions that do nothing: each one's contract is the law.
+//! What holds of the marks by which a trader remembers the identifiers of queries (Trading Object Service, the policy
+//! request_id of a query), as functions that do nothing: each one's contract is the law.
 
 ghost use Rattle.std.specs.Prelude.{◌≡◌, ℕ, ◌+◌, ◌^◌, ◌<◌, ◌≤◌, ◌⊎◌, List, Some, None};
 ghost use Rattle.td_cdr.specs.Marks.{Marks, Holds, remembered, Orderly, marked, made_identifier, Later, Follows};

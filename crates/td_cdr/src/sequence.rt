@@ -35,6 +35,9 @@ impl<T: Spelled + Drop> Spelled for List<T> {
     ghost refuses = { sequence_format-refuses Cdr T.format T.faults T.lawful T.refuses };
 }
 
+/// For how many items there is room before the first is read, since the count on the wire is not to be trusted.
+const FIRST_ROOM: u32 = 4;
+
 fn items_of<T: Spelled + Drop>(
     alloc: Global,
     r: &mut Reader,
@@ -42,7 +45,7 @@ fn items_of<T: Spelled + Drop>(
 ) -> Result<List<T>, ValueFault>
     ensures { Gives is_memory r.new result ((array_format T.format count).reads r.old) }
 {
-    let mut items = List::new(alloc);
+    let mut items = List::with_room(alloc, count.min(FIRST_ROOM) as usize)?;
     for _ in 0..count {
         let item = T::read(alloc, r)?;
         items.push(item)?;

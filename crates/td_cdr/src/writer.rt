@@ -67,19 +67,48 @@ impl Writer {
         Ok(())
     }
 
-    /// Padding of zeros up to the next multiple of the length of `cell`, and then `cell`.
-    fn put_cell(&mut self, cell: &[u8]) -> Result<(), Memory>
-        requires some { 0 < length cell.now }
-        requires few { length cell.now ≤ 8 }
-        ensures { Adds (replicate (gap (length cell.now) (length self.old.bytes)) 0 ++ cell.now) self.old self.new
-            result }
+    /// How many bytes there are up to the next multiple of this size.
+    #[inline(always)]
+    fn gap(&self, size: usize) -> usize
+        requires { 0 < size }
+        ensures value { result ≡ gap size (length self.now.bytes) }
+        ensures below { result < size }
     {
-        let size = cell.len();
-        let held = self.bytes.len();
-        let pad = (size - held % size) % size;
-        self.reserve(pad + size)?;
-        self.bytes.resize(held + pad, 0)?;
+        (size - self.bytes.len() % size) % size
+    }
+
+    /// So many zeros.
+    fn put_zeros(&mut self, count: usize) -> Result<(), Memory>
+        requires { count ≤ 8 }
+        ensures { Adds (replicate count 0) self.old self.new result }
+    {
+        if count == 0 {
+            return Ok(());
+        }
+        self.reserve(count)?;
+        self.bytes.resize(self.bytes.len() + count, 0)?;
+        Ok(())
+    }
+
+    /// So many zeros, and then `cell`.
+    #[inline(always)]
+    fn put_cell(&mut self, pad: usize, cell: &[u8]) -> Result<(), Memory>
+        requires padding { pad ≤ 8 }
+        requires few { length cell.now ≤ 8 }
+        ensures { Adds (replicate pad 0 ++ cell.now) self.old self.new result }
+    {
+        self.reserve(pad + cell.len())?;
+        self.put_zeros(pad)?;
         self.bytes.extend_from_slice(cell)?;
+        Ok(())
+    }
+
+    /// One byte, which needs no padding.
+    fn put_octet(&mut self, v: u8) -> Result<(), Memory>
+        ensures { Adds (v ∷ []) self.old self.new result }
+    {
+        self.reserve(1)?;
+        self.bytes.push_reserved(v);
         Ok(())
     }
 
@@ -91,7 +120,7 @@ impl Writer {
     pub fn octet(&mut self, v: u8) -> Result<(), Memory>
         ensures { Adds (written_number 1 self.old.order (length self.old.bytes) v) self.old self.new result }
     {
-        self.put_cell(&[v])
+        self.put_octet(v)
     }
 
     /// An unsigned short, behind its padding of zeros.
@@ -107,7 +136,7 @@ impl Writer {
             Order::Big => BigEndian::write_u16(&mut cell, v),
             Order::Little => LittleEndian::write_u16(&mut cell, v),
         }
-        self.put_cell(&cell)
+        self.put_cell(self.gap(2), &cell)
     }
 
     /// An unsigned long long, behind its padding of zeros.
@@ -123,7 +152,7 @@ impl Writer {
             Order::Big => BigEndian::write_u64(&mut cell, v),
             Order::Little => LittleEndian::write_u64(&mut cell, v),
         }
-        self.put_cell(&cell)
+        self.put_cell(self.gap(8), &cell)
     }
 
     /// An unsigned long, behind its padding of zeros.
@@ -139,7 +168,7 @@ impl Writer {
             Order::Big => BigEndian::write_u32(&mut cell, v),
             Order::Little => LittleEndian::write_u32(&mut cell, v),
         }
-        self.put_cell(&cell)
+        self.put_cell(self.gap(4), &cell)
     }
 
     /// A sequence of octets, behind their number.
@@ -259,7 +288,7 @@ impl Writer {
         ensures { IfOk result (λ w. (w.bytes ≡ flag order ∷ []) × (w.order ≡ order)) }
     {
         let mut writer = Writer::new(alloc, order);
-        writer.put_cell(&[flag_of(order)])?;
+        writer.put_octet(flag_of(order))?;
         Ok(writer)
     }
 

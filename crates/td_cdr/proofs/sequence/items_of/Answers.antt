@@ -7,7 +7,7 @@ use Rattle.td_cdr.proofs.sequence.items_of.Goals as goal
 pub returns-in_err-item : goal.returns-in_err-item
 returns-in_err-item g c =
     let f = g.T.Spelled.format in
-    let p = err_from_is_err_and c.from_residual.result c.from_residual.ensures.1 in
+    let p = err_from_is_err_and c.from_residual-in_err-item.result c.from_residual-in_err-item.ensures.1 in
     rw (p.1, p.2) (ends is_memory f c.loop.items c.args.count c.loop.counter c.loop.r c.read.new.r _
     ((array_format f c.args.count).reads c.args.r.now) c.loop-test.true c.in_err-item.ensures c.loop.invariant)
 
