@@ -3,6 +3,7 @@ pub mod Changes
 pub mod Complete
 pub mod Ends
 pub mod Fits
+pub mod FoundRows
 pub mod Fronts
 pub mod Replied
 pub mod Runs

@@ -1,5 +1,5 @@
 -- What a Request is answered with.
-use Rattle.std.specs.Prelude.{◌≡◌, ◌⊎◌, ℕ, ◌&&◌, Bool, nat_eq, if◌then◌else◌, List, [], ◌∷◌, length, drop, codes}
+use Rattle.std.specs.Prelude.{◌≡◌, ◌⊎◌, ℕ, ◌&&◌, Bool, nat_eq, if◌then◌else◌, List, [], ◌∷◌, ◌++◌, length, drop, codes}
 use Rattle.std.specs.Prelude.{Option, Some, None}
 use Rattle.std.specs.List.{list_any, starts_with}
 use Rattle.std.specs.Str.{bytes_eq}
@@ -12,11 +12,9 @@ use Rattle.td_ops.specs.declared.outcome.Outcome.{Outcome}
 use Rattle.td_ops.specs.declared.outcome.SystemKind.TheVariants.{NoImplement, ObjectNotExist, NoMemory}
 use Rattle.td_ops.specs.Calls.{call_read}
 use Rattle.td_ops.specs.Outcomes.{outcome_status, outcome_piece}
-use Rattle.td_session.specs.declared.store.FirstOffer.{FirstOffer}
 use Rattle.td_session.specs.declared.store.FirstStore.{FirstStore}
-use Rattle.td_session.specs.Parts.{Part, piece}
 use Rattle.td_session.specs.Queries.{plain_query}
-use Rattle.td_session.specs.Replies.{found, offers_of}
+use Rattle.td_session.specs.Replies.{found_outcome, offers_of}
 use Rattle.td_session.specs.TypeCalls.{Performed, types_performed, system}
 
 -- ---- objects
@@ -45,19 +43,17 @@ is_types trader key = names trader (codes "/T") key
 
 -- ---- answers
 
--- what a Request comes to: an outcome and the store behind it, or offers that are found
-pub data Answer : Type 0 where
-  comes : Outcome → FirstStore → Answer
-  finds : List FirstOffer → Answer
+-- what a Request comes to: an outcome, and the store behind it
+pub record Answer : Type 0 where
+  pub outcome : Outcome
+  pub after : FirstStore
 
--- the store behind an answer
-abbrev pub behind_answer : FirstStore → Answer → FirstStore
-behind_answer store (comes outcome after) = after
-behind_answer store (finds offers) = store
+abbrev pub comes : Outcome → FirstStore → Answer
+comes outcome after = record { outcome = outcome; after = after }
 
 abbrev pub query_answer : FirstStore → Option (List ℕ) → Answer
 query_answer store None = comes (system NoImplement 0) store
-query_answer store (Some service_type) = finds (offers_of service_type store)
+query_answer store (Some service_type) = comes (found_outcome (offers_of service_type store)) store
 
 abbrev pub with_performed : FirstStore → Performed → Answer
 with_performed store p = comes p.outcome (record store { types = p.types })
@@ -78,25 +74,20 @@ answer_of store head body =
 
 -- the store behind a Request
 unfoldable pub store_after : FirstStore → Request → At → FirstStore
-store_after store head body = behind_answer store (answer_of store head body)
+store_after store head body = (answer_of store head body).after
 
 -- ---- replies
 
--- a whole Reply with this status and body
-abbrev pub reply : Order → ℕ → ℕ → Part → List ℕ
-reply order id status body = sealed order (body order (reply_start order id status))
-
+-- the whole Reply for an outcome
 abbrev pub outcome_reply : Order → ℕ → Outcome → List ℕ
-outcome_reply order id outcome = reply order id (outcome_status outcome) (piece (outcome_piece outcome))
-
--- the Reply for an answer
-abbrev pub reply_with : Order → ℕ → Answer → List ℕ
-reply_with order id (comes outcome after) = outcome_reply order id outcome
-reply_with order id (finds offers) = reply order id 0 (found offers)
+outcome_reply order id outcome =
+    let start = reply_start order id (outcome_status outcome) in
+    sealed order (start ++ outcome_piece outcome order (length start))
 
 -- a Request that expects no reply gets no bytes
 unfoldable pub request_reply : FirstStore → Order → Request → At → List ℕ
-request_reply store order head body = if head.answered then reply_with order head.id (answer_of store head body) else []
+request_reply store order head body =
+    if head.answered then outcome_reply order head.id (answer_of store head body).outcome else []
 
 -- the answer where memory is wanted: NO_MEMORY, or no bytes where no reply is expected
 unfoldable pub unserved : Order → Request → List ℕ

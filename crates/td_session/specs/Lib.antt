@@ -3,7 +3,6 @@ pub mod Asked
 pub mod Completeness
 pub mod Ends
 pub mod Outside
-pub mod Parts
 pub mod Pieces
 pub mod Prepared
 pub mod Progress

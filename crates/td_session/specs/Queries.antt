@@ -1,10 +1,11 @@
 -- The plain query (chapter "Trading Object Service", Lookup): a service type with neither constraint nor
 -- preference, policies or desired properties.
 use Rattle.std.specs.Prelude.{ℕ, ◌&&◌, Bool, nat_eq, nat_le, min, if◌then◌else◌, List, length, is_some, Option, Some}
-use Rattle.std.specs.Prelude.{None, Result, Ok, Err}
+use Rattle.std.specs.Prelude.{None, Result, Ok, Err, refl}
 use Rattle.td_cdr.specs.declared.fault.CdrFault.{CdrFault}
 use Rattle.td_cdr.specs.Place.{At}
-use Rattle.td_cdr.specs.Reading.{◌>>=◌, number_at, string_at}
+use Rattle.td_cdr.specs.Sound.{Sound, ◌&◌, structure}
+use Rattle.td_giop.specs.Fields.{ulong, text}
 use Rattle.td_types.specs.Repository.{incarnation_of}
 use Rattle.td_session.specs.declared.store.FirstStore.{FirstStore}
 use Rattle.td_session.specs.Replies.{offers_of}
@@ -20,25 +21,26 @@ pub record Query : Type 0 where
   pub desired : ℕ
   pub how_many : ℕ
 
+abbrev pub query_of : List ℕ × (List ℕ × (List ℕ × (ℕ × (ℕ × ℕ)))) → Query
+query_of p = record {
+  service_type = p.0;
+  constraint = p.1.0;
+  preference = p.1.1.0;
+  policies = p.1.1.1.0;
+  desired = p.1.1.1.1.0;
+  how_many = p.1.1.1.1.1;
+}
+
+-- service type, constraint, preference, how many policies, which properties, how many offers
+abbrev pub query : Sound CdrFault Query
+query =
+    structure query_of
+    (λ q. (q.service_type, (q.constraint, (q.preference, (q.policies, (q.desired, q.how_many))))))
+    (λ _. refl) (λ _. refl)
+    (text & text & text & ulong & ulong & ulong)
+
 unfoldable pub query_at : At → Result (Query × At) CdrFault
-query_at a = do
-  service_type ← string_at a
-  constraint ← string_at service_type.1
-  preference ← string_at constraint.1
-  policies ← number_at 4 preference.1
-  desired ← number_at 4 policies.1
-  how_many ← number_at 4 desired.1
-  Ok (
-    record {
-      service_type = service_type.0;
-      constraint = constraint.0;
-      preference = preference.0;
-      policies = policies.0;
-      desired = desired.0;
-      how_many = how_many.0;
-    },
-    how_many.1,
-  )
+query_at a = query.format.reads a
 
 -- how many offers a reply has at most
 abbrev pub max_list : ℕ

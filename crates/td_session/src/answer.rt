@@ -7,21 +7,21 @@ ghost use Rattle.td_giop.specs.Written.{sealed, reply_start};
 ghost use Rattle.td_ops.specs.declared.outcome.Outcome.TheVariants.{Done};
 ghost use Rattle.td_ops.specs.declared.outcome.SystemKind.TheVariants.{NoMemory};
 ghost use Rattle.td_session.specs.Answers.{is_live, is_lookup, is_types, is_object, names, answer_of, live_answer};
-ghost use Rattle.td_session.specs.Answers.{query_answer, reply, reply_with, outcome_reply, request_reply, unserved};
+ghost use Rattle.td_session.specs.Answers.{query_answer, outcome_reply, request_reply, unserved};
 ghost use Rattle.td_session.specs.Answers.{locate_reply, IsReplied};
 ghost use Rattle.td_ops.specs.Outcomes.{is_short};
 ghost use Rattle.td_session.specs.Asked.{IsAnswer, IsPerformed, IsFew, IsWritten, IsSent, told_reply, is_sure};
 ghost use Rattle.td_session.specs.Asked.{asked_of};
 ghost use Rattle.td_session.specs.Rooms.{reply_in};
-ghost use Rattle.td_session.specs.Parts.{Puts};
 ghost use Rattle.td_session.specs.Queries.{plain_query};
-ghost use Rattle.td_session.specs.Replies.{found, offers_of};
+ghost use Rattle.td_session.specs.QueryBodies.{offers_found, IsCounted};
+ghost use Rattle.td_session.specs.Replies.{found_outcome};
 ghost use Rattle.td_session.specs.TypeCalls.{system};
 
-use crate::query::asked_type;
+use crate::query::{PlainQuery, plain_query};
 use crate::replies::put_found;
 use crate::room::Room;
-use crate::store::FirstStore;
+use crate::store::{FirstOffer, FirstStore};
 use crate::types::{answer_types, system};
 use std::alloc::Global;
 use td_cdr::{Memory, Order, Writer};
@@ -38,8 +38,8 @@ const SHORT_LENGTH: usize = 64;
 #[derive(Drop)]
 enum Answer<'a> {
     Outcome(Outcome),
-    /// The offers of this service type.
-    Offers(&'a [u8]),
+    /// The offers that a plain query found.
+    Offers(PlainQuery<'a>),
 }
 
 /// Performs a Request: first the key is looked at, then the operation, then its parameters.
@@ -84,9 +84,9 @@ fn perform_live<'a>(
 fn answer_query<'a>(store: &FirstStore, head: &RequestHead<'a>) -> Answer<'a>
     ensures { IsAnswer store.now store.now (query_answer store.now (plain_query store.now head.now.body)) result }
 {
-    match asked_type(store, &head.body) {
+    match plain_query(store, &head.body) {
         None => Answer::Outcome(system(SystemKind::NoImplement, 0)),
-        Some(service_type) => Answer::Offers(service_type),
+        Some(query) => Answer::Offers(query),
     }
 }
 
@@ -213,15 +213,15 @@ fn write_answer(
 {
     match answer {
         Answer::Outcome(outcome) => write_outcome_reply(alloc, room, order, id, outcome),
-        Answer::Offers(service_type) => {
+        Answer::Offers(query) => {
             room.is_long = true;
             write_found(
                 &mut room.long,
                 &mut room.profile,
                 order,
                 id,
-                store,
-                service_type,
+                &store.offers,
+                query,
             )
         }
     }
@@ -293,22 +293,22 @@ fn write_reply(
     Ok(())
 }
 
-/// Writes the reply with the offers of a service type.
+/// Writes the reply with the offers that a plain query found.
 fn write_found(
     writer: &mut Writer,
     profile: &mut Writer,
     order: Order,
     id: u32,
-    store: &FirstStore,
-    service_type: &[u8],
+    offers: &[FirstOffer],
+    query: &PlainQuery,
 ) -> Result<(), Memory>
-    requires few { length (offers_of service_type.now store.now) ≤ 100 }
-    ensures ok { OnOk result (writer.new.bytes ≡ reply order id 0 (found (offers_of service_type.now store.now))) }
-    ensures room { writer.old.room ≤ writer.new.room }
+    requires { IsCounted offers.now query.now }
+    ensures { OnOk result (writer.new.bytes
+        ≡ outcome_reply order id (found_outcome (offers_found offers.now query.now))) }
 {
     writer.restart(order);
     start_reply(writer, id, NO_EXCEPTION)?;
-    put_found(writer, profile, store, service_type)?;
+    put_found(writer, profile, offers, query)?;
     seal(writer);
     Ok(())
 }

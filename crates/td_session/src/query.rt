@@ -1,13 +1,13 @@
 //! The plain query: what its parameters ask for.
 
-ghost use Rattle.std.specs.Prelude.{◌≡◌, ◌≤◌, length, MatchOption, MatchResult, IfSome, None, Some, Ok, Err, ◌&&◌};
-ghost use Rattle.std.specs.Prelude.{IsTrue, true, false};
-ghost use Rattle.td_session.specs.Queries.{query_at, asks_nothing_more, is_served, plain_query};
-ghost use Rattle.td_session.specs.QueryBodies.{told};
-ghost use Rattle.td_session.specs.Replies.{offers_of};
+ghost use Rattle.std.specs.Prelude.{◌≡◌, length, MatchOption, MatchResult, IfSome, None, Some, Ok, Err, ◌&&◌};
+ghost use Rattle.std.specs.Prelude.{true, false, filter, min, nat_le};
+ghost use Rattle.td_session.specs.Queries.{query_at, asks_nothing_more, is_served, plain_query, max_list};
+ghost use Rattle.td_session.specs.QueryBodies.{told, offers_found, IsCounted};
+ghost use Rattle.td_session.specs.Replies.{offers_of, is_of};
 
-use crate::replies::count_offers;
-use crate::store::FirstStore;
+use crate::replies::count_of;
+use crate::store::{FirstOffer, FirstStore};
 use td_cdr::{CdrFault, Reader};
 
 /// How many offers a reply has at most.
@@ -26,30 +26,43 @@ struct QueryBody<'a> {
     how_many: u32,
 }
 
-/// The service type that a plain query asks for, whose offers are no more than may be given.
+/// What a plain query found.
+#[derive(Clone, Copy)]
+pub(crate) struct PlainQuery<'a> {
+    /// The service type that it asks for.
+    pub(crate) service_type: &'a [u8],
+    /// Which type of that name there is.
+    pub(crate) incarnation: u64,
+    /// How many offers it has.
+    pub(crate) count: u32,
+}
+
+/// What a plain query finds, where its offers are no more than may be given.
 #[tactic(auto, unfolding(crate::specs::Queries::plain_query))]
-pub(crate) fn asked_type<'a>(store: &FirstStore, body: &Reader<'a>) -> Option<&'a [u8]>
+pub(crate) fn plain_query<'a>(store: &FirstStore, body: &Reader<'a>) -> Option<PlainQuery<'a>>
     ensures value { MatchOption result (plain_query store.now body.now ≡ None)
-        (λ t. plain_query store.now body.now ≡ Some t.now) }
-    ensures few { IfSome result (λ t. length (offers_of t.now store.now) ≤ 100) }
+        (λ q. (plain_query store.now body.now ≡ Some q.service_type.now)
+        × (offers_of q.service_type.now store.now ≡ offers_found store.now.offers q)) }
+    ensures counted { IfSome result (λ q. IsCounted store.now.offers q) }
 {
     let mut reader = body.copied();
     match read_query(&mut reader) {
         Err(_) => None,
-        Ok(query) => plain_type(store, &query),
+        Ok(query) => found(store, &query),
     }
 }
 
-/// The service type of a query that is plain.
-fn plain_type<'a>(store: &FirstStore, query: &QueryBody<'a>) -> Option<&'a [u8]>
+/// What a query finds that is plain.
+fn found<'a>(store: &FirstStore, query: &QueryBody<'a>) -> Option<PlainQuery<'a>>
     ensures value { MatchOption result
         (asks_nothing_more (told query.now) && is_served store.now (told query.now) ≡ false)
-        (λ t. (asks_nothing_more (told query.now) && is_served store.now (told query.now) ≡ true)
-        × (t.now ≡ query.now.service_type.now)) }
-    ensures few { IfSome result (λ t. length (offers_of t.now store.now) ≤ 100) }
+        (λ q. (asks_nothing_more (told query.now) && is_served store.now (told query.now) ≡ true)
+        × (q.service_type.now ≡ query.now.service_type.now)
+        × (offers_of q.service_type.now store.now ≡ offers_found store.now.offers q)) }
+    ensures counted { IfSome result (λ q. IsCounted store.now.offers q) }
 {
-    if asks_nothing_more(query) && is_served(store, query) {
-        Some(query.service_type)
+    if asks_nothing_more(query) {
+        served(store, query)
     } else {
         None
     }
@@ -65,13 +78,41 @@ fn asks_nothing_more(query: &QueryBody) -> bool
         && query.desired == 0
 }
 
-/// Whether the service type is one of the store's, and its offers are no more than may be given.
-fn is_served(store: &FirstStore, query: &QueryBody) -> bool
-    ensures value { result ≡ is_served store.now (told query.now) }
-    ensures few { IsTrue result → length (offers_of query.now.service_type.now store.now) ≤ 100 }
+/// What a query's service type has, where it is one of the store's and its offers are no more than may be given.
+fn served<'a>(store: &FirstStore, query: &QueryBody<'a>) -> Option<PlainQuery<'a>>
+    ensures value { MatchOption result (is_served store.now (told query.now) ≡ false)
+        (λ q. (is_served store.now (told query.now) ≡ true) × (q.service_type.now ≡ query.now.service_type.now)
+        × (offers_of q.service_type.now store.now ≡ offers_found store.now.offers q)) }
+    ensures counted { IfSome result (λ q. IsCounted store.now.offers q) }
 {
-    store.types.incarnation_of(query.service_type).is_some()
-        && count_offers(store, query.service_type) <= query.how_many.min(MAX_LIST) as usize
+    match store.types.incarnation_of(query.service_type) {
+        None => None,
+        Some(incarnation) => counted(&store.offers, query, incarnation),
+    }
+}
+
+/// The offers of this incarnation of a query's service type, where they are no more than may be given.
+fn counted<'a>(
+    offers: &[FirstOffer],
+    query: &QueryBody<'a>,
+    incarnation: u64,
+) -> Option<PlainQuery<'a>>
+    ensures value { let found = filter (is_of query.now.service_type.now incarnation) offers.now in
+        MatchOption result (nat_le (length found) (min query.now.how_many max_list) ≡ false)
+        (λ q. (nat_le (length found) (min query.now.how_many max_list) ≡ true)
+        × (q.service_type.now ≡ query.now.service_type.now) × (q.incarnation ≡ incarnation)) }
+    ensures counted { IfSome result (λ q. IsCounted offers.now q) }
+{
+    let count = count_of(offers, query.service_type, incarnation);
+    if count <= query.how_many.min(MAX_LIST) as usize {
+        Some(PlainQuery {
+            service_type: query.service_type,
+            incarnation,
+            count: count as u32,
+        })
+    } else {
+        None
+    }
 }
 
 /// Reads a query's parameters.
