@@ -1,6 +1,6 @@
--- Whether a call on one type is accepted (interface CosTradingRepos::ServiceTypeRepository, remove_type, mask_type
--- and unmask_type).
-use Rattle.std.specs.Prelude.{◌≡◌, ℕ, List, IsOk, IsErr}
+-- Whether a call on one type is accepted (interface CosTradingRepos::ServiceTypeRepository, add_type, remove_type,
+-- mask_type and unmask_type).
+use Rattle.std.specs.Prelude.{◌≡◌, ℕ, List, IsOk, IsErr, Result, Ok, Err}
 use Rattle.td_types.specs.Calls.{Comes, refuse}
 use Rattle.td_types.specs.declared.fault.RepoFault.TheVariants as fault
 use Rattle.td_types.specs.declared.fault.TypesFault.{TypesFault}
@@ -23,3 +23,10 @@ abbrev pub IsRefusal : Comes → TypesFault → Type 0
 IsRefusal comes (User f) = comes ≡ refuse f
 IsRefusal comes Full = ⊥
 IsRefusal comes Memory = IsErr comes
+
+-- the call is accepted, or refused so; or memory was wanted, which says nothing
+abbrev pub Foretells : {X : Type 0} → Comes → Result X TypesFault → Type 0
+Foretells comes (Ok x) = IsOk comes
+Foretells comes (Err (User f)) = comes ≡ refuse f
+Foretells comes (Err Full) = comes ≡ Err Full
+Foretells comes (Err Memory) = Unit {0}

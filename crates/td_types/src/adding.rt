@@ -4,6 +4,7 @@ ghost use Rattle.std.specs.Prelude.{◌≡◌, ℕ, map, MatchResult};
 ghost use Rattle.td_types.specs.Added.{IsPrepared, IsMeasured};
 ghost use Rattle.td_types.specs.Calls.{Answers, add_type, add_fault};
 ghost use Rattle.td_types.specs.Judged.{Judges, AreKept, AreBases};
+ghost use Rattle.td_types.specs.Judgements.{Foretells};
 ghost use Rattle.td_types.specs.Kept.{repository, AreEntries};
 ghost use Rattle.td_types.specs.Repository.{IsRepository};
 
@@ -19,7 +20,7 @@ use crate::redefining::check_redefinitions;
 use crate::reply::TypesReply;
 use crate::types::Types;
 use std::alloc::Global;
-use td_cdr::{List, Text};
+use td_cdr::{List, Text, copy_four};
 use td_value::{PropStruct, TypeStruct, type_struct_size};
 
 /// How many types there are at most.
@@ -64,6 +65,36 @@ impl Types {
         self.entries.add(self.alloc, entry)?;
         self.last = incarnation;
         Ok(TypesReply::Added(incarnation))
+    }
+
+    /// Whether `add` is accepted. Nothing is added.
+    ///
+    /// # Errors
+    ///
+    /// As `add`.
+    pub fn judge_add(
+        &self,
+        alloc: Global,
+        name: &Text,
+        if_name: &Text,
+        props: &List<PropStruct>,
+        supers: &List<Text>,
+    ) -> Result<(), TypesFault>
+        ensures { Foretells (add_type self.now name.now if_name.now props.now supers.now) result }
+    {
+        let (name, (if_name, (props, supers))) = copy_four(alloc, name, if_name, props, supers)?;
+        let entry = prepared(
+            alloc,
+            &self.interfaces,
+            &self.entries,
+            self.last,
+            name,
+            if_name,
+            props,
+            supers,
+        )?;
+        drop(entry);
+        Ok(())
     }
 }
 
