@@ -6,7 +6,7 @@ use Rattle.std.specs.List.{filter, find, list_any}
 use Rattle.std.specs.Str.{bytes_eq}
 use Rattle.std.proofs.lemmas.Bool.{cases_Bool, or_left, or_right, or_cases, and_parts, and_from, eqb-true, eq-eqb}
 use Rattle.std.proofs.lemmas.Bool.{le-ltb, ne_eqb, false≢true}
-use Rattle.std.proofs.lemmas.List.{length_push, append_assoc, drop_more}
+use Rattle.std.proofs.lemmas.List.{length_push, append_assoc, drop_more, map-append}
 use Rattle.td_types.specs.Conforming.{conforms, subtypes, ancestors}
 use Rattle.td_types.specs.Laws.{Rises}
 use Rattle.td_types.specs.Repository.{type_named, incarnation_in, incarnation_of, has_type, is_named}
@@ -17,6 +17,7 @@ use Rattle.td_policy.specs.declared.attributes.Attributes.{Attributes}
 use Rattle.td_policy.specs.declared.stated.Stated.{Stated}
 use Rattle.td_store.specs.Candidates.{is_incarnation, belongs, is_exact, is_asked, has_asked_type, passes_proxy}
 use Rattle.td_store.specs.Candidates.{passes_dynamic, passes_modifiable, is_candidate, candidates, is_among, most_steps}
+use Rattle.td_store.specs.Candidates.{has_conforming_type}
 use Rattle.td_store.specs.OfferLists.{is_of}
 use Rattle.td_store.specs.Searches.{AreApart, only, searched}
 use Rattle.td_store.specs.declared.record.OfferRecord.{OfferRecord}
@@ -246,3 +247,47 @@ found-same types a s asked count exact offers shown chosen incarnations e x v h 
     ap (candidates types a s asked count)
     (h ∙ ap (λ (is : List ℕ). filter (is_among is) offers) (e ∙ ap (λ (b : Bool). searched types b asked) x))
     ∙ (same-candidates types a s asked count offers ∙ ap (candidates types a s asked count) v)
+
+-- ---- the offers whose type conforms
+
+with-conforming-type : (types : List ServiceType) (asked : List ℕ) (o : OfferRecord)
+    → has_conforming_type types asked o ≡ true → is_among (searched types false asked) o ≡ true
+with-conforming-type types asked o h =
+    let parts = and_parts (belongs types o) (conforms types o.service_type asked) h in
+    conforming-listed types asked o.service_type o.incarnation
+    (has-incarnation o.incarnation (incarnation_of types o.service_type) parts.0) parts.1
+
+pub conforming-same : (types : List ServiceType) (asked : List ℕ) (offers shown chosen : List OfferRecord)
+    (incarnations : List ℕ)
+    → incarnations ≡ searched types false asked → offers ≡ shown → chosen ≡ filter (is_among incarnations) offers
+    → filter (has_conforming_type types asked) chosen ≡ filter (has_conforming_type types asked) shown
+conforming-same types asked offers shown chosen incarnations e v h =
+    let test = has_conforming_type types asked in
+    ap (filter test) (h ∙ ap (λ (is : List ℕ). filter (is_among is) offers) e)
+    ∙ (filter-within test (is_among (searched types false asked)) (with-conforming-type types asked) offers
+    ∙ ap (filter test) v)
+
+-- a turn over references to what is kept or left out
+module _ {R X : Type 0} (now : R → X) (p : X → Bool) (rows : List R) (i : ℕ) (row : R) (found after : List R)
+    (at : row ≡ get_or rows i row) (within : i < length rows)
+    (so_far : map now found ++ filter p (map now (drop i rows)) ≡ filter p (map now rows)) where
+  abbrev left : List X
+  left = map now (drop (i + 1) rows)
+
+  with-row : map now found ++ filter p (now row ∷ left) ≡ filter p (map now rows)
+  with-row =
+      ap (λ (t : List R). map now found ++ filter p (map now t))
+      (sym (drop_more rows i row within ∙ ap (λ r. r ∷ drop (i + 1) rows) (sym at)))
+      ∙ so_far
+
+  pub turn-kept : p (now row) ≡ true → after ≡ found ++ row ∷ []
+      → map now after ++ filter p left ≡ filter p (map now rows)
+  turn-kept y e =
+      ap (λ (t : List X). t ++ filter p left) (ap (map now) e ∙ map-append now found (row ∷ []))
+      ∙ (append_assoc (map now found) (now row ∷ []) (filter p left)
+      ∙ (ap (λ (t : List X). map now found ++ t) (sym (filter-yes p (now row) left y)) ∙ with-row))
+
+  pub turn-left_out : p (now row) ≡ false → after ≡ found → map now after ++ filter p left ≡ filter p (map now rows)
+  turn-left_out n e =
+      ap (λ (t : List R). map now t ++ filter p left) e
+      ∙ (ap (λ (t : List X). map now found ++ t) (sym (filter-no p (now row) left n)) ∙ with-row)

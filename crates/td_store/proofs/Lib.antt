@@ -20,6 +20,7 @@ pub mod Putting
 pub mod Reading
 pub mod Sets
 pub mod Setting
+pub mod Shapes
 pub mod Taking
 pub mod Walking
 pub mod Wiring

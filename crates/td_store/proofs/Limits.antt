@@ -16,10 +16,14 @@ use Rattle.td_policy.specs.declared.stated.Stated.{Stated}
 use Rattle.td_types.specs.Conforming.{conforms}
 use Rattle.td_types.specs.Repository.{incarnation_of}
 use Rattle.td_types.specs.declared.entry.ServiceType.{ServiceType}
+use Rattle.td_value.specs.Enumerations.{follow_option}
+use Rattle.td_value.specs.declared.enumerations.FollowOption.{FollowOption}
+use Rattle.td_value.specs.declared.enumerations.FollowOption.TheVariants.{LocalOnly, IfNoLocal, Always}
 use Rattle.td_value.specs.declared.structures.Property.{Property}
 use Rattle.td_store.specs.Candidates.{belongs, is_exact, is_asked, is_dynamic, is_candidate, candidates}
-use Rattle.td_store.specs.Laws.{HasConformingType, IsPlain, has_conforming_type}
-use Rattle.td_store.specs.LinkLists.{most_links, link_of, is_linked, without_link}
+use Rattle.td_store.specs.Candidates.{has_conforming_type}
+use Rattle.td_store.specs.Laws.{HasConformingType, IsPlain}
+use Rattle.td_store.specs.LinkLists.{most_links, link_of, is_linked, ruled, without_link}
 use Rattle.td_store.specs.OfferLists.{most_offers, is_numbered, offer_of, without_offer, changed_offer, with_properties}
 use Rattle.td_store.specs.OfferLists.{NumbersRise}
 use Rattle.td_store.specs.Stores.{AdmitsLink, IsOffer, IsStore}
@@ -347,3 +351,54 @@ without-link s name valid =
       few_links = let l = few-left test s.links in let f = valid.few_links in omega (arith, l, f);
       attributes = valid.attributes;
     }
+
+-- ---- a link with other rules
+
+follow-admitted : (f : FollowOption) → follow_option.format.admits f
+follow-admitted LocalOnly = omega arith
+follow-admitted IfNoLocal = omega arith
+follow-admitted Always = omega arith
+
+ruled-admitted : (b : Bool) (d m : FollowOption) (l : LinkRecord) → AdmitsLink l
+    → AdmitsLink (cond b (record l { def_pass_on = d; limiting = m }) l)
+ruled-admitted true d m l h = record {
+  name = h.name;
+  info = (h.info.0, (h.info.1.0, (follow-admitted d, follow-admitted m)));
+}
+ruled-admitted false d m l h = h
+
+all-ruled : (name : List ℕ) (d m : FollowOption) (ls : List LinkRecord) → AllByRecursion AdmitsLink ls
+    → AllByRecursion AdmitsLink (map (ruled name d m) ls)
+all-ruled name d m [] h = tt
+all-ruled name d m (l ∷ ls) h = (ruled-admitted (is_linked name l) d m l h.0, all-ruled name d m ls h.1)
+
+same-name : (b : Bool) (d m : FollowOption) (l : LinkRecord)
+    → (cond b (record l { def_pass_on = d; limiting = m }) l).name ≡ l.name
+same-name true d m l = refl
+same-name false d m l = refl
+
+same-names : (name : List ℕ) (d m : FollowOption) (ls : List LinkRecord)
+    → map (λ l. l.name) (map (ruled name d m) ls) ≡ map (λ l. l.name) ls
+same-names name d m [] = refl
+same-names name d m (l ∷ ls) =
+    ap (λ (n : List ℕ). n ∷ map (λ l. l.name) (map (ruled name d m) ls)) (same-name (is_linked name l) d m l)
+    ∙ ap (λ (ns : List (List ℕ)). l.name ∷ ns) (same-names name d m ls)
+
+as-many : (name : List ℕ) (d m : FollowOption) (ls : List LinkRecord) → length (map (ruled name d m) ls) ≡ length ls
+as-many name d m [] = refl
+as-many name d m (l ∷ ls) = ap suc (as-many name d m ls)
+
+pub with-rules : (s : Store) (name : List ℕ) (d m : FollowOption) → IsStore s
+    → IsStore (record s { links = map (ruled name d m) s.links })
+with-rules s name d m valid = record {
+  types = valid.types;
+  types_writable = valid.types_writable;
+  offers = valid.offers;
+  offers_rise = valid.offers_rise;
+  offers_counted = valid.offers_counted;
+  few_offers = valid.few_offers;
+  links = all-ruled name d m s.links valid.links;
+  links_named = subst (IsDistinct bytes_eq) (sym (same-names name d m s.links)) valid.links_named;
+  few_links = let f = valid.few_links in let l = as-many name d m s.links in omega (arith, f, l);
+  attributes = valid.attributes;
+}

@@ -8,9 +8,10 @@ use Rattle.std.specs.Str.{bytes_eq}
 use Rattle.std.proofs.lemmas.Bool.{cases_Bool}
 use Rattle.std.proofs.lemmas.List.{map-append}
 use Rattle.std.proofs.lemmas.Map.Keys.{IsDistinct-head, IsDistinct-tail}
+use Rattle.td_value.specs.declared.enumerations.FollowOption.{FollowOption}
 use Rattle.td_store.specs.declared.record.LinkRecord.{LinkRecord}
 use Rattle.td_store.specs.LinkNames.{same_key}
-use Rattle.td_store.specs.LinkLists.{is_linked, link_of, without_link}
+use Rattle.td_store.specs.LinkLists.{is_linked, link_of, without_link, ruled}
 use Rattle.td_types.proofs.Equal.{bytes_same, bytes_eq-sym}
 
 abbrev pub Pairs : Type 0
@@ -90,3 +91,64 @@ names_removed (p ∷ pairs) name h =
       | inl here ↦ rw here h.1
       | inr other ↦ rw other (h.0, names_removed pairs name h.1)
     ]
+
+-- ---- other rules
+
+abbrev pub rule_so : (def_pass_on limiting : FollowOption) → LinkRecord → LinkRecord
+rule_so d m l = record l { def_pass_on = d; limiting = m }
+
+some_same : {X : Type 0} (x y : X) → ◌≡◌ {A = Option X} (Some x) (Some y) → x ≡ y
+some_same x y h = cc
+
+module _ (name : List ℕ) (d m : FollowOption) where
+  unruled_apart : (key : Vec ℕ Global) (pairs : Pairs) → HaveNames pairs
+      → AllByRecursion (λ k. same_key key k ≡ false) (keys_of pairs) → name ≡ key.items
+      → map (ruled name d m) (values_of pairs) ≡ values_of pairs
+  unruled_apart key [] h a same = refl
+  unruled_apart key (p ∷ pairs) h a same =
+      let other : is_linked name p.1 ≡ false =
+      sym (key_is name p.0 p.1 h.0) ∙ (ap (λ (n : List ℕ). bytes_eq n p.0.items) same ∙ a.0) in
+      rw other (ap (λ (es : List LinkRecord). p.1 ∷ es) (unruled_apart key pairs h.1 a.1 same))
+
+  pub rules_set : (pairs : Pairs) (e : LinkRecord) → HaveNames pairs → IsDistinct same_key (keys_of pairs)
+      → lookup (is_key name) pairs ≡ Some e
+      → values_of (set_value (is_key name) pairs (rule_so d m e)) ≡ map (ruled name d m) (values_of pairs)
+  rules_set [] e h a f = refl
+  rules_set (p ∷ pairs) e h a f =
+      let k = key_is name p.0 p.1 h.0 in
+      elim (cases_Bool (is_key name p.0)) [
+        | inl here ↦
+            let named : is_linked name p.1 ≡ true = sym k ∙ here in
+            let same : p.1 ≡ e = some_same p.1 e (rw here at f) in
+            rw (here, named, same)
+            (ap (λ (es : List LinkRecord). rule_so d m e ∷ es)
+            (sym (unruled_apart p.0 pairs h.1 (IsDistinct-head same_key p.0 (keys_of pairs) a)
+            (bytes_same name p.0.items here))))
+        | inr other ↦
+            let unnamed : is_linked name p.1 ≡ false = sym k ∙ other in
+            rw (other, unnamed) (ap (λ (es : List LinkRecord). p.1 ∷ es)
+            (rules_set pairs e h.1 (IsDistinct-tail same_key p.0 (keys_of pairs) a) (rw other at f)))
+      ]
+
+  pub nothing_ruled : (pairs : Pairs) → HaveNames pairs → lookup (is_key name) pairs ≡ None
+      → map (ruled name d m) (values_of pairs) ≡ values_of pairs
+  nothing_ruled [] h f = refl
+  nothing_ruled (p ∷ pairs) h f =
+      let k = key_is name p.0 p.1 h.0 in
+      elim (cases_Bool (is_key name p.0)) [
+        | inl here ↦ let bad : Some p.1 ≡ None = (rw here at f) in absurd (let no_way : ⊥ = cc in no_way)
+        | inr other ↦
+            let unnamed : is_linked name p.1 ≡ false = sym k ∙ other in
+            rw unnamed (ap (λ (es : List LinkRecord). p.1 ∷ es) (nothing_ruled pairs h.1 (rw other at f)))
+      ]
+
+  pub names_ruled : (pairs : Pairs) (e : LinkRecord) → HaveNames pairs → lookup (is_key name) pairs ≡ Some e
+      → HaveNames (set_value (is_key name) pairs (rule_so d m e))
+  names_ruled [] e h f = tt
+  names_ruled (p ∷ pairs) e h f =
+      elim (cases_Bool (is_key name p.0)) [
+        | inl here ↦
+            let same : p.1 ≡ e = some_same p.1 e (rw here at f) in
+            rw here (h.0 ∙ ap (λ (x : LinkRecord). x.name) same, h.1)
+        | inr other ↦ rw other (h.0, names_ruled pairs e h.1 (rw other at f))
+      ]

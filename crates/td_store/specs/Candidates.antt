@@ -42,6 +42,10 @@ is_asked types exact asked name = if exact then bytes_eq name asked else conform
 abbrev pub has_asked_type : List ServiceType → Stated → (asked : List ℕ) → OfferRecord → Bool
 has_asked_type types s asked o = belongs types o && is_asked types (is_exact s) asked o.service_type
 
+-- the offer belongs to a type, and this conforms to the asked one
+abbrev pub has_conforming_type : List ServiceType → (asked : List ℕ) → OfferRecord → Bool
+has_conforming_type types asked o = belongs types o && conforms types o.service_type asked
+
 -- ---- what else leaves it out
 
 -- a policy on what is used, TRUE where it isn't stated

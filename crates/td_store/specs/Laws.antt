@@ -1,5 +1,5 @@
 -- What holds of the offers that a query searches (OMG's Trading Object Service, "Lookup Interface", query).
-use Rattle.std.specs.Prelude.{◌≡◌, ℕ, Bool, false, ◌&&◌, IsTrue, List, None}
+use Rattle.std.specs.Prelude.{◌≡◌, ℕ, false, IsTrue, List, None}
 use Rattle.std.specs.List.{list_any}
 use Rattle.td_types.specs.Conforming.{conforms}
 use Rattle.td_types.specs.declared.entry.ServiceType.{ServiceType}
@@ -10,9 +10,6 @@ use Rattle.td_store.specs.declared.record.OfferRecord.{OfferRecord}
 pub record HasConformingType (types : List ServiceType) (asked : List ℕ) (o : OfferRecord) : Type 0 where
   pub present : IsTrue (belongs types o)
   pub conforming : IsTrue (conforms types o.service_type asked)
-
-abbrev pub has_conforming_type : List ServiceType → (asked : List ℕ) → OfferRecord → Bool
-has_conforming_type types asked o = belongs types o && conforms types o.service_type asked
 
 -- an ordinary offer without dynamic properties
 pub record IsPlain (o : OfferRecord) : Type 0 where

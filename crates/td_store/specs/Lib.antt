@@ -1,4 +1,5 @@
 pub mod Candidates
+pub mod Examples
 pub mod Homes
 pub mod Kept
 pub mod Laws

@@ -2,8 +2,9 @@
 
 ghost use Rattle.std.specs.Prelude.{◌≡◌};
 ghost use Rattle.std.specs.List.{list_any, list_all};
-ghost use Rattle.td_store.specs.Candidates.{belongs, has_asked_type, is_asked, is_candidate, is_dynamic, is_exact};
-ghost use Rattle.td_store.specs.Candidates.{is_fixed, mode_of, passes_dynamic, passes_modifiable, passes_proxy, uses};
+ghost use Rattle.td_store.specs.Candidates.{belongs, has_asked_type, has_conforming_type, is_asked, is_candidate};
+ghost use Rattle.td_store.specs.Candidates.{is_dynamic, is_exact, is_fixed, mode_of, passes_dynamic};
+ghost use Rattle.td_store.specs.Candidates.{passes_modifiable, passes_proxy, uses};
 ghost use Rattle.td_types.specs.Modes.{is_readonly};
 
 use crate::record::OfferRecord;
@@ -31,6 +32,13 @@ pub fn mode_of(types: &Types, type_name: &[u8], name: &[u8]) -> PropertyMode
         None => PropertyMode::Normal,
         Some(property) => property.mode,
     }
+}
+
+/// Whether the offer belongs to a type, and this conforms to the asked one.
+pub(crate) fn has_conforming_type(types: &Types, asked: &Text, offer: &OfferRecord) -> bool
+    ensures { result ≡ has_conforming_type types.now.types asked.now offer.now }
+{
+    belongs(types, offer) && types.conforms(&offer.service_type, asked)
 }
 
 /// Whether a query for a type searches an offer.

@@ -1,15 +1,19 @@
 //! What holds of offers, links and stores, as functions that do nothing: each one's contract is the law.
 
-ghost use Rattle.std.specs.Prelude.{◌≡◌, ℕ, ◌<◌, List, [], ◌∷◌, ◌++◌, Some, None, IsTrue, length, filter};
+ghost use Rattle.std.specs.Prelude.{◌≡◌, ℕ, ◌<◌, true, false, codes, List, [], ◌∷◌, ◌++◌, Some, None};
+ghost use Rattle.std.specs.Prelude.{length, map, filter};
 ghost use Rattle.std.specs.List.{AllByRecursion};
 ghost use Rattle.td_policy.specs.Stated.{nothing};
 ghost use Rattle.td_policy.specs.declared.attributes.Attributes.{Attributes};
 ghost use Rattle.td_policy.specs.declared.stated.Stated.{Stated};
 ghost use Rattle.td_types.specs.declared.entry.ServiceType.{ServiceType};
+ghost use Rattle.td_value.specs.declared.enumerations.FollowOption.{FollowOption};
 ghost use Rattle.td_value.specs.declared.structures.Property.{Property};
-ghost use Rattle.td_store.specs.Candidates.{candidates};
-ghost use Rattle.td_store.specs.Laws.{HasConformingType, IsPlain, has_conforming_type};
-ghost use Rattle.td_store.specs.LinkLists.{most_links, link_of, without_link};
+ghost use Rattle.td_store.specs.Candidates.{candidates, has_conforming_type};
+ghost use Rattle.td_store.specs.Examples.{device, dynamic_used, exactly, found, modifiable_used, printer};
+ghost use Rattle.td_store.specs.Examples.{printer_masked, printer_renewed, proxies_used, scanner, types, usual};
+ghost use Rattle.td_store.specs.Laws.{HasConformingType, IsPlain};
+ghost use Rattle.td_store.specs.LinkLists.{most_links, link_of, ruled, without_link};
 ghost use Rattle.td_store.specs.OfferLists.{most_offers, offer_of, without_offer, with_properties, NumbersRise};
 ghost use Rattle.td_store.specs.Stores.{AdmitsLink, IsOffer, IsStore};
 ghost use Rattle.td_store.specs.declared.record.LinkRecord.{LinkRecord};
@@ -52,7 +56,8 @@ pub fn removing_leaves_the_others()
 {}
 
 /// A store stays within its limits, and can be written: with one more offer of a new number, with one
-/// removed, with other properties of one, with one more link of a new name, and with one removed.
+/// removed, with other properties of one, with one more link of a new name, with one removed, and with
+/// other rules of one.
 pub fn stores_stay_valid()
     ensures insert { (s : Store) (o : OfferRecord) → IsStore s → IsOffer o → s.last_offer < o.number
         → length s.offers < most_offers →
@@ -67,4 +72,38 @@ pub fn stores_stay_valid()
         IsStore (record s { links = s.links ++ l ∷ [] }) }
     ensures remove_link { (s : Store) (name : List ℕ) → IsStore s
         → IsStore (record s { links = without_link name s.links }) }
+    ensures set_rules { (s : Store) (name : List ℕ) (def_pass_on limiting : FollowOption) → IsStore s
+        → IsStore (record s { links = map (ruled name def_pass_on limiting) s.links }) }
+{}
+
+/// Worked examples over the types Device, Printer below it, and Scanner, with six offers: 1 is of Device,
+/// 2 to 5 are of Printer and 6 is of Scanner; 3 is a proxy offer, 4 has a dynamic property and a property
+/// of mode normal, 5 has one of mode normal too.
+pub fn worked_examples()
+    ensures nothing_stated { found types usual nothing device 9 ≡ 1 ∷ 2 ∷ 3 ∷ 4 ∷ 5 ∷ [] }
+    ensures sub_type { found types usual nothing printer 9 ≡ 2 ∷ 3 ∷ 4 ∷ 5 ∷ [] }
+    ensures unrelated { found types usual nothing scanner 9 ≡ 6 ∷ [] }
+    ensures unknown { found types usual nothing (codes "Plotter") 9 ≡ [] }
+    ensures exact { found types usual (exactly true) device 9 ≡ 1 ∷ [] }
+    ensures not_exact { found types usual (exactly false) device 9 ≡ 1 ∷ 2 ∷ 3 ∷ 4 ∷ 5 ∷ [] }
+    ensures proxies { found types usual (proxies_used true) device 9 ≡ 1 ∷ 2 ∷ 3 ∷ 4 ∷ 5 ∷ [] }
+    ensures no_proxies { found types usual (proxies_used false) device 9 ≡ 1 ∷ 2 ∷ 4 ∷ 5 ∷ [] }
+    ensures proxies_unsupported { found types (record usual { supports_proxy_offers = false }) nothing device 9
+        ≡ 1 ∷ 2 ∷ 4 ∷ 5 ∷ [] }
+    ensures dynamic { found types usual (dynamic_used true) device 9 ≡ 1 ∷ 2 ∷ 3 ∷ 4 ∷ 5 ∷ [] }
+    ensures no_dynamic { found types usual (dynamic_used false) device 9 ≡ 1 ∷ 2 ∷ 3 ∷ 5 ∷ [] }
+    ensures dynamic_unsupported { found types (record usual { supports_dynamic_properties = false }) nothing device 9
+        ≡ 1 ∷ 2 ∷ 3 ∷ 5 ∷ [] }
+    ensures modifiable { found types usual (modifiable_used true) device 9 ≡ 1 ∷ 2 ∷ 3 ∷ 4 ∷ 5 ∷ [] }
+    ensures no_modifiable { found types usual (modifiable_used false) device 9 ≡ 1 ∷ 2 ∷ 3 ∷ [] }
+    ensures modifiable_unsupported { found types (record usual { supports_modifiable_properties = false })
+        (modifiable_used false) device 9
+        ≡ 1 ∷ 2 ∷ 3 ∷ 4 ∷ 5 ∷ [] }
+    ensures cut { found types usual nothing device 4 ≡ 1 ∷ 2 ∷ 3 ∷ 4 ∷ [] }
+    ensures cut_when_found { found types usual (proxies_used false) printer 2 ≡ 2 ∷ 4 ∷ [] }
+    ensures none { found types usual nothing device 0 ≡ [] }
+    ensures masked { found printer_masked usual nothing printer 9 ≡ 2 ∷ 3 ∷ 4 ∷ 5 ∷ [] }
+    ensures renewed { found printer_renewed usual nothing printer 9 ≡ [] }
+    ensures renewed_exact { found printer_renewed usual (exactly true) printer 9 ≡ [] }
+    ensures renewed_above { found printer_renewed usual nothing device 9 ≡ 1 ∷ [] }
 {}

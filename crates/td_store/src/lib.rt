@@ -24,7 +24,7 @@ pub use condition::{belongs, mode_of};
 pub use fault::StoreFault;
 pub use laws::{
     candidates_conform, numbers_rise, plain_offers_are_searched, removing_leaves_the_others,
-    stores_stay_valid,
+    stores_stay_valid, worked_examples,
 };
 pub use links::Links;
 pub use local::Local;

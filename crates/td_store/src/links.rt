@@ -1,7 +1,7 @@
 //! The links of a trader.
 
 ghost use Rattle.std.specs.Prelude.{◌≡◌, [], ◌∷◌, ◌++◌, Ok, None, length, map, IfOk, OnOk, OnErr, option_copied};
-ghost use Rattle.td_store.specs.LinkLists.{most_links, link_of, without_link};
+ghost use Rattle.td_store.specs.LinkLists.{most_links, link_of, ruled, without_link};
 ghost use Rattle.td_store.specs.OfferLists.{IsLimited};
 
 use crate::fault::StoreFault;
@@ -10,6 +10,7 @@ use indexmap::IndexMap;
 use std::alloc::Global;
 use std::marker::Model;
 use td_cdr::{List, Memory, Text, Twin};
+use td_value::FollowOption;
 
 /// How many links there are at most.
 const MOST_LINKS: usize = 1024;
@@ -76,6 +77,16 @@ impl Links {
         self.named.shift_remove(name.as_slice())
     }
 
+    /// Gives the link of a name other rules, in its place, if there is one. Takes no memory.
+    pub fn set_rules(&mut self, name: &Text, def_pass_on: FollowOption, limiting: FollowOption)
+        ensures { self.new ≡ map (ruled name.now def_pass_on limiting) self.old }
+    {
+        if let Some(link) = self.named.get_mut(name.as_slice()) {
+            link.def_pass_on = def_pass_on;
+            link.limiting = limiting;
+        }
+    }
+
     /// The link of a name. Takes no memory.
     pub fn get(&self, name: &Text) -> Option<&LinkRecord>
         ensures { option_copied result ≡ link_of self.now name.now }
@@ -93,6 +104,17 @@ impl Links {
     {
         names_of(alloc, self.named.values().as_slice())
     }
+
+    /// Copies of the links, in the order of adding.
+    ///
+    /// # Errors
+    ///
+    /// `Memory` for want of memory alone.
+    pub fn records(&self, alloc: Global) -> Result<List<LinkRecord>, Memory>
+        ensures { IfOk result (λ links. links ≡ self.now) }
+    {
+        records_of(alloc, self.named.values().as_slice())
+    }
 }
 
 /// The names of these links.
@@ -108,4 +130,19 @@ fn names_of(alloc: Global, links: &[LinkRecord]) -> Result<List<Text>, Memory>
         names.push(link.name.copy(alloc)?)?;
     }
     Ok(names)
+}
+
+/// Copies of these links.
+///
+/// # Errors
+///
+/// `Memory` for want of memory alone.
+fn records_of(alloc: Global, links: &[LinkRecord]) -> Result<List<LinkRecord>, Memory>
+    ensures { IfOk result (λ records. records ≡ links.now) }
+{
+    let mut records = List::new(alloc);
+    for link in links {
+        records.push(link.copy(alloc)?)?;
+    }
+    Ok(records)
 }

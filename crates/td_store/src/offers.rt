@@ -3,10 +3,10 @@
 ghost use Rattle.std.specs.Prelude.{◌≡◌, ◌<◌, ◌≤◌, ◌+◌, [], ◌∷◌, ◌++◌, length, map, filter, is_some, IfOk, OnOk, OnErr};
 ghost use Rattle.std.specs.Prelude.{option_copied};
 ghost use Rattle.std.specs.List.{AllByRecursion};
-ghost use Rattle.td_store.specs.Candidates.{candidates, most_steps};
+ghost use Rattle.td_store.specs.Candidates.{candidates, has_conforming_type, most_steps};
 ghost use Rattle.td_store.specs.Homes.{kind_chain};
 ghost use Rattle.td_store.specs.OfferLists.{most_offers, IsLimited, offer_of, without_offer, with_properties};
-ghost use Rattle.td_store.specs.OfferLists.{is_of_kind};
+ghost use Rattle.td_store.specs.OfferLists.{is_of_kind, NumbersRise};
 
 use crate::condition::is_exact;
 use crate::fault::StoreFault;
@@ -14,7 +14,7 @@ use crate::gathering::numbers_on;
 use crate::inserting::{chain_for, put_offer};
 use crate::looking::{change_properties, look};
 use crate::record::OfferRecord;
-use crate::search::{candidates, conforming, searched};
+use crate::search::{candidates, conforming, of_conforming_types, searched};
 use crate::slab::Slab;
 use crate::steps::Steps;
 use std::alloc::Global;
@@ -80,6 +80,14 @@ impl Offers {
             ordinary,
             proxies,
         })
+    }
+
+    /// How many offers there are. Their numbers rise.
+    pub fn len(&self) -> usize
+        ensures count { result ≡ length self.now }
+        ensures rise { NumbersRise self.now }
+    {
+        self.numbers.len()
     }
 
     /// Adds an offer, whose number is above all others.
@@ -176,6 +184,34 @@ impl Offers {
             count,
             offers.as_slice(),
         )
+    }
+
+    /// The offers whose type conforms to the asked one, by rising number, proxy offers among them. It walks
+    /// the chains that a query for this type walks.
+    ///
+    /// # Errors
+    ///
+    /// `Memory` for want of memory alone.
+    pub fn conforming<'a, L: Ledger>(
+        &'a self,
+        alloc: Global,
+        types: &Types,
+        asked: &Text,
+        steps: &mut Steps<L>,
+    ) -> Result<Vec<&'a OfferRecord>, Memory>
+        ensures found { IfOk result (λ v. map (λ o. o.now) v.items
+            ≡ filter (has_conforming_type types.now.types asked.now) self.now) }
+        ensures steps { steps.new ≤ steps.old + most_steps types.now.types asked.now self.now }
+    {
+        let incarnations = searched(alloc, types, false, asked)?;
+        let offers = conforming(
+            alloc,
+            &self.slab,
+            &self.chains,
+            incarnations.as_slice(),
+            steps,
+        )?;
+        of_conforming_types(alloc, types, asked, offers.as_slice())
     }
 
     /// The numbers of the ordinary offers or of the proxy offers, rising.

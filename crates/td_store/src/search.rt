@@ -1,11 +1,11 @@
 //! The offers that a query searches.
 
 ghost use Rattle.std.specs.Prelude.{◌≡◌, ◌+◌, ◌≤◌, List as Row, filter, length, map, IfOk};
-ghost use Rattle.td_store.specs.Candidates.{candidates, is_among};
+ghost use Rattle.td_store.specs.Candidates.{candidates, has_conforming_type, is_among};
 ghost use Rattle.td_store.specs.Searches.{AreApart, AreChained, only, searched};
 ghost use Rattle.td_store.specs.declared.record.OfferRecord.{OfferRecord as an_offer};
 
-use crate::condition::is_candidate;
+use crate::condition::{has_conforming_type, is_candidate};
 use crate::gathering::gather_all;
 use crate::record::OfferRecord;
 use crate::slab::Slab;
@@ -102,6 +102,29 @@ pub(crate) fn candidates(
         }
         if is_candidate(types, attributes, stated, asked, offer) {
             found.push(offer.copy(alloc)?)?;
+        }
+    }
+    Ok(found)
+}
+
+/// Those of these offers whose type conforms to the asked one.
+///
+/// # Errors
+///
+/// `Memory` for want of memory alone.
+pub(crate) fn of_conforming_types<'a>(
+    alloc: Global,
+    types: &Types,
+    asked: &Text,
+    offers: &[&'a OfferRecord],
+) -> Result<Vec<&'a OfferRecord>, Memory>
+    ensures { IfOk result (λ v. map (λ o. o.now) v.items
+        ≡ filter (has_conforming_type types.now.types asked.now) (map (λ r. r.now) offers.now)) }
+{
+    let mut found = Vec::new(alloc);
+    for offer in offers {
+        if has_conforming_type(types, asked, offer) {
+            found.push(*offer)?;
         }
     }
     Ok(found)

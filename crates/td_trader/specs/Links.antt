@@ -13,7 +13,7 @@ use Rattle.td_value.specs.declared.enumerations.FollowOption.{FollowOption}
 use Rattle.td_ops.specs.declared.outcome.Outcome.{Outcome}
 use Rattle.td_ops.specs.declared.outcome.Outcome.TheVariants.{Done}
 use Rattle.td_ops.specs.declared.outcome.Reply.TheVariants as reply
-use Rattle.td_store.specs.LinkLists.{is_linked, link_of, without_link, most_links}
+use Rattle.td_store.specs.LinkLists.{link_of, without_link, ruled, most_links}
 use Rattle.td_store.specs.Stores.{link_info_of}
 use Rattle.td_store.specs.declared.record.LinkRecord.{LinkRecord}
 use Rattle.td_trader.specs.Causes.{Cause, Found, Comes, raise, raise_if, limit_if, ◌otherwise◌, there, given, tells}
@@ -78,11 +78,6 @@ remove_link s name = unless (remove_link_cause s name) reply.Nothing (record s {
 abbrev pub modify_link_cause : Store → List ℕ → (def_pass_on limiting : FollowOption) → Cause
 modify_link_cause s name def_pass_on limiting =
     given (linked s.links name) (λ l. rules_cause s.attributes.max_link_follow_policy def_pass_on limiting)
-
--- the link in its place, with other rules
-abbrev pub ruled : List ℕ → (def_pass_on limiting : FollowOption) → LinkRecord → LinkRecord
-ruled name def_pass_on limiting l =
-    if is_linked name l then record l { def_pass_on = def_pass_on; limiting = limiting } else l
 
 unfoldable pub modify_link : Store → List ℕ → (def_pass_on limiting : FollowOption) → Comes
 modify_link s name def_pass_on limiting =

@@ -1,4 +1,4 @@
-use Rattle.td_store.proofs.Limits.{with-offer, without-offer, with-changed, with-link, without-link}
+use Rattle.td_store.proofs.Limits.{with-offer, without-offer, with-changed, with-link, without-link, with-rules}
 use Rattle.td_store.proofs.laws.stores_stay_valid.Goals as goal
 
 pub returns-clause-insert : goal.returns-clause-insert
@@ -15,3 +15,6 @@ returns-clause-add_link c = with-link
 
 pub returns-clause-remove_link : goal.returns-clause-remove_link
 returns-clause-remove_link c = without-link
+
+pub returns-clause-set_rules : goal.returns-clause-set_rules
+returns-clause-set_rules c = with-rules
