@@ -44,6 +44,55 @@ fn removing(rt: HostRuntime) -> Result<(), Fail> {
     Ok(())
 }
 
+/// A link's rules change in its place, and no other link's.
+#[test]
+fn other_rules(rt: HostRuntime) -> Result<(), Fail> {
+    let alloc = rt.alloc();
+    assert!(rt; sets_rules(alloc).or(Err("no links"))?);
+    Ok(())
+}
+
+fn sets_rules(alloc: Global) -> Result<bool, StoreFault> {
+    let mut links = Links::new(alloc)?;
+    let set = are_set(alloc, &mut links);
+    drop(links);
+    set
+}
+
+fn are_set(alloc: Global, links: &mut Links) -> Result<bool, StoreFault> {
+    let first = name(alloc, 0)?;
+    let second = name(alloc, 1)?;
+    if !add(alloc, links, &first)? || !add(alloc, links, &second)? {
+        return Ok(false);
+    }
+    links.set_rules(&first, FollowOption::LocalOnly, FollowOption::IfNoLocal);
+    Ok(
+        has_rules(
+            links,
+            &first,
+            FollowOption::LocalOnly,
+            FollowOption::IfNoLocal,
+        ) && has_rules(
+            links,
+            &second,
+            FollowOption::IfNoLocal,
+            FollowOption::Always,
+        ) && place_of(alloc, links, 0)? == Some(0),
+    )
+}
+
+fn has_rules(
+    links: &Links,
+    name: &Text,
+    def_pass_on: FollowOption,
+    limiting: FollowOption,
+) -> bool {
+    match links.get(name) {
+        None => false,
+        Some(link) => link.def_pass_on == def_pass_on && link.limiting == limiting,
+    }
+}
+
 #[test]
 fn copies(rt: HostRuntime) -> Result<(), Fail> {
     let alloc = rt.alloc();

@@ -1,6 +1,6 @@
 //! Offers by their numbers.
 
-use crate::support::{offer, offers_of, properties};
+use crate::support::{offer, offers_of, properties, removes};
 use std::process::Abort;
 use std::test::Fail;
 use td_cdr::{List, Twin};
@@ -28,8 +28,8 @@ fn ids_of_both_kinds(rt: HostRuntime) -> Result<(), Fail> {
 fn removing_from_the_middle(rt: HostRuntime) -> Result<(), Fail> {
     let alloc = rt.alloc();
     let mut offers = offers_of(alloc, &OFFERS).or(Err("no offers"))?;
-    assert!(rt; is_removed(&mut offers, 2));
-    assert!(rt; !is_removed(&mut offers, 2));
+    assert!(rt; removes(&mut offers, 2));
+    assert!(rt; !removes(&mut offers, 2));
     assert!(rt; are(&offers.ids(alloc, false)?, &[1, 4]));
     assert!(rt; are(&offers.ids(alloc, true)?, &[3, 5]));
     assert!(rt; has_properties(&offers, 4, 2) && has_properties(&offers, 1, 1));
@@ -41,7 +41,7 @@ fn removing_from_the_middle(rt: HostRuntime) -> Result<(), Fail> {
 fn removing_the_last(rt: HostRuntime) -> Result<(), Fail> {
     let alloc = rt.alloc();
     let mut offers = offers_of(alloc, &OFFERS).or(Err("no offers"))?;
-    assert!(rt; is_removed(&mut offers, 5) && is_removed(&mut offers, 3));
+    assert!(rt; removes(&mut offers, 5) && removes(&mut offers, 3));
     assert!(rt; offers.ids(alloc, true)?.is_empty());
     assert!(rt; are(&offers.ids(alloc, false)?, &[1, 2, 4]));
     Ok(())
@@ -77,13 +77,6 @@ fn is_alike(offer: &OfferRecord, proxy: bool) -> bool {
         && offer.incarnation == 3
         && offer.properties.len() == 1
         && offer.proxy.is_some() == proxy
-}
-
-fn is_removed(offers: &mut Offers, number: u32) -> bool {
-    match offers.remove(number) {
-        None => false,
-        Some(offer) => offer.number == number,
-    }
 }
 
 /// Whether the offer of a number has so many properties.

@@ -1,7 +1,9 @@
 //! Offers, links and types from words.
 
-ghost use Rattle.std.specs.Prelude.{◌≡◌, ◌<◌, ◌+◌, [], ◌∷◌, ◌++◌, length, map, IfOk, OnOk};
+ghost use Rattle.std.specs.Prelude.{◌≡◌, ℕ, ◌<◌, ◌+◌, List as Row, filter, length, IfOk, OnOk};
 ghost use Rattle.std.specs.List.{AllByRecursion};
+ghost use Rattle.td_store.specs.Candidates.{is_among};
+ghost use Rattle.td_store_tests.specs.Counting.{count_among};
 
 use std::alloc::Global;
 use td_cdr::{List, Memory, Text};
@@ -25,6 +27,10 @@ pub(crate) fn types(alloc: Global) -> Result<Types, TypesFault> {
         add_type(alloc, &mut types, name, base, properties)?;
     }
     Ok(types)
+}
+
+pub(crate) fn made_types(alloc: Global) -> Result<Types, Memory> {
+    types(alloc).or(Err(Memory))
 }
 
 /// Adds a type.
@@ -201,8 +207,8 @@ pub(crate) fn append(
 ) -> Result<(), StoreFault>
     requires above { AllByRecursion (λ o. o.number < number) offers.old }
     ensures below { OnOk result (AllByRecursion (λ o. o.number < number + 1) offers.new) }
-    ensures incarnations { OnOk result (map (λ o. o.incarnation) offers.new
-        ≡ map (λ o. o.incarnation) offers.old ++ incarnation ∷ []) }
+    ensures among { OnOk result ((types : Row ℕ) → length (filter (is_among types) offers.new)
+        ≡ length (filter (is_among types) offers.old) + count_among types incarnation) }
 {
     let offer = offer(alloc, number, service_type, incarnation, words)?;
     offers.insert(offer)
@@ -226,6 +232,20 @@ pub(crate) fn offers_of(alloc: Global, rows: &[(&str, u64, &str)]) -> Result<Off
         )?;
     }
     Ok(offers)
+}
+
+pub(crate) fn made_offers(alloc: Global, rows: &[(&str, u64, &str)]) -> Result<Offers, Memory>
+    requires { length rows.now < 100 }
+{
+    offers_of(alloc, rows).or(Err(Memory))
+}
+
+/// Whether an offer of a number is removed.
+pub(crate) fn removes(offers: &mut Offers, number: u32) -> bool {
+    match offers.remove(number) {
+        None => false,
+        Some(offer) => offer.number == number,
+    }
 }
 
 /// A reference with this id and no profiles.

@@ -1,0 +1,159 @@
+//! A query reads the offers of the types that conform, and no others.
+
+ghost use Rattle.std.specs.Prelude.{◌≡◌, ◌<◌, ◌≤◌, ◌+◌, [], ◌∷◌, filter, length, IsTrue, IfOk};
+ghost use Rattle.std.specs.List.{AllByRecursion};
+ghost use Rattle.td_store.specs.Candidates.{is_among};
+ghost use Rattle.td_types.specs.Conforming.{subtypes};
+
+use crate::support::{append, attributes, made_types, text};
+use std::alloc::Global;
+use std::marker::Brand;
+use std::process::Abort;
+use std::sync::ledger::{Blank, Ledger};
+use std::test::Fail;
+use td_cdr::{Memory, Text};
+use td_policy::{Attributes, Stated};
+use td_store::{Offers, Steps, StoreFault};
+use td_types::Types;
+
+/// Over 1,000 offers of Device, one of Printer and two of Laser, a query for Printer finds three and
+/// takes at most five steps.
+#[test]
+fn a_query_for_printers(rt: HostRuntime) -> Result<(), Fail> {
+    let alloc = rt.alloc();
+    assert!(rt; finds_printers(alloc)?);
+    Ok(())
+}
+
+fn finds_printers(alloc: Global) -> Result<bool, Memory> {
+    let types = made_types(alloc)?;
+    let found = finds_over(alloc, &types);
+    drop(types);
+    found
+}
+
+fn finds_over(alloc: Global, types: &Types) -> Result<bool, Memory> {
+    let offers = mostly_devices(alloc).or(Err(Memory))?;
+    let found = finds_among(alloc, types, &offers);
+    drop(offers);
+    found
+}
+
+fn finds_among(alloc: Global, types: &Types, offers: &Offers) -> Result<bool, Memory>
+    requires { length (filter (is_among (2 ∷ 3 ∷ [])) offers.now) ≤ 3 }
+{
+    let attributes = attributes(alloc)?;
+    let found = query(alloc, types, offers, &attributes);
+    drop(attributes);
+    found
+}
+
+/// The query on a counter of its own.
+fn query(
+    alloc: Global,
+    types: &Types,
+    offers: &Offers,
+    attributes: &Attributes,
+) -> Result<bool, Memory>
+    requires { length (filter (is_among (2 ∷ 3 ∷ [])) offers.now) ≤ 3 }
+{
+    counted::<Brand>(alloc, types, offers, attributes, Blank::new(1))
+}
+
+fn counted<L: Ledger>(
+    alloc: Global,
+    types: &Types,
+    offers: &Offers,
+    attributes: &Attributes,
+    blank: Blank,
+) -> Result<bool, Memory>
+    requires name { blank.name ≡ L.name }
+    requires parts { blank.parts ≡ L.parts }
+    requires one { L.parts ≡ 1 }
+    requires few { length (filter (is_among (2 ∷ 3 ∷ [])) offers.now) ≤ 3 }
+{
+    let mut steps = Steps::<L>::new(blank);
+    let printer = text(alloc, "Printer")?;
+    finds_three(alloc, types, offers, attributes, &printer, &mut steps)
+}
+
+/// Whether a query for Printer finds three offers, in at most five steps.
+fn finds_three<L: Ledger>(
+    alloc: Global,
+    types: &Types,
+    offers: &Offers,
+    attributes: &Attributes,
+    printer: &Text,
+    steps: &mut Steps<L>,
+) -> Result<bool, Memory>
+    requires { length (filter (is_among (2 ∷ 3 ∷ [])) offers.now) ≤ 3 }
+    ensures { IfOk result (λ found. IsTrue found → steps.new ≤ steps.old + 5) }
+{
+    if !is_above_both(types, printer)? {
+        return Ok(false);
+    }
+    finds(alloc, types, offers, attributes, printer, steps)
+}
+
+/// Whether the types of incarnations 2 and 3 conform, and no others.
+fn is_above_both(types: &Types, asked: &Text) -> Result<bool, Memory>
+    ensures { IfOk result (λ b. IsTrue b → subtypes types.now.types asked.now ≡ 2 ∷ 3 ∷ []) }
+{
+    let below = types.subtypes(asked)?;
+    Ok(below.as_slice() == [2, 3].as_slice())
+}
+
+fn finds<L: Ledger>(
+    alloc: Global,
+    types: &Types,
+    offers: &Offers,
+    attributes: &Attributes,
+    printer: &Text,
+    steps: &mut Steps<L>,
+) -> Result<bool, Memory>
+    requires above { subtypes types.now.types printer.now ≡ 2 ∷ 3 ∷ [] }
+    requires few { length (filter (is_among (2 ∷ 3 ∷ [])) offers.now) ≤ 3 }
+    ensures { steps.new ≤ steps.old + 5 }
+{
+    let stated = nothing_stated();
+    let found = offers.candidates(alloc, types, attributes, &stated, printer, 10, steps)?;
+    Ok(found.len() == 3)
+}
+
+fn nothing_stated() -> Stated {
+    Stated {
+        exact: None,
+        hops: None,
+        follow: None,
+        match_card: None,
+        return_card: None,
+        search_card: None,
+        start: None,
+        use_dynamic: None,
+        use_modifiable: None,
+        use_proxy: None,
+        request_id: None,
+    }
+}
+
+fn mostly_devices(alloc: Global) -> Result<Offers, StoreFault>
+    ensures { IfOk result (λ offers. length (filter (is_among (2 ∷ 3 ∷ [])) offers) ≤ 3) }
+{
+    let mut offers = devices(alloc)?;
+    append(alloc, &mut offers, 1001, "Printer", 2, "")?;
+    append(alloc, &mut offers, 1002, "Laser", 3, "")?;
+    append(alloc, &mut offers, 1003, "Laser", 3, "")?;
+    Ok(offers)
+}
+
+/// A thousand offers of Device.
+fn devices(alloc: Global) -> Result<Offers, StoreFault>
+    ensures below { IfOk result (λ offers. AllByRecursion (λ o. o.number < 1001) offers) }
+    ensures others { IfOk result (λ offers. length (filter (is_among (2 ∷ 3 ∷ [])) offers) ≡ 0) }
+{
+    let mut offers = Offers::new(alloc)?;
+    for i in 0..1000u32 {
+        append(alloc, &mut offers, i + 1, "Device", 1, "")?;
+    }
+    Ok(offers)
+}
