@@ -1,0 +1,152 @@
+-- What the map finds with one identifier more, and with one less.
+use Rattle.std.proofs.Common.{◌≡◌, true≢false, ℕ, ◌+◌, ◌-◌, ◌<◌, ◌≤◌, Bool, true, false, cond, nat_lt, List, []}
+use Rattle.std.proofs.Common.{◌∷◌, ◌++◌, length, drop, Option, Some, None, Vec, Global, slice_get, is_some}
+use Rattle.std.proofs.Common.{if◌then◌else◌, ltb-true, ltb-false, refl, sym, ap, ◌∙◌, subst, arith}
+use Rattle.std.proofs.Common.{inl, inr, bytes_eq, length-append}
+use Rattle.std.specs.Cmp.Lexicographic.{nat_list_eq_equiv}
+use Rattle.std.specs.List.{IsDistinct, AllByRecursion, list_any}
+use Rattle.std.specs.Map.{lookup, IsKeyTest, AreApart, KeepsOthers}
+use Rattle.std.proofs.lemmas.Bool.{cases_Bool}
+use Rattle.std.proofs.lemmas.Map.Keys.{IsDistinct-head}
+use Rattle.std.proofs.lemmas.Slice.Eq.{bytes_eq-Decides}
+use Rattle.circular_buffer.specs.Buffer.{buffer}
+use Rattle.td_cdr.specs.Marks.{Remembered, entry_of}
+use Rattle.td_marks.specs.Keeping.{numbered, number_in, Entries, same_key, is_key, Finds, Enters, Forgets}
+
+symm : (a b : List ℕ) → bytes_eq a b ≡ bytes_eq b a
+symm = nat_list_eq_equiv.symm
+
+congr : (a b c : List ℕ) → bytes_eq a b ≡ true → bytes_eq a c ≡ bytes_eq b c
+congr = nat_list_eq_equiv.congr
+
+-- ---- an identifier that isn't kept
+
+pub none_alike : (k : ℕ) (i : List ℕ) (is : List (List ℕ)) → number_in i (numbered k is) ≡ None
+    → list_any (bytes_eq i) is ≡ false
+none_alike k i [] e = refl
+none_alike k i (j ∷ is) e =
+    elim (cases_Bool (bytes_eq j i)) [
+      | inl same ↦ absurd (true≢false (ap is_some (sym (found same) ∙ e)))
+      | inr other ↦
+          let apart : bytes_eq i j ≡ false = symm i j ∙ other in
+          rw apart (none_alike (k + 1) i is (sym (past other) ∙ e))
+    ]
+  where
+    found : bytes_eq j i ≡ true → number_in i (numbered k (j ∷ is)) ≡ Some (k + 1)
+    found same = rw same refl
+
+    past : bytes_eq j i ≡ false → number_in i (numbered k (j ∷ is)) ≡ number_in i (numbered (k + 1) is)
+    past other = rw other refl
+
+none_named : (k : ℕ) (i : List ℕ) (is : List (List ℕ)) → AllByRecursion (λ j. bytes_eq i j ≡ false) is
+    → number_in i (numbered k is) ≡ None
+none_named k i [] d = refl
+none_named k i (j ∷ is) d =
+    let other : bytes_eq j i ≡ false = symm j i ∙ d.0 in
+    rw other (none_named (k + 1) i is d.1)
+
+-- ---- one more
+
+abbrev or_else : Option ℕ → Option ℕ → Option ℕ
+or_else None b = b
+or_else (Some x) b = Some x
+
+lookup-push : (t : Vec ℕ Global → Bool) (es : Entries) (key : Vec ℕ Global) (n : ℕ)
+    → lookup t (es ++ (key, n) ∷ []) ≡ or_else (lookup t es) (cond (t key) (Some n) None)
+lookup-push t [] key n = refl
+lookup-push t (e ∷ es) key n =
+    elim (cases_Bool (t e.0)) [
+      | inl here ↦ rw here refl
+      | inr other ↦ rw other (lookup-push t es key n)
+    ]
+
+number-push : (j : List ℕ) (kept : List Remembered) (i : List ℕ) (n : ℕ)
+    → number_in j (kept ++ entry_of i n ∷ []) ≡ or_else (number_in j kept) (cond (bytes_eq i j) (Some n) None)
+number-push j [] i n =
+    elim (cases_Bool (bytes_eq i j)) [ inl here ↦ rw here refl | inr other ↦ rw other refl ]
+number-push j (e ∷ kept) i n =
+    elim (cases_Bool (bytes_eq e.identifier j)) [
+      | inl here ↦ rw here refl
+      | inr other ↦ rw other (number-push j kept i n)
+    ]
+
+pub is_entered : (entries more : Entries) (key : Vec ℕ Global) (i : List ℕ) (n : ℕ) → more ≡ entries ++ (key, n) ∷ []
+    → key.items ≡ i → Enters entries i n more
+is_entered entries more key i n e is kept finds j =
+    let test : is_key j key ≡ bytes_eq i j = ap (bytes_eq j) is ∙ symm j i in
+    ap (lookup (is_key j)) e
+    ∙ (lookup-push (is_key j) entries key n
+    ∙ (ap (λ (b : Bool). or_else (lookup (is_key j) entries) (cond b (Some n) None)) test
+    ∙ (ap (λ (o : Option ℕ). or_else o (cond (bytes_eq i j) (Some n) None)) (finds j)
+    ∙ sym (number-push j kept i n))))
+
+-- ---- the oldest one less
+
+key_test : (i : List ℕ) → IsKeyTest same_key (is_key i)
+key_test i x y same = congr i x.items y.items same
+
+apart : (o i : List ℕ) → bytes_eq o i ≡ false → AreApart (is_key o) (is_key i)
+apart o i other key here = symm i key.items ∙ (sym (congr o key.items i here) ∙ other)
+
+left_over : (entries left : Entries) (o : List ℕ) (is : List (List ℕ)) (k : ℕ) → IsDistinct bytes_eq (o ∷ is)
+    → lookup (is_key o) left ≡ None → KeepsOthers same_key (is_key o) entries left
+    → Finds entries (numbered k (o ∷ is)) → Finds left (numbered (k + 1) is)
+unfolding KeepsOthers
+left_over entries left o is k d gone keeps finds j =
+    elim (cases_Bool (bytes_eq o j)) [
+      | inl same ↦
+          subst (λ (x : List ℕ). lookup (is_key x) left ≡ number_in x (numbered (k + 1) is))
+          ((bytes_eq-Decides o j).0 same)
+          (gone ∙ sym (none_named (k + 1) o is (IsDistinct-head bytes_eq o is d)))
+      | inr other ↦ keeps (is_key j) (key_test j) (apart o j other) ∙ (finds j ∙ past other)
+    ]
+  where
+    past : bytes_eq o j ≡ false → number_in j (numbered k (o ∷ is)) ≡ number_in j (numbered (k + 1) is)
+    past other = rw other refl
+
+-- ---- what the ring gave up
+
+abbrev Gives : List (List ℕ) → List ℕ → ℕ → Option (List ℕ) → Type 0
+Gives is i room None = length is < room
+Gives is i room (Some o) = (room ≤ length is) × (is ++ i ∷ [] ≡ o ∷ drop 1 (is ++ i ∷ []))
+
+first_of_all : (is : List (List ℕ)) (i : List ℕ) (room : ℕ) → room ≤ length is
+    → Gives is i room (slice_get (is ++ i ∷ []) 0)
+first_of_all [] i room full = (full, refl)
+first_of_all (j ∷ is) i room full = (full, refl)
+
+gives : (is : List (List ℕ)) (i : List ℕ) (room : ℕ) (b : Bool) → nat_lt (length is) room ≡ b
+    → Gives is i room (if b then None else slice_get (is ++ i ∷ []) 0)
+gives is i room true test = ltb-true (length is) room test
+gives is i room false test = first_of_all is i room (ltb-false (length is) room test)
+
+given : (is : List (List ℕ)) (i : List ℕ) (room : ℕ) (o : Option (List ℕ))
+    → o ≡ (if nat_lt (length is) room then None else slice_get (is ++ i ∷ []) 0) → Gives is i room o
+given is i room o e = subst (Gives is i room) (sym e) (gives is i room (nat_lt (length is) room) refl)
+
+-- nothing is forgotten
+pub forgets_none : (is : List (List ℕ)) (i : List ℕ) (room : ℕ) (entries left : Entries)
+    → None ≡ (if nat_lt (length is) room then None else slice_get (is ++ i ∷ []) 0) → left ≡ entries
+    → Forgets (buffer (is ++ i ∷ []) room) entries left
+forgets_none is i room entries left e same k fits d finds =
+    let less = given is i room None e in
+    let long = length-append is (i ∷ []) in
+    let none : length (is ++ i ∷ []) - room ≡ 0 = omega arith in
+    let start : k ≡ k + 0 = omega arith in
+    subst (λ (n : ℕ). Finds left (numbered (k + n) (drop n (is ++ i ∷ [])))) (sym none)
+    (subst (λ (n : ℕ). Finds left (numbered n (is ++ i ∷ []))) start
+    (subst (λ (es : Entries). Finds es (numbered k (is ++ i ∷ []))) (sym same) finds))
+
+-- the oldest one is
+pub forgets_one : (is : List (List ℕ)) (i : List ℕ) (room : ℕ) (o : List ℕ) (entries left : Entries)
+    → Some o ≡ (if nat_lt (length is) room then None else slice_get (is ++ i ∷ []) 0)
+    → lookup (is_key o) left ≡ None → KeepsOthers same_key (is_key o) entries left
+    → Forgets (buffer (is ++ i ∷ []) room) entries left
+forgets_one is i room o entries left e gone keeps k fits d finds =
+    let g = given is i room (Some o) e in
+    let full = g.0 in
+    let long = length-append is (i ∷ []) in
+    let one : length (is ++ i ∷ []) - room ≡ 1 = omega arith in
+    subst (λ (n : ℕ). Finds left (numbered (k + n) (drop n (is ++ i ∷ [])))) (sym one)
+    (left_over entries left o (drop 1 (is ++ i ∷ [])) k (subst (IsDistinct bytes_eq) g.1 d) gone keeps
+    (subst (λ (l : List (List ℕ)). Finds entries (numbered k l)) g.1 finds))

@@ -1,0 +1,32 @@
+-- What holds of marks and of made identifiers, however they came about.
+use Rattle.std.specs.Prelude.{◌≡◌, ℕ, ◌+◌, ◌^◌, ◌<◌, ◌≤◌, List, None, length}
+use Rattle.td_cdr.specs.Marks.{Marks, Holds, remembered, Orderly, Later, Follows, marked, made_identifier}
+use Rattle.td_marks.specs.Making.{next_value, IsNextValue}
+
+-- an identifier that isn't remembered is marked: the marks go on
+abbrev pub FreshMarksFollow : Type 0
+FreshMarksFollow =
+    (m : Marks) (i : List ℕ) (c : ℕ) → Orderly m → m.counter ≤ c → remembered m i ≡ None → Follows m (marked m i c)
+
+-- an identifier that was marked under a number and isn't remembered any more: its next mark has a number that is
+-- greater by more than there is room for
+abbrev pub MarksOfOneIdentifierAreFar : Type 0
+MarksOfOneIdentifierAreFar =
+    (a m : Marks) (i : List ℕ) (number : ℕ) → Holds a i number → Later a m → remembered m i ≡ None
+    → number + m.ring < m.count + 1
+
+-- there is a next value, within one try more than there are identifiers
+abbrev pub NextValuesAreFree : Type 0
+NextValuesAreFree =
+    (m : Marks) (stem : List ℕ) → Orderly m → m.counter + length m.kept < 256 ^ 8
+    → IsNextValue m stem (next_value m stem)
+
+-- and one alone
+abbrev pub NextValuesAreAlone : Type 0
+NextValuesAreAlone =
+    (m : Marks) (stem : List ℕ) (v w : ℕ) → IsNextValue m stem v → IsNextValue m stem w → v ≡ w
+
+-- two values make two identifiers, also where the stem has changed between
+abbrev pub MadeIdentifiersDiffer : Type 0
+MadeIdentifiersDiffer =
+    (s t : List ℕ) (v w : ℕ) → v < 256 ^ 8 → w < 256 ^ 8 → made_identifier s v ≡ made_identifier t w → v ≡ w

@@ -1,0 +1,5 @@
+//! Tests of td_marks.
+#![tactic(auto)]
+
+#[cfg(test)]
+mod ring;
