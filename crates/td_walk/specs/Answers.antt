@@ -1,0 +1,64 @@
+-- What a visit answers (OMG's Trading Object Service, interface Lookup, query, limits_applied; "Preferences").
+use Rattle.std.specs.Prelude.{◌≡◌, ℕ, Bool, ◌||◌, List, [], ◌∷◌, ◌++◌, map, filter, take, length, codes, Ok, Err}
+use Rattle.std.specs.Prelude.{if◌then◌else◌}
+use Rattle.std.specs.List.{flat_map, list_any}
+use Rattle.std.specs.Str.{bytes_eq}
+use Rattle.td_eval.specs.Ranking.{IsRanked, draw_count}
+use Rattle.td_store.specs.declared.local.Local.{Local}
+use Rattle.td_store.specs.declared.record.OfferRecord.{OfferRecord}
+use Rattle.td_value.specs.declared.structures.Offer.{Offer}
+use Rattle.td_walk.specs.Resolving.{resolved}
+use Rattle.td_walk.specs.Visits.{Reads, is_ordinary, visit_of}
+use Rattle.td_walk.specs.declared.answer.StepAnswer.{StepAnswer}
+use Rattle.td_walk.specs.declared.answer.SubAnswer.{SubAnswer}
+use Rattle.td_walk.specs.declared.found.Found.{Found}
+use Rattle.td_walk.specs.declared.gathering.Gathered.{Gathered}
+
+abbrev pub offer_of : Found → Offer
+offer_of f = record { reference = f.offer.reference; properties = resolved f.made f.offer.properties }
+
+-- the ordinary offers that matched, as resolved
+abbrev pub own_offers : List Found → List Offer
+own_offers found = map offer_of (filter (λ f. is_ordinary f.offer) found)
+
+-- and then those of the other traders in the order of asking
+abbrev pub joined : Gathered → List Offer
+joined g = own_offers g.found ++ flat_map (λ a. a.offers) g.given
+
+abbrev pub is_among : List (List ℕ) → List ℕ → Bool
+is_among names name = list_any (bytes_eq name) names
+
+-- the policy is stated above this trader's maximum, or another trader names it
+abbrev pub is_limit : (over : List (List ℕ)) → List SubAnswer → (name : List ℕ) → Bool
+is_limit over given name = is_among over name || list_any (λ a. is_among a.limits name) given
+
+abbrev pub limit : (over : List (List ℕ)) → List SubAnswer → (name : List ℕ) → List (List ℕ)
+limit over given name = if is_limit over given name then name ∷ [] else []
+
+-- the policies that limited a query, in order
+abbrev pub limits_applied : (over : List (List ℕ)) → List SubAnswer → List (List ℕ)
+limits_applied over given =
+    limit over given (codes "hop_count")
+    ++ limit over given (codes "link_follow_rule")
+    ++ limit over given (codes "match_card")
+    ++ limit over given (codes "return_card")
+    ++ limit over given (codes "search_card")
+
+-- how many words the ranking draws
+abbrev pub drawn_by : Local → Gathered → ℕ
+drawn_by l g = draw_count l.preference (length (joined g))
+
+-- ranked by these words, and cut
+pub record IsRankedAnswer (l : Local) (g : Gathered) (word : ℕ → ℕ) (a : SubAnswer) : Type 0 where
+  pub ranked : List Offer
+  pub in_order : IsRanked l.preference word (joined g) ranked
+  pub cut : a.offers ≡ take l.effective.return_card ranked
+  pub limits : a.limits ≡ limits_applied l.effective.over g.given
+
+abbrev pub AnswersGathered : Local → Reads Gathered → (word : ℕ → ℕ) → SubAnswer → Type 0
+AnswersGathered l (Ok r) word a = IsRankedAnswer l r.0 word a
+AnswersGathered l (Err question) word a = ⊥
+
+-- the answer of a visit, once all its questions were answered
+unfoldable pub IsAnswer : Local → List StepAnswer → (word : ℕ → ℕ) → SubAnswer → Type 0
+IsAnswer l answers word a = AnswersGathered l (visit_of l answers) word a

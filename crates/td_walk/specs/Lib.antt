@@ -1,0 +1,9 @@
+pub mod Answers
+pub mod Laws
+pub mod Lent
+pub mod Passing
+pub mod Peering
+pub mod Resolving
+pub mod SubQueries
+pub mod Told
+pub mod Visits

@@ -1,0 +1,131 @@
+-- The queries that a trader passes on: along a path, over a link, and to a proxy offer's trader (OMG's Trading Object
+-- Service, "Link Follow Behavior", starting_trader and interface Proxy).
+use Rattle.std.specs.Prelude.{ℕ, zero, suc, nat_le, nat_lt, Bool, true, false, ◌&&◌, ◌||◌, if◌then◌else◌, List, [], ◌∷◌}
+use Rattle.std.specs.Prelude.{length, drop, Option, None, Some, option_map, option_and_then, codes, ◌++◌}
+use Rattle.std.specs.List.{filter_map, list_any}
+use Rattle.td_codes.specs.declared.reference.Ior.{Ior}
+use Rattle.td_eval.specs.Expansion.{expansion}
+use Rattle.td_lang.specs.Recipes.{part_in_front}
+use Rattle.td_lang.specs.declared.expr.Part.{Part}
+use Rattle.td_lang.specs.declared.expr.Preference.{Preference}
+use Rattle.td_lang.specs.declared.expr.Preference.TheVariants as preference
+use Rattle.td_ops.specs.declared.call.Query.{Query}
+use Rattle.td_policy.specs.Rules.{follow, lesser, pass_on}
+use Rattle.td_store.specs.declared.local.Local.{Local}
+use Rattle.td_store.specs.declared.record.LinkRecord.{LinkRecord}
+use Rattle.td_store.specs.declared.record.OfferRecord.{OfferRecord}
+use Rattle.td_store.specs.declared.record.ProxyPart.{ProxyPart}
+use Rattle.td_value.specs.declared.enumerations.FollowOption.{FollowOption}
+use Rattle.td_value.specs.declared.enumerations.FollowOption.TheVariants.{LocalOnly, IfNoLocal, Always}
+use Rattle.td_value.specs.declared.structures.Policy.{Policy}
+use Rattle.td_value.specs.declared.unions.SpecifiedProps.TheVariants as props
+use Rattle.td_walk.specs.Passing.{replaced, along_path, with_all_passed}
+use Rattle.td_walk.specs.declared.answer.Next.{Next}
+use Rattle.td_walk.specs.declared.answer.Next.TheVariants.{Forward}
+
+-- ---- what every sub-query has
+
+-- how many offers a sub-query asks for at once
+abbrev pub asked_at_once : ℕ
+asked_at_once = 1000
+
+-- random offers are drawn where the query began
+abbrev pub passed_preference : Preference → (text : List ℕ) → List ℕ
+passed_preference preference.Random text = codes "first"
+passed_preference other text = text
+
+-- the query with a constraint and these policies, for all properties
+abbrev pub passed : Local → (constraint : List ℕ) → List Policy → Query
+passed l constraint policies = record {
+  service_type = l.query.service_type;
+  constraint = constraint;
+  preference = passed_preference l.preference l.query.preference;
+  policies = policies;
+  desired = props.All;
+  how_many = asked_at_once;
+}
+
+-- ---- along a path
+
+abbrev pub rest_of : {A : Type 0} → List A → List A
+rest_of [] = []
+rest_of (x ∷ xs) = xs
+
+-- the names of starting_trader behind the first
+abbrev pub path_left : Option (List (List ℕ)) → List (List ℕ)
+path_left None = []
+path_left (Some names) = rest_of names
+
+unfoldable pub path_query : Local → Query
+path_query l = passed l l.query.constraint (along_path (path_left l.stated.start) l.query.policies)
+
+-- ---- over a link
+
+unfoldable pub link_query : Local → LinkRecord → Query
+link_query l link =
+    passed l l.query.constraint
+    (replaced l.effective.hops (Some (pass_on l.stated l.attributes link.limiting link.def_pass_on)) l.identifier
+    l.query.policies)
+
+-- a link's rule lets it be followed
+abbrev pub lets_follow : (local_match : Bool) → FollowOption → Bool
+lets_follow local_match LocalOnly = false
+lets_follow true IfNoLocal = false
+lets_follow false IfNoLocal = true
+lets_follow local_match Always = true
+
+abbrev pub has_hops : Local → Bool
+has_hops l = nat_lt 0 l.effective.hops
+
+-- a link is followed where there are hops, and its rule lets it
+abbrev pub follows : Local → (local_match : Bool) → LinkRecord → Bool
+follows l local_match link = has_hops l && lets_follow local_match (follow l.stated l.attributes link.limiting)
+
+unfoldable pub link_step : Local → (local_match : Bool) → LinkRecord → Option Next
+link_step l local_match link =
+    if follows l local_match link then Some (Forward link.target (link_query l link)) else None
+
+-- ---- to a proxy offer's trader
+
+abbrev pub part_before : (List ℕ → Option (List Part)) → List ℕ → Option (Part × ℕ) → Option (List Part)
+part_before rest text None = None
+part_before rest text (Some found) = option_map (λ parts. found.0 ∷ parts) (rest (drop found.1 text))
+
+-- the parts that stand one behind the other up to the end; there are no more of them than bytes
+abbrev pub parts_of : (most : ℕ) → List ℕ → Option (List Part)
+parts_of most [] = Some []
+parts_of zero (b ∷ text) = None
+parts_of (suc most) (b ∷ text) = part_before (parts_of most) (b ∷ text) (part_in_front (b ∷ text))
+
+-- the parts of a recipe
+unfoldable pub recipe_of : List ℕ → Option (List Part)
+recipe_of text = if nat_le (length text) 4096 then parts_of (length text) text else None
+
+-- what the recipe makes of the importer's constraint and the offer's properties as they were exported
+unfoldable pub expanded : (constraint : List ℕ) → OfferRecord → ProxyPart → Option (List ℕ)
+expanded constraint o part = option_and_then (expansion constraint o.properties) (recipe_of part.recipe)
+
+-- the rule that is passed on where one is stated
+abbrev pub stated_rule : Option FollowOption → (maximum : FollowOption) → Option FollowOption
+stated_rule stated maximum = option_map (λ r. lesser r maximum) stated
+
+unfoldable pub proxy_query : Local → ProxyPart → (constraint : List ℕ) → Query
+proxy_query l part constraint =
+    passed l constraint
+    (with_all_passed part.policies
+    (replaced l.effective.hops (stated_rule l.stated.follow l.attributes.max_follow_policy) l.identifier
+    l.query.policies))
+
+abbrev pub call_of : Local → OfferRecord → ProxyPart → Option Next
+call_of l o part =
+    if has_hops l then
+    option_map (λ text. Forward o.reference (proxy_query l part text)) (expanded l.query.constraint o part)
+    else None
+
+-- a proxy offer that matched is called where there are hops and its recipe expands
+abbrev pub proxy_call : Local → OfferRecord → Option ProxyPart → Option Next
+proxy_call l o None = None
+proxy_call l o (Some part) = call_of l o part
+
+unfoldable pub proxy_step : Local → OfferRecord → Option Next
+proxy_step l o = proxy_call l o o.proxy

@@ -1,0 +1,165 @@
+-- The questions of one visit of a query, and in which order they are asked (OMG's Trading Object Service, interface
+-- Lookup, query, "Policies" and "Link Follow Behavior").
+use Rattle.std.specs.Prelude.{ℕ, nat_le, Bool, true, false, if◌then◌else◌, List, [], ◌∷◌, ◌++◌, length, map, Option}
+use Rattle.std.specs.Prelude.{None}
+use Rattle.std.specs.Prelude.{Some, Result, Ok, Err, is_none}
+use Rattle.std.specs.List.{filter_map, list_any}
+use Rattle.td_cdr.specs.Format.{◌>>=◌}
+use Rattle.td_eval.specs.Mentioning.{Names, names_asked}
+use Rattle.td_eval.specs.Values.{matching}
+use Rattle.td_store.specs.declared.local.Local.{Local}
+use Rattle.td_store.specs.declared.record.LinkRecord.{LinkRecord}
+use Rattle.td_store.specs.declared.record.OfferRecord.{OfferRecord}
+use Rattle.td_store.specs.declared.record.ProxyPart.{ProxyPart}
+use Rattle.td_value.specs.declared.structures.DynamicProp.{DynamicProp}
+use Rattle.td_value.specs.declared.structures.Property.{Property}
+use Rattle.td_value.specs.declared.unions.SpecifiedProps.{SpecifiedProps}
+use Rattle.td_value.specs.declared.unions.SpecifiedProps.TheVariants as props
+use Rattle.td_walk.specs.Resolving.{dynamic_named, is_evaluated, resolved, value_from}
+use Rattle.td_walk.specs.SubQueries.{path_query, link_step, proxy_step}
+use Rattle.td_walk.specs.declared.answer.Next.{Next}
+use Rattle.td_walk.specs.declared.answer.Next.TheVariants.{Done, Evaluate, Forward}
+use Rattle.td_walk.specs.declared.answer.StepAnswer.{StepAnswer}
+use Rattle.td_walk.specs.declared.answer.StepAnswer.TheVariants as answer
+use Rattle.td_walk.specs.declared.answer.SubAnswer.{SubAnswer}
+use Rattle.td_walk.specs.declared.evaluation.Evaluation.{Evaluation}
+use Rattle.td_walk.specs.declared.found.Found.{Found}
+use Rattle.td_walk.specs.declared.gathering.Gathered.{Gathered}
+
+-- What comes of the answers, with those that are left; or the question to which there is no answer yet.
+abbrev pub Reads : Type 0 → Type 0
+Reads X = Result (X × List StepAnswer) Next
+
+abbrev pub ask : Next → List StepAnswer → Reads StepAnswer
+ask question [] = Err question
+ask question (a ∷ answers) = Ok (a, answers)
+
+-- ---- evaluations of an offer
+
+abbrev pub question_on : (name : List ℕ) → DynamicProp → Next
+question_on name d = Evaluate d.eval_if name d.returned_type d.extra_info
+
+abbrev pub evaluation : (name : List ℕ) → DynamicProp → StepAnswer → Evaluation
+evaluation name d a = record { name = name; value = value_from d a }
+
+-- a dynamic property is evaluated
+abbrev pub evaluated_property : List Evaluation → (name : List ℕ) → Option DynamicProp → List StepAnswer
+    → Reads (List Evaluation)
+evaluated_property made name None answers = Ok (made, answers)
+evaluated_property made name (Some d) answers =
+    ask (question_on name d) answers >>= λ r. Ok (made ++ evaluation name d r.0 ∷ [], r.1)
+
+-- and no name twice
+abbrev pub evaluated_name : List Property → List Evaluation → (name : List ℕ) → List StepAnswer →
+    Reads (List Evaluation)
+evaluated_name properties made name answers =
+    if is_evaluated made name then Ok (made, answers)
+    else evaluated_property made name (dynamic_named properties name) answers
+
+-- the dynamic properties of these names, in this order, behind those that were made
+abbrev pub evaluated : List Property → List Evaluation → Names → List StepAnswer → Reads (List Evaluation)
+evaluated properties made [] answers = Ok (made, answers)
+evaluated properties made (name ∷ names) answers =
+    evaluated_name properties made name answers >>= λ r. evaluated properties r.0 names r.1
+
+-- ---- candidates
+
+abbrev pub matches_all : Option ProxyPart → Bool
+matches_all None = false
+matches_all (Some part) = part.if_match_all
+
+-- the offer, where the constraint holds of what its evaluations made of its properties
+abbrev pub if_matching : Local → OfferRecord → List Evaluation → List Found
+if_matching l o made =
+    if matching (resolved made o.properties) l.constraint then record { offer = o; made = made } ∷ [] else []
+
+-- what the constraint mentions is evaluated, and then what the preference does; a proxy offer with if_match_all matches
+-- without
+abbrev pub tried : Local → OfferRecord → List StepAnswer → Reads (List Found)
+tried l o answers =
+    if matches_all o.proxy then Ok (record { offer = o; made = [] } ∷ [], answers)
+    else evaluated o.properties [] (names_asked l.constraint l.preference) answers
+    >>= λ r. Ok (if_matching l o r.0, r.1)
+
+-- candidates in order, behind those that were found, until so many have matched
+abbrev pub searched : Local → List OfferRecord → List Found → List StepAnswer → Reads (List Found)
+searched l [] found answers = Ok (found, answers)
+searched l (o ∷ os) found answers =
+    if nat_le l.effective.match_card (length found) then Ok (found, answers)
+    else tried l o answers >>= λ r. searched l os (found ++ r.0) r.1
+
+-- ---- desired properties
+
+abbrev pub desired_names : SpecifiedProps → List Property → Names
+desired_names props.None properties = []
+desired_names (props.Some names) properties = names
+desired_names props.All properties = map (λ p. p.name) properties
+
+abbrev pub is_ordinary : OfferRecord → Bool
+is_ordinary o = is_none o.proxy
+
+-- of an ordinary offer the desired dynamic properties are evaluated that aren't yet
+abbrev pub completed : SpecifiedProps → OfferRecord → List Evaluation → List StepAnswer → Reads (List Evaluation)
+completed desired o made answers =
+    if is_ordinary o then evaluated o.properties made (desired_names desired o.properties) answers
+    else Ok (made, answers)
+
+-- one after the other, behind those that are done
+abbrev pub all_completed : SpecifiedProps → (before : List Found) → List Found → List StepAnswer → Reads (List Found)
+all_completed desired before [] answers = Ok (before, answers)
+all_completed desired before (f ∷ fs) answers =
+    completed desired f.offer f.made answers
+    >>= λ r. all_completed desired (before ++ record { offer = f.offer; made = r.0 } ∷ []) fs r.1
+
+-- ---- other traders
+
+-- what an answer gives: nothing, where it failed
+abbrev pub sub_answer : StepAnswer → SubAnswer
+sub_answer (answer.Offers a) = a
+sub_answer other = record { offers = []; limits = [] }
+
+-- the other traders are asked in order, and each gives its answer
+abbrev pub forwarded : List Next → List StepAnswer → Reads (List SubAnswer)
+forwarded [] answers = Ok ([], answers)
+forwarded (question ∷ questions) answers =
+    ask question answers >>= λ r. forwarded questions r.1 >>= λ s. Ok (sub_answer r.0 ∷ s.0, s.1)
+
+-- matched proxy offers by number, and then links in the order of adding
+unfoldable pub steps : Local → List Found → List Next
+steps l found =
+    filter_map (λ f. proxy_step l f.offer) found
+    ++ filter_map (link_step l (list_any (λ f. is_ordinary f.offer) found)) l.links
+
+-- ---- the visit
+
+-- what a visit comes to before it is ranked: the offers that matched, and the answers of others
+abbrev pub gathered : List Found → List StepAnswer → List Next → Reads Gathered
+gathered found answers questions =
+    forwarded questions answers >>= λ r. Ok (record { found = found; given = r.0 }, r.1)
+
+-- along a path the one trader is asked
+abbrev pub along : Local → LinkRecord → List StepAnswer → Reads Gathered
+along l link answers = gathered [] answers (Forward link.target (path_query l) ∷ [])
+
+-- once the candidates were searched
+abbrev pub completing : Local → (found : List Found) → List StepAnswer → Reads Gathered
+completing l found answers =
+    all_completed l.query.desired [] found answers >>= λ r. gathered r.0 r.1 (steps l r.0)
+
+abbrev pub search_of : Local → List StepAnswer → Reads Gathered
+search_of l answers = searched l l.candidates [] answers >>= λ r. completing l r.0 r.1
+
+abbrev pub visit_by : Option LinkRecord → Local → List StepAnswer → Reads Gathered
+visit_by None l answers = search_of l answers
+visit_by (Some link) l answers = along l link answers
+
+unfoldable pub visit_of : Local → List StepAnswer → Reads Gathered
+visit_of l answers = visit_by l.path l answers
+
+abbrev pub question_of : {X : Type 0} → Reads X → Next
+question_of (Ok r) = Done
+question_of (Err question) = question
+
+-- the question that comes after these answers
+unfoldable pub next_of : Local → List StepAnswer → Next
+next_of l answers = question_of (visit_of l answers)

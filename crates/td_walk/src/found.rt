@@ -1,0 +1,12 @@
+//! Offers that matched.
+
+use crate::evaluation::Evaluation;
+use td_cdr::List;
+use td_store::OfferRecord;
+
+/// An offer that matched, with the evaluations of its dynamic properties.
+#[derive(Drop)]
+pub struct Found {
+    pub offer: OfferRecord,
+    pub made: List<Evaluation>,
+}
