@@ -58,7 +58,8 @@ module _ {B : Type 0} where
               | inr e ↦ let z : a.number ≡ c.count = ap number_of e in omega arith
             ];
         kept =
-            λ i a h n. elim (class i a h) as (λ _. In (record { identifier = a.identifier; number = a.number }) c.kept) [
+            λ i a h n.
+            elim (class i a h) as (λ _. In (record { identifier = a.identifier; number = a.number }) c.kept) [
               | inl p ↦ let r = late.ring in
                   late.keeps (record { identifier = a.identifier; number = a.number }) (k.kept p.0 a p.1 (omega arith))
                   (omega arith)

@@ -119,7 +119,8 @@ behind-none true = refl
 behind-none false = refl
 
 flag-end : (order : Order) (b : Bool) (n : ℕ)
-    → 28 + length ((number_format 4).writes n order 28) ≡ (24 + length ((number_format 1).writes (from_bool b) order 24)) + length
+    → 28 + length ((number_format 4).writes n order 28)
+    ≡ (24 + length ((number_format 1).writes (from_bool b) order 24)) + length
     ((number_format 4).writes n order (24 + length ((number_format 1).writes (from_bool b) order 24)))
 flag-end order b n =
     let flag : length ((number_format 1).writes (from_bool b) order 24) ≡ 1 = number-length 1 order 24 (from_bool b) in

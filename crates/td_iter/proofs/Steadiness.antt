@@ -129,11 +129,13 @@ module _ {T V A R M : Type 0} (ft : T → TypeCode) (fv : V → Value) (fa : A �
     (st : (t : T) → Steady (code_piece (ft t))) (sr : (r : R) → Steady (arm_piece (fr r))) (sm : (m : M)
     → Steady (member_piece (fm m))) where
   behind_kind : (k : CodeKind) (inner : Piece) → Steady inner → Steady (kind_piece k then encapsulation_piece inner)
-  behind_kind k inner h = then-steady (kind_piece k) (encapsulation_piece inner) (kind-steady k) (enclosed-steady inner h)
+  behind_kind k inner h =
+      then-steady (kind_piece k) (encapsulation_piece inner) (kind-steady k) (enclosed-steady inner h)
 
   listed : (id name : List ℕ) (n : ℕ) (rest : Piece) → Steady rest
       → Steady (header_piece id name then (number_format 4).writes n then rest)
-  listed id name n rest h = then-steady (header_piece id name) ((number_format 4).writes n then rest) (header-steady id name)
+  listed id name n rest h =
+      then-steady (header_piece id name) ((number_format 4).writes n then rest) (header-steady id name)
       (then-steady ((number_format 4).writes n) rest (four-steady n) h)
 
   code_parts-steady : (y : c.TypeCode-F T V A R M)
@@ -165,7 +167,8 @@ module _ {T V A R M : Type 0} (ft : T → TypeCode) (fv : V → Value) (fa : A �
       behind_kind kind.Sequence _ (then-steady (code_piece (ft item)) ((number_format 4).writes bound) (st item)
       (four-steady bound))
   code_parts-steady (c.Array item len) =
-      behind_kind kind.Array _ (then-steady (code_piece (ft item)) ((number_format 4).writes len) (st item) (four-steady len))
+      behind_kind kind.Array _
+      (then-steady (code_piece (ft item)) ((number_format 4).writes len) (st item) (four-steady len))
   code_parts-steady (c.Alias id name item) =
       behind_kind kind.Alias _ (then-steady (header_piece id name) (code_piece (ft item)) (header-steady id name)
       (st item))
