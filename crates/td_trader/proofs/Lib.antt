@@ -1,4 +1,8 @@
-pub mod Extending
-pub mod IdNumbers
-pub mod Refusing
-pub mod Shapes
+pub mod Alone
+pub mod Begun
+pub mod Counted
+pub mod Growing
+pub mod Kept
+pub mod MarkedOnce
+pub mod Starting
+pub mod Worked

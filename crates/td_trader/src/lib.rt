@@ -1,28 +1,23 @@
-//! One trader: what changes and looks come to, and its history (OMG's Trading Object Service, interfaces
-//! Register, Link, Proxy, Admin and CosTradingRepos::ServiceTypeRepository).
+//! One trader: its store, its history and its marks; where a query begins (OMG's Trading Object Service,
+//! interfaces Lookup, Register, Link, Proxy, Admin and CosTradingRepos::ServiceTypeRepository).
 #![tactic(auto)]
 
-mod admin;
-mod bounds;
-mod history;
-mod ids;
-mod laws;
-mod links;
-mod refusal;
-mod register;
-mod repository;
+mod begin;
+mod begin_laws;
+mod following;
+mod local;
+mod query;
+mod query_laws;
+mod solo;
+mod trader;
+mod traders;
 
-pub use admin::{get, set_follow, set_number, set_request_id_stem, set_truth};
-pub use bounds::Bounds;
-pub use history::Accepted;
-pub use ids::{id_of, number_in};
-pub use laws::{
-    exports_take_the_next_number, histories_are_legal, points_lead_to_stores,
-    refused_changes_leave_the_store, worked_examples,
-};
-pub use links::{describe_link, list_links, remove_link};
-pub use refusal::{Fault, Refusal, refused};
-pub use register::{describe, withdraw};
-pub use repository::{
-    add_type, describe_type, fully_describe_type, list_types, mask_type, remove_type, unmask_type,
-};
+pub use begin::{Begin, begin_query};
+pub use begin_laws::{only_searches_mark, queries_are_served, queries_begin};
+pub use following::{acts_follow, changes_are_recorded};
+pub use local::{path_local, search_local};
+pub use query::{Parts, judge};
+pub use query_laws::{points_stay, unknown_starts_are_refused, worked_queries};
+pub use solo::Solo;
+pub use trader::Trader;
+pub use traders::Traders;

@@ -2,14 +2,10 @@
 #![tactic(auto)]
 
 #[cfg(test)]
-mod admin;
+mod begins;
 #[cfg(test)]
-mod ids;
+mod histories;
 #[cfg(test)]
-mod links;
+mod queries;
 #[cfg(test)]
-mod offers;
-#[cfg(test)]
-mod repository;
-#[cfg(test)]
-mod support;
+mod served;

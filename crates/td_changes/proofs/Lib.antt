@@ -1,0 +1,10 @@
+pub mod Acceptances
+pub mod Accepting
+pub mod Barred
+pub mod Entering
+pub mod Extending
+pub mod LinkCauses
+pub mod Masking
+pub mod Refusing
+pub mod Shapes
+pub mod TypesTold

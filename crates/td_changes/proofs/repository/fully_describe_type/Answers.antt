@@ -1,0 +1,6 @@
+use Rattle.td_changes.specs.Repositories.{fully_describe_type}
+use Rattle.td_changes.proofs.repository.fully_describe_type.Goals as goal
+
+pub returns : goal.returns
+unfolding fully_describe_type
+returns c = c.told.ensures _ c.args.store.now.types c.fully_describe.ensures.answer

@@ -1,0 +1,6 @@
+use Rattle.td_changes.specs.Repositories.{list_types}
+use Rattle.td_changes.proofs.repository.list_types.Goals as goal
+
+pub returns : goal.returns
+unfolding list_types
+returns c = c.told.ensures _ c.args.store.now.types (rw c.since.ensures at c.list.ensures.answer)

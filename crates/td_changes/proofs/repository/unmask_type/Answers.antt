@@ -1,0 +1,10 @@
+use Rattle.td_changes.proofs.Masking.{unmask_not_sub_types, unmask_not_already_masked}
+use Rattle.td_changes.proofs.repository.unmask_type.Goals as goal
+
+pub unreachable-requires : goal.unreachable-requires
+unreachable-requires c =
+    unmask_not_sub_types c.args.store.now.types c.args.name c.in-HasSubTypes.field-0.now c.in-HasSubTypes.ensures
+
+pub unreachable-requires-in-AlreadyMasked : goal.unreachable-requires-in-AlreadyMasked
+unreachable-requires-in-AlreadyMasked c =
+    unmask_not_already_masked c.args.store.now.types c.args.name c.in-AlreadyMasked.ensures

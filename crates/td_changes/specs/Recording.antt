@@ -1,0 +1,21 @@
+-- A change that is done to a trader's store and history.
+use Rattle.std.specs.Prelude.{◌≡◌, ℕ, ◌<◌, Bool, true, false, if◌then◌else◌, List, Result, Ok, Err}
+use Rattle.td_cdr.specs.declared.memory.Memory.{Memory as Wanting}
+use Rattle.td_ops.specs.declared.call.Change.{Change}
+use Rattle.td_ops.specs.declared.outcome.Outcome.{Outcome}
+use Rattle.td_changes.specs.Applying.{apply}
+use Rattle.td_changes.specs.Histories.{is_done, noted}
+use Rattle.td_register.specs.Stores.{Store}
+use Rattle.td_register.specs.declared.history.Accepted.{Accepted}
+
+-- room that was reserved is there
+abbrev pub HasRoom : (reserved : Bool) → (count capacity : ℕ) → Type 0
+HasRoom reserved count capacity = reserved ≡ true → count < capacity
+
+-- The outcome and the store are as said, and an accepted change is the last entry, in the room that was reserved; or
+-- memory was wanted, and nothing changed.
+abbrev pub Records : Change → (s t : Store) → (h k : List Accepted) → (r q : Bool) → Result Outcome Wanting → Type 0
+Records c s t h k r q (Ok o) =
+    ((apply s c).outcome ≡ o) × ((apply s c).store ≡ t) × (k ≡ noted h c o)
+    × (q ≡ (if is_done o then false else r))
+Records c s t h k r q (Err e) = (t ≡ s) × (k ≡ h) × (q ≡ r)

@@ -1,0 +1,95 @@
+-- What the type repository answers, as outcomes (OMG's Trading Object Service, interface
+-- CosTradingRepos::ServiceTypeRepository).
+use Rattle.std.specs.Prelude.{ℕ, ◌+◌, ◌*◌, ◌^◌, List, Option, None, Some, Ok, Err}
+use Rattle.td_value.specs.declared.structures.IncarnationNumber.{IncarnationNumber}
+use Rattle.td_value.specs.declared.structures.PropStruct.{PropStruct}
+use Rattle.td_value.specs.declared.unions.SpecifiedServiceTypes.{SpecifiedServiceTypes}
+use Rattle.td_value.specs.declared.unions.SpecifiedServiceTypes.TheVariants as listed
+use Rattle.td_types.specs.Calls as types
+use Rattle.td_types.specs.Repository.{halves}
+use Rattle.td_types.specs.declared.fault.RepoFault.{RepoFault}
+use Rattle.td_types.specs.declared.fault.RepoFault.TheVariants as fault
+use Rattle.td_types.specs.declared.fault.TypesFault.{TypesFault}
+use Rattle.td_types.specs.declared.fault.TypesFault.TheVariants.{User as Raises, Full, Memory}
+use Rattle.td_types.specs.declared.reply.TypesReply.{TypesReply}
+use Rattle.td_types.specs.declared.reply.TypesReply.TheVariants as told
+use Rattle.td_exceptions.specs.declared.exception.UserException.{UserException}
+use Rattle.td_exceptions.specs.declared.exception.UserException.TheVariants as user
+use Rattle.td_ops.specs.declared.outcome.Outcome.{Outcome}
+use Rattle.td_ops.specs.declared.outcome.Outcome.TheVariants.{Done}
+use Rattle.td_ops.specs.declared.outcome.Reply.{Reply}
+use Rattle.td_ops.specs.declared.outcome.Reply.TheVariants as reply
+use Rattle.td_register.specs.Causes.{Comes, refused}
+use Rattle.td_register.specs.Stores.{Store}
+use Rattle.td_register.specs.declared.refusal.Refusal.{Refusal}
+use Rattle.td_register.specs.declared.refusal.Refusal.TheVariants.{Raised, Limit}
+
+abbrev pub reply_of : TypesReply → Reply
+reply_of (told.Added incarnation) = reply.Incarnation (halves incarnation)
+reply_of told.Removed = reply.Nothing
+reply_of told.Masked = reply.Nothing
+reply_of told.Unmasked = reply.Nothing
+reply_of (told.Names names) = reply.Names names
+reply_of (told.Described described) = reply.Typed described
+
+abbrev pub exception_of : RepoFault → UserException
+exception_of (fault.IllegalServiceType name) = user.IllegalServiceType name
+exception_of (fault.UnknownServiceType name) = user.UnknownServiceType name
+exception_of (fault.ServiceTypeExists name) = user.ServiceTypeExists name
+exception_of (fault.IllegalPropertyName name) = user.IllegalPropertyName name
+exception_of (fault.DuplicatePropertyName name) = user.DuplicatePropertyName name
+exception_of (fault.DuplicateServiceTypeName name) = user.DuplicateServiceTypeName name
+exception_of (fault.InterfaceTypeMismatch base_service base_if derived_service derived_if) =
+    user.ReposInterfaceTypeMismatch base_service base_if derived_service derived_if
+exception_of (fault.ValueTypeRedefinition type_1 definition_1 type_2 definition_2) = user.ValueTypeRedefinition type_1
+    definition_1 type_2 definition_2
+exception_of (fault.HasSubTypes the_type sub_type) = user.HasSubTypes the_type sub_type
+exception_of (fault.AlreadyMasked name) = user.AlreadyMasked name
+exception_of (fault.NotMasked name) = user.NotMasked name
+
+-- Past a limit it is IMP_LIMIT. As they are defined, the repository's calls come to no want of memory.
+abbrev pub refusal_of : TypesFault → Refusal
+refusal_of (Raises f) = Raised (exception_of f)
+refusal_of Full = Limit
+refusal_of Memory = Limit
+
+-- a change of the repository, as one of the store that it is in
+abbrev pub changes_types : Store → types.Comes → Comes
+changes_types s (Ok answer) = Ok (reply_of answer.0, record s { types = answer.1 })
+changes_types s (Err f) = Err (refusal_of f)
+
+-- a look at the repository
+abbrev pub outcome_of : types.Comes → Outcome
+outcome_of (Ok answer) = Done (reply_of answer.0)
+outcome_of (Err f) = refused (refusal_of f)
+
+unfoldable pub add_type : Store → (name if_name : List ℕ) → List PropStruct → List (List ℕ) → Comes
+add_type s name if_name props super_types = changes_types s (types.add_type s.types name if_name props super_types)
+
+unfoldable pub remove_type : Store → List ℕ → Comes
+remove_type s name = changes_types s (types.remove_type s.types name)
+
+unfoldable pub mask_type : Store → List ℕ → Comes
+mask_type s name = changes_types s (types.mask_type s.types name)
+
+unfoldable pub unmask_type : Store → List ℕ → Comes
+unmask_type s name = changes_types s (types.unmask_type s.types name)
+
+-- ---- looks
+
+-- the number that two halves give
+abbrev pub number_of : IncarnationNumber → ℕ
+number_of i = i.high * 2 ^ 32 + i.low
+
+abbrev pub since : SpecifiedServiceTypes → Option ℕ
+since listed.All = None
+since (listed.Since i) = Some (number_of i)
+
+unfoldable pub list_types : Store → SpecifiedServiceTypes → Outcome
+list_types s which = outcome_of (types.list_types s.types (since which))
+
+unfoldable pub describe_type : Store → List ℕ → Outcome
+describe_type s name = outcome_of (types.describe_type s.types name)
+
+unfoldable pub fully_describe_type : Store → List ℕ → Outcome
+fully_describe_type s name = outcome_of (types.fully_describe_type s.types name)

@@ -1,0 +1,15 @@
+-- What the functions behind a change of the type repository answer.
+use Rattle.std.specs.Prelude.{◌≡◌, Result, Ok, Err}
+use Rattle.td_ops.specs.declared.outcome.Reply.{Reply}
+use Rattle.td_types.specs.declared.fault.TypesFault.{TypesFault}
+use Rattle.td_types.specs.declared.fault.TypesFault.TheVariants as types
+use Rattle.td_types.specs.declared.reply.TypesReply.{TypesReply}
+use Rattle.td_register.specs.declared.refusal.Fault.{Fault}
+use Rattle.td_register.specs.declared.refusal.Fault.TheVariants.{Refused, Memory}
+use Rattle.td_changes.specs.Repositories.{reply_of, refusal_of}
+
+-- the repository's answer, as a reply or a refusal
+abbrev pub IsAnswer : Result TypesReply TypesFault → Result Reply Fault → Type 0
+IsAnswer (Ok answer) result = result ≡ Ok (reply_of answer)
+IsAnswer (Err types.Memory) result = result ≡ Err Memory
+IsAnswer (Err f) result = result ≡ Err (Refused (refusal_of f))

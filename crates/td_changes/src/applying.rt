@@ -1,0 +1,131 @@
+//! Changes that are done to a store.
+
+ghost use Rattle.std.specs.Prelude.{◌≡◌, true};
+ghost use Rattle.td_changes.specs.Applying.{apply, comes_to};
+ghost use Rattle.td_register.specs.Judged.{Accepts, Applies};
+ghost use Rattle.td_changes.specs.Kinds.{is_free};
+ghost use Rattle.td_register.specs.Needs.{NeedsNone};
+ghost use Rattle.td_changes.specs.Numbering.{AreNumbered};
+ghost use Rattle.td_changes.specs.Outcomes.{Ends};
+
+use crate::admin::{set_follow, set_number, set_request_id_stem, set_truth};
+use crate::linking::add_link;
+use crate::links::remove_link;
+use crate::repository::{add_type, mask_type, remove_type, unmask_type};
+use crate::ruling::modify_link;
+use std::alloc::Global;
+use td_cdr::Memory;
+use td_ops::{Change, Outcome};
+use td_register::{
+    Accepted, Fault, export, export_proxy, modify, refused, withdraw, withdraw_proxy,
+    withdraw_using_constraint,
+};
+use td_store::Store;
+
+/// Does a change, and gives it back with its reply.
+///
+/// # Errors
+///
+/// The refusal, which leaves the store as it was; `Memory` for want of memory, and then too.
+#[tactic(auto, unfolding(crate::specs::Applying::comes_to))]
+pub fn perform(alloc: Global, store: &mut Store, c: Change) -> Result<Accepted, Fault>
+    requires { AreNumbered store.old }
+    ensures accepts { Accepts c (comes_to store.old c) store.old store.new result }
+    ensures free { is_free c ≡ true → NeedsNone result }
+{
+    match c {
+        Change::Export {
+            reference,
+            service_type,
+            properties,
+        } => export(alloc, store, reference, service_type, properties),
+        Change::Withdraw { id } => withdraw(store, id),
+        Change::Modify {
+            id,
+            deleted,
+            changed,
+        } => modify(alloc, store, id, deleted, changed),
+        Change::WithdrawUsingConstraint {
+            service_type,
+            constraint,
+        } => withdraw_using_constraint(alloc, store, service_type, constraint),
+        Change::AddLink {
+            name,
+            target,
+            def_pass_on,
+            limiting,
+            register,
+        } => add_link(alloc, store, name, target, def_pass_on, limiting, register),
+        Change::RemoveLink { name } => remove_link(store, name),
+        Change::ModifyLink {
+            name,
+            def_pass_on,
+            limiting,
+        } => modify_link(store, name, def_pass_on, limiting),
+        Change::ExportProxy {
+            target,
+            service_type,
+            properties,
+            if_match_all,
+            recipe,
+            policies,
+        } => export_proxy(
+            alloc,
+            store,
+            target,
+            service_type,
+            properties,
+            if_match_all,
+            recipe,
+            policies,
+        ),
+        Change::WithdrawProxy { id } => withdraw_proxy(store, id),
+        Change::SetTruth { attribute, value } => set_truth(store, attribute, value),
+        Change::SetNumber { attribute, value } => set_number(store, attribute, value),
+        Change::SetFollow { attribute, value } => set_follow(store, attribute, value),
+        Change::SetRequestIdStem { value } => set_request_id_stem(alloc, store, value),
+        Change::AddType {
+            name,
+            if_name,
+            props,
+            super_types,
+        } => add_type(alloc, store, name, if_name, props, super_types),
+        Change::RemoveType { name } => remove_type(store, name),
+        Change::MaskType { name } => mask_type(store, name),
+        Change::UnmaskType { name } => unmask_type(store, name),
+    }
+}
+
+/// The outcome of a change that isn't done.
+///
+/// # Errors
+///
+/// `Memory` for want of memory alone.
+pub fn not_done(fault: Fault) -> Result<Outcome, Memory>
+    ensures { Ends fault result }
+{
+    match fault {
+        Fault::Refused(refusal) => Ok(refused(refusal)),
+        Fault::Memory => Err(Memory),
+    }
+}
+
+/// What a change comes to, with no count of changes.
+///
+/// # Errors
+///
+/// `Memory` for want of memory alone. The store is then as it was.
+pub fn apply(alloc: Global, store: &mut Store, c: Change) -> Result<Outcome, Memory>
+    // The numbers of the offers were given, as after each change.
+    requires { AreNumbered store.old }
+    ensures applies { Applies (apply store.old c) store.old store.new result }
+    ensures numbered { AreNumbered store.new }
+{
+    match perform(alloc, store, c) {
+        Ok(accepted) => {
+            let Accepted { reply, .. } = accepted;
+            Ok(Outcome::Done(reply))
+        }
+        Err(fault) => not_done(fault),
+    }
+}

@@ -1,0 +1,224 @@
+//! Links that are added (OMG's Trading Object Service, interface Link, add_link).
+
+ghost use Rattle.std.specs.Prelude.{◌≡◌, None, Some, IfOk, MatchResult, is_some};
+ghost use Rattle.td_exceptions.specs.declared.exception.UserException.TheVariants as user;
+ghost use Rattle.td_ior.specs.Profiles.{iiop_of};
+ghost use Rattle.td_ops.specs.declared.call.Change.TheVariants as change;
+ghost use Rattle.td_store.specs.LinkLists.{link_of};
+ghost use Rattle.td_register.specs.Judged.{Accepts, IsMet, Judges};
+ghost use Rattle.td_changes.specs.LinkJudged.{IsLinked, IsNewLink, link_cause};
+ghost use Rattle.td_changes.specs.Links.{add_link, name_cause, permits_more, rules_cause, target_cause};
+ghost use Rattle.td_register.specs.Needs.{NeedsNone};
+ghost use Rattle.td_register.specs.declared.refusal.Fault.TheVariants as fault;
+ghost use Rattle.td_register.specs.declared.refusal.Refusal.TheVariants as refusal;
+
+use std::alloc::Global;
+use td_cdr::{Memory, Text, Twin, copy_three, is_word_name};
+use td_exceptions::UserException;
+use td_ior::{IorFault, iiop_of};
+use td_ops::{Change, Reply};
+use td_register::{Accepted, Fault, Refusal, entry_of, raised};
+use td_store::{LinkRecord, Links, Store, StoreFault};
+use td_value::{FollowOption, Ior};
+
+/// Whether the first rule permits more than the second.
+fn permits_more(a: FollowOption, b: FollowOption) -> bool
+    ensures { result ≡ permits_more a b }
+{
+    b.number() < a.number()
+}
+
+/// Refuses rules that permit too much.
+pub(crate) fn check_rules(
+    maximum: FollowOption,
+    def_pass_on: FollowOption,
+    limiting: FollowOption,
+) -> Result<(), Fault>
+    ensures judged { Judges (rules_cause maximum def_pass_on limiting) result }
+    ensures free { NeedsNone result }
+{
+    if permits_more(def_pass_on, limiting) {
+        return Err(raised(UserException::DefaultFollowTooPermissive {
+            def_pass_on_follow_rule: def_pass_on,
+            limiting_follow_rule: limiting,
+        }));
+    }
+    if permits_more(limiting, maximum) {
+        return Err(raised(UserException::LimitingFollowTooPermissive {
+            limiting_follow_rule: limiting,
+            max_link_follow_policy: maximum,
+        }));
+    }
+    Ok(())
+}
+
+/// Refuses a name that is none, or that a link has.
+fn check_name(alloc: Global, links: &Links, name: &Text) -> Result<(), Fault>
+    ensures { Judges (name_cause links.now name.now) result }
+{
+    if !is_word_name(name.as_slice()) {
+        return Err(raised(UserException::IllegalLinkName {
+            name: name.copy(alloc)?,
+        }));
+    }
+    if links.get(name).is_some() {
+        return Err(raised(UserException::DuplicateLinkName {
+            name: name.copy(alloc)?,
+        }));
+    }
+    Ok(())
+}
+
+/// Whether a reference has an IIOP profile.
+pub(crate) fn is_reachable(alloc: Global, reference: &Ior) -> bool
+    ensures { result ≡ is_some (iiop_of reference.now) }
+{
+    match iiop_of(alloc, reference) {
+        Ok(_) => true,
+        Err(IorFault::NoIiop) => false,
+        // Only a profile that was found wants memory.
+        Err(_) => true,
+    }
+}
+
+/// The refusal of a target.
+pub(crate) fn invalid_lookup(alloc: Global, target: &Ior) -> Result<Fault, Memory>
+    ensures { IfOk result (λ f. f ≡ fault.Refused (refusal.Raised (user.InvalidLookupRef target.now))) }
+{
+    Ok(raised(UserException::InvalidLookupRef {
+        target: target.copy(alloc)?,
+    }))
+}
+
+/// The Register of a target that can be reached.
+fn register_of<'a>(alloc: Global, target: &Ior, register: &'a Option<Ior>) -> Result<&'a Ior, Fault>
+    ensures { MatchResult result
+        (λ r. (target_cause target.now register.now ≡ None) × (register.now ≡ Some r.now))
+        (IsMet (target_cause target.now register.now)) }
+{
+    let Some(known) = register else {
+        return Err(invalid_lookup(alloc, target)?);
+    };
+    if !is_reachable(alloc, target) {
+        return Err(invalid_lookup(alloc, target)?);
+    }
+    Ok(known)
+}
+
+/// The Register that a new link has, where nothing is at fault with its name, its target and its rules.
+fn known_register<'a>(
+    alloc: Global,
+    store: &Store,
+    name: &Text,
+    target: &Ior,
+    def_pass_on: FollowOption,
+    limiting: FollowOption,
+    register: &'a Option<Ior>,
+) -> Result<&'a Ior, Fault>
+    ensures { MatchResult result
+        (λ r. (link_cause store.now name.now target.now def_pass_on limiting register.now ≡ None)
+        × (register.now ≡ Some r.now))
+        (IsMet (link_cause store.now name.now target.now def_pass_on limiting register.now)) }
+{
+    check_name(alloc, &store.links, name)?;
+    let known = register_of(alloc, target, register)?;
+    check_rules(
+        store.attributes.max_link_follow_policy,
+        def_pass_on,
+        limiting,
+    )?;
+    Ok(known)
+}
+
+/// Refuses a link that can't be added, whatever the number of links is.
+pub(crate) fn check_link(
+    alloc: Global,
+    store: &Store,
+    name: &Text,
+    target: &Ior,
+    def_pass_on: FollowOption,
+    limiting: FollowOption,
+    register: &Option<Ior>,
+) -> Result<(), Fault>
+    ensures { Judges (link_cause store.now name.now target.now def_pass_on limiting register.now) result }
+{
+    match known_register(alloc, store, name, target, def_pass_on, limiting, register) {
+        Ok(_) => Ok(()),
+        Err(fault) => Err(fault),
+    }
+}
+
+/// The link that is added, where nothing is at fault.
+fn new_link(
+    alloc: Global,
+    store: &Store,
+    name: &Text,
+    target: &Ior,
+    def_pass_on: FollowOption,
+    limiting: FollowOption,
+    register: &Option<Ior>,
+) -> Result<LinkRecord, Fault>
+    ensures { IsNewLink store.now name.now target.now def_pass_on limiting register.now result }
+{
+    let known = known_register(alloc, store, name, target, def_pass_on, limiting, register)?;
+    let (name, (target, register)) = copy_three(alloc, name, target, known)?;
+    Ok(LinkRecord {
+        name,
+        target,
+        register,
+        def_pass_on,
+        limiting,
+    })
+}
+
+/// Puts a link behind the others.
+fn insert_link(alloc: Global, store: &mut Store, link: LinkRecord) -> Result<(), Fault>
+    requires fresh { link_of store.old.links link.name ≡ None }
+    ensures { IsLinked link store.old store.new result }
+{
+    match store.links.insert(alloc, link) {
+        Ok(()) => Ok(()),
+        Err(StoreFault::Full) => Err(Fault::Refused(Refusal::Limit)),
+        Err(StoreFault::Memory) => Err(Fault::Memory),
+    }
+}
+
+/// Adds a link to a trader whose Register is known.
+///
+/// # Errors
+///
+/// `IllegalLinkName`, `DuplicateLinkName`; `InvalidLookupRef`; `DefaultFollowTooPermissive`,
+/// `LimitingFollowTooPermissive`; IMP_LIMIT; `Memory` for want of memory.
+pub fn add_link(
+    alloc: Global,
+    store: &mut Store,
+    name: Text,
+    target: Ior,
+    def_pass_on: FollowOption,
+    limiting: FollowOption,
+    register: Option<Ior>,
+) -> Result<Accepted, Fault>
+    ensures { Accepts (change.AddLink name target def_pass_on limiting register) (add_link store.old name target
+        def_pass_on limiting register) store.old store.new result }
+{
+    let link = new_link(
+        alloc,
+        store,
+        &name,
+        &target,
+        def_pass_on,
+        limiting,
+        &register,
+    )?;
+    insert_link(alloc, store, link)?;
+    Ok(entry_of(
+        Change::AddLink {
+            name,
+            target,
+            def_pass_on,
+            limiting,
+            register,
+        },
+        Reply::Nothing,
+    ))
+}

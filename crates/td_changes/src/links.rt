@@ -1,0 +1,89 @@
+//! Links to other traders (OMG's Trading Object Service, interface Link).
+
+ghost use Rattle.std.specs.Prelude.{◌≡◌, Ok, MatchResult, IfOk};
+ghost use Rattle.td_ops.specs.declared.call.Change.TheVariants as change;
+ghost use Rattle.td_register.specs.Judged.{IsAbsent, Accepts, Tells};
+ghost use Rattle.td_store.specs.Stores.{link_info_of};
+ghost use Rattle.td_register.specs.Needs.{NeedsNone};
+ghost use Rattle.td_changes.specs.Links.{describe_link, linked, list_links, remove_link};
+
+use std::alloc::Global;
+use td_cdr::{Memory, Text, Twin, is_word_name};
+use td_exceptions::UserException;
+use td_ops::{Change, Outcome, Reply};
+use td_register::{Accepted, Fault, entry_of, raised, refused};
+use td_store::{LinkRecord, Links, Store};
+use td_value::LinkInfo;
+
+/// The link of a name.
+fn linked<'a>(alloc: Global, links: &'a Links, name: &Text) -> Result<&'a LinkRecord, Fault>
+    ensures { MatchResult result (λ l. linked links.now name.now ≡ Ok l.now) (IsAbsent (linked links.now name.now)) }
+{
+    if !is_word_name(name.as_slice()) {
+        return Err(raised(UserException::IllegalLinkName {
+            name: name.copy(alloc)?,
+        }));
+    }
+    match links.get(name) {
+        Some(link) => Ok(link),
+        None => Err(raised(UserException::UnknownLinkName {
+            name: name.copy(alloc)?,
+        })),
+    }
+}
+
+/// Removes a link. Takes no memory.
+///
+/// # Errors
+///
+/// `IllegalLinkName`, `UnknownLinkName`.
+#[tactic(auto, unfolding(crate::specs::Links::remove_link))]
+pub fn remove_link(store: &mut Store, name: Text) -> Result<Accepted, Fault>
+    ensures accepts { Accepts (change.RemoveLink name) (remove_link store.old name) store.old store.new result }
+    ensures free { NeedsNone result }
+{
+    if !is_word_name(name.as_slice()) {
+        return Err(raised(UserException::IllegalLinkName { name }));
+    }
+    if store.links.get(&name).is_none() {
+        return Err(raised(UserException::UnknownLinkName { name }));
+    }
+    store.links.remove(&name);
+    Ok(entry_of(Change::RemoveLink { name }, Reply::Nothing))
+}
+
+/// What a link is.
+///
+/// # Errors
+///
+/// `Memory` for want of memory alone.
+pub(crate) fn link_info(alloc: Global, link: &LinkRecord) -> Result<LinkInfo, Memory>
+    ensures { IfOk result (λ i. i ≡ link_info_of link.now) }
+{
+    Ok(LinkInfo {
+        target: link.target.copy(alloc)?,
+        target_reg: link.register.copy(alloc)?,
+        def_pass_on_follow_rule: link.def_pass_on,
+        limiting_follow_rule: link.limiting,
+    })
+}
+
+/// What a link is (describe_link).
+#[tactic(auto, unfolding(crate::specs::Links::describe_link))]
+pub fn describe_link(alloc: Global, store: &Store, name: &Text) -> Result<Outcome, Memory>
+    ensures { Tells (describe_link store.now name.now) result }
+{
+    match linked(alloc, &store.links, name) {
+        Ok(link) => Ok(Outcome::Done(Reply::Link(link_info(alloc, link)?))),
+        Err(Fault::Refused(refusal)) => Ok(refused(refusal)),
+        Err(Fault::Memory) => Err(Memory),
+    }
+}
+
+/// The names of all links (list_links).
+#[tactic(auto, unfolding(crate::specs::Links::list_links))]
+pub fn list_links(alloc: Global, store: &Store) -> Result<Outcome, Memory>
+    ensures { Tells (list_links store.now) result }
+{
+    Ok(Outcome::Done(Reply::Names(store.links.names(alloc)?)))
+}

@@ -1,0 +1,234 @@
+//! The changes and looks of the type repository (OMG's Trading Object Service, interface
+//! CosTradingRepos::ServiceTypeRepository).
+
+ghost use Rattle.std.specs.Prelude.{◌≡◌, Ok, MatchResult};
+ghost use Rattle.td_ops.specs.declared.call.Change.TheVariants as change;
+ghost use Rattle.td_types.specs.Calls as types;
+ghost use Rattle.td_types.specs.Judgements.{IsJudged};
+ghost use Rattle.td_types.specs.Repository.{Repository};
+ghost use Rattle.td_exceptions.specs.declared.exception.UserException.TheVariants as user;
+ghost use Rattle.td_register.specs.declared.refusal.Fault.TheVariants as fault;
+ghost use Rattle.td_register.specs.declared.refusal.Refusal.TheVariants as refusal;
+ghost use Rattle.td_register.specs.Judged.{Accepts, Tells};
+ghost use Rattle.td_changes.specs.RepositoryJudged.{IsAnswer};
+ghost use Rattle.td_register.specs.Needs.{NeedsNone};
+ghost use Rattle.td_changes.specs.Repositories.{add_type, changes_types, describe_type, exception_of};
+ghost use Rattle.td_changes.specs.Repositories.{fully_describe_type, list_types, mask_type, number_of, outcome_of};
+ghost use Rattle.td_changes.specs.Repositories.{remove_type, reply_of, since, unmask_type};
+ghost use Rattle.td_register.specs.Stores.{Store as Kept};
+
+use std::alloc::Global;
+use td_cdr::{List, Memory, Text, copy_four};
+use td_exceptions::UserException;
+use td_ops::{Change, Outcome, Reply};
+use td_register::{
+    Accepted, Fault, Refusal, entry_of, illegal_type, raised, refused, unknown_type,
+};
+use td_store::Store;
+use td_types::{Judgement, RepoFault, Types, TypesFault, TypesReply, halves};
+use td_value::{IncarnationNumber, PropStruct, SpecifiedServiceTypes};
+
+/// Adds a type (add_type).
+#[tactic(auto, unfolding(crate::specs::Repositories::add_type))]
+pub fn add_type(
+    alloc: Global,
+    store: &mut Store,
+    name: Text,
+    if_name: Text,
+    props: List<PropStruct>,
+    super_types: List<Text>,
+) -> Result<Accepted, Fault>
+    ensures { Accepts (change.AddType name if_name props super_types) (add_type store.old name if_name props
+        super_types) store.old store.new result }
+{
+    let (name_twin, (if_twin, (props_twin, supers_twin))) = copy_four(
+        alloc,
+        &name,
+        &if_name,
+        &props,
+        &super_types,
+    )?;
+    let answer = store.types.add(name_twin, if_twin, props_twin, supers_twin);
+    let reply = reply_from(answer)?;
+    Ok(entry_of(
+        Change::AddType {
+            name,
+            if_name,
+            props,
+            super_types,
+        },
+        reply,
+    ))
+}
+
+/// Removes a type (remove_type).
+#[tactic(auto, unfolding(crate::specs::Repositories::remove_type))]
+pub fn remove_type(store: &mut Store, name: Text) -> Result<Accepted, Fault>
+    ensures { Accepts (change.RemoveType name) (remove_type store.old name) store.old store.new result }
+{
+    let answer = store.types.remove(&name);
+    let reply = reply_from(answer)?;
+    Ok(entry_of(Change::RemoveType { name }, reply))
+}
+
+/// Masks a type (mask_type). Takes no memory.
+#[tactic(auto, unfolding(crate::specs::Repositories::mask_type))]
+pub fn mask_type(store: &mut Store, name: Text) -> Result<Accepted, Fault>
+    ensures accepts { Accepts (change.MaskType name) (mask_type store.old name) store.old store.new result }
+    ensures free { NeedsNone result }
+{
+    match store.types.judge_mask(&name) {
+        Judgement::Accepted => {
+            let answer = store.types.mask(&name);
+            let reply = reply_from(answer)?;
+            Ok(entry_of(Change::MaskType { name }, reply))
+        }
+        Judgement::IllegalServiceType => Err(illegal_type(name)),
+        Judgement::UnknownServiceType => Err(unknown_type(name)),
+        Judgement::AlreadyMasked => Err(raised(UserException::AlreadyMasked { name })),
+        Judgement::HasSubTypes(_) => unreachable!(),
+        Judgement::NotMasked => unreachable!(),
+    }
+}
+
+/// Takes the mask from a type (unmask_type). Takes no memory.
+#[tactic(auto, unfolding(crate::specs::Repositories::unmask_type))]
+pub fn unmask_type(store: &mut Store, name: Text) -> Result<Accepted, Fault>
+    ensures accepts { Accepts (change.UnmaskType name) (unmask_type store.old name) store.old store.new result }
+    ensures free { NeedsNone result }
+{
+    match store.types.judge_unmask(&name) {
+        Judgement::Accepted => {
+            let answer = store.types.unmask(&name);
+            let reply = reply_from(answer)?;
+            Ok(entry_of(Change::UnmaskType { name }, reply))
+        }
+        Judgement::IllegalServiceType => Err(illegal_type(name)),
+        Judgement::UnknownServiceType => Err(unknown_type(name)),
+        Judgement::NotMasked => Err(raised(UserException::NotMasked { name })),
+        Judgement::HasSubTypes(_) => unreachable!(),
+        Judgement::AlreadyMasked => unreachable!(),
+    }
+}
+
+/// What the repository's answer is as a reply.
+fn reply_from(answer: Result<TypesReply, TypesFault>) -> Result<Reply, Fault>
+    ensures { IsAnswer answer result }
+{
+    match answer {
+        Ok(reply) => Ok(reply_of(reply)),
+        Err(TypesFault::User(fault)) => Err(raised(exception_of(fault))),
+        Err(TypesFault::Full) => Err(Fault::Refused(Refusal::Limit)),
+        Err(TypesFault::Memory) => Err(Fault::Memory),
+    }
+}
+
+fn reply_of(reply: TypesReply) -> Reply
+    ensures { result ≡ reply_of reply }
+{
+    match reply {
+        TypesReply::Added(incarnation) => Reply::Incarnation(halves(incarnation)),
+        TypesReply::Removed | TypesReply::Masked | TypesReply::Unmasked => Reply::Nothing,
+        TypesReply::Names(names) => Reply::Names(names),
+        TypesReply::Described(described) => Reply::Typed(described),
+    }
+}
+
+pub(crate) fn exception_of(fault: RepoFault) -> UserException
+    ensures { result ≡ exception_of fault }
+{
+    match fault {
+        RepoFault::IllegalServiceType(service_type) => {
+            UserException::IllegalServiceType { service_type }
+        }
+        RepoFault::UnknownServiceType(service_type) => {
+            UserException::UnknownServiceType { service_type }
+        }
+        RepoFault::ServiceTypeExists(name) => UserException::ServiceTypeExists { name },
+        RepoFault::IllegalPropertyName(name) => UserException::IllegalPropertyName { name },
+        RepoFault::DuplicatePropertyName(name) => UserException::DuplicatePropertyName { name },
+        RepoFault::DuplicateServiceTypeName(name) => {
+            UserException::DuplicateServiceTypeName { name }
+        }
+        RepoFault::InterfaceTypeMismatch {
+            base_service,
+            base_if,
+            derived_service,
+            derived_if,
+        } => UserException::ReposInterfaceTypeMismatch {
+            base_service,
+            base_if,
+            derived_service,
+            derived_if,
+        },
+        RepoFault::ValueTypeRedefinition {
+            type_1,
+            definition_1,
+            type_2,
+            definition_2,
+        } => UserException::ValueTypeRedefinition {
+            type_1,
+            definition_1,
+            type_2,
+            definition_2,
+        },
+        RepoFault::HasSubTypes { the_type, sub_type } => {
+            UserException::HasSubTypes { the_type, sub_type }
+        }
+        RepoFault::AlreadyMasked(name) => UserException::AlreadyMasked { name },
+        RepoFault::NotMasked(name) => UserException::NotMasked { name },
+    }
+}
+
+/// From which incarnation on types are listed.
+fn since(which: &SpecifiedServiceTypes) -> Option<u64>
+    ensures { result ≡ since which.now }
+{
+    match which {
+        SpecifiedServiceTypes::All => None,
+        SpecifiedServiceTypes::Since(incarnation) => Some(number_of(incarnation)),
+    }
+}
+
+/// The number that two halves give.
+fn number_of(incarnation: &IncarnationNumber) -> u64
+    ensures { result ≡ number_of incarnation.now }
+{
+    u64::from(incarnation.high) * 4294967296 + u64::from(incarnation.low)
+}
+
+/// What the repository's answer to a look is as an outcome.
+fn told(answer: Result<TypesReply, TypesFault>) -> Result<Outcome, Memory>
+    ensures { (comes : types.Comes) (r : Repository) → types.Answers comes r r answer →
+        Tells (outcome_of comes) result }
+{
+    match reply_from(answer) {
+        Ok(reply) => Ok(Outcome::Done(reply)),
+        Err(Fault::Refused(refusal)) => Ok(refused(refusal)),
+        Err(Fault::Memory) => Err(Memory),
+    }
+}
+
+/// The names of types (list_types).
+#[tactic(auto, unfolding(crate::specs::Repositories::list_types))]
+pub fn list_types(store: &Store, which: &SpecifiedServiceTypes) -> Result<Outcome, Memory>
+    ensures { Tells (list_types store.now which.now) result }
+{
+    told(store.types.list(since(which)))
+}
+
+/// A type with its own properties (describe_type).
+#[tactic(auto, unfolding(crate::specs::Repositories::describe_type))]
+pub fn describe_type(store: &Store, name: &Text) -> Result<Outcome, Memory>
+    ensures { Tells (describe_type store.now name.now) result }
+{
+    told(store.types.describe(name))
+}
+
+/// A type with all its properties (fully_describe_type).
+#[tactic(auto, unfolding(crate::specs::Repositories::fully_describe_type))]
+pub fn fully_describe_type(store: &Store, name: &Text) -> Result<Outcome, Memory>
+    ensures { Tells (fully_describe_type store.now name.now) result }
+{
+    told(store.types.fully_describe(name))
+}

@@ -1,0 +1,11 @@
+pub mod Exports
+pub mod IdNumbers
+pub mod InOrder
+pub mod Limits
+pub mod Modifies
+pub mod OneByOne
+pub mod Otherwise
+pub mod ProxyExports
+pub mod RecipeTest
+pub mod Renewing
+pub mod Withdrawn

@@ -1,0 +1,11 @@
+pub mod Causes
+pub mod Entries
+pub mod Ids
+pub mod Judged
+pub mod Named
+pub mod Needs
+pub mod Properties
+pub mod Proxies
+pub mod Registers
+pub mod Stores
+pub mod Withdrawals

@@ -1,0 +1,122 @@
+-- Proxy offers (OMG's Trading Object Service, interface Proxy).
+use Rattle.std.specs.Prelude.{ℕ, zero, suc, nat_lt, nat_eq, Bool, false, not, ◌+◌, ◌&&◌, ◌||◌, is_some, if◌then◌else◌}
+use Rattle.std.specs.Prelude.{List, [], ◌∷◌, length, drop, Option, None, Some}
+use Rattle.td_codes.specs.declared.reference.Ior.{Ior}
+use Rattle.td_exceptions.specs.declared.exception.UserException.TheVariants.{InvalidLookupRef, IllegalRecipe}
+use Rattle.td_exceptions.specs.declared.exception.UserException.TheVariants.{DuplicatePolicyName}
+use Rattle.td_ior.specs.Profiles.{iiop_of}
+use Rattle.td_lang.specs.Recipes.{part_in_front}
+use Rattle.td_lang.specs.declared.expr.Part.{Part}
+use Rattle.td_types.specs.Repository.{is_among}
+use Rattle.td_value.specs.declared.structures.Policy.{Policy}
+use Rattle.td_value.specs.declared.structures.Property.{Property}
+use Rattle.td_value.specs.declared.structures.ProxyInfo.{ProxyInfo}
+use Rattle.td_ops.specs.declared.outcome.Outcome.{Outcome}
+use Rattle.td_ops.specs.declared.outcome.Reply.TheVariants as reply
+use Rattle.td_register.specs.declared.refusal.Refusal.TheVariants.{NotSupported}
+use Rattle.td_store.specs.declared.record.OfferRecord.{OfferRecord}
+use Rattle.td_store.specs.declared.record.ProxyPart.{ProxyPart}
+use Rattle.td_register.specs.Causes.{Cause, Comes, refused, raise_if, limit_if, unless_supported, ◌otherwise◌, given}
+use Rattle.td_register.specs.Causes.{tells, unless}
+use Rattle.td_register.specs.Ids.{id_of, number_in, proxy}
+use Rattle.td_register.specs.Named.{open_type}
+use Rattle.td_register.specs.Registers.{offer_cause, passes_limit, with_offer, exported, offers_without, no_more}
+use Rattle.td_register.specs.Stores.{Store}
+
+-- ---- recipes
+
+-- how many bytes the part in front takes
+abbrev pub part_length : Option (Part × ℕ) → Option ℕ
+part_length None = None
+part_length (Some found) = Some found.1
+
+abbrev pub goes_on : (List ℕ → Bool) → List ℕ → Option ℕ → Bool
+goes_on rest text None = false
+goes_on rest text (Some size) = rest (drop size text)
+
+-- Parts stand one behind the other up to the end; there are no more of them than bytes.
+abbrev pub are_parts : (most : ℕ) → List ℕ → Bool
+are_parts zero text = nat_eq (length text) 0
+are_parts (suc most) text =
+    nat_eq (length text) 0 || goes_on (are_parts most) text (part_length (part_in_front text))
+
+unfoldable pub is_recipe : List ℕ → Bool
+is_recipe text = not (nat_lt 4096 (length text)) && are_parts (length text) text
+
+-- ---- export_proxy
+
+-- the first policy whose name stands before
+abbrev pub policies_cause : (before : List (List ℕ)) → List Policy → Cause
+policies_cause before [] = None
+policies_cause before (p ∷ ps) =
+    raise_if (is_among p.name before) (DuplicatePolicyName p.name)
+    otherwise policies_cause (p.name ∷ before) ps
+
+abbrev pub export_proxy_cause : Store → Ior → (type_name : List ℕ) → List Property → (recipe : List ℕ) → List Policy →
+    Cause
+export_proxy_cause s target type_name properties recipe policies =
+    unless_supported s.attributes.supports_proxy_offers
+    otherwise given (open_type s.types.types type_name) no_more
+    otherwise raise_if (not (is_some (iiop_of target))) (InvalidLookupRef target)
+    otherwise offer_cause s type_name properties
+    otherwise raise_if (not (is_recipe recipe)) (IllegalRecipe recipe)
+    otherwise policies_cause [] policies
+    otherwise limit_if (passes_limit s target properties)
+
+abbrev pub exported_proxy : Store → Ior → (type_name : List ℕ) → List Property → ProxyPart → OfferRecord
+exported_proxy s target type_name properties part = record (exported s target type_name properties) {
+  proxy = Some
+      part;
+}
+
+unfoldable pub export_proxy : Store → Ior → (type_name : List ℕ) → List Property → (if_match_all : Bool) →
+    (recipe : List ℕ) → List Policy → Comes
+export_proxy s target type_name properties if_match_all recipe policies =
+    unless (export_proxy_cause s target type_name properties recipe policies)
+    (reply.Id (id_of (s.last_offer + 1)))
+    (with_offer s (exported_proxy s target type_name properties (record {
+      if_match_all = if_match_all;
+      recipe =
+          recipe;
+      policies = policies;
+    })))
+
+-- ---- withdraw_proxy
+
+abbrev pub withdraw_proxy_cause : Store → List ℕ → Cause
+withdraw_proxy_cause s id = unless_supported s.attributes.supports_proxy_offers otherwise given (proxy s.offers id)
+    no_more
+
+unfoldable pub withdraw_proxy : Store → List ℕ → Comes
+withdraw_proxy s id =
+    unless (withdraw_proxy_cause s id) reply.Nothing (record s { offers = offers_without s.offers (number_in id) })
+
+-- ---- describe_proxy
+
+abbrev pub proxy_info_of : OfferRecord → Option ProxyPart → ProxyInfo
+proxy_info_of o None = record {
+  service_type = o.service_type;
+  target = o.reference;
+  properties = o.properties;
+  if_match_all = false;
+  recipe = [];
+  policies_to_pass_on = [];
+}
+proxy_info_of o (Some part) = record {
+  service_type = o.service_type;
+  target = o.reference;
+  properties = o.properties;
+  if_match_all = part.if_match_all;
+  recipe = part.recipe;
+  policies_to_pass_on = part.policies;
+}
+
+abbrev pub proxy_info : OfferRecord → ProxyInfo
+proxy_info o = proxy_info_of o o.proxy
+
+abbrev pub if_supported : Bool → Outcome → Outcome
+if_supported supported outcome = if supported then outcome else refused NotSupported
+
+unfoldable pub describe_proxy : Store → List ℕ → Outcome
+describe_proxy s id =
+    if_supported s.attributes.supports_proxy_offers (tells (proxy s.offers id) (λ o. reply.Proxy (proxy_info o)))

@@ -1,0 +1,106 @@
+//! Service types by their names, as the operations on offers look for them (OMG's Trading Object Service,
+//! the exceptions IllegalServiceType and UnknownServiceType of module CosTrading).
+
+ghost use Rattle.std.specs.Prelude.{◌≡◌, is_some, IfOk};
+ghost use Rattle.td_exceptions.specs.declared.exception.UserException.TheVariants as user;
+ghost use Rattle.td_types.specs.Repository.{type_named};
+ghost use Rattle.td_register.specs.Causes.{given, there};
+ghost use Rattle.td_register.specs.Judged.{Judges};
+ghost use Rattle.td_register.specs.Named.{demanded, open_type, unmasked};
+ghost use Rattle.td_register.specs.Registers.{interface_cause, no_more};
+ghost use Rattle.td_register.specs.declared.refusal.Fault.TheVariants as fault;
+ghost use Rattle.td_register.specs.declared.refusal.Refusal.TheVariants as refusal;
+
+use crate::refusal::{Fault, raised};
+use std::alloc::Global;
+use td_cdr::{Memory, Text, Twin, copy_two, is_word_name};
+use td_exceptions::UserException;
+use td_store::{OfferRecord, Store, belongs};
+use td_types::Types;
+use td_value::{Ior, PropStruct};
+
+fn illegal_type(alloc: Global, name: &Text) -> Result<Fault, Memory>
+    ensures { IfOk result (λ f. f ≡ fault.Refused (refusal.Raised (user.IllegalServiceType name.now))) }
+{
+    Ok(raised(UserException::IllegalServiceType {
+        service_type: name.copy(alloc)?,
+    }))
+}
+
+fn unknown_type(alloc: Global, name: &Text) -> Result<Fault, Memory>
+    ensures { IfOk result (λ f. f ≡ fault.Refused (refusal.Raised (user.UnknownServiceType name.now))) }
+{
+    Ok(raised(UserException::UnknownServiceType {
+        service_type: name.copy(alloc)?,
+    }))
+}
+
+fn interface_mismatch(alloc: Global, name: &Text, reference: &Ior) -> Result<Fault, Memory>
+    ensures { IfOk result (λ f.
+        f ≡ fault.Refused (refusal.Raised (user.InterfaceTypeMismatch name.now reference.now))) }
+{
+    let (service_type, reference) = copy_two(alloc, name, reference)?;
+    Ok(raised(UserException::InterfaceTypeMismatch {
+        service_type,
+        reference,
+    }))
+}
+
+/// Whether a type has the name and isn't masked.
+#[tactic(auto, using(crate::proofs::Otherwise::is_unmasked, crate::proofs::Otherwise::is_nowhere))]
+fn is_open(types: &Types, name: &[u8]) -> bool
+    ensures { result ≡ is_some (unmasked (type_named types.now.types name.now)) }
+{
+    match types.is_masked(name) {
+        Some(masked) => !masked,
+        None => false,
+    }
+}
+
+/// Refuses a name that no type has, or a masked one.
+#[tactic(auto, using(crate::proofs::Otherwise::nothing_there, crate::proofs::Otherwise::something_there))]
+pub(crate) fn check_open(alloc: Global, types: &Types, name: &Text) -> Result<(), Fault>
+    ensures { Judges (given (open_type types.now.types name.now) no_more) result }
+{
+    if !is_word_name(name.as_slice()) {
+        return Err(illegal_type(alloc, name)?);
+    }
+    if !is_open(types, name.as_slice()) {
+        return Err(unknown_type(alloc, name)?);
+    }
+    Ok(())
+}
+
+/// Refuses a reference whose interface doesn't conform to the type's.
+#[tactic(auto, using(crate::proofs::Otherwise::none_there, crate::proofs::Otherwise::some_there))]
+pub(crate) fn check_interface(
+    alloc: Global,
+    store: &Store,
+    name: &Text,
+    reference: &Ior,
+) -> Result<(), Fault>
+    ensures { Judges (given (there (type_named store.now.types.types name.now) (user.UnknownServiceType name.now))
+        (interface_cause store.now name.now reference.now)) result }
+{
+    let Some(if_name) = store.types.interface_of(name.as_slice()) else {
+        return Err(unknown_type(alloc, name)?);
+    };
+    if !store
+        .types
+        .interface_conforms(reference.id.as_slice(), if_name.as_slice())
+    {
+        return Err(interface_mismatch(alloc, name, reference)?);
+    }
+    Ok(())
+}
+
+/// What an offer's type demands of its properties; nothing where the offer belongs to none.
+pub(crate) fn demanded<'a>(types: &'a Types, offer: &OfferRecord) -> &'a [PropStruct]
+    ensures { result.now ≡ demanded types.now.types offer.now }
+{
+    if belongs(types, offer) {
+        types.full_properties(offer.service_type.as_slice())
+    } else {
+        &[]
+    }
+}

@@ -1,0 +1,175 @@
+//! What is asked of an offer's properties (OMG's Trading Object Service, interface Register, export).
+
+ghost use Rattle.std.specs.Prelude.{◌≡◌, List, ℕ, [], ◌∷◌, IfOk, OnOk, option_copied};
+ghost use Rattle.std.specs.List.{list_any};
+ghost use Rattle.std.specs.Str.{bytes_eq};
+ghost use Rattle.td_cdr.specs.Seen.{HaveSeen};
+ghost use Rattle.td_exceptions.specs.declared.exception.UserException.TheVariants as user;
+ghost use Rattle.td_register.specs.Causes.{limit_if};
+ghost use Rattle.td_register.specs.Judged.{Judges};
+ghost use Rattle.td_register.specs.Properties.{carries, is_too_large, mismatches, missing, missing_cause, name_cause};
+ghost use Rattle.td_register.specs.Properties.{properties_cause, value_cause};
+ghost use Rattle.td_register.specs.declared.refusal.Fault.TheVariants as fault;
+ghost use Rattle.td_register.specs.declared.refusal.Refusal.TheVariants as refusal;
+
+use crate::refusal::{Fault, Refusal, raised};
+use crate::typing::{is_dynamic, is_mandatory, is_readonly, is_typed, mode_of, property_named};
+use std::alloc::Global;
+use std::collections::BTreeSet;
+use td_cdr::{List, Memory, Text, Twin, copy_two, is_identifier, nothing_seen, see};
+use td_exceptions::UserException;
+use td_value::{Ior, PropStruct, Property, offer_size};
+
+/// How many properties an offer has at most.
+const MOST_PROPERTIES: usize = 256;
+
+/// How many encoded bytes an offer has at most.
+const MOST_BYTES: usize = 1048576;
+
+/// Whether one of these has the name.
+pub(crate) fn carries(properties: &[Property], name: &[u8]) -> bool
+    ensures { result ≡ carries properties.now name.now }
+{
+    properties
+        .iter()
+        .any(|property| property.name.as_slice() == name)
+}
+
+/// Refuses a name that is none, or that was met; and notes it as met.
+pub(crate) fn check_name<'a>(
+    alloc: Global,
+    seen: &mut BTreeSet<&'a [u8]>,
+    name: &'a Text,
+) -> Result<(), Fault>
+    ensures judged { (before : List (List ℕ)) → HaveSeen seen.old before → Judges (name_cause before name.now) result }
+    ensures noted { (before : List (List ℕ)) → HaveSeen seen.old before →
+        OnOk result (HaveSeen seen.new (name.now ∷ before)) }
+{
+    if !is_identifier(name.as_slice()) {
+        return Err(raised(UserException::IllegalPropertyName {
+            name: name.copy(alloc)?,
+        }));
+    }
+    if !see(seen, name.as_slice())? {
+        return Err(raised(UserException::DuplicatePropertyName {
+            name: name.copy(alloc)?,
+        }));
+    }
+    Ok(())
+}
+
+/// Whether the type doesn't let the value stand there.
+fn mismatches(supported: bool, demanded: &[PropStruct], property: &Property) -> bool
+    ensures { result ≡ mismatches supported demanded.now property.now }
+{
+    let declared = property_named(demanded, property.name.as_slice());
+    (is_dynamic(&property.value) && !supported) || !is_typed(declared, &property.value)
+}
+
+fn type_mismatch(alloc: Global, service_type: &Text, property: &Property) -> Result<Fault, Memory>
+    ensures { IfOk result (λ f.
+        f ≡ fault.Refused (refusal.Raised (user.PropertyTypeMismatch service_type.now property.now))) }
+{
+    let (service_type, property) = copy_two(alloc, service_type, property)?;
+    Ok(raised(UserException::PropertyTypeMismatch {
+        service_type,
+        property,
+    }))
+}
+
+fn readonly_dynamic(alloc: Global, service_type: &Text, name: &Text) -> Result<Fault, Memory>
+    ensures { IfOk result (λ f.
+        f ≡ fault.Refused (refusal.Raised (user.ReadonlyDynamicProperty service_type.now name.now))) }
+{
+    let (service_type, name) = copy_two(alloc, service_type, name)?;
+    Ok(raised(UserException::ReadonlyDynamicProperty { service_type, name }))
+}
+
+/// Refuses a value that the type doesn't let stand there.
+pub(crate) fn check_value(
+    alloc: Global,
+    supported: bool,
+    type_name: &Text,
+    demanded: &[PropStruct],
+    property: &Property,
+) -> Result<(), Fault>
+    ensures { Judges (value_cause supported type_name.now demanded.now property.now) result }
+{
+    if mismatches(supported, demanded, property) {
+        return Err(type_mismatch(alloc, type_name, property)?);
+    }
+    if is_dynamic(&property.value) && is_readonly(mode_of(demanded, property.name.as_slice())) {
+        return Err(readonly_dynamic(alloc, type_name, &property.name)?);
+    }
+    Ok(())
+}
+
+/// Refuses the first property that can't stand in an offer of the type.
+pub(crate) fn check_properties(
+    alloc: Global,
+    supported: bool,
+    type_name: &Text,
+    demanded: &[PropStruct],
+    properties: &[Property],
+) -> Result<(), Fault>
+    ensures { Judges (properties_cause supported type_name.now demanded.now [] properties.now) result }
+{
+    let mut seen = nothing_seen(alloc);
+    for property in properties {
+        check_name(alloc, &mut seen, &property.name)?;
+        check_value(alloc, supported, type_name, demanded, property)?;
+    }
+    Ok(())
+}
+
+/// The first mandatory property that is lacking.
+fn missing<'a>(demanded: &'a [PropStruct], properties: &[Property]) -> Option<&'a PropStruct>
+    ensures { option_copied result ≡ missing demanded.now properties.now }
+{
+    for declared in demanded {
+        if is_mandatory(declared.mode) && !carries(properties, declared.name.as_slice()) {
+            return Some(declared);
+        }
+    }
+    None
+}
+
+fn missing_mandatory(alloc: Global, service_type: &Text, name: &Text) -> Result<Fault, Memory>
+    ensures { IfOk result (λ f.
+        f ≡ fault.Refused (refusal.Raised (user.MissingMandatoryProperty service_type.now name.now))) }
+{
+    let (service_type, name) = copy_two(alloc, service_type, name)?;
+    Ok(raised(UserException::MissingMandatoryProperty { service_type, name }))
+}
+
+/// Refuses an offer that lacks a mandatory property.
+pub(crate) fn check_missing(
+    alloc: Global,
+    type_name: &Text,
+    demanded: &[PropStruct],
+    properties: &[Property],
+) -> Result<(), Fault>
+    ensures { Judges (missing_cause type_name.now (missing demanded.now properties.now)) result }
+{
+    match missing(demanded, properties) {
+        None => Ok(()),
+        Some(declared) => Err(missing_mandatory(alloc, type_name, &declared.name)?),
+    }
+}
+
+/// Refuses an offer with too many properties or encoded bytes.
+pub(crate) fn check_size(
+    alloc: Global,
+    reference: &Ior,
+    properties: &List<Property>,
+) -> Result<(), Fault>
+    ensures { Judges (limit_if (is_too_large reference.now properties.now)) result }
+{
+    if properties.len() > MOST_PROPERTIES {
+        return Err(Fault::Refused(Refusal::Limit));
+    }
+    if offer_size(alloc, reference, properties)? > MOST_BYTES {
+        return Err(Fault::Refused(Refusal::Limit));
+    }
+    Ok(())
+}

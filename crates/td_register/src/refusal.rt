@@ -1,0 +1,83 @@
+//! Why a call is refused.
+
+ghost use Rattle.std.specs.Prelude.{◌≡◌};
+ghost use Rattle.td_exceptions.specs.declared.exception.UserException.TheVariants as user;
+ghost use Rattle.td_register.specs.Causes.{system, refused};
+ghost use Rattle.td_register.specs.declared.refusal.Fault.TheVariants as fault;
+ghost use Rattle.td_register.specs.declared.refusal.Refusal.TheVariants as refusal;
+
+use td_cdr::{Memory, Text};
+use td_exceptions::UserException;
+use td_ops::{Outcome, SystemKind};
+
+/// The completion status of a call that wasn't done (CORBA, chapter "Standard Exceptions").
+const COMPLETED_NO: u32 = 1;
+
+/// Why a call is refused.
+#[derive(Drop)]
+pub enum Refusal {
+    Raised(UserException),
+    /// The trader doesn't support this: NO_IMPLEMENT.
+    NotSupported,
+    /// A limit would be passed: IMP_LIMIT.
+    Limit,
+}
+
+/// Why a call isn't done.
+#[derive(Drop)]
+pub enum Fault {
+    Refused(Refusal),
+    /// Want of memory.
+    Memory,
+}
+
+impl From<Memory> for Fault {
+    ghost from_gives = { λ _ e. e ≡ fault.Memory };
+
+    fn from(_memory: Memory) -> Fault {
+        Fault::Memory
+    }
+}
+
+/// An exception as the reason of a refusal.
+pub fn raised(exception: UserException) -> Fault
+    ensures { result ≡ fault.Refused (refusal.Raised exception) }
+{
+    Fault::Refused(Refusal::Raised(exception))
+}
+
+/// IllegalServiceType as the reason of a refusal.
+pub fn illegal_type(service_type: Text) -> Fault
+    ensures { result ≡ fault.Refused (refusal.Raised (user.IllegalServiceType service_type)) }
+{
+    raised(UserException::IllegalServiceType { service_type })
+}
+
+/// UnknownServiceType as the reason of a refusal.
+pub fn unknown_type(service_type: Text) -> Fault
+    ensures { result ≡ fault.Refused (refusal.Raised (user.UnknownServiceType service_type)) }
+{
+    raised(UserException::UnknownServiceType { service_type })
+}
+
+/// A system exception of a call that wasn't done.
+fn system(kind: SystemKind) -> Outcome
+    ensures { result ≡ system kind }
+{
+    Outcome::System {
+        kind,
+        minor: 0,
+        completion: COMPLETED_NO,
+    }
+}
+
+/// The outcome of a call that is refused.
+pub fn refused(refusal: Refusal) -> Outcome
+    ensures { result ≡ refused refusal }
+{
+    match refusal {
+        Refusal::Raised(exception) => Outcome::User(exception),
+        Refusal::NotSupported => system(SystemKind::NoImplement),
+        Refusal::Limit => system(SystemKind::ImpLimit),
+    }
+}

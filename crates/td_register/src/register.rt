@@ -1,0 +1,104 @@
+//! Offers that are described and withdrawn (OMG's Trading Object Service, interface Register).
+
+ghost use Rattle.std.specs.Prelude.{◌≡◌, Ok, is_some, option_map, IfOk, MatchResult};
+ghost use Rattle.td_ops.specs.declared.call.Change.TheVariants as change;
+ghost use Rattle.td_store.specs.OfferLists.{offer_of};
+ghost use Rattle.td_store.specs.Stores.{offer_info_of};
+ghost use Rattle.td_register.specs.Ids.{ordinary};
+ghost use Rattle.td_register.specs.Judged.{Accepts, IsAbsent, Tells};
+ghost use Rattle.td_register.specs.Needs.{NeedsNone};
+ghost use Rattle.td_register.specs.Registers.{describe, withdraw};
+
+use crate::history::{Accepted, entry_of};
+use crate::ids::number_in;
+use crate::refusal::{Fault, raised, refused};
+use std::alloc::Global;
+use td_cdr::{Memory, Text, Twin, copy_three};
+use td_exceptions::UserException;
+use td_ops::{Change, Outcome, Reply};
+use td_store::{OfferRecord, Offers, Store};
+use td_value::OfferInfo;
+
+/// Whether the offer of a number is a proxy offer, if there is one.
+pub fn is_proxy(offers: &Offers, number: u32) -> Option<bool>
+    ensures { result ≡ option_map (λ o. is_some o.proxy) (offer_of offers.now number) }
+{
+    match offers.get(number) {
+        None => None,
+        Some(offer) => Some(offer.proxy.is_some()),
+    }
+}
+
+/// The ordinary offer of an id.
+pub(crate) fn ordinary<'a>(
+    alloc: Global,
+    offers: &'a Offers,
+    id: &Text,
+) -> Result<&'a OfferRecord, Fault>
+    ensures { MatchResult result (λ o. ordinary offers.now id.now ≡ Ok o.now) (IsAbsent (ordinary offers.now id.now)) }
+{
+    let Some(number) = number_in(id.as_slice()) else {
+        return Err(raised(UserException::IllegalOfferId {
+            id: id.copy(alloc)?,
+        }));
+    };
+    let Some(offer) = offers.get(number) else {
+        return Err(raised(UserException::UnknownOfferId {
+            id: id.copy(alloc)?,
+        }));
+    };
+    if offer.proxy.is_some() {
+        return Err(raised(UserException::ProxyOfferId {
+            id: id.copy(alloc)?,
+        }));
+    }
+    Ok(offer)
+}
+
+/// Withdraws an ordinary offer. Takes no memory.
+#[tactic(auto, unfolding(crate::specs::Registers::withdraw))]
+pub fn withdraw(store: &mut Store, id: Text) -> Result<Accepted, Fault>
+    ensures accepts { Accepts (change.Withdraw id) (withdraw store.old id) store.old store.new result }
+    ensures free { NeedsNone result }
+{
+    let Some(number) = number_in(id.as_slice()) else {
+        return Err(raised(UserException::IllegalOfferId { id }));
+    };
+    match is_proxy(&store.offers, number) {
+        None => Err(raised(UserException::UnknownOfferId { id })),
+        Some(true) => Err(raised(UserException::ProxyOfferId { id })),
+        Some(false) => {
+            store.offers.remove(number);
+            Ok(entry_of(Change::Withdraw { id }, Reply::Nothing))
+        }
+    }
+}
+
+/// An offer as its exporter sees it.
+fn offer_info(alloc: Global, offer: &OfferRecord) -> Result<OfferInfo, Memory>
+    ensures { IfOk result (λ i. i ≡ offer_info_of offer.now) }
+{
+    let (reference, (service_type, properties)) = copy_three(
+        alloc,
+        &offer.reference,
+        &offer.service_type,
+        &offer.properties,
+    )?;
+    Ok(OfferInfo {
+        reference,
+        service_type,
+        properties,
+    })
+}
+
+/// What an ordinary offer is (describe).
+#[tactic(auto, unfolding(crate::specs::Registers::describe))]
+pub fn describe(alloc: Global, store: &Store, id: &Text) -> Result<Outcome, Memory>
+    ensures { Tells (describe store.now id.now) result }
+{
+    match ordinary(alloc, &store.offers, id) {
+        Ok(offer) => Ok(Outcome::Done(Reply::Offer(offer_info(alloc, offer)?))),
+        Err(Fault::Refused(refusal)) => Ok(refused(refusal)),
+        Err(Fault::Memory) => Err(Memory),
+    }
+}

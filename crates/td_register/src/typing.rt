@@ -1,0 +1,111 @@
+//! The types and modes of properties (OMG's Trading Object Service, "Service Types", and the structure
+//! DynamicProp of module CosTradingDynamic).
+
+ghost use Rattle.std.specs.Prelude.{◌≡◌, option_copied};
+ghost use Rattle.td_codes.specs.declared.code.Value.{out-Value};
+ghost use Rattle.td_types.specs.Modes.{is_mandatory, is_readonly};
+ghost use Rattle.td_types.specs.Properties.{property_named};
+ghost use Rattle.td_register.specs.Properties.{code_in, has_type, is_dynamic, is_typed, mode_of, returned_type};
+ghost use Rattle.td_register.specs.Properties.{second_code};
+
+use td_value::{Any, PropStruct, PropertyMode, TypeCode, Value, same_type};
+
+/// Whether the any holds a property that is evaluated when it is asked for.
+pub(crate) fn is_dynamic(any: &Any) -> bool
+    ensures { result ≡ is_dynamic any.now }
+{
+    td_value::is_dynamic(&any.code)
+}
+
+/// The TypeCode that a value is.
+fn code_in(value: &Value) -> Option<&TypeCode>
+    ensures { option_copied result ≡ code_in (out-Value value.now) }
+{
+    match value {
+        Value::Code(code) => Some(code.get()),
+        _ => None,
+    }
+}
+
+/// The TypeCode that the second of these is.
+fn second_code(values: &[Value]) -> Option<&TypeCode>
+    ensures { option_copied result ≡ second_code values.now }
+{
+    match values {
+        [_first, second, ..] => code_in(second),
+        _ => None,
+    }
+}
+
+/// The returned_type of a DynamicProp.
+fn returned_type(value: &Value) -> Option<&TypeCode>
+    ensures { option_copied result ≡ returned_type value.now }
+{
+    match value {
+        Value::Struct(members) => second_code(members.as_slice()),
+        _ => None,
+    }
+}
+
+/// Whether the any's value, or the values that it is evaluated to, are of a declared type.
+fn has_type(declared: &TypeCode, any: &Any) -> bool
+    ensures { result ≡ has_type declared.now any.now }
+{
+    if !is_dynamic(any) {
+        return same_type(&any.code, declared);
+    }
+    match returned_type(&any.value) {
+        None => false,
+        Some(code) => same_type(code, declared),
+    }
+}
+
+/// The first property of a name.
+pub(crate) fn property_named<'a>(demanded: &'a [PropStruct], name: &[u8]) -> Option<&'a PropStruct>
+    ensures { option_copied result ≡ property_named demanded.now name.now }
+{
+    for declared in demanded {
+        if declared.name.as_slice() == name {
+            return Some(declared);
+        }
+    }
+    None
+}
+
+/// Whether the any is of the declared type, where one is declared.
+pub(crate) fn is_typed(declared: Option<&PropStruct>, any: &Any) -> bool
+    ensures { result ≡ is_typed (option_copied declared.entry) any.now }
+{
+    match declared {
+        None => true,
+        Some(declared) => has_type(&declared.value_type, any),
+    }
+}
+
+/// The mode of the property of a name; normal where the type doesn't name it.
+pub(crate) fn mode_of(demanded: &[PropStruct], name: &[u8]) -> PropertyMode
+    ensures { result ≡ mode_of demanded.now name.now }
+{
+    match property_named(demanded, name) {
+        None => PropertyMode::Normal,
+        Some(declared) => declared.mode,
+    }
+}
+
+pub(crate) fn is_mandatory(mode: PropertyMode) -> bool
+    ensures { result ≡ is_mandatory mode }
+{
+    match mode {
+        PropertyMode::Normal | PropertyMode::Readonly => false,
+        PropertyMode::Mandatory | PropertyMode::MandatoryReadonly => true,
+    }
+}
+
+pub(crate) fn is_readonly(mode: PropertyMode) -> bool
+    ensures { result ≡ is_readonly mode }
+{
+    match mode {
+        PropertyMode::Normal | PropertyMode::Mandatory => false,
+        PropertyMode::Readonly | PropertyMode::MandatoryReadonly => true,
+    }
+}

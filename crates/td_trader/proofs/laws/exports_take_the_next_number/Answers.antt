@@ -1,5 +1,0 @@
-use Rattle.td_trader.proofs.Refusing.{next}
-use Rattle.td_trader.proofs.laws.exports_take_the_next_number.Goals as goal
-
-pub returns : goal.returns
-returns c = next

@@ -1,9 +1,0 @@
-use Rattle.td_trader.specs.Applying.{comes_to, counted}
-use Rattle.td_trader.proofs.Refusing.{left}
-use Rattle.td_trader.proofs.laws.refused_changes_leave_the_store.Goals as goal
-
-pub returns-clause-counted : goal.returns-clause-counted
-returns-clause-counted c = λ bounds count s ch h. left s (counted bounds count (comes_to s ch)) h
-
-pub returns-clause-uncounted : goal.returns-clause-uncounted
-returns-clause-uncounted c = λ s ch h. left s (comes_to s ch) h

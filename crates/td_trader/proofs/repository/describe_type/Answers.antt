@@ -1,6 +1,0 @@
-use Rattle.td_trader.specs.Repositories.{describe_type}
-use Rattle.td_trader.proofs.repository.describe_type.Goals as goal
-
-pub returns : goal.returns
-unfolding describe_type
-returns c = c.told.ensures _ c.args.store.now.types c.describe.ensures.answer

@@ -1,6 +1,0 @@
-use Rattle.td_trader.specs.Repositories.{fully_describe_type}
-use Rattle.td_trader.proofs.repository.fully_describe_type.Goals as goal
-
-pub returns : goal.returns
-unfolding fully_describe_type
-returns c = c.told.ensures _ c.args.store.now.types c.fully_describe.ensures.answer

@@ -1,6 +1,0 @@
-use Rattle.td_trader.specs.Repositories.{list_types}
-use Rattle.td_trader.proofs.repository.list_types.Goals as goal
-
-pub returns : goal.returns
-unfolding list_types
-returns c = c.told.ensures _ c.args.store.now.types (rw c.since.ensures at c.list.ensures.answer)

@@ -1,0 +1,33 @@
+-- A group of traders that one session has alone.
+use Rattle.std.specs.Prelude.{◌≡◌, ℕ, zero, suc, ◌+◌, List, [], ◌∷◌, ◌++◌, map}
+use Rattle.std.specs.List.{IsDistinct}
+use Rattle.std.specs.Str.{bytes_eq}
+use Rattle.td_cdr.specs.Marks.{Marks}
+use Rattle.td_trader.specs.PlainTraders.{PlainTrader}
+use Rattle.td_trader.specs.Worlds.{View, view_of}
+use Rattle.td_register.specs.declared.history.Accepted.{Accepted}
+
+-- the numbers from k on, as many as there are entries
+abbrev pub places : ℕ → List Accepted → List ℕ
+places k [] = []
+places k (e ∷ es) = k ∷ places (k + 1) es
+
+-- the numbers from 1 to n
+abbrev pub up_to : ℕ → List ℕ
+up_to zero = []
+up_to (suc n) = up_to n ++ suc n ∷ []
+
+-- every place and every mark is one's own
+abbrev pub solo_view : PlainTrader → View
+solo_view t = view_of t (places 0 t.history) (up_to t.marks.count)
+
+-- others change nothing, and mark nothing
+abbrev pub nothing : List Accepted → Type 0
+nothing between = between ≡ []
+
+abbrev pub unchanged : Marks → Marks → Type 0
+unchanged before after = after ≡ before
+
+-- no two traders have one name
+abbrev pub AreDistinct : List PlainTrader → Type 0
+AreDistinct ts = IsDistinct bytes_eq (map (λ (t : PlainTrader). t.name) ts)

@@ -1,0 +1,252 @@
+//! One trader: its store, and the history that leads to it.
+
+ghost use Rattle.std.specs.Prelude.{◌≡◌, ◌≤◌, ◌<◌, true, false, length, vec_len, vec_capacity, IfOk, OnOk, OnErr, IsOk};
+ghost use Rattle.td_cdr.specs.Marks.{Orderly};
+ghost use Rattle.td_marks.specs.Keeping.{IsKept as AreMarks};
+ghost use Rattle.td_changes.specs.Applying.{is_at_limit, seek};
+ghost use Rattle.td_changes.specs.Histories.{Legal};
+ghost use Rattle.td_changes.specs.Kinds.{is_free};
+ghost use Rattle.td_changes.specs.Numbering.{AreNumbered};
+ghost use Rattle.td_trader.specs.PlainTraders.{AreBounds, after_begin, after_change, begin_at, opened};
+ghost use Rattle.td_trader.specs.PlainTraders.{outcome_of, store_of};
+ghost use Rattle.td_changes.specs.Recording.{HasRoom, Records};
+
+use crate::begin::{Begin, begin_query};
+use std::alloc::Global;
+use std::marker::Model;
+use std::snapshot::Snapshot;
+use td_cdr::{Memory, Octets, Text};
+use td_changes::{Bounds, acceptance, barred_outcome, not_done, perform, seek};
+use td_marks::Ring;
+use td_ops::{Change, Look, Outcome, Query};
+use td_register::Accepted;
+use td_store::Store;
+
+/// How many changes a trader accepts at most.
+const MOST_CHANGES: usize = 1000000;
+
+/// A trader: its store, the changes that it accepted since it was opened, with their replies, and the marks of
+/// the queries that it searched.
+#[derive(Drop)]
+pub struct Trader {
+    alloc: Global,
+    name: Text,
+    bounds: Bounds,
+    opening: Snapshot<Store>,
+    store: Store,
+    history: Vec<Accepted>,
+    ring: Ring,
+    /// There is room for one more entry of the history.
+    reserved: bool,
+}
+
+impl Model for Trader {
+    ghost use Rattle.std.specs.Prelude.{◌≡◌, vec_len, vec_capacity};
+    ghost use Rattle.std.specs.Coded.{codes};
+    ghost use Rattle.td_codes.specs.contracts.code.TypeCode as code;
+    ghost use Rattle.td_codes.specs.contracts.code.Value as value;
+    ghost use Rattle.td_trader.specs.PlainTraders.{AreBounds, IsKept, PlainTrader};
+    ghost use Rattle.td_changes.specs.Recording.{HasRoom};
+
+    ghost Value = { PlainTrader };
+
+    ghost coded = { Prim.hlevel (codes, code.the_row.coded, value.the_row.coded) };
+
+    ghost view = { λ t. record {
+      name = t.name;
+      opening = t.opening.value;
+      bounds = t.bounds;
+      history = t.history.items;
+      marks = t.ring;
+      reserved = t.reserved;
+    } };
+
+    ghost invariant = { λ t. AreBounds t.bounds × IsKept t.bounds t.opening.value t.store t.history.items
+        × HasRoom t.reserved (vec_len t.history) (vec_capacity t.history) };
+}
+
+impl Trader {
+    /// A trader that was just opened. It keeps the allocator.
+    ///
+    /// # Errors
+    ///
+    /// `Memory` for want of memory alone.
+    pub fn new(
+        alloc: Global,
+        name: Text,
+        opening: Store,
+        stem: Octets,
+        bounds: Bounds,
+    ) -> Result<Trader, Memory>
+        requires bounds { AreBounds bounds }
+        // The numbers of the offers were given.
+        requires numbered { AreNumbered opening }
+        // It is the opening store's own.
+        requires stem { (stem ≡ opening.attributes.request_id_stem) × (length stem ≤ 64) }
+        ensures { IfOk result (λ t. t ≡ opened name opening bounds) }
+    {
+        drop(stem);
+        let history = Vec::new(alloc);
+        match Ring::new(alloc, bounds.ring) {
+            Ok(ring) => Ok(Trader {
+                alloc,
+                name,
+                bounds,
+                opening: Snapshot::of(&opening),
+                store: opening,
+                history,
+                ring,
+                reserved: false,
+            }),
+            Err(memory) => {
+                drop(opening);
+                Err(memory)
+            }
+        }
+    }
+
+    /// The trader's name.
+    pub fn name(&self) -> &Text
+        ensures { result.now ≡ self.now.name }
+    {
+        &self.name
+    }
+
+    /// The changes that were accepted, with their replies. Takes no memory.
+    pub fn history(&self) -> &[Accepted]
+        ensures entries { result.now ≡ self.now.history }
+        ensures legal { Legal self.now.bounds self.now.opening self.now.history }
+    {
+        self.history.as_slice()
+    }
+
+    /// How many changes were accepted. Takes no memory.
+    pub fn point(&self) -> u64
+        ensures count { result ≡ length self.now.history }
+        ensures legal { Legal self.now.bounds self.now.opening self.now.history }
+    {
+        self.history.len() as u64
+    }
+
+    /// How many marks were made. Takes no memory.
+    pub fn marks(&self) -> u64
+        ensures count { result ≡ self.now.marks.count }
+        ensures orderly { Orderly self.now.marks }
+        ensures kept { AreMarks self.now.marks }
+        ensures bounds { AreBounds self.now.bounds }
+    {
+        self.ring.keeps();
+        self.ring.count()
+    }
+
+    /// What a look is answered with, and the store's max_list.
+    ///
+    /// # Errors
+    ///
+    /// `Memory` for want of memory alone.
+    pub fn look(&self, l: &Look) -> Result<(Outcome, u32), Memory>
+        ensures { IfOk result (λ a. a ≡ seek (store_of self.now) l.now) }
+    {
+        seek(self.alloc, &self.store, l)
+    }
+
+    /// Takes room for one more entry of the history, so that the next change that is accepted needs none.
+    ///
+    /// # Errors
+    ///
+    /// `Memory` for want of memory alone. The trader is then as it was.
+    pub fn reserve_change(&mut self) -> Result<(), Memory>
+        ensures ok { OnOk result (self.new ≡ record self.old { reserved = true }) }
+        ensures err { OnErr result (self.new ≡ self.old) }
+    {
+        self.history.reserve(1)?;
+        self.reserved = true;
+        Ok(())
+    }
+
+    /// What a change comes to. An accepted one stands at the end of the history then; where so many were
+    /// accepted that no more is, it is refused, with IMP_LIMIT if nothing else refuses it.
+    ///
+    /// # Errors
+    ///
+    /// `Memory` for want of memory alone; never for a change that takes none, where room was reserved. The
+    /// trader is then as it was.
+    pub fn change(&mut self, c: Change) -> Result<Outcome, Memory>
+        ensures outcome { IfOk result (λ o. o ≡ outcome_of self.old c) }
+        ensures after { OnOk result (self.new ≡ after_change self.old c) }
+        ensures err { OnErr result (self.new ≡ self.old) }
+        ensures free { self.old.reserved ≡ true → is_free c ≡ true → IsOk result }
+    {
+        let Trader {
+            alloc,
+            bounds,
+            store,
+            history,
+            reserved,
+            ..
+        } = self;
+        if is_at_limit(bounds, history.len()) {
+            return barred_outcome(*alloc, store, c);
+        }
+        record_change(*alloc, store, history, reserved, c)
+    }
+
+    /// How a query begins at the store as it is now. Where it is searched here it is marked.
+    ///
+    /// # Errors
+    ///
+    /// `Memory` for want of memory alone. The trader is then as it was.
+    pub fn begin(&mut self, q: &Query) -> Result<Begin, Memory>
+        ensures begin { IfOk result (λ b. b ≡ begin_at self.old q.now) }
+        ensures after { IfOk result (λ b. self.new ≡ after_begin self.old q.now b) }
+        ensures err { OnErr result (self.new ≡ self.old) }
+    {
+        let Trader {
+            alloc,
+            bounds,
+            store,
+            history,
+            ring,
+            ..
+        } = self;
+        begin_query(*alloc, bounds, store, history.len() as u64, ring, q)
+    }
+}
+
+/// Whether so many changes were accepted that no more is.
+fn is_at_limit(bounds: &Bounds, count: usize) -> bool
+    ensures { result ≡ is_at_limit bounds.now count }
+{
+    count as u64 >= bounds.changes || count >= MOST_CHANGES
+}
+
+/// Does a change, and puts it at the end of the history if it is accepted. Room for the entry and for the
+/// outcome is taken first.
+fn record_change(
+    alloc: Global,
+    store: &mut Store,
+    history: &mut Vec<Accepted>,
+    reserved: &mut bool,
+    c: Change,
+) -> Result<Outcome, Memory>
+    requires numbered { AreNumbered store.old }
+    requires room { HasRoom reserved.old (vec_len history.old) (vec_capacity history.old) }
+    ensures records { Records c store.old store.new history.old.items history.new.items reserved.old reserved.new
+        result }
+    ensures room { HasRoom reserved.new (vec_len history.new) (vec_capacity history.new) }
+    ensures free { reserved.old ≡ true → is_free c ≡ true → IsOk result }
+{
+    history.reserve(1)?;
+    let told = acceptance(alloc, store, &c)?;
+    match perform(alloc, store, c) {
+        Ok(accepted) => {
+            history.push_reserved(accepted);
+            *reserved = false;
+            Ok(Outcome::Done(told))
+        }
+        Err(fault) => {
+            drop(told);
+            not_done(fault)
+        }
+    }
+}
