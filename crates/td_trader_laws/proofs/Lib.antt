@@ -1,0 +1,12 @@
+pub mod Admitting
+pub mod AdmittingAttributes
+pub mod AdmittingLinks
+pub mod AdmittingLooks
+pub mod AdmittingOffers
+pub mod AdmittingTypes
+pub mod Reached
+pub mod ReadAdmitted
+pub mod Writing
+pub mod WritingQueries
+pub mod WritingWorlds
+pub mod Written

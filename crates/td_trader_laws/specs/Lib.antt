@@ -1,0 +1,4 @@
+pub mod Reaching
+pub mod Writable
+pub mod WritableTraders
+pub mod WritableWorlds
