@@ -1,5 +1,5 @@
 -- What a visit answers (OMG's Trading Object Service, interface Lookup, query, limits_applied; "Preferences").
-use Rattle.std.specs.Prelude.{◌≡◌, ℕ, Bool, ◌||◌, List, [], ◌∷◌, ◌++◌, map, filter, take, length, codes, Ok, Err}
+use Rattle.std.specs.Prelude.{◌≡◌, ℕ, ◌+◌, Bool, ◌||◌, List, [], ◌∷◌, ◌++◌, map, filter, take, length, codes, Ok, Err}
 use Rattle.std.specs.Prelude.{if◌then◌else◌}
 use Rattle.std.specs.List.{flat_map, list_any}
 use Rattle.std.specs.Str.{bytes_eq}
@@ -62,3 +62,11 @@ AnswersGathered l (Err question) word a = ⊥
 -- the answer of a visit, once all its questions were answered
 unfoldable pub IsAnswer : Local → List StepAnswer → (word : ℕ → ℕ) → SubAnswer → Type 0
 IsAnswer l answers word a = AnswersGathered l (visit_of l answers) word a
+
+abbrev pub DrawsGathered : Local → Reads Gathered → (before after : ℕ → ℕ) → Type 0
+DrawsGathered l (Ok r) before after = (k : ℕ) → after k ≡ before (k + drawn_by l r.0)
+DrawsGathered l (Err question) before after = ⊥
+
+-- the words that the ranking of a visit's answer drew are gone, and no others
+unfoldable pub HasDrawn : Local → List StepAnswer → (before after : ℕ → ℕ) → Type 0
+HasDrawn l answers before after = DrawsGathered l (visit_of l answers) before after

@@ -1,8 +1,8 @@
 //! The evaluations of an offer's dynamic properties, in the order in which they are asked for.
 
-ghost use Rattle.std.specs.Prelude.{◌≡◌, IfOk, Some, map};
+ghost use Rattle.std.specs.Prelude.{◌≡◌, IfOk, OnOk, Some, map};
 ghost use Rattle.td_walk.specs.Lent.{lent};
-ghost use Rattle.td_walk.specs.Told.{Tells};
+ghost use Rattle.td_walk.specs.Told.{Tells, Kept, made_up_to};
 ghost use Rattle.td_walk.specs.Visits.{question_on, evaluated_property, evaluated_name, evaluated};
 
 use crate::answer::Next;
@@ -38,9 +38,10 @@ fn evaluate(
     dynamic: Dynamic<'_>,
     left: &mut Left<'_>,
 ) -> Result<Option<Next>, Memory>
-    ensures { IfOk result (λ question.
+    ensures told { IfOk result (λ question.
         Tells (evaluated_property made.old name.now (Some (lent dynamic.entry)) left.old.answers.now) question made.new
         left.new.answers.now) }
+    ensures kept { IfOk result (λ question. Kept question made.old made.new) }
 {
     let Some(answer) = left.read() else {
         return Ok(Some(question_on(alloc, name, dynamic)?));
@@ -59,9 +60,10 @@ fn evaluate_name(
     name: &Text,
     left: &mut Left<'_>,
 ) -> Result<Option<Next>, Memory>
-    ensures { IfOk result (λ question.
+    ensures told { IfOk result (λ question.
         Tells (evaluated_name properties.now made.old name.now left.old.answers.now) question made.new
         left.new.answers.now) }
+    ensures kept { IfOk result (λ question. Kept question made.old made.new) }
 {
     if is_evaluated(made.as_slice(), name.as_slice()) {
         return Ok(None);
@@ -77,16 +79,18 @@ fn evaluate_name(
 /// # Errors
 ///
 /// `Memory` for want of memory alone.
-pub(crate) fn evaluate_named(
+pub fn evaluate_named(
     alloc: Global,
     properties: &[Property],
     made: &mut List<Evaluation>,
     names: &[Text],
     left: &mut Left<'_>,
 ) -> Result<Option<Next>, Memory>
-    ensures { IfOk result (λ question.
+    ensures told { IfOk result (λ question.
         Tells (evaluated properties.now made.old names.now left.old.answers.now) question made.new
         left.new.answers.now) }
+    ensures stopped { OnOk result
+        (made.new ≡ made_up_to properties.now made.old names.now left.old.answers.now) }
 {
     for name in names {
         let question = evaluate_name(alloc, properties, made, name, left)?;
@@ -102,15 +106,17 @@ pub(crate) fn evaluate_named(
 /// # Errors
 ///
 /// `Memory` for want of memory alone.
-pub(crate) fn evaluate_each(
+pub fn evaluate_each(
     alloc: Global,
     properties: &[Property],
     made: &mut List<Evaluation>,
     left: &mut Left<'_>,
 ) -> Result<Option<Next>, Memory>
-    ensures { IfOk result (λ question.
+    ensures told { IfOk result (λ question.
         Tells (evaluated properties.now made.old (map (λ p. p.name) properties.now) left.old.answers.now) question
         made.new left.new.answers.now) }
+    ensures stopped { OnOk result
+        (made.new ≡ made_up_to properties.now made.old (map (λ p. p.name) properties.now) left.old.answers.now) }
 {
     for property in properties {
         let question = evaluate_name(alloc, properties, made, &property.name, left)?;

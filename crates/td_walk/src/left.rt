@@ -6,15 +6,15 @@ use crate::answer::StepAnswer;
 
 /// The answers that weren't read yet.
 #[derive(Drop)]
-pub(crate) struct Left<'a> {
-    pub(crate) answers: &'a [StepAnswer],
+pub struct Left<'a> {
+    pub answers: &'a [StepAnswer],
 }
 
 impl<'a> Left<'a> {
     ghost use Rattle.std.specs.Prelude.{◌≡◌, [], ◌∷◌, MatchOption};
 
     /// Reads the next answer, where there is one.
-    pub(crate) fn read(&mut self) -> Option<&'a StepAnswer>
+    pub fn read(&mut self) -> Option<&'a StepAnswer>
         ensures { MatchOption result ((self.old.answers.now ≡ []) × (self.new.answers.now ≡ []))
             (λ a. self.old.answers.now ≡ a.now ∷ self.new.answers.now) }
     {

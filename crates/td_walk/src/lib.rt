@@ -14,16 +14,20 @@ mod left;
 mod passing;
 mod peers;
 mod resolving;
-mod searching;
 mod sub_query;
 mod trace;
 
 pub use answer::{Next, StepAnswer, SubAnswer};
+pub use evaluating::{evaluate_each, evaluate_named};
 pub use evaluation::Evaluation;
 pub use fault::PeerFault;
 pub use found::Found;
 pub use gathering::Gathered;
 pub use laws::{worked_following, worked_passing};
+pub use left::Left;
 pub use peers::Peers;
-pub use sub_query::{follows, sub_query_for_link, sub_query_for_path, sub_query_for_proxy};
+pub use resolving::resolved;
+pub use sub_query::{
+    follows, has_hops, sub_query_for_link, sub_query_for_path, sub_query_for_proxy,
+};
 pub use trace::{Address, Trace, TraceItem, Visit};

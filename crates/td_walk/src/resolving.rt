@@ -68,7 +68,7 @@ fn resolved_property(
 ///
 /// `Memory` for want of memory alone.
 #[tactic(auto, unfolding(crate::specs::Resolving::resolved))]
-pub(crate) fn resolved(
+pub fn resolved(
     alloc: Global,
     made: &[Evaluation],
     properties: &[Property],

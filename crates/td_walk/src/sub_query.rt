@@ -156,7 +156,7 @@ fn lets_follow(local_match: bool, rule: FollowOption) -> bool
 }
 
 /// Whether the query may go over a link or to a proxy offer's trader.
-pub(crate) fn has_hops(local: &Local) -> bool
+pub fn has_hops(local: &Local) -> bool
     ensures { result ≡ has_hops local.now }
 {
     local.effective.hops > 0

@@ -1,27 +1,26 @@
 //! Which candidates match, and which of their properties are evaluated besides (OMG's Trading Object Service,
 //! interface Lookup, query).
 
-ghost use Rattle.std.specs.Prelude.{◌≡◌, ◌++◌, [], ◌∷◌, IfOk, OnOk};
+ghost use Rattle.std.specs.Prelude.{◌≡◌, ◌≤◌, ◌++◌, [], ◌∷◌, drop, length, IfOk, OnOk};
 ghost use Rattle.std.specs.List.{list_any};
 ghost use Rattle.td_store.specs.Candidates.{is_dynamic};
-ghost use Rattle.td_walk.specs.Told.{Tells, TellsMore};
+ghost use Rattle.td_walk.specs.Told.{Tells, TellsMore, Kept};
 ghost use Rattle.td_walk.specs.Resolving.{resolved};
-ghost use Rattle.td_walk.specs.Visits.{matches_all, if_matching, tried, searched, completed, all_completed};
+ghost use Rattle.td_visit.specs.Resuming.{tried_on, made_trying, searched_on, searched_up_to, made_completing};
+ghost use Rattle.td_visit.specs.Resuming.{completed_up_to};
+ghost use Rattle.td_walk.specs.Visits.{matches_all, if_matching, completed, all_completed};
 ghost use Rattle.td_eval.specs.Mentioning.{names_asked};
 ghost use Rattle.td_eval.specs.Values.{matching};
 
-use crate::answer::Next;
-use crate::evaluating::{evaluate_each, evaluate_named};
-use crate::evaluation::Evaluation;
-use crate::found::Found;
-use crate::left::Left;
-use crate::resolving::resolved;
+use crate::progress::{Completion, Scan};
 use std::alloc::Global;
+use std::mem;
 use td_cdr::{List, Memory, Text, Twin};
 use td_eval::{matches, names_asked};
 use td_lang::Constraint;
 use td_store::{Local, OfferRecord, ProxyPart};
 use td_value::{Property, SpecifiedProps, is_dynamic};
+use td_walk::{Evaluation, Found, Left, Next, evaluate_each, evaluate_named, resolved};
 
 /// Whether the offer matches whatever is asked.
 fn matches_all(proxy: &Option<ProxyPart>) -> bool
@@ -89,33 +88,40 @@ fn add_matching(
     }
 }
 
-/// Adds the candidate where it matches, or gives the question to which there is no answer.
+/// Adds the candidate where it matches, or gives the question to which there is no answer; then the evaluations that
+/// there are answers to are made.
 fn try_candidate(
     alloc: Global,
     local: &Local,
     names: &[Text],
     offer: &OfferRecord,
+    made: &mut List<Evaluation>,
     found: &mut List<Found>,
     left: &mut Left<'_>,
 ) -> Result<Option<Next>, Memory>
     requires { names.now ≡ names_asked local.now.constraint local.now.preference }
-    ensures { IfOk result (λ question.
-        TellsMore (tried local.now offer.now left.old.answers.now) question found.old found.new left.new.answers.now) }
+    ensures told { IfOk result (λ question.
+        TellsMore (tried_on local.now offer.now made.old left.old.answers.now) question found.old found.new
+        left.new.answers.now) }
+    ensures kept { IfOk result (λ question. Kept question found.old found.new) }
+    ensures stopped { OnOk result
+        (made.new ≡ made_trying local.now offer.now made.old left.old.answers.now) }
 {
-    let mut made = List::new(alloc);
     if matches_all(&offer.proxy) {
+        let made = mem::replace(made, List::new(alloc));
         add_found(alloc, offer, made, found)?;
         return Ok(None);
     }
-    let question = evaluate_named(alloc, offer.properties.as_slice(), &mut made, names, left)?;
+    let question = evaluate_named(alloc, offer.properties.as_slice(), made, names, left)?;
     if question.is_some() {
         return Ok(question);
     }
+    let made = mem::replace(made, List::new(alloc));
     add_matching(alloc, local, offer, made, found)?;
     Ok(None)
 }
 
-/// Adds the candidates that match, in order, as far as there are answers.
+/// Goes on with the search: adds the candidates that match, in order, as far as there are answers.
 ///
 /// # Errors
 ///
@@ -123,23 +129,37 @@ fn try_candidate(
 pub(crate) fn search(
     alloc: Global,
     local: &Local,
-    found: &mut List<Found>,
+    scan: &mut Scan,
     left: &mut Left<'_>,
 ) -> Result<Option<Next>, Memory>
-    ensures { IfOk result (λ question.
-        Tells (searched local.now local.now.candidates found.old left.old.answers.now) question found.new
-        left.new.answers.now) }
+    requires { scan.old.tried ≤ length local.now.candidates }
+    ensures told { IfOk result (λ question.
+        Tells (searched_on local.now (drop scan.old.tried local.now.candidates) scan.old.found scan.old.made
+        left.old.answers.now) question scan.new.found left.new.answers.now) }
+    ensures stopped { OnOk result
+        (scan.new ≡ searched_up_to local.now (drop scan.old.tried local.now.candidates) scan.old.tried
+        scan.old.found scan.old.made left.old.answers.now) }
 {
     let names = names_asked(alloc, &local.constraint, &local.preference)?;
     let most = local.effective.match_card as usize;
-    for offer in local.candidates.as_slice() {
-        if found.len() >= most {
+    let (_tried, candidates) = local.candidates.as_slice().split_at(scan.tried);
+    for offer in candidates {
+        if scan.found.len() >= most {
             return Ok(None);
         }
-        let question = try_candidate(alloc, local, names.as_slice(), offer, found, left)?;
+        let question = try_candidate(
+            alloc,
+            local,
+            names.as_slice(),
+            offer,
+            &mut scan.made,
+            &mut scan.found,
+            left,
+        )?;
         if question.is_some() {
             return Ok(question);
         }
+        scan.tried += 1;
     }
     Ok(None)
 }
@@ -152,8 +172,10 @@ fn complete(
     made: &mut List<Evaluation>,
     left: &mut Left<'_>,
 ) -> Result<Option<Next>, Memory>
-    ensures { IfOk result (λ question.
+    ensures told { IfOk result (λ question.
         Tells (completed desired.now offer.now made.old left.old.answers.now) question made.new left.new.answers.now) }
+    ensures stopped { OnOk result
+        (made.new ≡ made_completing desired.now offer.now made.old left.old.answers.now) }
 {
     if offer.proxy.is_some() {
         return Ok(None);
@@ -172,7 +194,8 @@ fn complete(
     }
 }
 
-/// Completes the offers that matched, in order, as far as there are answers.
+/// Goes on with the evaluation of desired properties: completes the offers that matched, in order, as far as there
+/// are answers.
 ///
 /// # Errors
 ///
@@ -180,20 +203,25 @@ fn complete(
 pub(crate) fn complete_all(
     alloc: Global,
     desired: &SpecifiedProps,
-    found: List<Found>,
-    done: &mut List<Found>,
+    completion: &mut Completion,
     left: &mut Left<'_>,
 ) -> Result<Option<Next>, Memory>
-    ensures { IfOk result (λ question.
-        Tells (all_completed desired.now done.old found left.old.answers.now) question done.new left.new.answers.now) }
+    ensures told { IfOk result (λ question.
+        Tells (all_completed desired.now completion.old.complete completion.old.waiting left.old.answers.now) question
+        completion.new.complete left.new.answers.now) }
+    ensures stopped { OnOk result
+        (completion.new ≡ completed_up_to desired.now completion.old.complete completion.old.waiting
+        left.old.answers.now) }
 {
-    for one in found.into_vec() {
+    while let Some(one) = completion.waiting.pop_front() {
         let Found { offer, mut made } = one;
         let question = complete(alloc, desired, &offer, &mut made, left)?;
+        let one = Found { offer, made };
         if question.is_some() {
+            completion.waiting.push_front(one)?;
             return Ok(question);
         }
-        done.push(Found { offer, made })?;
+        completion.complete.push(one)?;
     }
     Ok(None)
 }

@@ -1,7 +1,6 @@
 -- Properties of which none is dynamic are resolved as they are.
-use Rattle.std.proofs.Common.{◌≡◌, Bool, true, false, List, [], ◌∷◌, ◌||◌, Option, Some, None, refl, sym, ap, ◌∙◌, cond}
-use Rattle.std.proofs.Common.{option_map, option_and_then}
-use Rattle.std.specs.List.{list_any, filter_map}
+use Rattle.std.proofs.Common.{◌≡◌, Bool, true, false, List, [], ◌∷◌, ◌||◌, Some, refl, ap}
+use Rattle.std.specs.List.{list_any}
 use Rattle.td_store.specs.Candidates.{is_dynamic}
 use Rattle.td_value.specs.declared.structures.Property.{Property}
 use Rattle.td_walk.specs.Resolving.{resolved, resolved_property}

@@ -1,0 +1,9 @@
+pub mod Again
+pub mod Never
+pub mod Forwarding
+pub mod Progressed
+pub mod Readings
+pub mod Recipes
+pub mod Resolved
+pub mod Reversed
+pub mod Turns

@@ -1,0 +1,430 @@
+-- A visit stands where its progress says, at the beginning and after each step.
+use Rattle.std.proofs.Common.{◌≡◌, ℕ, ◌+◌, ◌-◌, ◌≤◌, Bool, true, false, List, [], ◌∷◌, ◌++◌, length, take, drop, map}
+use Rattle.std.proofs.Common.{Option, Some, None, Result, Ok, Err, is_some, refl, sym, ap, subst, ◌∙◌, arith}
+use Rattle.std.proofs.Common.{if◌then◌else◌, IfOk, unwrap_or, nat_le}
+use Rattle.std.proofs.lemmas.List.{append_assoc, append-nil, length-append, length-drop, take-append-drop, drop-drop}
+use Rattle.std.proofs.lemmas.List.{take_at}
+use Rattle.td_cdr.specs.Format.{◌>>=◌}
+use Rattle.td_cdr.specs.declared.memory.Memory.{Memory}
+use Rattle.td_store.specs.declared.local.Local.{Local}
+use Rattle.td_store.specs.declared.record.LinkRecord.{LinkRecord}
+use Rattle.td_store.specs.declared.record.OfferRecord.{OfferRecord}
+use Rattle.td_visit.proofs.Again.{search-again, within-all, all-again, all-ends}
+use Rattle.td_visit.proofs.Never.{asked}
+use Rattle.td_visit.proofs.Forwarding.{asks, ends}
+use Rattle.td_visit.proofs.Readings.{reading-searched, reading-all}
+use Rattle.td_walk.specs.Answers.{IsRankedAnswer, IsAnswer, AnswersGathered, HasDrawn, DrawsGathered, drawn_by}
+use Rattle.td_visit.specs.Resuming.{tried_on, searched_on, searched_up_to, completed_up_to, questions, completed_on}
+use Rattle.td_visit.specs.Resuming.{searching_on, resumed_by, resumed, start, Stands, answers_left}
+use Rattle.td_visit.specs.Resuming.{gathering, IsEnd, IsAsked, CompletesTo, ComesTo}
+use Rattle.td_walk.specs.Told.{Passes}
+use Rattle.td_walk.specs.Visits.{Reads, searched, completing, visit_by, visit_of, all_completed}
+use Rattle.td_walk.specs.Visits.{gathered, sub_answer, next_of, question_of}
+use Rattle.td_walk.specs.declared.answer.Next.{Next}
+use Rattle.td_walk.specs.declared.answer.Next.TheVariants.{Done}
+use Rattle.td_walk.specs.declared.answer.StepAnswer.{StepAnswer}
+use Rattle.td_walk.specs.declared.answer.SubAnswer.{SubAnswer}
+use Rattle.td_walk.specs.declared.found.Found.{Found}
+use Rattle.td_walk.specs.declared.gathering.Gathered.{Gathered}
+use Rattle.td_visit.specs.declared.progress.Completion.{Completion}
+use Rattle.td_visit.specs.declared.progress.Progress.{Progress}
+use Rattle.td_visit.specs.declared.progress.Scan.{Scan}
+
+-- ---- the beginning
+
+fresh : (l : Local) (os : List OfferRecord) (found : List Found) (xs : List StepAnswer)
+    → searched l os found xs ≡ searched_on l os found [] xs
+fresh l [] found xs = refl
+fresh l (o ∷ os) found xs =
+    by_one (fresh l os) (nat_le l.effective.match_card (length found)) (tried_on l o [] xs)
+  where
+    by_one : ((fs : List Found) (ys : List StepAnswer) → searched l os fs ys ≡ searched_on l os fs [] ys) → (b : Bool)
+        → (r : Reads (List Found)) → (if b then Ok (found, xs) else r >>= λ x. searched l os (found ++ x.0) x.1)
+        ≡ (if b then Ok (found, xs) else r >>= λ x. searched_on l os (found ++ x.0) [] x.1)
+    by_one below true r = refl
+    by_one below false (Ok x) = below (found ++ x.0) x.1
+    by_one below false (Err q) = refl
+
+begins : (path : Option LinkRecord) (l : Local) (rest : List StepAnswer)
+    → visit_by path l rest ≡ resumed_by path l (start (is_some path)) rest
+begins None l rest =
+    ap (λ (r : Reads (List Found)). r >>= λ x. completing l x.0 x.1) (fresh l l.candidates [] rest)
+begins (Some link) l rest = refl
+
+pub starts : (l : Local) (answers : List StepAnswer) (p : Progress) → p ≡ start (is_some l.path) → Stands l answers p
+unfolding visit_of resumed
+starts l answers p e =
+    subst (Stands l answers) (sym e)
+    (record {
+      within = omega arith;
+      tries = omega arith;
+      goes_on = λ rest. begins l.path l rest;
+    })
+
+-- ---- steps
+
+visits : (l : Local) (answers : List StepAnswer) (p : Progress) → Stands l answers p
+    → visit_of l answers ≡ resumed l p (answers_left answers p)
+visits l answers p h =
+    sym (ap (visit_of l) (take-append-drop p.read answers)) ∙ h.goes_on (answers_left answers p)
+
+-- more answers are read
+moved : (l : Local) (answers : List StepAnswer) (p : Progress) (front ys rest : List StepAnswer) (n : ℕ)
+    → Stands l answers p → answers_left answers p ≡ front ++ ys → n + length ys ≡ length answers
+    → visit_of l (take n answers ++ rest) ≡ resumed l p (front ++ rest)
+moved l answers p front ys rest n h e is =
+    let before : List StepAnswer = take p.read answers in
+    let whole : answers ≡ (before ++ front) ++ ys =
+    sym (take-append-drop p.read answers)
+    ∙ (ap (λ (zs : List StepAnswer). before ++ zs) e ∙ sym (append_assoc before front ys)) in
+    let long : length answers ≡ length (before ++ front) + length ys =
+    ap length whole ∙ length-append (before ++ front) ys in
+    let count : length (before ++ front) ≡ n = omega (arith, long, is) in
+    let taken : take n answers ≡ before ++ front = ap (take n) whole ∙ take_at (before ++ front) ys n count in
+    ap (λ (zs : List StepAnswer). visit_of l (zs ++ rest)) taken
+    ∙ (ap (visit_of l) (append_assoc before front rest) ∙ h.goes_on (front ++ rest))
+
+-- how many answers there are
+many : (l : Local) (answers : List StepAnswer) (p : Progress) (front ys : List StepAnswer) → Stands l answers p
+    → answers_left answers p ≡ front ++ ys → p.read + (length front + length ys) ≡ length answers
+many l answers p front ys h e =
+    let long : length (answers_left answers p) ≡ length front + length ys = ap length e ∙ length-append front ys in
+    omega (arith, long, length-drop p.read answers, h.within)
+
+searching : (l : Local) (p : Progress) (xs : List StepAnswer) → p.searched ≡ false
+    → resumed l p xs ≡ searching_on l.path l p.scan xs
+unfolding resumed
+searching l p xs e =
+    ap (λ (b : Bool). if b then completed_on l.path l p.completion.complete p.completion.waiting xs
+    else searching_on l.path l p.scan xs) e
+
+finishing : (l : Local) (p : Progress) (xs : List StepAnswer) → p.searched ≡ true
+    → resumed l p xs ≡ completed_on l.path l p.completion.complete p.completion.waiting xs
+unfolding resumed
+finishing l p xs e =
+    ap (λ (b : Bool). if b then completed_on l.path l p.completion.complete p.completion.waiting xs
+    else searching_on l.path l p.scan xs) e
+
+-- ---- the search
+
+abbrev searched_from : Local → Progress → List StepAnswer → Reads (List Found)
+searched_from l p xs = searched_on l (drop p.scan.tried l.candidates) p.scan.found p.scan.made xs
+
+abbrev scanned : Local → Progress → List StepAnswer → Scan
+scanned l p xs =
+    searched_up_to l (drop p.scan.tried l.candidates) p.scan.tried p.scan.found p.scan.made xs
+
+tried-within : (l : Local) (answers xs : List StepAnswer) (p : Progress) → Stands l answers p
+    → (scanned l p xs).tried ≤ length l.candidates
+tried-within l answers xs p h =
+    let most =
+    within-all l (drop p.scan.tried l.candidates) p.scan.tried p.scan.found p.scan.made xs in
+    omega (arith, h.tries, length-drop p.scan.tried l.candidates, most)
+
+pub search_asks : (l : Local) (answers : List StepAnswer) (p : Progress) (q : Next) → Stands l answers p
+    → p.searched ≡ false → searched_from l p (answers_left answers p) ≡ Err q → IsAsked l answers q
+search_asks l answers p q h search e = record {
+  comes =
+      visits l answers p h
+      ∙ (searching l p (answers_left answers p) search
+      ∙ ap (λ (r : Reads (List Found)). r >>= λ x. completed_on l.path l [] x.0 x.1) e);
+  asks =
+      (reading-searched l (drop p.scan.tried l.candidates) p.scan.found p.scan.made).asks (answers_left answers p) q e;
+}
+
+pub search_stops : (l : Local) (answers : List StepAnswer) (p : Progress) (s : Scan) (q : Next) → Stands l answers p
+    → p.searched ≡ false → searched_from l p (answers_left answers p) ≡ Err q
+    → s ≡ scanned l p (answers_left answers p)
+    → Stands l answers (record {
+      read = length answers;
+      searched = p.searched;
+      scan = s;
+      completion = p.completion;
+      given = p.given;
+    })
+search_stops l answers p s q h search e is =
+    let xs : List StepAnswer = answers_left answers p in
+    let next : Progress = record {
+      read = length answers;
+      searched = p.searched;
+      scan = s;
+      completion = p.completion;
+      given = p.given;
+    } in
+    let g = search-again l (drop p.scan.tried l.candidates) p.scan.tried p.scan.found p.scan.made xs q e in
+    let count : s.tried ≡ p.scan.tried + g.passed = ap (λ (c : Scan). c.tried) is ∙ g.count in
+    let behind : drop g.passed (drop p.scan.tried l.candidates) ≡ drop s.tried l.candidates =
+    drop-drop g.passed p.scan.tried l.candidates ∙ ap (λ (n : ℕ). drop n l.candidates) (sym count) in
+    let tried : s.tried ≤ length l.candidates =
+    subst (λ (c : Scan). c.tried ≤ length l.candidates) (sym is) (tried-within l answers xs p h) in
+    record {
+      within = omega arith;
+      tries = tried;
+      goes_on = λ rest.
+          moved l answers p xs [] rest (length answers) h (sym (append-nil xs)) (omega arith)
+          ∙ (searching l p (xs ++ rest) search
+          ∙ (ap (λ (r : Reads (List Found)). r >>= λ x. completed_on l.path l [] x.0 x.1)
+          (g.goes rest
+          ∙ (ap (λ (os : List OfferRecord). searched_on l os (scanned l p xs).found (scanned l p xs).made rest) behind
+          ∙ ap (λ (c : Scan). searched_on l (drop s.tried l.candidates) c.found c.made rest) (sym is)))
+          ∙ sym (searching l next rest search)));
+    }
+
+-- the number of answers that were read before those that are left
+pub fewer_left : (l : Local) (answers : List StepAnswer) (p : Progress) (found : List Found) (ys : List StepAnswer)
+    → Stands l answers p → searched_from l p (answers_left answers p) ≡ Ok (found, ys) → length ys ≤ length answers
+fewer_left l answers p found ys h e =
+    let t =
+    (reading-searched l (drop p.scan.tried l.candidates) p.scan.found p.scan.made).takes (answers_left answers p) found
+    ys e in
+    omega (arith, many l answers p t.front ys h t.whole)
+
+pub search_ends : (l : Local) (answers : List StepAnswer) (p : Progress) (found : List Found) (ys : List StepAnswer)
+    (s : Scan) (n : ℕ) → Stands l answers p → p.searched ≡ false
+    → searched_from l p (answers_left answers p) ≡ Ok (found, ys) → s ≡ scanned l p (answers_left answers p)
+    → n ≡ length answers - length ys
+    → Stands l answers (record {
+      read = n;
+      searched = true;
+      scan = record { tried = s.tried; made = s.made; found = [] };
+      completion = record { waiting = found; complete = [] };
+      given = p.given;
+    })
+search_ends l answers p found ys s n h search e is read =
+    let xs : List StepAnswer = answers_left answers p in
+    let next : Progress = record {
+      read = n;
+      searched = true;
+      scan = record { tried = s.tried; made = s.made; found = [] };
+      completion = record { waiting = found; complete = [] };
+      given = p.given;
+    } in
+    let t =
+    (reading-searched l (drop p.scan.tried l.candidates) p.scan.found p.scan.made).takes xs found ys e in
+    let all = many l answers p t.front ys h t.whole in
+    let tried : s.tried ≤ length l.candidates =
+    subst (λ (c : Scan). c.tried ≤ length l.candidates) (sym is) (tried-within l answers xs p h) in
+    record {
+      within = omega (arith, all, read);
+      tries = tried;
+      goes_on = λ rest.
+          moved l answers p t.front ys rest n h t.whole (omega (arith, all, read))
+          ∙ (searching l p (t.front ++ rest) search
+          ∙ (ap (λ (r : Reads (List Found)). r >>= λ x. completed_on l.path l [] x.0 x.1) (t.goes rest)
+          ∙ sym (finishing l next rest refl)));
+    }
+
+-- ---- desired properties
+
+abbrev completed_from : Local → Progress → List StepAnswer → Reads (List Found)
+completed_from l p xs = all_completed l.query.desired p.completion.complete p.completion.waiting xs
+
+abbrev completed_to : Local → Progress → List StepAnswer → Completion
+completed_to l p xs = completed_up_to l.query.desired p.completion.complete p.completion.waiting xs
+
+pub complete_asks : (l : Local) (answers : List StepAnswer) (p : Progress) (q : Next) → Stands l answers p
+    → p.searched ≡ true → completed_from l p (answers_left answers p) ≡ Err q → IsAsked l answers q
+complete_asks l answers p q h search e = record {
+  comes =
+      visits l answers p h
+      ∙ (finishing l p (answers_left answers p) search
+      ∙ ap (λ (r : Reads (List Found)). r >>= λ x. gathered x.0 x.1 (questions l x.0)) e);
+  asks =
+      (reading-all l.query.desired p.completion.complete p.completion.waiting).asks (answers_left answers p) q e;
+}
+
+pub complete_stops : (l : Local) (answers : List StepAnswer) (p : Progress) (c : Completion) (q : Next)
+    → Stands l answers p → p.searched ≡ true → completed_from l p (answers_left answers p) ≡ Err q
+    → c ≡ completed_to l p (answers_left answers p)
+    → Stands l answers (record {
+      read = length answers;
+      searched = p.searched;
+      scan = p.scan;
+      completion = c;
+      given = p.given;
+    })
+complete_stops l answers p c q h search e is =
+    let xs : List StepAnswer = answers_left answers p in
+    let next : Progress = record {
+      read = length answers;
+      searched = p.searched;
+      scan = p.scan;
+      completion = c;
+      given = p.given;
+    } in
+    record {
+      within = omega arith;
+      tries = h.tries;
+      goes_on = λ rest.
+          moved l answers p xs [] rest (length answers) h (sym (append-nil xs)) (omega arith)
+          ∙ (finishing l p (xs ++ rest) search
+          ∙ (ap (λ (r : Reads (List Found)). r >>= λ x. gathered x.0 x.1 (questions l x.0))
+          (all-again l.query.desired p.completion.complete p.completion.waiting xs q rest e
+          ∙ ap (λ (d : Completion). all_completed l.query.desired d.complete d.waiting rest) (sym is))
+          ∙ sym (finishing l next rest search)));
+    }
+
+pub complete_fewer : (l : Local) (answers : List StepAnswer) (p : Progress) (all : List Found) (ys : List StepAnswer)
+    → Stands l answers p → completed_from l p (answers_left answers p) ≡ Ok (all, ys) → length ys ≤ length answers
+complete_fewer l answers p all ys h e =
+    let t =
+    (reading-all l.query.desired p.completion.complete p.completion.waiting).takes (answers_left answers p) all ys e in
+    omega (arith, many l answers p t.front ys h t.whole)
+
+-- none waits any more
+pub complete_none : (l : Local) (answers : List StepAnswer) (p : Progress) (c : Completion) (all : List Found)
+    (ys : List StepAnswer) → completed_from l p (answers_left answers p) ≡ Ok (all, ys)
+    → c ≡ completed_to l p (answers_left answers p) → c ≡ record { waiting = []; complete = all }
+complete_none l answers p c all ys e is =
+    is ∙ all-ends l.query.desired p.completion.complete p.completion.waiting (answers_left answers p) all ys e
+
+pub complete_ends : (l : Local) (answers : List StepAnswer) (p : Progress) (c : Completion) (all : List Found)
+    (ys : List StepAnswer) (n : ℕ) → Stands l answers p → p.searched ≡ true
+    → completed_from l p (answers_left answers p) ≡ Ok (all, ys) → c ≡ completed_to l p (answers_left answers p)
+    → n ≡ length answers - length ys
+    → Stands l answers (record {
+      read = n;
+      searched = p.searched;
+      scan = p.scan;
+      completion = c;
+      given = p.given;
+    })
+complete_ends l answers p c all ys n h search e is read =
+    let xs : List StepAnswer = answers_left answers p in
+    let next : Progress = record {
+      read = n;
+      searched = p.searched;
+      scan = p.scan;
+      completion = c;
+      given = p.given;
+    } in
+    let t =
+    (reading-all l.query.desired p.completion.complete p.completion.waiting).takes xs all ys e in
+    let count = many l answers p t.front ys h t.whole in
+    let none = complete_none l answers p c all ys e is in
+    record {
+      within = omega (arith, count, read);
+      tries = h.tries;
+      goes_on = λ rest.
+          moved l answers p t.front ys rest n h t.whole (omega (arith, count, read))
+          ∙ (finishing l p (t.front ++ rest) search
+          ∙ (ap (λ (r : Reads (List Found)). r >>= λ x. gathered x.0 x.1 (questions l x.0)) (t.goes rest)
+          ∙ (sym (ap (λ (d : Completion). completed_on l.path l d.complete d.waiting rest) none)
+          ∙ sym (finishing l next rest search))));
+    }
+
+-- ---- other traders
+
+pub given_stands : (l : Local) (answers : List StepAnswer) (p : Progress) (n : ℕ) → Stands l answers p
+    → Stands l answers (record {
+      read = p.read;
+      searched = p.searched;
+      scan = p.scan;
+      completion = p.completion;
+      given = n;
+    })
+unfolding resumed
+given_stands l answers p n h = record { within = h.within; tries = h.tries; goes_on = h.goes_on }
+
+asking : (l : Local) (answers : List StepAnswer) (p : Progress) → Stands l answers p → p.searched ≡ true
+    → p.completion.waiting ≡ []
+    → visit_of l answers
+    ≡ gathered p.completion.complete (answers_left answers p) (questions l p.completion.complete)
+asking l answers p h search none =
+    visits l answers p h
+    ∙ (finishing l p (answers_left answers p) search
+    ∙ ap (λ (fs : List Found). completed_on l.path l p.completion.complete fs (answers_left answers p)) none)
+
+pub others_asked : (l : Local) (answers after : List StepAnswer) (p : Progress) (q : Next) → Stands l answers p
+    → p.searched ≡ true → p.completion.waiting ≡ []
+    → Passes (questions l p.completion.complete) (answers_left answers p) (Some q) after → IsAsked l answers q
+others_asked l answers after p q h search none passes = record {
+  comes =
+      asking l answers p h search none
+      ∙ asks p.completion.complete (questions l p.completion.complete) (answers_left answers p) after q passes;
+  asks = asked l.path l p.completion.complete (answers_left answers p) q passes.next;
+}
+
+pub others_end : (l : Local) (answers after : List StepAnswer) (p : Progress) (n : ℕ) → Stands l answers p
+    → p.searched ≡ true → p.completion.waiting ≡ []
+    → Passes (questions l p.completion.complete) (answers_left answers p) None after
+    → n ≡ length (answers_left answers p) - length after
+    → IsEnd l answers (record {
+      read = p.read;
+      searched = p.searched;
+      scan = p.scan;
+      completion = p.completion;
+      given = n;
+    })
+others_end l answers after p n h search none passes count = record {
+  within = omega (arith, h.within, length-drop p.read answers, count);
+  after = after;
+  comes =
+      asking l answers p h search none
+      ∙ (ends p.completion.complete (questions l p.completion.complete) (answers_left answers p) after passes
+      ∙ ap (λ (m : ℕ). let r : Reads Gathered = Ok (
+        record {
+          found = p.completion.complete;
+          given = map sub_answer (take m (answers_left answers p));
+        },
+        after,
+      ) in r) (sym count));
+}
+
+pub others_come : (l : Local) (answers behind after : List StepAnswer) (p : Progress) (found : List Found) (n : ℕ)
+    (question : Option Next) → Stands l answers p → CompletesTo l answers p None → found ≡ p.completion.complete
+    → behind ≡ answers_left answers p → Passes (questions l found) behind question after
+    → n ≡ length behind - length after
+    → ComesTo l answers (record {
+      read = p.read;
+      searched = p.searched;
+      scan = p.scan;
+      completion = p.completion;
+      given = n;
+    }) question
+others_come l answers behind after p found n None h last all left passes count =
+    others_end l answers after p n h last.0 last.1
+    (subst (λ (xs : List StepAnswer). Passes (questions l p.completion.complete) xs None after) left
+    (subst (λ (fs : List Found). Passes (questions l fs) behind None after) all passes))
+    (count ∙ ap (λ (xs : List StepAnswer). length xs - length after) left)
+others_come l answers behind after p found n (Some q) h last all left passes count =
+    others_asked l answers after p q h last.0 last.1
+    (subst (λ (xs : List StepAnswer). Passes (questions l p.completion.complete) xs (Some q) after) left
+    (subst (λ (fs : List Found). Passes (questions l fs) behind (Some q) after) all passes))
+
+-- ---- the question, and the answer
+
+pub next_asked : (l : Local) (answers : List StepAnswer) (p : Progress) (question : Option Next)
+    → ComesTo l answers p question → unwrap_or question Done ≡ next_of l answers
+unfolding next_of
+next_asked l answers p None h = sym (ap question_of h.comes)
+next_asked l answers p (Some q) h = sym (ap question_of h.comes)
+
+pub never_asked : (l : Local) (answers : List StepAnswer) (q : Next) → IsAsked l answers q → next_of l answers ≡ Done
+    → ⊥
+unfolding next_of
+never_asked l answers q h e = h.asks (sym (ap question_of h.comes) ∙ e)
+
+pub answered : (l : Local) (answers : List StepAnswer) (p : Progress) (word : ℕ → ℕ) (r : Result SubAnswer Memory)
+    → IsEnd l answers p → IfOk r (λ a. IsRankedAnswer l (gathering answers p) word a)
+    → IfOk r (λ a. IsAnswer l answers word a)
+unfolding IsAnswer
+answered l answers p word (Ok a) h ranked =
+    subst (λ (v : Reads Gathered). AnswersGathered l v word a) (sym h.comes) ranked
+answered l answers p word (Err e) h ranked = tt
+
+pub drawn : (l : Local) (answers : List StepAnswer) (p : Progress) (before after : ℕ → ℕ) (r : Result SubAnswer Memory)
+    → IsEnd l answers p → IfOk r (λ a. (k : ℕ) → after k ≡ before (k + drawn_by l (gathering answers p)))
+    → IfOk r (λ a. HasDrawn l answers before after)
+unfolding HasDrawn
+drawn l answers p before after (Ok a) h draws =
+    subst (λ (v : Reads Gathered). DrawsGathered l v before after) (sym h.comes) draws
+drawn l answers p before after (Err e) h draws = tt
+
+-- ---- for the functions that go on
+
+pub ruleset search_steps = (search_asks, search_stops, search_ends, fewer_left)
+
+pub ruleset complete_steps = (complete_asks, complete_stops, complete_ends, complete_fewer, complete_none)
+
+pub ruleset end_steps = (answered, drawn)

@@ -1,0 +1,150 @@
+-- Where a visit stands that waits for the answer to its question, and how it goes on from there.
+use Rattle.std.specs.Prelude.{◌≡◌, ℕ, ◌+◌, ◌≤◌, nat_le, Bool, true, if◌then◌else◌, List, [], ◌∷◌, ◌++◌, length}
+use Rattle.std.specs.Prelude.{take, drop, map, Option, None, Some, Ok, Err}
+use Rattle.td_cdr.specs.Format.{◌>>=◌}
+use Rattle.td_eval.specs.Mentioning.{names_asked}
+use Rattle.td_store.specs.declared.local.Local.{Local}
+use Rattle.td_store.specs.declared.record.LinkRecord.{LinkRecord}
+use Rattle.td_store.specs.declared.record.OfferRecord.{OfferRecord}
+use Rattle.td_value.specs.declared.unions.SpecifiedProps.{SpecifiedProps}
+use Rattle.td_walk.specs.SubQueries.{path_query}
+use Rattle.td_walk.specs.Told.{comes_to, made_up_to}
+use Rattle.td_walk.specs.Visits.{Reads, evaluated, matches_all, if_matching, desired_names, is_ordinary}
+use Rattle.td_walk.specs.Visits.{completed, all_completed, sub_answer, steps, gathered, visit_of}
+use Rattle.td_walk.specs.declared.answer.Next.{Next}
+use Rattle.td_walk.specs.declared.answer.Next.TheVariants.{Done, Forward}
+use Rattle.td_walk.specs.declared.answer.StepAnswer.{StepAnswer}
+use Rattle.td_walk.specs.declared.evaluation.Evaluation.{Evaluation}
+use Rattle.td_walk.specs.declared.found.Found.{Found}
+use Rattle.td_walk.specs.declared.gathering.Gathered.{Gathered}
+use Rattle.td_visit.specs.declared.progress.Completion.{Completion}
+use Rattle.td_visit.specs.declared.progress.Progress.{Progress}
+use Rattle.td_visit.specs.declared.progress.Scan.{Scan}
+
+-- ---- where a reading of answers stops
+
+-- a candidate of which evaluations were made
+abbrev pub tried_on : Local → OfferRecord → List Evaluation → List StepAnswer → Reads (List Found)
+tried_on l o made answers =
+    if matches_all o.proxy then Ok (record { offer = o; made = made } ∷ [], answers)
+    else evaluated o.properties made (names_asked l.constraint l.preference) answers
+    >>= λ r. Ok (if_matching l o r.0, r.1)
+
+-- the evaluations of the candidate that is tried: none, once it was
+abbrev pub made_trying : Local → OfferRecord → List Evaluation → List StepAnswer → List Evaluation
+made_trying l o made answers =
+    comes_to (tried_on l o made answers) (λ r. [])
+    (made_up_to o.properties made (names_asked l.constraint l.preference) answers)
+
+-- the candidates that are left, where evaluations of the first were made
+abbrev pub searched_on : Local → List OfferRecord → List Found → List Evaluation → List StepAnswer →
+    Reads (List Found)
+searched_on l [] found made answers = Ok (found, answers)
+searched_on l (o ∷ os) found made answers =
+    if nat_le l.effective.match_card (length found) then Ok (found, answers)
+    else tried_on l o made answers >>= λ r. searched_on l os (found ++ r.0) [] r.1
+
+-- where the search stops, and which offers matched before
+abbrev pub searched_up_to : Local → List OfferRecord → (tried : ℕ) → List Found → List Evaluation →
+    List StepAnswer → Scan
+searched_up_to l [] tried found made answers = record { tried = tried; made = made; found = found }
+searched_up_to l (o ∷ os) tried found made answers =
+    if nat_le l.effective.match_card (length found) then record { tried = tried; made = made; found = found }
+    else comes_to (tried_on l o made answers) (λ r. searched_up_to l os (tried + 1) (found ++ r.0) [] r.1)
+    (record { tried = tried; made = made_trying l o made answers; found = found })
+
+abbrev pub made_completing : SpecifiedProps → OfferRecord → List Evaluation → List StepAnswer → List Evaluation
+made_completing desired o made answers =
+    if is_ordinary o then made_up_to o.properties made (desired_names desired o.properties) answers else made
+
+-- where the evaluation of desired properties stops, and which offers are complete before
+abbrev pub completed_up_to : SpecifiedProps → (before : List Found) → List Found → List StepAnswer → Completion
+completed_up_to desired before [] answers = record { waiting = []; complete = before }
+completed_up_to desired before (f ∷ fs) answers =
+    comes_to (completed desired f.offer f.made answers)
+    (λ r. completed_up_to desired (before ++ record { offer = f.offer; made = r.0 } ∷ []) fs r.1)
+    (record {
+      waiting = record { offer = f.offer; made = made_completing desired f.offer f.made answers } ∷ fs;
+      complete = before;
+    })
+
+-- ---- how a visit goes on
+
+-- the questions to other traders
+abbrev pub questions_by : Option LinkRecord → Local → List Found → List Next
+questions_by None l found = steps l found
+questions_by (Some link) l found = Forward link.target (path_query l) ∷ []
+
+abbrev pub questions : Local → List Found → List Next
+questions l found = questions_by l.path l found
+
+-- once the candidates were searched
+abbrev pub completed_on : Option LinkRecord → Local → (complete : List Found) → (waiting : List Found) →
+    List StepAnswer → Reads Gathered
+completed_on path l complete waiting answers =
+    all_completed l.query.desired complete waiting answers >>= λ r. gathered r.0 r.1 (questions_by path l r.0)
+
+abbrev pub searching_on : Option LinkRecord → Local → Scan → List StepAnswer → Reads Gathered
+searching_on path l s answers =
+    searched_on l (drop s.tried l.candidates) s.found s.made answers >>= λ r. completed_on path l [] r.0 r.1
+
+abbrev pub resumed_by : Option LinkRecord → Local → Progress → List StepAnswer → Reads Gathered
+resumed_by path l p answers =
+    if p.searched then completed_on path l p.completion.complete p.completion.waiting answers
+    else searching_on path l p.scan answers
+
+unfoldable pub resumed : Local → Progress → List StepAnswer → Reads Gathered
+resumed l p answers = resumed_by l.path l p answers
+
+-- nothing was read yet, and with a path nothing is searched
+abbrev pub start : (along : Bool) → Progress
+start along = record {
+  read = 0;
+  searched = along;
+  scan = record { tried = 0; made = []; found = [] };
+  completion = record { waiting = []; complete = [] };
+  given = 0;
+}
+
+-- This is how far the visit has come with the first answers, whatever comes behind them.
+pub record Stands (l : Local) (answers : List StepAnswer) (p : Progress) : Type 0 where
+  pub within : p.read ≤ length answers
+  pub tries : p.scan.tried ≤ length l.candidates
+  pub goes_on : (rest : List StepAnswer) → visit_of l (take p.read answers ++ rest) ≡ resumed l p rest
+
+-- ---- the end
+
+abbrev pub answers_left : List StepAnswer → Progress → List StepAnswer
+answers_left answers p = drop p.read answers
+
+-- the visit is at its end, and this is what it comes to
+abbrev pub gathering : List StepAnswer → Progress → Gathered
+gathering answers p =
+    record { found = p.completion.complete; given = map sub_answer (take p.given (answers_left answers p)) }
+
+pub record IsEnd (l : Local) (answers : List StepAnswer) (p : Progress) : Type 0 where
+  pub within : p.read + p.given ≤ length answers
+  pub after : List StepAnswer
+  pub comes : visit_of l answers ≡ Ok (gathering answers p, after)
+
+-- ---- where a visit comes to
+
+-- this question stands, and it is one
+pub record IsAsked (l : Local) (answers : List StepAnswer) (question : Next) : Type 0 where
+  pub comes : visit_of l answers ≡ Err question
+  pub asks : question ≡ Done → ⊥
+
+-- to its question, or to the end of the search
+abbrev pub SearchesTo : Local → List StepAnswer → Progress → Option Next → Type 0
+SearchesTo l answers p None = p.searched ≡ true
+SearchesTo l answers p (Some question) = IsAsked l answers question
+
+-- to its question, or to other traders
+abbrev pub CompletesTo : Local → List StepAnswer → Progress → Option Next → Type 0
+CompletesTo l answers p None = (p.searched ≡ true) × (p.completion.waiting ≡ [])
+CompletesTo l answers p (Some question) = IsAsked l answers question
+
+-- to its question, or to its end
+abbrev pub ComesTo : Local → List StepAnswer → Progress → Option Next → Type 0
+ComesTo l answers p None = IsEnd l answers p
+ComesTo l answers p (Some question) = IsAsked l answers question

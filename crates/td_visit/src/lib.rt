@@ -1,0 +1,14 @@
+//! One visit of a query at a trader, whose questions are asked one at a time (OMG's Trading Object Service).
+#![tactic(auto)]
+
+mod advancing;
+mod asking;
+mod ending;
+mod frame;
+mod joining;
+mod progress;
+mod queue;
+mod recipe;
+mod searching;
+
+pub use frame::Frame;

@@ -1,0 +1,37 @@
+//! How far a visit has come, so that the next question needs no look at what was done before.
+
+use crate::queue::Queue;
+use td_cdr::List;
+use td_walk::{Evaluation, Found};
+
+/// How far the candidates were searched.
+#[derive(Drop)]
+pub(crate) struct Scan {
+    /// How many candidates were tried.
+    pub(crate) tried: usize,
+    /// The evaluations of the candidate that is being tried.
+    pub(crate) made: List<Evaluation>,
+    /// The offers that matched.
+    pub(crate) found: List<Found>,
+}
+
+/// How far the desired properties of the offers that matched were evaluated.
+#[derive(Drop)]
+pub(crate) struct Completion {
+    /// The offers that aren't complete.
+    pub(crate) waiting: Queue<Found>,
+    pub(crate) complete: List<Found>,
+}
+
+/// How far a visit has come.
+#[derive(Drop)]
+pub(crate) struct Progress {
+    /// How many answers were read.
+    pub(crate) read: usize,
+    /// Whether the search is at its end.
+    pub(crate) searched: bool,
+    pub(crate) scan: Scan,
+    pub(crate) completion: Completion,
+    /// At the visit's end, how many answers behind those that were read are other traders'.
+    pub(crate) given: usize,
+}

@@ -1,0 +1,44 @@
+//! What a proxy offer's recipe makes (OMG's Trading Object Service, interface Proxy).
+
+ghost use Rattle.std.specs.Prelude.{◌≡◌, option_map, IfOk};
+ghost use Rattle.td_walk.specs.SubQueries.{recipe_of, expanded};
+
+use std::alloc::Global;
+use td_cdr::{Memory, Text};
+use td_eval::expand_recipe;
+use td_lang::{LangFault, Recipe, read_recipe};
+use td_store::{OfferRecord, ProxyPart};
+
+/// The recipe that a text spells, where it spells one.
+#[tactic(auto, using(crate::proofs::Recipes::spelled, crate::proofs::Recipes::too_long))]
+fn recipe_of(alloc: Global, text: &[u8]) -> Result<Option<Recipe>, Memory>
+    ensures { IfOk result (λ recipe. option_map (λ r. r.parts) recipe ≡ recipe_of text.now) }
+{
+    match read_recipe(alloc, text) {
+        Ok(recipe) => Ok(Some(recipe)),
+        Err(LangFault::TooLong) => Ok(None),
+        Err(LangFault::Syntax(_)) => Ok(None),
+        // No other fault comes of a recipe but want of memory.
+        Err(_) => Err(Memory),
+    }
+}
+
+/// What the recipe makes of the importer's constraint and the offer's properties as they were exported.
+///
+/// # Errors
+///
+/// `Memory` for want of memory alone.
+#[tactic(auto, unfolding(td_walk::specs::SubQueries::expanded))]
+pub(crate) fn expanded(
+    alloc: Global,
+    constraint: &Text,
+    offer: &OfferRecord,
+    part: &ProxyPart,
+) -> Result<Option<Text>, Memory>
+    ensures { IfOk result (λ text. text ≡ expanded constraint.now offer.now part.now) }
+{
+    match recipe_of(alloc, part.recipe.as_slice())? {
+        None => Ok(None),
+        Some(recipe) => expand_recipe(alloc, &recipe, constraint, &offer.properties),
+    }
+}

@@ -1,0 +1,11 @@
+pub mod Answering
+pub mod Carrying
+pub mod Fields
+pub mod Named
+pub mod Passed
+pub mod Proxied
+pub mod Questions
+pub mod Replaced
+pub mod Spending
+pub mod Stating
+pub mod Weights

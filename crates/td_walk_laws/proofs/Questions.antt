@@ -1,0 +1,210 @@
+-- Which questions a visit asks.
+use Rattle.std.proofs.Common.{◌≡◌, ℕ, Bool, true, false, List, [], ◌∷◌, ◌++◌, Option, Some, None, Result, Ok}
+use Rattle.std.proofs.Common.{Err, refl, ap, ◌∙◌, subst, if◌then◌else◌, ◌&&◌, option_map}
+use Rattle.std.specs.List.{AllByRecursion, filter_map, list_any, cons_option}
+use Rattle.td_cdr.specs.Format.{◌>>=◌}
+use Rattle.td_codes.specs.declared.reference.Ior.{Ior}
+use Rattle.td_eval.specs.Mentioning.{Names, names_asked}
+use Rattle.td_ops.specs.declared.call.Query.{Query}
+use Rattle.td_store.specs.declared.local.Local.{Local}
+use Rattle.td_store.specs.declared.record.LinkRecord.{LinkRecord}
+use Rattle.td_store.specs.declared.record.OfferRecord.{OfferRecord}
+use Rattle.td_store.specs.declared.record.ProxyPart.{ProxyPart}
+use Rattle.td_value.specs.declared.structures.DynamicProp.{DynamicProp}
+use Rattle.td_value.specs.declared.structures.Property.{Property}
+use Rattle.td_value.specs.declared.unions.SpecifiedProps.{SpecifiedProps}
+use Rattle.td_walk.specs.Resolving.{dynamic_named, is_evaluated}
+use Rattle.td_walk.specs.SubQueries.{link_step, proxy_step, proxy_call, expanded, follows, has_hops, link_query}
+use Rattle.td_walk.specs.SubQueries.{proxy_query, path_query}
+use Rattle.td_walk.specs.Visits.{Reads, ask, question_on, evaluated_property, evaluated_name, evaluated, matches_all}
+use Rattle.td_walk.specs.Visits.{tried, searched, completed, all_completed, forwarded, gathered, search_of}
+use Rattle.td_walk.specs.Visits.{visit_by, visit_of, steps, is_ordinary, desired_names, next_of, question_of}
+use Rattle.td_walk.specs.declared.answer.Next.{Next}
+use Rattle.td_walk.specs.declared.answer.Next.TheVariants.{Forward}
+use Rattle.td_walk.specs.declared.answer.StepAnswer.{StepAnswer}
+use Rattle.td_walk.specs.declared.evaluation.Evaluation.{Evaluation}
+use Rattle.td_walk.specs.declared.found.Found.{Found}
+use Rattle.td_walk.specs.declared.gathering.Gathered.{Gathered}
+use Rattle.td_walk_laws.specs.Reach.{IsPassed, over_link, to_proxy, along_path}
+
+module _ (P : Next → Type 0) where
+  -- each question that a reading stops at is such a one
+  abbrev pub Only : {A : Type 0} → Result A Next → Type 0
+  Only r = (q : Next) → r ≡ Err q → P q
+
+  only-ok : {A : Type 0} (x : A) → Only (let r : Result A Next = Ok x in r)
+  only-ok x q e = absurd cc
+
+  only-then : {A B : Type 0} (r : Result A Next) (f : A → Result B Next) → Only r → ((x : A) → Only (f x))
+      → Only (r >>= f)
+  only-then (Ok x) f h k q e = k x q e
+  only-then (Err p) f h k q e = h q (ap (λ (z : Next). Err z) (let same : p ≡ q = cc in same))
+
+  only-if : {A : Type 0} (b : Bool) (r s : Result A Next) → Only r → Only s → Only (if b then r else s)
+  only-if true r s h k = h
+  only-if false r s h k = k
+
+  only-ask : (question : Next) (answers : List StepAnswer) → P question → Only (ask question answers)
+  only-ask question [] p q e = let same : question ≡ q = cc in subst P same p
+  only-ask question (a ∷ answers) p q e = absurd cc
+
+  module _ (evaluates : (name : List ℕ) (d : DynamicProp) → P (question_on name d)) where
+    only-property : (made : List Evaluation) (name : List ℕ) (o : Option DynamicProp) (answers : List StepAnswer)
+        → Only (evaluated_property made name o answers)
+    only-property made name None answers = only-ok _
+    only-property made name (Some d) answers =
+        only-then (ask (question_on name d) answers) _ (only-ask (question_on name d) answers (evaluates name d))
+        (λ r. only-ok _)
+
+    only-name : (ps : List Property) (made : List Evaluation) (name : List ℕ) (answers : List StepAnswer)
+        → Only (evaluated_name ps made name answers)
+    only-name ps made name answers =
+        only-if (is_evaluated made name) _ _ (only-ok _) (only-property made name (dynamic_named ps name) answers)
+
+    only-evaluated : (ps : List Property) (made : List Evaluation) (names : Names) (answers : List StepAnswer)
+        → Only (evaluated ps made names answers)
+    only-evaluated ps made [] answers = only-ok _
+    only-evaluated ps made (name ∷ names) answers =
+        only-then (evaluated_name ps made name answers) _ (only-name ps made name answers)
+        (λ r. only-evaluated ps r.0 names r.1)
+
+    only-tried : (l : Local) (o : OfferRecord) (answers : List StepAnswer) → Only (tried l o answers)
+    only-tried l o answers =
+        only-if (matches_all o.proxy) _ _ (only-ok _)
+        (only-then (evaluated o.properties [] (names_asked l.constraint l.preference) answers) _
+        (only-evaluated o.properties [] (names_asked l.constraint l.preference) answers) (λ r. only-ok _))
+
+    only-searched : (l : Local) (os : List OfferRecord) (found : List Found) (answers : List StepAnswer)
+        → Only (searched l os found answers)
+    only-searched l [] found answers = only-ok _
+    only-searched l (o ∷ os) found answers =
+        only-if _ _ _ (only-ok _)
+        (only-then (tried l o answers) _ (only-tried l o answers) (λ r. only-searched l os (found ++ r.0) r.1))
+
+    only-completed : (desired : SpecifiedProps) (o : OfferRecord) (made : List Evaluation) (answers : List StepAnswer)
+        → Only (completed desired o made answers)
+    only-completed desired o made answers =
+        only-if (is_ordinary o) _ _
+        (only-evaluated o.properties made (desired_names desired o.properties) answers) (only-ok _)
+
+    only-all-completed : (desired : SpecifiedProps) (before fs : List Found) (answers : List StepAnswer)
+        → Only (all_completed desired before fs answers)
+    only-all-completed desired before [] answers = only-ok _
+    only-all-completed desired before (f ∷ fs) answers =
+        only-then (completed desired f.offer f.made answers) _ (only-completed desired f.offer f.made answers)
+        (λ r. only-all-completed desired _ fs r.1)
+
+  only-forwarded : (qs : List Next) (answers : List StepAnswer) → AllByRecursion P qs → Only (forwarded qs answers)
+  only-forwarded [] answers h = only-ok _
+  only-forwarded (question ∷ qs) answers h =
+      only-then (ask question answers) _ (only-ask question answers h.0)
+      (λ r. only-then (forwarded qs r.1) _ (only-forwarded qs r.1 h.1) (λ s. only-ok _))
+
+  all-joined : (qs rs : List Next) → AllByRecursion P qs → AllByRecursion P rs → AllByRecursion P (qs ++ rs)
+  all-joined [] rs h k = k
+  all-joined (q ∷ qs) rs h k = (h.0, all-joined qs rs h.1 k)
+
+  all-steps : {X : Type 0} (step : X → Option Next) → ((x : X) (q : Next) → step x ≡ Some q → P q) → (xs : List X)
+      → AllByRecursion P (filter_map step xs)
+  all-steps step h [] = tt
+  all-steps {X} step h (x ∷ xs) = by_step (all-steps step h xs) (step x) refl
+    where
+      by_step : AllByRecursion P (filter_map step xs) → (o : Option Next) → step x ≡ o
+          → AllByRecursion P (cons_option o (filter_map step xs))
+      by_step rest None e = rest
+      by_step rest (Some q) e = (h x q e, rest)
+
+-- ---- a visit's questions
+
+-- where a question goes to another trader, its query is one that is passed on
+abbrev Goes : Local → Next → Type 0
+Goes l q = (target : Ior) (sub : Query) → q ≡ Forward target sub → IsPassed l target sub
+
+no-forward : (l : Local) (name : List ℕ) (d : DynamicProp) → Goes l (question_on name d)
+no-forward l name d target sub e = absurd cc
+
+goes : (l : Local) (t target : Ior) (q sub : Query) → IsPassed l t q → Forward t q ≡ Forward target sub
+    → IsPassed l target sub
+goes l t target q sub h e =
+    let one : t ≡ target = cc in
+    let two : q ≡ sub = cc in
+    subst (λ (x : Query). IsPassed l target x) two (subst (λ (x : Ior). IsPassed l x q) one h)
+
+first-holds : (a b : Bool) → (a && b) ≡ true → a ≡ true
+first-holds true b e = refl
+first-holds false b e = e
+
+link-goes : (l : Local) → l.path ≡ None → (local_match : Bool) (link : LinkRecord) (q : Next)
+    → link_step l local_match link ≡ Some q → Goes l q
+unfolding link_step
+link-goes l searches local_match link q e target sub is = by_rule (follows l local_match link) refl e
+  where
+    by_rule : (b : Bool) → follows l local_match link ≡ b
+        → (if b then Some (Forward link.target (link_query l link)) else None) ≡ Some q → IsPassed l target sub
+    by_rule true rule e =
+        let same : Forward link.target (link_query l link) ≡ q = cc in
+        goes l link.target target (link_query l link) sub (over_link link searches (first-holds (has_hops l) _ rule))
+        (same ∙ is)
+    by_rule false rule e = absurd cc
+
+proxy-goes : (l : Local) → l.path ≡ None → (o : OfferRecord) (q : Next) → proxy_step l o ≡ Some q → Goes l q
+unfolding proxy_step
+proxy-goes l searches o q e target sub is = by_part o.proxy e
+  where
+    by_text : (part : ProxyPart) (t : Option (List ℕ)) → has_hops l ≡ true
+        → option_map (λ (text : List ℕ). Forward o.reference (proxy_query l part text)) t ≡ Some q
+        → IsPassed l target sub
+    by_text part None hops e = absurd cc
+    by_text part (Some text) hops e =
+        let same : Forward o.reference (proxy_query l part text) ≡ q = cc in
+        goes l o.reference target (proxy_query l part text) sub (to_proxy o part text searches hops) (same ∙ is)
+
+    by_hops : (part : ProxyPart) (b : Bool) → has_hops l ≡ b
+        → (if b then option_map (λ (text : List ℕ). Forward o.reference (proxy_query l part text))
+        (expanded l.query.constraint o part) else None) ≡ Some q
+        → IsPassed l target sub
+    by_hops part true hops e = by_text part (expanded l.query.constraint o part) hops e
+    by_hops part false hops e = absurd cc
+
+    by_part : (p : Option ProxyPart) → proxy_call l o p ≡ Some q → IsPassed l target sub
+    by_part None e = absurd cc
+    by_part (Some part) e = by_hops part (has_hops l) refl e
+
+steps-go : (l : Local) → l.path ≡ None → (found : List Found) → AllByRecursion (Goes l) (steps l found)
+unfolding steps
+steps-go l searches found =
+    all-joined (Goes l) _ _
+    (all-steps (Goes l) (λ (f : Found). proxy_step l f.offer) (λ f q e. proxy-goes l searches f.offer q e) found)
+    (all-steps (Goes l) (link_step l (list_any (λ (f : Found). is_ordinary f.offer) found))
+    (λ link q e. link-goes l searches (list_any (λ (f : Found). is_ordinary f.offer) found) link q e) l.links)
+
+gathered-goes : (l : Local) (found : List Found) (answers : List StepAnswer) (qs : List Next)
+    → AllByRecursion (Goes l) qs → Only (Goes l) (gathered found answers qs)
+gathered-goes l found answers qs h =
+    only-then (Goes l) (forwarded qs answers) _ (only-forwarded (Goes l) qs answers h) (λ r. only-ok (Goes l) _)
+
+search-goes : (l : Local) → l.path ≡ None → (answers : List StepAnswer) → Only (Goes l) (search_of l answers)
+search-goes l searches answers =
+    only-then (Goes l) (searched l l.candidates [] answers) _
+    (only-searched (Goes l) (no-forward l) l l.candidates [] answers)
+    (λ r. only-then (Goes l) (all_completed l.query.desired [] r.0 r.1) _
+    (only-all-completed (Goes l) (no-forward l) l.query.desired [] r.0 r.1)
+    (λ s. gathered-goes l s.0 s.1 (steps l s.0) (steps-go l searches s.0)))
+
+visit-goes : (l : Local) (p : Option LinkRecord) (answers : List StepAnswer) → l.path ≡ p
+    → Only (Goes l) (visit_by p l answers)
+visit-goes l None answers e = search-goes l e answers
+visit-goes l (Some link) answers e =
+    gathered-goes l [] answers (Forward link.target (path_query l) ∷ [])
+    ((λ target sub is. goes l link.target target (path_query l) sub (along_path link e) is), tt)
+
+-- each query that a visit passes on goes over a link, to a proxy offer's trader or along the path
+pub only_passed : (l : Local) (answers : List StepAnswer) (target : Ior) (sub : Query)
+    → next_of l answers ≡ Forward target sub → IsPassed l target sub
+unfolding next_of visit_of
+only_passed l answers target sub e = by_visit (visit_by l.path l answers) refl e
+  where
+    by_visit : (r : Reads Gathered) → visit_by l.path l answers ≡ r → question_of r ≡ Forward target sub
+        → IsPassed l target sub
+    by_visit (Ok r) is e = absurd cc
+    by_visit (Err q) is e = visit-goes l l.path answers refl q is target sub e

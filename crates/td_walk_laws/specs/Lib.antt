@@ -1,0 +1,4 @@
+pub mod Answering
+pub mod Examples
+pub mod Reach
+pub mod SubQueryLaws

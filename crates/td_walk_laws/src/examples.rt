@@ -1,0 +1,30 @@
+//! Worked examples of visits.
+
+ghost use Rattle.std.specs.Prelude.{ℕ};
+ghost use Rattle.td_walk_laws.specs.Examples.{WorkedVisits, WorkedProxies, WorkedEvaluations};
+ghost use Rattle.td_walk_laws.specs.Examples.{WorkedResolving, WorkedAnswers};
+
+/// The questions of a visit: over a link, and along a path.
+pub fn worked_visits()
+    ensures { WorkedVisits }
+{}
+
+/// A proxy offer is called before a link is followed.
+pub fn worked_proxies()
+    ensures { WorkedProxies }
+{}
+
+/// A desired dynamic property is evaluated.
+pub fn worked_evaluations()
+    ensures { WorkedEvaluations }
+{}
+
+/// Properties as resolved.
+pub fn worked_resolving()
+    ensures { WorkedResolving }
+{}
+
+/// Answers of visits.
+pub fn worked_answers()
+    ensures { (word : ℕ → ℕ) → WorkedAnswers word }
+{}

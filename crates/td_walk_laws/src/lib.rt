@@ -1,0 +1,20 @@
+//! What holds of each visit of a query and of what it passes on, as functions that do nothing: each one's contract is
+//! the law (OMG's Trading Object Service, "Policies" and "Link Follow Behavior").
+#![tactic(auto)]
+
+mod answers;
+mod examples;
+mod sub_queries;
+mod walks;
+
+pub use answers::{answers_are_one, failed_steps_give_nothing};
+pub use examples::{
+    worked_answers, worked_evaluations, worked_proxies, worked_resolving, worked_visits,
+};
+pub use sub_queries::{
+    sub_queries_along_a_path, sub_queries_over_a_link, sub_queries_to_a_proxy,
+    sub_queries_with_passed_policies,
+};
+pub use walks::{
+    identifiers_are_carried, queries_are_passed_on, visits_end, visits_reach_no_farther, walks_end,
+};
