@@ -1,0 +1,5 @@
+//! Tests of td_forms.
+#![tactic(auto)]
+
+#[cfg(test)]
+mod tests;

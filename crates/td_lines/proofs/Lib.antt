@@ -1,0 +1,4 @@
+pub mod Blanks
+pub mod Feeds
+pub mod Sounding
+pub mod Stepping

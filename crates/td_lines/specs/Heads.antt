@@ -1,0 +1,90 @@
+-- Lines that begin an entry of one line. Each is judged in this order: the number of its words, its place, and then its
+-- words from left to right.
+use Rattle.std.specs.Prelude.{ℕ, nat_le, Bool, false, not, ◌||◌, List, [], ◌∷◌, ◌++◌, length, if◌then◌else◌, Some}
+use Rattle.std.specs.Prelude.{is_some, Result, Ok}
+use Rattle.std.specs.List.{list_any}
+use Rattle.std.specs.Str.{bytes_eq}
+use Rattle.td_cdr.specs.Names.{trader_name}
+use Rattle.td_cdr.specs.Reading.{◌>>=◌}
+use Rattle.td_cdr.specs.Text.{has_nul}
+use Rattle.td_ops.specs.declared.call.Change.TheVariants as change
+use Rattle.td_lines.specs.Causes.{or_cause, refused_if}
+use Rattle.td_lines.specs.Drafts.{has_trader, with_entry}
+use Rattle.td_lines.specs.Homes.{home_told}
+use Rattle.td_lines.specs.Octets.{octets_told, seed_told}
+use Rattle.td_lines.specs.Settings.{setting_told}
+use Rattle.td_lines.specs.Words.{cut_word, one_word, two_words, words}
+use Rattle.td_lines.specs.declared.cause.LineCause.{LineCause}
+use Rattle.td_lines.specs.declared.cause.LineCause.TheVariants as cause
+use Rattle.td_lines.specs.declared.draft.Draft.{Draft}
+use Rattle.td_lines.specs.declared.entry.Entry.TheVariants as entry
+use Rattle.td_lines.specs.declared.entry.TraderScript.{TraderScript}
+
+-- `address HOST PORT`, once; no other line may stand above it
+unfoldable pub with_address : Draft → List ℕ → Result Draft LineCause
+with_address d line = do
+  said ← or_cause cause.Words (two_words line)
+  refused_if (is_some d.home) cause.Twice
+      (home_told said.0 said.1 >>= λ home. Ok (record d { home = Some home }))
+
+-- `seed HEX`, once, behind the address and before the first trader
+unfoldable pub with_seed : Draft → List ℕ → Result Draft LineCause
+with_seed d line = do
+  said ← or_cause cause.Words (one_word line)
+  refused_if (not (is_some d.home) || has_trader d) cause.Place
+      (refused_if (is_some d.seed) cause.Twice
+      (seed_told said >>= λ seed. Ok (record d { seed = Some seed })))
+
+-- what was said of the last trader
+abbrev pub last_trader : Draft → TraderScript
+last_trader d = record { name = d.name; interfaces = d.interfaces; entries = d.entries }
+
+-- nothing more is said of the last trader, if there is one
+abbrev pub finished : Draft → Draft
+finished d =
+    if has_trader d
+    then record d { finished = d.finished ++ last_trader d ∷ []; name = []; interfaces = []; entries = [] }
+    else d
+
+-- a trader, of whom nothing was said yet
+abbrev pub opened_trader : Draft → List ℕ → Draft
+opened_trader d name = record d { names = d.names ++ name ∷ []; name = name; typed = false }
+
+-- `trader NAME`, at most 64, no two of one name
+unfoldable pub with_trader : Draft → List ℕ → Result Draft LineCause
+with_trader d line = do
+  said ← or_cause cause.Words (one_word line)
+  refused_if (not (is_some d.home) || nat_le 64 (length d.names)) cause.Place
+      (refused_if (not (trader_name said)) cause.Name
+      (refused_if (list_any (bytes_eq said) d.names) cause.Twice
+      (Ok (opened_trader (finished d) said))))
+
+-- `stem HEX`
+unfoldable pub with_stem : Draft → ℕ → List ℕ → Result Draft LineCause
+with_stem d n line = do
+  said ← or_cause cause.Words (one_word line)
+  refused_if (not (has_trader d)) cause.Place
+      (octets_told said >>= λ stem. Ok (with_entry d n (entry.Change (change.SetRequestIdStem stem))))
+
+-- `set ATTRIBUTE VALUE`
+unfoldable pub with_set : Draft → ℕ → List ℕ → Result Draft LineCause
+with_set d n line = do
+  said ← or_cause cause.Words (two_words line)
+  refused_if (not (has_trader d)) cause.Place
+      (setting_told said.0 said.1 >>= λ set. Ok (with_entry d n (entry.Change set)))
+
+abbrev pub is_declared : List ℕ → List (List ℕ × List (List ℕ)) → Bool
+is_declared id interfaces = list_any (λ one. bytes_eq id one.0) interfaces
+
+abbrev pub with_declared : Draft → List ℕ → List (List ℕ) → Draft
+with_declared d id bases = record d { interfaces = d.interfaces ++ (id, bases) ∷ [] }
+
+-- `interface ID BASE ..`, before the trader's first type, each ID once
+unfoldable pub with_interface : Draft → List ℕ → Result Draft LineCause
+with_interface d line = do
+  said ← or_cause cause.Words (cut_word line)
+  refused_if (not (has_trader d) || d.typed) cause.Place
+      (refused_if (has_nul said.0) cause.Name
+      (refused_if (is_declared said.0 d.interfaces) cause.Twice
+      (refused_if (list_any has_nul (words said.1)) cause.Name
+      (Ok (with_declared d said.0 (words said.1))))))

@@ -1,0 +1,17 @@
+pub mod Causes
+pub mod Drafts
+pub mod Examples
+pub mod Heads
+pub mod Homes
+pub mod Keywords
+pub mod Laws
+pub mod Linked
+pub mod Octets
+pub mod Offered
+pub mod Properties
+pub mod References
+pub mod Scripts
+pub mod Settings
+pub mod Steps
+pub mod Typed
+pub mod Words

@@ -1,0 +1,50 @@
+//! Where the server is reached.
+
+ghost use Rattle.std.specs.Prelude.{◌≡◌, ◌||◌, nat_lt, length};
+ghost use Rattle.std.specs.List.{list_any};
+ghost use Rattle.td_cdr.specs.Text.{has_nul};
+ghost use Rattle.td_lines.specs.Causes.{Gives};
+ghost use Rattle.td_lines.specs.Homes.{home_told, is_no_host};
+
+use crate::cause::{LineCause, Misfit};
+use crate::entry::Home;
+use std::alloc::Global;
+use td_cdr::Text;
+use td_forms::number_up_to;
+
+pub(crate) fn has_nul(bytes: &[u8]) -> bool
+    ensures { result ≡ has_nul bytes.now }
+{
+    bytes.contains(&0)
+}
+
+/// Whether one of these texts has a NUL.
+pub(crate) fn have_nul(texts: &[Text]) -> bool
+    ensures { result ≡ list_any has_nul texts.now }
+{
+    texts.iter().any(|text| has_nul(text.as_slice()))
+}
+
+/// Whether these bytes are no host: more than 1,000, or with a NUL.
+fn is_no_host(host: &[u8]) -> bool
+    ensures { result ≡ is_no_host host.now }
+{
+    host.len() > 1000 || has_nul(host)
+}
+
+/// The address that a host and a port tell.
+pub(crate) fn home_told(alloc: Global, host: &[u8], port: &[u8]) -> Result<Home, Misfit>
+    ensures { Gives (home_told host.now port.now) result }
+{
+    if is_no_host(host) {
+        return Err(Misfit::Is(LineCause::Name));
+    }
+    let Some(port) = number_up_to(port, 65535) else {
+        return Err(Misfit::Is(LineCause::Number));
+    };
+    let host = Text::from_slice(alloc, host)?;
+    Ok(Home {
+        host,
+        port: port as u16,
+    })
+}

@@ -1,0 +1,7 @@
+//! Tests of td_lines.
+#![tactic(auto)]
+
+#[cfg(test)]
+mod entries;
+#[cfg(test)]
+mod refusals;
