@@ -1,32 +1,45 @@
 //! The attributes of a new trader.
 
 use crate::support::attributes;
+use std::alloc::Global;
 use std::process::Abort;
 use std::test::Fail;
-use td_cdr::Twin;
+use td_cdr::{Boxed, Memory, Twin};
 use td_policy::Attributes;
-use td_value::FollowOption;
+use td_value::{FollowOption, Ior};
 
 #[test]
 fn a_new_trader(rt: HostRuntime) -> Result<(), Fail> {
     let alloc = rt.alloc();
-    let new = attributes(alloc)?;
-    assert!(rt; has_own_references(&new));
-    assert!(rt; supports_all(&new));
-    assert!(rt; has_default_numbers(&new));
-    assert!(rt; follows_always(&new));
-    let twin = new.copy(alloc)?;
-    assert!(rt; has_own_references(&twin) && has_default_numbers(&twin));
+    assert!(rt; is_new_and_copied(alloc)?);
     Ok(())
 }
 
+fn is_new_and_copied(alloc: Global) -> Result<bool, Memory> {
+    let new = Boxed::new(alloc, attributes(alloc)?)?;
+    Ok(is_new(new.get()) && is_copied(alloc, new.get())?)
+}
+
+fn is_new(a: &Attributes) -> bool {
+    has_own_references(a) && supports_all(a) && has_default_numbers(a) && follows_always(a)
+}
+
+fn is_copied(alloc: Global, a: &Attributes) -> Result<bool, Memory> {
+    let twin = Boxed::new(alloc, a.copy(alloc)?)?;
+    Ok(has_own_references(twin.get()) && has_default_numbers(twin.get()))
+}
+
+fn has_id(reference: &Ior, id: &[u8]) -> bool {
+    reference.id.as_slice() == id
+}
+
 fn has_own_references(a: &Attributes) -> bool {
-    a.lookup_if.id.as_slice() == b"A/L".as_slice()
-        && a.register_if.id.as_slice() == b"A/R".as_slice()
-        && a.link_if.id.as_slice() == b"A/K".as_slice()
-        && a.proxy_if.id.as_slice() == b"A/P".as_slice()
-        && a.admin_if.id.as_slice() == b"A/A".as_slice()
-        && a.type_repos.id.as_slice() == b"A/T".as_slice()
+    has_id(&a.lookup_if, b"A/L")
+        && has_id(&a.register_if, b"A/R")
+        && has_id(&a.link_if, b"A/K")
+        && has_id(&a.proxy_if, b"A/P")
+        && has_id(&a.admin_if, b"A/A")
+        && has_id(&a.type_repos, b"A/T")
         && a.request_id_stem.as_slice() == b"A".as_slice()
 }
 

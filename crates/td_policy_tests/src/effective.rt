@@ -1,15 +1,12 @@
 //! Cardinalities and hop counts below, at and above their maxima.
 
-use crate::support::{attributes, number_of};
+use crate::support::{attributes, number_of, stated_of};
 use std::alloc::Global;
 use std::process::Abort;
 use std::test::Fail;
-use td_cdr::{List, Memory, Twin};
-use td_policy::{
-    Attributes, Effective, PolicyFault, Stated, effective_of, number_policy, read_policies,
-    rule_policy,
-};
-use td_value::FollowOption;
+use td_cdr::{Boxed, List, Memory, Twin};
+use td_policy::{Attributes, Effective, Stated, effective_of, number_policy, rule_policy};
+use td_value::{FollowOption, Policy};
 
 /// A policy and a number that is stated, the number that counts, and whether it was above the
 /// maximum.
@@ -32,9 +29,8 @@ search_card 401 400 over";
 #[test]
 fn stated_numbers(rt: HostRuntime) -> Result<(), Fail> {
     let alloc = rt.alloc();
-    let bounded = bounded(alloc)?;
     for line in STATED.lines() {
-        assert!(rt; is_answered(alloc, &bounded, line)?, "at {line}");
+        assert!(rt; is_answered(alloc, line)?, "at {line}");
     }
     Ok(())
 }
@@ -43,36 +39,45 @@ fn stated_numbers(rt: HostRuntime) -> Result<(), Fail> {
 #[test]
 fn nothing_stated(rt: HostRuntime) -> Result<(), Fail> {
     let alloc = rt.alloc();
-    let stated = read_policies(alloc, &List::new(alloc)).or(Err("a refusal"))?;
-    let defaults = effective_of(alloc, &stated, &attributes(alloc)?)?;
-    assert!(rt; has_numbers(&defaults, [5, 1000, 1000, 10000]));
-    let less = effective_of(alloc, &stated, &bounded(alloc)?)?;
-    assert!(rt; has_numbers(&less, [5, 200, 300, 400]) && less.over.is_empty());
+    let stated = stated_of(alloc, &List::new(alloc))?;
+    assert!(rt; has_defaults(alloc, stated.get())?);
+    assert!(rt; has_lower_maxima(alloc, stated.get())?);
     Ok(())
+}
+
+fn has_defaults(alloc: Global, stated: &Stated) -> Result<bool, Memory> {
+    let served = served(alloc, stated, attributes(alloc)?)?;
+    Ok(has_numbers(served.get(), [5, 1000, 1000, 10000]))
+}
+
+fn has_lower_maxima(alloc: Global, stated: &Stated) -> Result<bool, Memory> {
+    let served = served(alloc, stated, bounded(alloc)?)?;
+    Ok(has_numbers(served.get(), [5, 200, 300, 400]) && served.get().over.is_empty())
 }
 
 /// A stated rule always, hop count 99 and cardinalities of 999, where the maxima are below.
 #[test]
 fn all_above(rt: HostRuntime) -> Result<(), Fail> {
     let alloc = rt.alloc();
-    let mut strict = bounded(alloc)?;
-    strict.max_follow_policy = FollowOption::IfNoLocal;
-    let Ok(stated) = all_stated(alloc) else {
-        return Err("a refusal".into());
-    };
-    let effective = effective_of(alloc, &stated, &strict)?.copy(alloc)?;
-    assert!(rt; has_numbers(&effective, [10, 200, 300, 400]));
-    assert_eq!(rt; effective.over.len(), 5);
-    for (place, name) in [
-        (0, b"hop_count".as_slice()),
-        (1, b"link_follow_rule".as_slice()),
-        (2, b"match_card".as_slice()),
-        (3, b"return_card".as_slice()),
-        (4, b"search_card".as_slice()),
-    ] {
-        assert!(rt; names(&effective, place, name));
-    }
+    let stated = all_stated(alloc)?;
+    assert!(rt; has_all_maxima(alloc, stated.get())?);
     Ok(())
+}
+
+fn has_all_maxima(alloc: Global, stated: &Stated) -> Result<bool, Memory> {
+    let served = served(alloc, stated, strict(alloc)?)?;
+    let twin = Boxed::new(alloc, served.get().copy(alloc)?)?;
+    Ok(has_numbers(twin.get(), [10, 200, 300, 400]) && names_all(twin.get()))
+}
+
+/// What a query is served with where this is stated.
+fn served(
+    alloc: Global,
+    stated: &Stated,
+    attributes: Attributes,
+) -> Result<Boxed<Effective>, Memory> {
+    let attributes = Boxed::new(alloc, attributes)?;
+    Boxed::new(alloc, effective_of(alloc, stated, attributes.get())?)
 }
 
 /// The attributes of a new trader, with lower maxima.
@@ -84,18 +89,41 @@ fn bounded(alloc: Global) -> Result<Attributes, Memory> {
     Ok(bounded)
 }
 
+/// The same, with a lower maximum of the rule.
+fn strict(alloc: Global) -> Result<Attributes, Memory> {
+    let mut strict = bounded(alloc)?;
+    strict.max_follow_policy = FollowOption::IfNoLocal;
+    Ok(strict)
+}
+
 /// Whether the number of a line counts as the line says, and is named where it is above.
-fn is_answered(alloc: Global, attributes: &Attributes, line: &str) -> Result<bool, Fail> {
-    let mut words = line.split(' ');
-    let name = words.next().unwrap_or("").as_bytes();
-    let stated = number_of(words.next().unwrap_or(""));
-    let counts = number_of(words.next().unwrap_or(""));
-    let over = words.next() == Some("over");
+fn is_answered(alloc: Global, line: &str) -> Result<bool, Fail> {
+    let (name, numbers) = line.split_once(' ').unwrap_or((line, ""));
+    let (stated, answer) = numbers.split_once(' ').unwrap_or((numbers, ""));
+    let (counts, over) = answer.split_once(' ').unwrap_or((answer, ""));
+    let served = served_one(alloc, name.as_bytes(), number_of(stated))?;
+    Ok(counts_as(
+        served.get(),
+        name.as_bytes(),
+        number_of(counts),
+        over == "over",
+    ))
+}
+
+/// What a query is served with where this one number is stated.
+fn served_one(alloc: Global, name: &[u8], number: u32) -> Result<Boxed<Effective>, Fail> {
+    let stated = one_stated(alloc, name, number)?;
+    Ok(served(alloc, stated.get(), bounded(alloc)?)?)
+}
+
+fn one_stated(alloc: Global, name: &[u8], number: u32) -> Result<Boxed<Stated>, Fail> {
     let mut policies = List::new(alloc);
-    policies.push(number_policy(alloc, name, stated)?)?;
-    let stated = read_policies(alloc, &policies).or(Err("a refusal"))?;
-    let effective = effective_of(alloc, &stated, attributes)?;
-    Ok(number_in(&effective, name) == counts && over == names(&effective, 0, name))
+    policies.push(number_policy(alloc, name, number)?)?;
+    stated_of(alloc, &policies)
+}
+
+fn counts_as(effective: &Effective, name: &[u8], number: u32, over: bool) -> bool {
+    number_in(effective, name) == number && over == names(effective, 0, name)
 }
 
 /// The number of that name.
@@ -124,12 +152,35 @@ fn has_numbers(e: &Effective, numbers: [u32; 4]) -> bool {
     [e.hops, e.match_card, e.return_card, e.search_card] == numbers
 }
 
-fn all_stated(alloc: Global) -> Result<Stated, PolicyFault> {
+/// Whether all five stand there, in order.
+fn names_all(e: &Effective) -> bool {
+    e.over.len() == 5
+        && names(e, 0, b"hop_count")
+        && names(e, 1, b"link_follow_rule")
+        && names(e, 2, b"match_card")
+        && names(e, 3, b"return_card")
+        && names(e, 4, b"search_card")
+}
+
+fn all_stated(alloc: Global) -> Result<Boxed<Stated>, Fail> {
     let mut policies = List::new(alloc);
-    for name in ["search_card", "return_card", "match_card"] {
-        policies.push(number_policy(alloc, name.as_bytes(), 999)?)?;
+    for name in [
+        "search_card",
+        "return_card",
+        "match_card",
+        "link_follow_rule",
+        "hop_count",
+    ] {
+        policies.push(above(alloc, name)?)?;
     }
-    policies.push(rule_policy(alloc, b"link_follow_rule", FollowOption::Always)?)?;
-    policies.push(number_policy(alloc, b"hop_count", 99)?)?;
-    read_policies(alloc, &policies)
+    stated_of(alloc, &policies)
+}
+
+/// The policy of this name, above its maximum.
+fn above(alloc: Global, name: &str) -> Result<Policy, Memory> {
+    match name {
+        "link_follow_rule" => rule_policy(alloc, name.as_bytes(), FollowOption::Always),
+        "hop_count" => number_policy(alloc, name.as_bytes(), 99),
+        _ => number_policy(alloc, name.as_bytes(), 999),
+    }
 }

@@ -1,10 +1,10 @@
 //! Lists of policies, good and bad.
 
-use crate::support::policy_of;
+use crate::support::{policy_of, stated_of};
 use std::alloc::Global;
 use std::process::Abort;
 use std::test::Fail;
-use td_cdr::{List, Memory, Twin};
+use td_cdr::{Boxed, List, Memory, Twin};
 use td_policy::{PolicyFault, Stated, read_policies};
 use td_value::{FollowOption, Policy};
 
@@ -82,13 +82,18 @@ fn lists(rt: HostRuntime) -> Result<(), Fail> {
 fn each_field(rt: HostRuntime) -> Result<(), Fail> {
     let alloc = rt.alloc();
     let policies = policies_of(alloc, ALL)?;
-    let Ok(stated) = read_policies(alloc, &policies) else {
-        return Err("a refusal".into());
-    };
-    assert!(rt; states_truths(&stated) && states_numbers(&stated) && states_sequences(&stated));
-    let twin = stated.copy(alloc)?;
-    assert!(rt; states_truths(&twin) && states_numbers(&twin) && states_sequences(&twin));
+    let stated = stated_of(alloc, &policies)?;
+    assert!(rt; states_all(stated.get()) && copy_states_all(alloc, stated.get())?);
     Ok(())
+}
+
+fn states_all(s: &Stated) -> bool {
+    states_truths(s) && states_numbers(s) && states_sequences(s)
+}
+
+fn copy_states_all(alloc: Global, s: &Stated) -> Result<bool, Memory> {
+    let twin = Boxed::new(alloc, s.copy(alloc)?)?;
+    Ok(states_all(twin.get()))
 }
 
 /// Whether the list of a line is answered as the line says.

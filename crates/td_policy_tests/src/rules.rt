@@ -1,11 +1,11 @@
 //! All triples of rules for following links.
 
-use crate::support::attributes;
+use crate::support::{attributes, stated_of};
 use std::alloc::Global;
 use std::process::Abort;
 use std::test::Fail;
-use td_cdr::List;
-use td_policy::{Attributes, Stated, follow, pass_on, read_policies, rule_policy};
+use td_cdr::{Boxed, List};
+use td_policy::{Attributes, Stated, follow, pass_on, rule_policy};
 use td_value::FollowOption;
 
 /// The trader's maximum, the link's limiting rule and a third rule: by which rule the link is
@@ -43,27 +43,43 @@ const RULES: &str = "000 0 0 0
 #[test]
 fn triples(rt: HostRuntime) -> Result<(), Fail> {
     let alloc = rt.alloc();
-    let mut a = attributes(alloc)?;
     for line in RULES.lines() {
-        assert!(rt; is_least(alloc, &mut a, line.as_bytes())?, "at {line}");
+        assert!(rt; is_least(alloc, line.as_bytes())?, "at {line}");
     }
     Ok(())
 }
 
 /// Whether the rules of a line come out as the line says.
-fn is_least(alloc: Global, a: &mut Attributes, line: &[u8]) -> Result<bool, Fail> {
-    let third = rule_at(line, 2);
-    let stated = stated(alloc, third)?;
-    let unstated = nothing(alloc)?;
-    a.max_follow_policy = rule_at(line, 0);
-    a.def_follow_policy = third;
-    let limiting = rule_at(line, 1);
+fn is_least(alloc: Global, line: &[u8]) -> Result<bool, Fail> {
+    let attributes = Boxed::new(alloc, with_rules(attributes(alloc)?, line))?;
+    let stated = stated(alloc, rule_at(line, 2))?;
+    let unstated = stated_of(alloc, &List::new(alloc))?;
     Ok(
-        follow(&stated, a, limiting) == rule_at(line, 4)
-            && follow(&unstated, a, limiting) == rule_at(line, 4)
-            && pass_on(&stated, a, limiting, FollowOption::Always) == rule_at(line, 6)
-            && pass_on(&unstated, a, limiting, third) == rule_at(line, 8),
+        is_least_stated(stated.get(), attributes.get(), line)
+            && is_least_unstated(unstated.get(), attributes.get(), line),
     )
+}
+
+/// The attributes with the rules of a line.
+fn with_rules(attributes: Attributes, line: &[u8]) -> Attributes {
+    let mut attributes = attributes;
+    attributes.max_follow_policy = rule_at(line, 0);
+    attributes.def_follow_policy = rule_at(line, 2);
+    attributes
+}
+
+/// Where the third rule is stated.
+fn is_least_stated(stated: &Stated, a: &Attributes, line: &[u8]) -> bool {
+    let limiting = rule_at(line, 1);
+    follow(stated, a, limiting) == rule_at(line, 4)
+        && pass_on(stated, a, limiting, FollowOption::Always) == rule_at(line, 6)
+}
+
+/// Where none is stated.
+fn is_least_unstated(unstated: &Stated, a: &Attributes, line: &[u8]) -> bool {
+    let limiting = rule_at(line, 1);
+    follow(unstated, a, limiting) == rule_at(line, 4)
+        && pass_on(unstated, a, limiting, rule_at(line, 2)) == rule_at(line, 8)
 }
 
 /// The rule whose digit stands at this place.
@@ -76,13 +92,8 @@ fn rule_at(line: &[u8], place: usize) -> FollowOption {
 }
 
 /// This rule is stated.
-fn stated(alloc: Global, rule: FollowOption) -> Result<Stated, Fail> {
+fn stated(alloc: Global, rule: FollowOption) -> Result<Boxed<Stated>, Fail> {
     let mut policies = List::new(alloc);
     policies.push(rule_policy(alloc, b"link_follow_rule", rule)?)?;
-    Ok(read_policies(alloc, &policies).or(Err("a refusal"))?)
-}
-
-/// No rule is stated.
-fn nothing(alloc: Global) -> Result<Stated, Fail> {
-    Ok(read_policies(alloc, &List::new(alloc)).or(Err("a refusal"))?)
+    stated_of(alloc, &policies)
 }

@@ -1,10 +1,11 @@
 //! Policies and attributes from words.
 
 use std::alloc::Global;
+use std::test::Fail;
 use td_cdr::{Boxed, List, Memory, Octets, Text};
 use td_policy::{
-    Attributes, OwnReferences, default_attributes, number_policy, octets_policy, rule_policy,
-    texts_policy, truth_policy,
+    Attributes, OwnReferences, Stated, default_attributes, number_policy, octets_policy,
+    read_policies, rule_policy, texts_policy, truth_policy,
 };
 use td_value::{Any, FollowOption, Ior, Policy, TypeCode};
 
@@ -76,29 +77,61 @@ fn octets(alloc: Global, count: u32) -> Result<Octets, Memory> {
     Ok(octets)
 }
 
-/// A reference with this id.
-fn reference(alloc: Global, id: &[u8]) -> Result<Ior, Memory> {
-    Ok(Ior {
-        id: Text::from_slice(alloc, id)?,
+/// What the policies state.
+pub(crate) fn stated_of(alloc: Global, policies: &List<Policy>) -> Result<Boxed<Stated>, Fail> {
+    let stated = read_policies(alloc, policies).or(Err("a refusal"))?;
+    Ok(Boxed::new(alloc, stated)?)
+}
+
+/// A reference without an id.
+fn nil(alloc: Global) -> Ior {
+    Ior {
+        id: Text::new(alloc),
         profiles: List::new(alloc),
-    })
+    }
+}
+
+/// References without ids.
+fn nils(alloc: Global) -> OwnReferences {
+    OwnReferences {
+        lookup: nil(alloc),
+        register: nil(alloc),
+        link: nil(alloc),
+        proxy: nil(alloc),
+        admin: nil(alloc),
+        types: nil(alloc),
+    }
+}
+
+fn set_id(alloc: Global, reference: &mut Ior, id: &[u8]) -> Result<(), Memory> {
+    reference.id = Text::from_slice(alloc, id)?;
+    Ok(())
+}
+
+/// Gives the references the ids of trader A.
+fn set_ids(alloc: Global, own: &mut OwnReferences) -> Result<(), Memory> {
+    set_id(alloc, &mut own.lookup, b"A/L")?;
+    set_id(alloc, &mut own.register, b"A/R")?;
+    set_id(alloc, &mut own.link, b"A/K")?;
+    set_id(alloc, &mut own.proxy, b"A/P")?;
+    set_id(alloc, &mut own.admin, b"A/A")?;
+    set_id(alloc, &mut own.types, b"A/T")
 }
 
 /// The references of trader A.
 fn references(alloc: Global) -> Result<OwnReferences, Memory> {
-    Ok(OwnReferences {
-        lookup: reference(alloc, b"A/L")?,
-        register: reference(alloc, b"A/R")?,
-        link: reference(alloc, b"A/K")?,
-        proxy: reference(alloc, b"A/P")?,
-        admin: reference(alloc, b"A/A")?,
-        types: reference(alloc, b"A/T")?,
-    })
+    let mut own = nils(alloc);
+    match set_ids(alloc, &mut own) {
+        Ok(()) => Ok(own),
+        Err(memory) => {
+            drop(own);
+            Err(memory)
+        }
+    }
 }
 
 /// The attributes of trader A when it is new.
 pub(crate) fn attributes(alloc: Global) -> Result<Attributes, Memory> {
-    let own = references(alloc)?;
     let name = Text::from_slice(alloc, b"A")?;
-    default_attributes(alloc, &name, own)
+    default_attributes(alloc, &name, references(alloc)?)
 }

@@ -8,7 +8,7 @@ use std::marker::Brand;
 use std::process::Abort;
 use std::sync::ledger::{Blank, Ledger};
 use std::test::Fail;
-use td_cdr::{List, Memory, Text};
+use td_cdr::{Boxed, List, Memory, Text};
 use td_policy::{Attributes, Stated};
 use td_store::{OfferRecord, Offers, Steps};
 use td_types::{Types, TypesFault};
@@ -251,13 +251,29 @@ fn is_answered(
     attributes: &mut Attributes,
     line: &str,
 ) -> Result<bool, Memory> {
-    let mut words = line.split(';');
-    let asked = text(alloc, words.next().unwrap_or(""))?;
-    let stated = stated(words.next().unwrap_or(""));
-    set_unsupported(attributes, words.next().unwrap_or(""));
-    let count = words.next().unwrap_or("").parse::<u32>().unwrap_or(0);
-    let found = found(alloc, types, offers, attributes, &stated, &asked, count)?;
-    Ok(are_numbered(found.as_slice(), words.next().unwrap_or("").as_bytes()))
+    let (asked, rest) = cut(line);
+    let (stating, rest) = cut(rest);
+    let (unsupported, rest) = cut(rest);
+    let (count, digits) = cut(rest);
+    let count = count.parse::<u32>().unwrap_or(0);
+    set_unsupported(attributes, unsupported);
+    let asked = text(alloc, asked)?;
+    let stated = Boxed::new(alloc, stated(stating))?;
+    let found = found(
+        alloc,
+        types,
+        offers,
+        attributes,
+        stated.get(),
+        &asked,
+        count,
+    )?;
+    Ok(are_numbered(found.as_slice(), digits.as_bytes()))
+}
+
+/// What stands before and behind the first semicolon.
+fn cut(line: &str) -> (&str, &str) {
+    line.split_once(';').unwrap_or((line, ""))
 }
 
 /// What these words state.

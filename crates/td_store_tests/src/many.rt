@@ -1,6 +1,6 @@
 //! A query reads the offers of the types that conform, and no others.
 
-ghost use Rattle.std.specs.Prelude.{◌≡◌, ◌<◌, ◌≤◌, ◌+◌, [], ◌∷◌, filter, length, IsTrue, IfOk};
+ghost use Rattle.std.specs.Prelude.{◌≡◌, ◌<◌, ◌≤◌, ◌+◌, [], ◌∷◌, filter, length, IsTrue, IfOk, OnOk};
 ghost use Rattle.std.specs.List.{AllByRecursion};
 ghost use Rattle.td_store.specs.Candidates.{is_among};
 ghost use Rattle.td_types.specs.Conforming.{subtypes};
@@ -11,7 +11,7 @@ use std::marker::Brand;
 use std::process::Abort;
 use std::sync::ledger::{Blank, Ledger};
 use std::test::Fail;
-use td_cdr::{Memory, Text};
+use td_cdr::{Boxed, Memory, Text};
 use td_policy::{Attributes, Stated};
 use td_store::{Offers, Steps, StoreFault};
 use td_types::Types;
@@ -42,10 +42,9 @@ fn finds_over(alloc: Global, types: &Types) -> Result<bool, Memory> {
 fn finds_among(alloc: Global, types: &Types, offers: &Offers) -> Result<bool, Memory>
     requires { length (filter (is_among (2 ∷ 3 ∷ [])) offers.now) ≤ 3 }
 {
-    let attributes = attributes(alloc)?;
-    let found = query(alloc, types, offers, &attributes);
-    drop(attributes);
-    found
+    let attributes = Boxed::new(alloc, attributes(alloc)?)?;
+    let stated = Boxed::new(alloc, nothing_stated())?;
+    query(alloc, types, offers, attributes.get(), stated.get())
 }
 
 /// The query on a counter of its own.
@@ -54,10 +53,11 @@ fn query(
     types: &Types,
     offers: &Offers,
     attributes: &Attributes,
+    stated: &Stated,
 ) -> Result<bool, Memory>
     requires { length (filter (is_among (2 ∷ 3 ∷ [])) offers.now) ≤ 3 }
 {
-    counted::<Brand>(alloc, types, offers, attributes, Blank::new(1))
+    counted::<Brand>(alloc, types, offers, attributes, stated, Blank::new(1))
 }
 
 fn counted<L: Ledger>(
@@ -65,6 +65,7 @@ fn counted<L: Ledger>(
     types: &Types,
     offers: &Offers,
     attributes: &Attributes,
+    stated: &Stated,
     blank: Blank,
 ) -> Result<bool, Memory>
     requires name { blank.name ≡ L.name }
@@ -74,7 +75,9 @@ fn counted<L: Ledger>(
 {
     let mut steps = Steps::<L>::new(blank);
     let printer = text(alloc, "Printer")?;
-    finds_three(alloc, types, offers, attributes, &printer, &mut steps)
+    finds_three(
+        alloc, types, offers, attributes, stated, &printer, &mut steps,
+    )
 }
 
 /// Whether a query for Printer finds three offers, in at most five steps.
@@ -83,6 +86,7 @@ fn finds_three<L: Ledger>(
     types: &Types,
     offers: &Offers,
     attributes: &Attributes,
+    stated: &Stated,
     printer: &Text,
     steps: &mut Steps<L>,
 ) -> Result<bool, Memory>
@@ -92,7 +96,7 @@ fn finds_three<L: Ledger>(
     if !is_above_both(types, printer)? {
         return Ok(false);
     }
-    finds(alloc, types, offers, attributes, printer, steps)
+    finds(alloc, types, offers, attributes, stated, printer, steps)
 }
 
 /// Whether the types of incarnations 2 and 3 conform, and no others.
@@ -108,6 +112,7 @@ fn finds<L: Ledger>(
     types: &Types,
     offers: &Offers,
     attributes: &Attributes,
+    stated: &Stated,
     printer: &Text,
     steps: &mut Steps<L>,
 ) -> Result<bool, Memory>
@@ -115,8 +120,7 @@ fn finds<L: Ledger>(
     requires few { length (filter (is_among (2 ∷ 3 ∷ [])) offers.now) ≤ 3 }
     ensures { steps.new ≤ steps.old + 5 }
 {
-    let stated = nothing_stated();
-    let found = offers.candidates(alloc, types, attributes, &stated, printer, 10, steps)?;
+    let found = offers.candidates(alloc, types, attributes, stated, printer, 10, steps)?;
     Ok(found.len() == 3)
 }
 
@@ -139,21 +143,35 @@ fn nothing_stated() -> Stated {
 fn mostly_devices(alloc: Global) -> Result<Offers, StoreFault>
     ensures { IfOk result (λ offers. length (filter (is_among (2 ∷ 3 ∷ [])) offers) ≤ 3) }
 {
-    let mut offers = devices(alloc)?;
-    append(alloc, &mut offers, 1001, "Printer", 2, "")?;
-    append(alloc, &mut offers, 1002, "Laser", 3, "")?;
-    append(alloc, &mut offers, 1003, "Laser", 3, "")?;
-    Ok(offers)
+    let mut offers = Offers::new(alloc)?;
+    match add_mostly_devices(alloc, &mut offers) {
+        Ok(()) => Ok(offers),
+        Err(fault) => {
+            drop(offers);
+            Err(fault)
+        }
+    }
 }
 
-/// A thousand offers of Device.
-fn devices(alloc: Global) -> Result<Offers, StoreFault>
-    ensures below { IfOk result (λ offers. AllByRecursion (λ o. o.number < 1001) offers) }
-    ensures others { IfOk result (λ offers. length (filter (is_among (2 ∷ 3 ∷ [])) offers) ≡ 0) }
+fn add_mostly_devices(alloc: Global, offers: &mut Offers) -> Result<(), StoreFault>
+    requires { offers.old ≡ [] }
+    ensures { OnOk result (length (filter (is_among (2 ∷ 3 ∷ [])) offers.new) ≤ 3) }
 {
-    let mut offers = Offers::new(alloc)?;
+    add_devices(alloc, offers)?;
+    append(alloc, offers, 1001, "Printer", 2, "")?;
+    append(alloc, offers, 1002, "Laser", 3, "")?;
+    append(alloc, offers, 1003, "Laser", 3, "")?;
+    Ok(())
+}
+
+/// Adds a thousand offers of Device.
+fn add_devices(alloc: Global, offers: &mut Offers) -> Result<(), StoreFault>
+    requires { offers.old ≡ [] }
+    ensures below { OnOk result (AllByRecursion (λ o. o.number < 1001) offers.new) }
+    ensures others { OnOk result (length (filter (is_among (2 ∷ 3 ∷ [])) offers.new) ≡ 0) }
+{
     for i in 0..1000u32 {
-        append(alloc, &mut offers, i + 1, "Device", 1, "")?;
+        append(alloc, offers, i + 1, "Device", 1, "")?;
     }
-    Ok(offers)
+    Ok(())
 }

@@ -1,6 +1,6 @@
 //! Offers, links and types from words.
 
-ghost use Rattle.std.specs.Prelude.{◌≡◌, ℕ, ◌<◌, ◌+◌, List as Row, filter, length, IfOk, OnOk};
+ghost use Rattle.std.specs.Prelude.{◌≡◌, ℕ, ◌<◌, ◌+◌, [], List as Row, filter, length, IfOk, OnOk};
 ghost use Rattle.std.specs.List.{AllByRecursion};
 ghost use Rattle.td_store.specs.Candidates.{is_among};
 ghost use Rattle.td_store_tests.specs.Counting.{count_among};
@@ -21,16 +21,23 @@ const TYPES: [(&str, &str, &str); 3] = [
 ];
 
 /// The three types, each below the one before.
-pub(crate) fn types(alloc: Global) -> Result<Types, TypesFault> {
+pub(crate) fn made_types(alloc: Global) -> Result<Types, Memory> {
     let mut types = Types::new(alloc, List::new(alloc))?;
-    for (name, base, properties) in TYPES {
-        add_type(alloc, &mut types, name, base, properties)?;
+    match add_types(alloc, &mut types) {
+        Ok(()) => Ok(types),
+        Err(fault) => {
+            drop(fault);
+            drop(types);
+            Err(Memory)
+        }
     }
-    Ok(types)
 }
 
-pub(crate) fn made_types(alloc: Global) -> Result<Types, Memory> {
-    types(alloc).or(Err(Memory))
+fn add_types(alloc: Global, types: &mut Types) -> Result<(), TypesFault> {
+    for (name, base, properties) in TYPES {
+        add_type(alloc, types, name, base, properties)?;
+    }
+    Ok(())
 }
 
 /// Adds a type.
@@ -41,14 +48,25 @@ pub(crate) fn add_type(
     base: &str,
     properties: &str,
 ) -> Result<(), TypesFault> {
+    let supers = supers(alloc, base)?;
+    let declared = declared(alloc, properties)?;
+    let name = text(alloc, name)?;
+    match types.add(name, Text::new(alloc), declared, supers) {
+        Ok(reply) => {
+            drop(reply);
+            Ok(())
+        }
+        Err(fault) => Err(fault),
+    }
+}
+
+/// The one supertype, or none.
+fn supers(alloc: Global, base: &str) -> Result<List<Text>, Memory> {
     let mut supers = List::new(alloc);
     if !base.is_empty() {
         supers.push(text(alloc, base)?)?;
     }
-    let declared = declared(alloc, properties)?;
-    let name = text(alloc, name)?;
-    types.add(name, Text::new(alloc), declared, supers)?;
-    Ok(())
+    Ok(supers)
 }
 
 /// The properties of words as `NAME:MODE`, each a ulong.
@@ -215,29 +233,40 @@ pub(crate) fn append(
 }
 
 /// Offers numbered from 1 on, each with its type, the type's incarnation and its words.
-pub(crate) fn offers_of(alloc: Global, rows: &[(&str, u64, &str)]) -> Result<Offers, StoreFault>
+pub(crate) fn made_offers(alloc: Global, rows: &[(&str, u64, &str)]) -> Result<Offers, Memory>
     requires { length rows.now < 100 }
-    ensures { IfOk result (λ offers. AllByRecursion (λ o. o.number < length rows.now + 1) offers) }
 {
     let mut offers = Offers::new(alloc)?;
+    match append_all(alloc, &mut offers, rows) {
+        Ok(()) => Ok(offers),
+        Err(_) => {
+            drop(offers);
+            Err(Memory)
+        }
+    }
+}
+
+fn append_all(
+    alloc: Global,
+    offers: &mut Offers,
+    rows: &[(&str, u64, &str)],
+) -> Result<(), StoreFault>
+    requires few { length rows.now < 100 }
+    requires none { offers.old ≡ [] }
+    ensures { OnOk result (AllByRecursion (λ o. o.number < length rows.now + 1) offers.new) }
+{
     for i in 0..rows.len() {
         let (service_type, incarnation, words) = rows[i];
         append(
             alloc,
-            &mut offers,
+            offers,
             i as u32 + 1,
             service_type,
             incarnation,
             words,
         )?;
     }
-    Ok(offers)
-}
-
-pub(crate) fn made_offers(alloc: Global, rows: &[(&str, u64, &str)]) -> Result<Offers, Memory>
-    requires { length rows.now < 100 }
-{
-    offers_of(alloc, rows).or(Err(Memory))
+    Ok(())
 }
 
 /// Whether an offer of a number is removed.
@@ -260,16 +289,27 @@ pub(crate) fn text(alloc: Global, word: &str) -> Result<Text, Memory> {
     Text::from_slice(alloc, word.as_bytes())
 }
 
+/// A reference without an id.
+fn nil(alloc: Global) -> Ior {
+    Ior {
+        id: Text::new(alloc),
+        profiles: List::new(alloc),
+    }
+}
+
 /// The attributes of a new trader.
 pub(crate) fn attributes(alloc: Global) -> Result<Attributes, Memory> {
-    let own = OwnReferences {
-        lookup: reference(alloc, b"A/L")?,
-        register: reference(alloc, b"A/R")?,
-        link: reference(alloc, b"A/K")?,
-        proxy: reference(alloc, b"A/P")?,
-        admin: reference(alloc, b"A/A")?,
-        types: reference(alloc, b"A/T")?,
-    };
     let name = text(alloc, "A")?;
-    default_attributes(alloc, &name, own)
+    default_attributes(
+        alloc,
+        &name,
+        OwnReferences {
+            lookup: nil(alloc),
+            register: nil(alloc),
+            link: nil(alloc),
+            proxy: nil(alloc),
+            admin: nil(alloc),
+            types: nil(alloc),
+        },
+    )
 }

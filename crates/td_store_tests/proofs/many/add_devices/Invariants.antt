@@ -1,7 +1,7 @@
 use Rattle.std.proofs.Common.{◌≡◌, ◌<◌, ◌+◌, [], ◌∷◌, length}
 use Rattle.std.specs.List.{AllByRecursion, filter}
 use Rattle.td_store.specs.Candidates.{is_among}
-use Rattle.td_store_tests.proofs.many.devices.Given as goal
+use Rattle.td_store_tests.proofs.many.add_devices.Given as goal
 
 -- the next number is above all, and all are of Device
 abbrev pub invariant-loop-i : goal.invariant-loop-i

@@ -1,6 +1,6 @@
 use Rattle.std.proofs.Common.{◌<◌, ◌+◌}
 use Rattle.std.specs.List.{AllByRecursion}
-use Rattle.td_store_tests.proofs.support.offers_of.Given as goal
+use Rattle.td_store_tests.proofs.support.append_all.Given as goal
 
 -- the next number is above all
 abbrev pub invariant-loop-i : goal.invariant-loop-i
