@@ -9,6 +9,11 @@ pub fn text(alloc: Global, text: &str) -> Result<Text, Memory> {
     Text::from_slice(alloc, text.as_bytes())
 }
 
+/// What stands before and behind the first ` => ` of a line.
+pub fn cut(line: &str) -> (&str, &str) {
+    line.split_once(" => ").unwrap_or((line, ""))
+}
+
 fn narrow(text: &str) -> i16 {
     text.parse().unwrap_or(0)
 }
@@ -38,17 +43,16 @@ fn plain(kind: &str) -> TypeCode {
 }
 
 fn sequence_of(alloc: Global, item: TypeCode) -> Result<TypeCode, Memory> {
-    Ok(TypeCode::Sequence {
-        item: Boxed::new(alloc, item)?,
-        bound: 0,
-    })
+    let item = Boxed::new(alloc, item)?;
+    Ok(TypeCode::Sequence { item, bound: 0 })
 }
 
 fn alias_of(alloc: Global, item: TypeCode) -> Result<TypeCode, Memory> {
+    let item = Boxed::new(alloc, item)?;
     Ok(TypeCode::Alias {
         id: Text::new(alloc),
         name: Text::new(alloc),
-        item: Boxed::new(alloc, item)?,
+        item,
     })
 }
 
@@ -113,11 +117,10 @@ fn any(alloc: Global, kind: &str, how: &str, text: &str) -> Result<Boxed<Any>, M
 
 /// A property as `NAME KIND HOW VALUE`.
 fn property(alloc: Global, line: &str) -> Result<Boxed<Property>, Memory> {
-    let mut words = line.splitn(4, ' ');
-    let name = words.next().unwrap_or("");
-    let kind = words.next().unwrap_or("");
-    let how = words.next().unwrap_or("");
-    let value = any(alloc, kind, how, words.next().unwrap_or(""))?;
+    let (name, rest) = line.split_once(' ').unwrap_or((line, ""));
+    let (kind, rest) = rest.split_once(' ').unwrap_or((rest, ""));
+    let (how, value) = rest.split_once(' ').unwrap_or((rest, ""));
+    let value = any(alloc, kind, how, value)?;
     let name = text(alloc, name)?;
     Boxed::new(
         alloc,

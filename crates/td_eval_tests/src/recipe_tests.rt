@@ -1,6 +1,6 @@
 //! What recipes make.
 
-use crate::making::{properties, text};
+use crate::making::{cut, properties, text};
 use std::alloc::Global;
 use std::test::Fail;
 use td_cdr::{List, Text};
@@ -17,24 +17,48 @@ fn expanded(alloc: Global, recipe: &str, constraint: &str) -> Result<Option<Text
     Ok(expand_recipe(alloc, &recipe, &text(alloc, constraint)?, &map)?)
 }
 
+/// A recipe, the importer's constraint, and what the recipe makes of it.
+const EXPANDED: &str = r"$* and x => a == 1 => a == 1 and x
+$* =>  => TRUE
+x \$\\ =>  => x $\
+$(Cost)<$(Big) =>  => -5<9223372036854775807
+$(Letter) $(Path) =>  => '\'' 'a\\\'b'
+$(Own)$(Empty) =>  => TRUE''";
+
+/// Recipes that make nothing of the empty constraint.
+const REFUSED: &str = "$(Absent)
+$(Low)
+$(List)
+a$(Other)
+$(Nul)";
+
+fn is_text(found: &Option<Text>, wanted: &str) -> bool {
+    match found {
+        None => false,
+        Some(text) => text.as_slice() == wanted.as_bytes(),
+    }
+}
+
+/// Whether the recipe of a line makes what the line says.
+fn is_expanded(alloc: Global, line: &str) -> Result<bool, Fail> {
+    let (recipe, rest) = cut(line);
+    let (constraint, wanted) = cut(rest);
+    let found = expanded(alloc, recipe, constraint)?;
+    Ok(is_text(&found, wanted))
+}
+
+fn is_refused(alloc: Global, recipe: &str) -> Result<bool, Fail> {
+    let found = expanded(alloc, recipe, "")?;
+    Ok(found.is_none())
+}
+
 #[test]
 fn recipes_are_expanded(rt: HostRuntime) -> Result<(), Fail> {
-    let table = [
-        ("$* and x", "a == 1", "a == 1 and x"),
-        ("$*", "", "TRUE"),
-        ("x \\$\\\\", "", "x $\\"),
-        ("$(Cost)<$(Big)", "", "-5<9223372036854775807"),
-        ("$(Letter) $(Path)", "", "'\\'' 'a\\\\\\'b'"),
-        ("$(Own)$(Empty)", "", "TRUE''"),
-    ];
-    for (recipe, constraint, wanted) in table {
-        let found = expanded(rt.alloc(), recipe, constraint)?;
-        let bytes = found.as_ref().map_or(b"none".as_slice(), |t| t.as_slice());
-        assert_eq!(rt; bytes, wanted.as_bytes(), "of {recipe}");
+    for line in EXPANDED.lines() {
+        assert!(rt; is_expanded(rt.alloc(), line)?, "at {line}");
     }
-    for recipe in ["$(Absent)", "$(Low)", "$(List)", "a$(Other)", "$(Nul)"] {
-        let found = expanded(rt.alloc(), recipe, "")?;
-        assert!(rt; found.is_none(), "of {recipe}");
+    for recipe in REFUSED.lines() {
+        assert!(rt; is_refused(rt.alloc(), recipe)?, "of {recipe}");
     }
     Ok(())
 }
@@ -53,7 +77,7 @@ fn length_of(alloc: Global, size: usize) -> Result<Option<usize>, Fail> {
 
 #[test]
 fn an_expansion_has_at_most_65536_bytes(rt: HostRuntime) -> Result<(), Fail> {
-    assert_eq!(rt; length_of(rt.alloc(), 65_536)?, Some(65_536));
-    assert_eq!(rt; length_of(rt.alloc(), 65_537)?, None);
+    assert!(rt; length_of(rt.alloc(), 65_536)? == Some(65_536));
+    assert!(rt; length_of(rt.alloc(), 65_537)? == None);
     Ok(())
 }

@@ -30,28 +30,49 @@ fn left(alloc: Global, desk: &mut Desk, trader: &[u8], number: u64) -> Result<Op
 /// The 257th drops the first, and a number that was dropped isn't given again.
 #[test]
 fn many_items(rt: HostRuntime) -> Result<(), Fail> {
-    let alloc = rt.alloc();
-    let mut desk = Desk::new(alloc, 1)?;
-    for _ in 0..256 {
-        let _number = add(alloc, &mut desk)?;
-    }
-    assert_eq!(rt; left(alloc, &mut desk, b"A", 1)?, Some(1));
-    assert_eq!(rt; add(alloc, &mut desk)?, 257);
-    assert_eq!(rt; desk.next_number(), 258);
-    assert_eq!(rt; left(alloc, &mut desk, b"A", 1)?, None);
-    assert_eq!(rt; left(alloc, &mut desk, b"A", 2)?, Some(1));
-    assert_eq!(rt; left(alloc, &mut desk, b"B", 2)?, None);
+    assert!(rt; holds_256(rt.alloc())?);
     Ok(())
+}
+
+fn holds_256(alloc: Global) -> Result<bool, Fail> {
+    let mut desk = Desk::new(alloc, 1)?;
+    add_256(alloc, &mut desk)?;
+    Ok(drops_the_first(alloc, &mut desk)? && has_the_second(alloc, &mut desk)?)
+}
+
+fn add_256(alloc: Global, desk: &mut Desk) -> Result<(), Fail> {
+    for _ in 0..256 {
+        let _number = add(alloc, desk)?;
+    }
+    Ok(())
+}
+
+fn drops_the_first(alloc: Global, desk: &mut Desk) -> Result<bool, Fail> {
+    Ok(
+        left(alloc, desk, b"A", 1)? == Some(1)
+            && add(alloc, desk)? == 257
+            && desk.next_number() == 258
+            && left(alloc, desk, b"A", 1)? == None,
+    )
+}
+
+fn has_the_second(alloc: Global, desk: &mut Desk) -> Result<bool, Fail> {
+    Ok(left(alloc, desk, b"A", 2)? == Some(1) && left(alloc, desk, b"B", 2)? == None)
 }
 
 #[test]
 fn removed(rt: HostRuntime) -> Result<(), Fail> {
-    let alloc = rt.alloc();
-    let mut desk = Desk::new(alloc, 7)?;
-    let _number = add(alloc, &mut desk)?;
-    let trader = Text::from_slice(alloc, b"A")?;
-    assert!(rt; desk.remove(&trader, 7));
-    assert!(rt; !desk.remove(&trader, 7));
-    assert_eq!(rt; add(alloc, &mut desk)?, 8);
+    assert!(rt; removes_one(rt.alloc())?);
     Ok(())
+}
+
+fn removes_one(alloc: Global) -> Result<bool, Fail> {
+    let mut desk = Desk::new(alloc, 7)?;
+    removes_the_seventh(alloc, &mut desk)
+}
+
+fn removes_the_seventh(alloc: Global, desk: &mut Desk) -> Result<bool, Fail> {
+    let _number = add(alloc, desk)?;
+    let trader = Text::from_slice(alloc, b"A")?;
+    Ok(desk.remove(&trader, 7) && !desk.remove(&trader, 7) && add(alloc, desk)? == 8)
 }

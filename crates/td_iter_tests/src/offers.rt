@@ -50,24 +50,42 @@ const NONE: &str = "0100000000000000";
 
 #[test]
 fn seven_offers(rt: HostRuntime) -> Result<(), Fail> {
-    let alloc = rt.alloc();
-    let mut left = offers(alloc, b"1234567")?;
-    assert!(rt; gives_first(alloc, &mut left, 2, FIRST)?);
-    assert_eq!(rt; left.max_left(), 5);
-    assert!(rt; gives(alloc, &mut left, 3, NEXT, true)?);
-    assert!(rt; gives(alloc, &mut left, 9, LAST, false)?);
-    assert!(rt; gives(alloc, &mut left, 1, ENDED, false)?);
+    assert!(rt; gives_seven(rt.alloc())?);
     Ok(())
+}
+
+fn gives_seven(alloc: Global) -> Result<bool, Fail> {
+    let mut left = offers(alloc, b"1234567")?;
+    gives_batches(alloc, &mut left)
+}
+
+fn gives_batches(alloc: Global, left: &mut OfferIter) -> Result<bool, Fail> {
+    Ok(
+        gives_first(alloc, left, 2, FIRST)?
+            && left.max_left() == 5
+            && gives(alloc, left, 3, NEXT, true)?
+            && gives(alloc, left, 9, LAST, false)?
+            && gives(alloc, left, 1, ENDED, false)?,
+    )
 }
 
 /// With no offer a query gives, all are left, and `next_n` for none leaves them.
 #[test]
 fn empty_batches(rt: HostRuntime) -> Result<(), Fail> {
-    let alloc = rt.alloc();
-    let mut left = offers(alloc, b"12")?;
-    assert!(rt; gives_first(alloc, &mut left, 0, EMPTY)?);
-    assert_eq!(rt; left.max_left(), 2);
-    assert!(rt; gives(alloc, &mut left, 0, NONE, true)?);
-    assert_eq!(rt; left.max_left(), 2);
+    assert!(rt; gives_none(rt.alloc())?);
     Ok(())
+}
+
+fn gives_none(alloc: Global) -> Result<bool, Fail> {
+    let mut left = offers(alloc, b"12")?;
+    leaves_all(alloc, &mut left)
+}
+
+fn leaves_all(alloc: Global, left: &mut OfferIter) -> Result<bool, Fail> {
+    Ok(
+        gives_first(alloc, left, 0, EMPTY)?
+            && left.max_left() == 2
+            && gives(alloc, left, 0, NONE, true)?
+            && left.max_left() == 2,
+    )
 }

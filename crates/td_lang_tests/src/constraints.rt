@@ -1,9 +1,10 @@
 //! Constraints and the trees that they are read as.
 
-use crate::support::{constraint_fault, constraint_of, copy_of, has_tree, repeated};
+use crate::support::{constraint_fault, constraint_of, copy_of, cut, has_tree, long_text};
 use std::alloc::Global;
 use std::process::Abort;
 use std::test::Fail;
+use td_cdr::Memory;
 use td_lang::Constraint;
 
 /// A constraint of each production, from the weakest, and its tree: operators before operands in parentheses.
@@ -86,22 +87,27 @@ const QUOTED: &str = r"'' => ''
 const WHOLE: &str = "Cost < 10 and Floor == 3 => (and (< Cost 10) (== Floor 3))
 Cost / 3 < 2 and exist Color or 'las' ~ Kind => (or (and (< (/ Cost 3) 2) (exist Color)) (~ 'las' Kind))";
 
-/// A line's text is read as a constraint of its tree, and so is its copy.
-fn tree_line(rt: &impl Abort, alloc: Global, line: &str) -> Result<(), Fail> {
-    let (text, tree) = line.split_once(" => ").ok_or("a tree")?;
-    is_read(rt, alloc, text.as_bytes(), tree)
-}
+/// The longest name, text, row of operators and number.
+const LONG: &str = r"|n|256|
+\|n|256|
+| |4096|
+|a+|2047|a
+|0|4096|";
 
-fn is_read(rt: &impl Abort, alloc: Global, text: &[u8], tree: &str) -> Result<(), Fail> {
+/// Whether a text is read as a constraint of this tree, and so is its copy.
+fn is_read(alloc: Global, text: &[u8], tree: &str) -> Result<bool, Fail> {
     let found = constraint_of(alloc, text)?;
-    agrees(rt, alloc, found.get(), tree)?;
-    let twin = copy_of(alloc, found.get())?;
-    agrees(rt, alloc, twin.get(), tree)
+    Ok(has_tree(alloc, found.get(), tree)? && is_copied(alloc, found.get(), tree)?)
 }
 
-fn agrees(rt: &impl Abort, alloc: Global, constraint: &Constraint, tree: &str) -> Result<(), Fail> {
-    assert!(rt; has_tree(alloc, constraint, tree)?, "at {tree}");
-    Ok(())
+fn is_copied(alloc: Global, constraint: &Constraint, tree: &str) -> Result<bool, Memory> {
+    let twin = copy_of(alloc, constraint)?;
+    has_tree(alloc, twin.get(), tree)
+}
+
+fn is_line_read(alloc: Global, line: &str) -> Result<bool, Fail> {
+    let (text, tree) = cut(line);
+    is_read(alloc, text.as_bytes(), tree)
 }
 
 #[test]
@@ -118,7 +124,7 @@ fn trees(rt: HostRuntime) -> Result<(), Fail> {
         WHOLE,
     ] {
         for line in table.lines() {
-            tree_line(&rt, alloc, line)?;
+            assert!(rt; is_line_read(alloc, line)?, "at {line}");
         }
     }
     Ok(())
@@ -128,25 +134,29 @@ fn trees(rt: HostRuntime) -> Result<(), Fail> {
 #[test]
 fn blanks(rt: HostRuntime) -> Result<(), Fail> {
     let alloc = rt.alloc();
-    is_read(&rt, alloc, b"".as_slice(), "")?;
-    is_read(&rt, alloc, b" \t\r\n".as_slice(), "")?;
-    is_read(&rt, alloc, b" a\t\r\n".as_slice(), "a")?;
-    is_read(&rt, alloc, b"- \t5".as_slice(), "-5")
+    assert!(rt; are_blanks_read(alloc)?);
+    Ok(())
 }
 
-/// The longest name, text, row of operators and number.
+fn are_blanks_read(alloc: Global) -> Result<bool, Fail> {
+    Ok(
+        is_read(alloc, b"".as_slice(), "")?
+            && is_read(alloc, b" \t\r\n".as_slice(), "")?
+            && is_read(alloc, b" a\t\r\n".as_slice(), "a")?
+            && is_read(alloc, b"- \t5".as_slice(), "-5")?,
+    )
+}
+
+fn is_long_read(alloc: Global, line: &str) -> Result<bool, Memory> {
+    let text = long_text(alloc, line)?;
+    Ok(constraint_fault(alloc, text.as_slice()).is_none())
+}
+
 #[test]
 fn long_texts(rt: HostRuntime) -> Result<(), Fail> {
     let alloc = rt.alloc();
-    for (before, piece, count, behind) in [
-        (b"".as_slice(), b"n".as_slice(), 256, b"".as_slice()),
-        (b"\\".as_slice(), b"n".as_slice(), 256, b"".as_slice()),
-        (b"".as_slice(), b" ".as_slice(), 4096, b"".as_slice()),
-        (b"".as_slice(), b"a+".as_slice(), 2047, b"a".as_slice()),
-        (b"".as_slice(), b"0".as_slice(), 4096, b"".as_slice()),
-    ] {
-        let text = repeated(alloc, before, piece, count, behind)?;
-        assert_eq!(rt; constraint_fault(alloc, text.as_slice()), None);
+    for line in LONG.lines() {
+        assert!(rt; is_long_read(alloc, line)?, "at {line}");
     }
     Ok(())
 }

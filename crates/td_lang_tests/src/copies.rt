@@ -1,10 +1,10 @@
 //! Copies of trees and of their parts: with ample memory each is made, and equal.
 
-use crate::support::{constraint_of, copy_of, put_tree, repeated};
+use crate::support::{constraint_of, copy_of, cut, put_tree, repeated};
 use std::alloc::Global;
 use std::process::Abort;
 use std::test::Fail;
-use td_cdr::{Boxed, Twin};
+use td_cdr::{Boxed, Memory, Twin};
 use td_lang::{Constraint, Expr, Op, Part, read_recipe};
 
 /// A constraint of each form of tree, and the tree.
@@ -18,22 +18,19 @@ a => a
 FALSE => FALSE";
 
 /// Whether the copy of the tree is this one.
-fn copies_to(alloc: Global, e: &Expr, tree: &str) -> Result<bool, Fail> {
+fn is_copied(alloc: Global, e: &Expr, tree: &str) -> Result<bool, Memory> {
     let twin = Boxed::new(alloc, e.copy(alloc)?)?;
     let mut out = Vec::new(alloc);
     put_tree(alloc, &mut out, twin.get())?;
     Ok(out.as_slice() == tree.as_bytes())
 }
 
-fn copy_line(rt: &impl Abort, alloc: Global, line: &str) -> Result<(), Fail> {
-    let (text, tree) = line.split_once(" => ").ok_or("a tree")?;
+fn is_line_copied(alloc: Global, line: &str) -> Result<bool, Fail> {
+    let (text, tree) = cut(line);
     let found = constraint_of(alloc, text.as_bytes())?;
     match found.get() {
-        Constraint::Empty => Err("a tree".into()),
-        Constraint::Is(e) => {
-            assert!(rt; copies_to(alloc, e, tree)?, "at {line}");
-            Ok(())
-        }
+        Constraint::Empty => Ok(false),
+        Constraint::Is(e) => Ok(is_copied(alloc, e, tree)?),
     }
 }
 
@@ -41,7 +38,7 @@ fn copy_line(rt: &impl Abort, alloc: Global, line: &str) -> Result<(), Fail> {
 fn trees(rt: HostRuntime) -> Result<(), Fail> {
     let alloc = rt.alloc();
     for line in TREES.lines() {
-        copy_line(&rt, alloc, line)?;
+        assert!(rt; is_line_copied(alloc, line)?, "at {line}");
     }
     Ok(())
 }
@@ -50,19 +47,22 @@ fn is_empty(constraint: &Constraint) -> bool {
     matches!(constraint, Constraint::Empty)
 }
 
+fn is_empty_copied(alloc: Global) -> Result<bool, Fail> {
+    let found = constraint_of(alloc, b"".as_slice())?;
+    let twin = copy_of(alloc, found.get())?;
+    Ok(is_empty(found.get()) && is_empty(twin.get()))
+}
+
 #[test]
 fn empty_constraint(rt: HostRuntime) -> Result<(), Fail> {
     let alloc = rt.alloc();
-    let found = constraint_of(alloc, b"".as_slice())?;
-    let twin = copy_of(alloc, found.get())?;
-    assert!(rt; is_empty(found.get()) && is_empty(twin.get()));
+    assert!(rt; is_empty_copied(alloc)?);
     Ok(())
 }
 
 #[test]
-fn operators(rt: HostRuntime) -> Result<(), Fail> {
-    assert_eq!(rt; Op::Le.copy(rt.alloc())?, Op::Le);
-    Ok(())
+fn operators(rt: HostRuntime) {
+    assert!(rt; matches!(Op::Le.copy(rt.alloc()), Ok(Op::Le)));
 }
 
 /// A chain as long as a text allows is copied and dropped as well.
@@ -92,18 +92,28 @@ fn is_part(part: &Part, number: usize) -> bool {
     }
 }
 
-fn part_copy(alloc: Global, part: &Part) -> Result<Boxed<Part>, Fail> {
-    Ok(Boxed::new(alloc, part.copy(alloc)?)?)
+fn is_part_copied(alloc: Global, part: &Part, number: usize) -> Result<bool, Memory> {
+    let twin = Boxed::new(alloc, part.copy(alloc)?)?;
+    Ok(is_part(twin.get(), number))
+}
+
+fn are_parts_copied(alloc: Global, parts: &[Part]) -> Result<bool, Memory> {
+    for (number, part) in parts.iter().enumerate() {
+        if !is_part_copied(alloc, part, number)? {
+            return Ok(false);
+        }
+    }
+    Ok(parts.len() == 3)
+}
+
+fn is_recipe_copied(alloc: Global) -> Result<bool, Fail> {
+    let recipe = read_recipe(alloc, b"$*x$(a)".as_slice())?;
+    Ok(are_parts_copied(alloc, recipe.parts.as_slice())?)
 }
 
 #[test]
 fn parts(rt: HostRuntime) -> Result<(), Fail> {
     let alloc = rt.alloc();
-    let recipe = read_recipe(alloc, b"$*x$(a)".as_slice())?;
-    assert_eq!(rt; recipe.parts.len(), 3);
-    for (number, part) in recipe.parts.as_slice().iter().enumerate() {
-        let twin = part_copy(alloc, part)?;
-        assert!(rt; is_part(twin.get(), number));
-    }
+    assert!(rt; is_recipe_copied(alloc)?);
     Ok(())
 }

@@ -1,10 +1,10 @@
 //! Preferences as they are read and printed, and texts that are none.
 
-use crate::support::{fault_of, put_tree, repeated};
+use crate::support::{cut, fault_of, long_text, put_tree};
 use std::alloc::{AllocError, Global};
 use std::process::Abort;
 use std::test::Fail;
-use td_cdr::{Boxed, Twin};
+use td_cdr::{Boxed, Memory, Twin};
 use td_lang::{Expr, LangFault, Preference, print_preference, read_preference};
 
 /// A preference, how it is printed, and its tree behind its form.
@@ -70,53 +70,56 @@ fn is_preference(
     preference: &Preference,
     printed: &[u8],
     tree: &[u8],
-) -> Result<bool, Fail> {
+) -> Result<bool, Memory> {
+    Ok(has_form(alloc, preference, tree)? && is_printed(alloc, preference, printed)?)
+}
+
+fn has_form(alloc: Global, preference: &Preference, tree: &[u8]) -> Result<bool, AllocError> {
     let mut out = Vec::new(alloc);
     put_preference(alloc, &mut out, preference)?;
+    Ok(out.as_slice() == tree)
+}
+
+fn is_printed(alloc: Global, preference: &Preference, printed: &[u8]) -> Result<bool, Memory> {
     let text = print_preference(alloc, preference)?;
-    Ok(out.as_slice() == tree && text.as_slice() == printed)
+    Ok(text.as_slice() == printed)
 }
 
-fn preference_of(alloc: Global, text: &[u8]) -> Result<Boxed<Preference>, Fail> {
-    Ok(Boxed::new(alloc, read_preference(alloc, text)?)?)
-}
-
-fn copy_of(alloc: Global, preference: &Preference) -> Result<Boxed<Preference>, Fail> {
-    Ok(Boxed::new(alloc, preference.copy(alloc)?)?)
-}
-
-/// The text is read as the preference, and so is its copy.
-fn prefers(
-    rt: &impl Abort,
+fn is_copied(
     alloc: Global,
-    text: &[u8],
+    preference: &Preference,
     printed: &[u8],
     tree: &[u8],
-) -> Result<(), Fail> {
-    let found = preference_of(alloc, text)?;
-    assert!(rt; is_preference(alloc, found.get(), printed, tree)?);
-    let twin = copy_of(alloc, found.get())?;
-    assert!(rt; is_preference(alloc, twin.get(), printed, tree)?);
-    Ok(())
+) -> Result<bool, Memory> {
+    let twin = Boxed::new(alloc, preference.copy(alloc)?)?;
+    is_preference(alloc, twin.get(), printed, tree)
 }
 
-/// The text is read and printed, and what is printed is read as the same.
-fn preference_line(rt: &impl Abort, alloc: Global, line: &str) -> Result<(), Fail> {
-    let (text, rest) = line.split_once(" => ").ok_or("a text")?;
-    let (printed, tree) = rest.split_once(" => ").ok_or("a tree")?;
+/// Whether the text is read as the preference, and so is its copy.
+fn is_read(alloc: Global, text: &[u8], printed: &[u8], tree: &[u8]) -> Result<bool, Fail> {
+    let found = Boxed::new(alloc, read_preference(alloc, text)?)?;
+    Ok(
+        is_preference(alloc, found.get(), printed, tree)?
+            && is_copied(alloc, found.get(), printed, tree)?,
+    )
+}
+
+/// Whether the text is read and printed, and what is printed is read as the same.
+fn is_line_read(alloc: Global, line: &str) -> Result<bool, Fail> {
+    let (text, rest) = cut(line);
+    let (printed, tree) = cut(rest);
     let (printed, tree) = (printed.as_bytes(), tree.as_bytes());
-    prefers(rt, alloc, text.as_bytes(), printed, tree)?;
-    prefers(rt, alloc, printed, printed, tree)
+    Ok(is_read(alloc, text.as_bytes(), printed, tree)? && is_read(alloc, printed, printed, tree)?)
 }
 
 #[test]
 fn preferences(rt: HostRuntime) -> Result<(), Fail> {
     let alloc = rt.alloc();
     let (none, empty) = (b"".as_slice(), b"empty".as_slice());
-    prefers(&rt, alloc, none, none, empty)?;
-    prefers(&rt, alloc, b" \t".as_slice(), none, empty)?;
+    assert!(rt; is_read(alloc, none, none, empty)?);
+    assert!(rt; is_read(alloc, b" \t".as_slice(), none, empty)?);
     for line in PREFERENCES.lines() {
-        preference_line(&rt, alloc, line)?;
+        assert!(rt; is_line_read(alloc, line)?, "at {line}");
     }
     Ok(())
 }
@@ -125,38 +128,38 @@ fn preference_fault(alloc: Global, text: &[u8]) -> Option<LangFault> {
     read_preference(alloc, text).err()
 }
 
-fn fault_line(rt: &impl Abort, alloc: Global, line: &str) -> Result<(), Fail> {
-    let (text, fault) = line.split_once(" => ").ok_or("a fault")?;
-    let found = preference_fault(alloc, text.as_bytes());
-    assert_eq!(rt; found, Some(fault_of(fault)?), "at {line}");
-    Ok(())
+/// Whether the text of a line has its fault.
+fn is_refused(alloc: Global, line: &str) -> bool {
+    let (text, fault) = cut(line);
+    preference_fault(alloc, text.as_bytes()) == Some(fault_of(fault))
 }
 
 #[test]
 fn faults(rt: HostRuntime) -> Result<(), Fail> {
     let alloc = rt.alloc();
     for line in FAULTS.lines() {
-        fault_line(&rt, alloc, line)?;
+        assert!(rt; is_refused(alloc, line), "at {line}");
     }
     Ok(())
 }
 
-/// `min` and then `count` times the byte.
-fn min_fault(alloc: Global, byte: &[u8], count: usize) -> Result<Option<LangFault>, Fail> {
-    let text = repeated(alloc, b"min".as_slice(), byte, count, b"".as_slice())?;
-    Ok(preference_fault(alloc, text.as_slice()))
+/// What stands before the pieces, the piece, how many times it stands, and the fault of the whole.
+const LONG: &str = "min|(|64| => Syntax 67
+min|(|65| => Depth 67
+min| |4093| => Syntax 4096
+min| |4094| => TooLong";
+
+fn is_long_refused(alloc: Global, line: &str) -> Result<bool, Memory> {
+    let (pieces, fault) = cut(line);
+    let text = long_text(alloc, pieces)?;
+    Ok(preference_fault(alloc, text.as_slice()) == Some(fault_of(fault)))
 }
 
 #[test]
 fn long_preferences(rt: HostRuntime) -> Result<(), Fail> {
     let alloc = rt.alloc();
-    for (byte, count, fault) in [
-        (b"(".as_slice(), 64, LangFault::Syntax(67)),
-        (b"(".as_slice(), 65, LangFault::Depth(67)),
-        (b" ".as_slice(), 4093, LangFault::Syntax(4096)),
-        (b" ".as_slice(), 4094, LangFault::TooLong),
-    ] {
-        assert_eq!(rt; min_fault(alloc, byte, count)?, Some(fault));
+    for line in LONG.lines() {
+        assert!(rt; is_long_refused(alloc, line)?, "at {line}");
     }
     Ok(())
 }

@@ -1,10 +1,10 @@
 //! Printed constraints, with the parentheses that they need.
 
-use crate::support::{constraint_fault, constraint_of};
+use crate::support::{constraint_fault, constraint_of, cut};
 use std::alloc::Global;
 use std::process::Abort;
 use std::test::Fail;
-use td_cdr::{Boxed, Text};
+use td_cdr::{Boxed, Memory, Text};
 use td_lang::{Constraint, Expr, LangFault, print_constraint};
 
 /// A constraint, and how its tree is printed.
@@ -83,78 +83,81 @@ const VALUES: &str = r"-5 < -0 => - 5 < 0
 TRUE==FALSE => TRUE == FALSE
 (('las')~((Kind))) => 'las' ~ Kind";
 
-/// The text is read and printed, and what is printed is printed again.
-fn print_line(rt: &impl Abort, alloc: Global, line: &str) -> Result<(), Fail> {
-    let (text, printed) = line.split_once(" => ").ok_or("a text")?;
-    prints(rt, alloc, text.as_bytes(), printed.as_bytes())?;
-    prints(rt, alloc, printed.as_bytes(), printed.as_bytes())
+/// Whether the text is read and printed, and what is printed is printed again.
+fn is_line_printed(alloc: Global, line: &str) -> Result<bool, Fail> {
+    let (text, printed) = cut(line);
+    let printed = printed.as_bytes();
+    Ok(is_printed(alloc, text.as_bytes(), printed)? && is_printed(alloc, printed, printed)?)
 }
 
-fn prints(rt: &impl Abort, alloc: Global, text: &[u8], printed: &[u8]) -> Result<(), Fail> {
+fn is_printed(alloc: Global, text: &[u8], printed: &[u8]) -> Result<bool, Fail> {
     let found = constraint_of(alloc, text)?;
     let out = print_constraint(alloc, found.get())?;
-    assert_eq!(rt; out.as_slice(), printed);
-    Ok(())
+    Ok(out.as_slice() == printed)
 }
 
 #[test]
 fn constraints(rt: HostRuntime) -> Result<(), Fail> {
     let alloc = rt.alloc();
-    prints(&rt, alloc, b"".as_slice(), b"".as_slice())?;
-    prints(&rt, alloc, b" a\t\r\n".as_slice(), b"a".as_slice())?;
+    assert!(rt; is_printed(alloc, b"".as_slice(), b"".as_slice())?);
+    assert!(rt; is_printed(alloc, b" a\t\r\n".as_slice(), b"a".as_slice())?);
     for table in [PLAIN, SPARE, WEAKER, SAME, NO_ROW, SIGNS, NAMES, VALUES] {
         for line in table.lines() {
-            print_line(&rt, alloc, line)?;
+            assert!(rt; is_line_printed(alloc, line)?, "at {line}");
         }
     }
     Ok(())
 }
 
-fn printed_number(alloc: Global, n: i64) -> Result<Text, Fail> {
+fn printed_number(alloc: Global, n: i64) -> Result<Text, Memory> {
     let found = Boxed::new(alloc, Constraint::Is(Expr::Number(n)))?;
-    Ok(print_constraint(alloc, found.get())?)
+    print_constraint(alloc, found.get())
 }
 
 /// The least number has no spelling that is read, and its neighbour has.
 #[test]
 fn least_numbers(rt: HostRuntime) -> Result<(), Fail> {
     let alloc = rt.alloc();
-    let least = printed_number(alloc, i64::MIN)?;
-    assert_eq!(rt; least.as_slice(), b"- 9223372036854775808".as_slice());
-    assert_eq!(rt;
-        constraint_fault(alloc, least.as_slice()),
-        Some(LangFault::Syntax(2))
-    );
-    let next = printed_number(alloc, i64::MIN + 1)?;
-    assert_eq!(rt; constraint_fault(alloc, next.as_slice()), None);
+    assert!(rt; is_least_refused(alloc)?);
+    assert!(rt; is_next_read(alloc)?);
     Ok(())
 }
 
+fn is_least_refused(alloc: Global) -> Result<bool, Memory> {
+    let least = printed_number(alloc, i64::MIN)?;
+    Ok(
+        least.as_slice() == b"- 9223372036854775808".as_slice()
+            && constraint_fault(alloc, least.as_slice()) == Some(LangFault::Syntax(2)),
+    )
+}
+
+fn is_next_read(alloc: Global) -> Result<bool, Memory> {
+    let next = printed_number(alloc, i64::MIN + 1)?;
+    Ok(constraint_fault(alloc, next.as_slice()).is_none())
+}
+
 /// `count` negations of a name, and one more in front.
-fn denied(alloc: Global, count: usize) -> Result<Boxed<Constraint>, Fail> {
+fn denied(alloc: Global, count: usize) -> Result<Boxed<Constraint>, Memory> {
     let name = Text::from_slice(alloc, b"a")?;
     let mut found = Boxed::new(alloc, Expr::Name(name))?;
     for _ in 0..count {
         found = Boxed::new(alloc, Expr::Not(found))?;
     }
-    Ok(Boxed::new(alloc, Constraint::Is(Expr::Not(found)))?)
+    Boxed::new(alloc, Constraint::Is(Expr::Not(found)))
 }
 
-fn printed_denied(alloc: Global, count: usize) -> Result<Text, Fail> {
+/// Why so many negations and one more, as they are printed, are refused.
+fn denied_fault(alloc: Global, count: usize) -> Result<Option<LangFault>, Memory> {
     let found = denied(alloc, count)?;
-    Ok(print_constraint(alloc, found.get())?)
+    let text = print_constraint(alloc, found.get())?;
+    Ok(constraint_fault(alloc, text.as_slice()))
 }
 
 /// Of 65 negations in a row the inner 64 stand in parentheses, and of 66 too many.
 #[test]
 fn deep_trees(rt: HostRuntime) -> Result<(), Fail> {
     let alloc = rt.alloc();
-    let text = printed_denied(alloc, 64)?;
-    assert_eq!(rt; constraint_fault(alloc, text.as_slice()), None);
-    let text = printed_denied(alloc, 65)?;
-    assert_eq!(rt;
-        constraint_fault(alloc, text.as_slice()),
-        Some(LangFault::Depth(388))
-    );
+    assert!(rt; denied_fault(alloc, 64)?.is_none());
+    assert!(rt; denied_fault(alloc, 65)? == Some(LangFault::Depth(388)));
     Ok(())
 }

@@ -1,10 +1,10 @@
 //! Recipes and their parts, and texts that are none.
 
-use crate::support::{fault_of, put, repeated};
+use crate::support::{cut, fault_of, long_text, put};
 use std::alloc::{AllocError, Global};
 use std::process::Abort;
 use std::test::Fail;
-use td_cdr::Twin;
+use td_cdr::{Memory, Twin};
 use td_lang::{LangFault, Part, Recipe, read_recipe};
 
 /// A recipe, and its parts: `<*>` for the importer's constraint, and `<name>` for a property.
@@ -54,7 +54,7 @@ fn put_part(out: &mut Vec<u8>, part: &Part) -> Result<(), AllocError> {
 }
 
 /// Whether the recipe has these parts.
-fn has_parts(alloc: Global, recipe: &Recipe, parts: &[u8]) -> Result<bool, Fail> {
+fn has_parts(alloc: Global, recipe: &Recipe, parts: &[u8]) -> Result<bool, Memory> {
     let mut out = Vec::new(alloc);
     for part in recipe.parts.as_slice() {
         put_part(&mut out, part)?;
@@ -62,27 +62,29 @@ fn has_parts(alloc: Global, recipe: &Recipe, parts: &[u8]) -> Result<bool, Fail>
     Ok(out.as_slice() == parts)
 }
 
-/// The text is read as a recipe of these parts, and so is its copy.
-fn is_read(rt: &impl Abort, alloc: Global, text: &[u8], parts: &[u8]) -> Result<(), Fail> {
-    let found = read_recipe(alloc, text)?;
-    assert!(rt; has_parts(alloc, &found, parts)?);
-    let twin = found.copy(alloc)?;
-    assert!(rt; has_parts(alloc, &twin, parts)?);
-    Ok(())
+fn is_copied(alloc: Global, recipe: &Recipe, parts: &[u8]) -> Result<bool, Memory> {
+    let twin = recipe.copy(alloc)?;
+    has_parts(alloc, &twin, parts)
 }
 
-fn recipe_line(rt: &impl Abort, alloc: Global, line: &str) -> Result<(), Fail> {
-    let (text, parts) = line.split_once(" => ").ok_or("parts")?;
-    is_read(rt, alloc, text.as_bytes(), parts.as_bytes())
+/// Whether the text is read as a recipe of these parts, and so is its copy.
+fn is_read(alloc: Global, text: &[u8], parts: &[u8]) -> Result<bool, Fail> {
+    let found = read_recipe(alloc, text)?;
+    Ok(has_parts(alloc, &found, parts)? && is_copied(alloc, &found, parts)?)
+}
+
+fn is_line_read(alloc: Global, line: &str) -> Result<bool, Fail> {
+    let (text, parts) = cut(line);
+    is_read(alloc, text.as_bytes(), parts.as_bytes())
 }
 
 #[test]
 fn recipes(rt: HostRuntime) -> Result<(), Fail> {
     let alloc = rt.alloc();
-    is_read(&rt, alloc, b"".as_slice(), b"".as_slice())?;
-    is_read(&rt, alloc, b" \0\xff'".as_slice(), b" \0\xff'".as_slice())?;
+    assert!(rt; is_read(alloc, b"".as_slice(), b"".as_slice())?);
+    assert!(rt; is_read(alloc, b" \0\xff'".as_slice(), b" \0\xff'".as_slice())?);
     for line in RECIPES.lines() {
-        recipe_line(&rt, alloc, line)?;
+        assert!(rt; is_line_read(alloc, line)?, "at {line}");
     }
     Ok(())
 }
@@ -91,52 +93,49 @@ fn recipe_fault(alloc: Global, text: &[u8]) -> Option<LangFault> {
     read_recipe(alloc, text).err()
 }
 
-fn fault_line(rt: &impl Abort, alloc: Global, line: &str) -> Result<(), Fail> {
-    let (text, fault) = line.split_once(" => ").ok_or("a fault")?;
-    let found = recipe_fault(alloc, text.as_bytes());
-    assert_eq!(rt; found, Some(fault_of(fault)?), "at {line}");
-    Ok(())
+/// Whether the text of a line has its fault.
+fn is_refused(alloc: Global, line: &str) -> bool {
+    let (text, fault) = cut(line);
+    recipe_fault(alloc, text.as_bytes()) == Some(fault_of(fault))
 }
 
 #[test]
 fn faults(rt: HostRuntime) -> Result<(), Fail> {
     let alloc = rt.alloc();
     for line in FAULTS.lines() {
-        fault_line(&rt, alloc, line)?;
+        assert!(rt; is_refused(alloc, line), "at {line}");
     }
     Ok(())
 }
 
-/// The longest recipe and the longest name, and longer ones.
+/// The longest recipe and the longest name: what stands before the pieces, the piece, how many times it
+/// stands, and what stands behind.
+const LONGEST: &str = r"|\|4096|
+$(|a|256|)";
+
+/// Longer ones, with their faults.
+const TOO_LONG: &str = "$|a|4096| => TooLong
+$(|a|257|) => Syntax 0";
+
+fn is_longest_read(alloc: Global, line: &str) -> Result<bool, Memory> {
+    let text = long_text(alloc, line)?;
+    Ok(recipe_fault(alloc, text.as_slice()).is_none())
+}
+
+fn is_long_refused(alloc: Global, line: &str) -> Result<bool, Memory> {
+    let (pieces, fault) = cut(line);
+    let text = long_text(alloc, pieces)?;
+    Ok(recipe_fault(alloc, text.as_slice()) == Some(fault_of(fault)))
+}
+
 #[test]
 fn long_recipes(rt: HostRuntime) -> Result<(), Fail> {
     let alloc = rt.alloc();
-    for (before, byte, count, behind, fault) in [
-        (b"".as_slice(), b"\\".as_slice(), 4096, b"".as_slice(), None),
-        (
-            b"$".as_slice(),
-            b"a".as_slice(),
-            4096,
-            b"".as_slice(),
-            Some(LangFault::TooLong),
-        ),
-        (
-            b"$(".as_slice(),
-            b"a".as_slice(),
-            256,
-            b")".as_slice(),
-            None,
-        ),
-        (
-            b"$(".as_slice(),
-            b"a".as_slice(),
-            257,
-            b")".as_slice(),
-            Some(LangFault::Syntax(0)),
-        ),
-    ] {
-        let text = repeated(alloc, before, byte, count, behind)?;
-        assert_eq!(rt; recipe_fault(alloc, text.as_slice()), fault);
+    for line in LONGEST.lines() {
+        assert!(rt; is_longest_read(alloc, line)?, "at {line}");
+    }
+    for line in TOO_LONG.lines() {
+        assert!(rt; is_long_refused(alloc, line)?, "at {line}");
     }
     Ok(())
 }

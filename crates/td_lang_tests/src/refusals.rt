@@ -1,10 +1,10 @@
 //! Texts that are no constraints, with their first faults.
 
-use crate::support::{constraint_fault, fault_of, repeated};
+use crate::support::{constraint_fault, cut, fault_of, long_text};
 use std::alloc::Global;
 use std::process::Abort;
 use std::test::Fail;
-use td_lang::LangFault;
+use td_cdr::Memory;
 
 /// Whole constraints with one fault: where it stands.
 const SPOILT: &str = "Cost < 1.5 => Float 7
@@ -72,26 +72,26 @@ a < 3_ => Syntax 4";
 const QUOTED: &str = r"a == 'b => Syntax 5
 a == 'b\n' => Syntax 5";
 
-/// A piece, how many times it stands, what follows, and the fault of the whole.
-const LONG: &str = "(|65||Depth 64
-(|64||Syntax 64
-(|64|a (|Depth 66
-a or (|65||Depth 389
-(|63|a (|Syntax 65
-n|257||Syntax 0
-n|257|.5|Syntax 0
- |4097||TooLong
-(|4097||TooLong
-(|4096||Depth 64
-a+|2048||Syntax 4096
-'|4095||Syntax 2";
+/// What stands before the pieces, the piece, how many times it stands, what stands behind, and the fault
+/// of the whole. The last is a name of 257 bytes behind a `\`.
+const LONG: &str = r"|(|65| => Depth 64
+|(|64| => Syntax 64
+|(|64|a ( => Depth 66
+|a or (|65| => Depth 389
+|(|63|a ( => Syntax 65
+|n|257| => Syntax 0
+|n|257|.5 => Syntax 0
+| |4097| => TooLong
+|(|4097| => TooLong
+|(|4096| => Depth 64
+|a+|2048| => Syntax 4096
+|'|4095| => Syntax 2
+\|n|257| => Syntax 0";
 
-/// A line's text has its fault.
-fn fault_line(rt: &impl Abort, alloc: Global, line: &str) -> Result<(), Fail> {
-    let (text, fault) = line.split_once(" => ").ok_or("a fault")?;
-    let found = constraint_fault(alloc, text.as_bytes());
-    assert_eq!(rt; found, Some(fault_of(fault)?), "at {line}");
-    Ok(())
+/// Whether a line's text has its fault.
+fn is_refused(alloc: Global, line: &str) -> bool {
+    let (text, fault) = cut(line);
+    constraint_fault(alloc, text.as_bytes()) == Some(fault_of(fault))
 }
 
 #[test]
@@ -99,56 +99,23 @@ fn faults(rt: HostRuntime) -> Result<(), Fail> {
     let alloc = rt.alloc();
     for table in [SPOILT, TOKENS, EARLY, RESERVED, NUMBERS, QUOTED] {
         for line in table.lines() {
-            fault_line(&rt, alloc, line)?;
+            assert!(rt; is_refused(alloc, line), "at {line}");
         }
     }
     Ok(())
 }
 
-fn long_line(rt: &impl Abort, alloc: Global, line: &str) -> Result<(), Fail> {
-    let (piece, rest) = line.split_once('|').ok_or("a piece")?;
-    let (count, rest) = rest.split_once('|').ok_or("a count")?;
-    let (behind, fault) = rest.split_once('|').ok_or("a fault")?;
-    let count = count.parse::<usize>()?;
-    let fault = fault_of(fault)?;
-    let found = long_fault(alloc, piece.as_bytes(), count, behind.as_bytes())?;
-    assert_eq!(rt; found, Some(fault), "at {line}");
-    Ok(())
-}
-
-fn long_fault(
-    alloc: Global,
-    piece: &[u8],
-    count: usize,
-    behind: &[u8],
-) -> Result<Option<LangFault>, Fail> {
-    let text = repeated(alloc, b"".as_slice(), piece, count, behind)?;
-    Ok(constraint_fault(alloc, text.as_slice()))
+fn is_long_refused(alloc: Global, line: &str) -> Result<bool, Memory> {
+    let (pieces, fault) = cut(line);
+    let text = long_text(alloc, pieces)?;
+    Ok(constraint_fault(alloc, text.as_slice()) == Some(fault_of(fault)))
 }
 
 #[test]
 fn long_faults(rt: HostRuntime) -> Result<(), Fail> {
     let alloc = rt.alloc();
     for line in LONG.lines() {
-        long_line(&rt, alloc, line)?;
+        assert!(rt; is_long_refused(alloc, line)?, "at {line}");
     }
-    Ok(())
-}
-
-/// A name of 257 bytes behind a `\`.
-#[test]
-fn long_name(rt: HostRuntime) -> Result<(), Fail> {
-    let alloc = rt.alloc();
-    let text = repeated(
-        alloc,
-        b"\\".as_slice(),
-        b"n".as_slice(),
-        257,
-        b"".as_slice(),
-    )?;
-    assert_eq!(rt;
-        constraint_fault(alloc, text.as_slice()),
-        Some(LangFault::Syntax(0))
-    );
     Ok(())
 }

@@ -2,7 +2,7 @@
 
 use std::alloc::{AllocError, Global};
 use std::test::Fail;
-use td_cdr::{Boxed, Twin};
+use td_cdr::{Boxed, Memory, Twin};
 use td_lang::{Constraint, Expr, LangFault, Op, read_constraint};
 
 fn sign(op: Op) -> &'static str {
@@ -92,7 +92,7 @@ pub fn put_tree(alloc: Global, out: &mut Vec<u8>, e: &Expr) -> Result<(), AllocE
 }
 
 /// Whether the tree is this one; the empty constraint has none.
-pub fn has_tree(alloc: Global, constraint: &Constraint, tree: &str) -> Result<bool, AllocError> {
+pub fn has_tree(alloc: Global, constraint: &Constraint, tree: &str) -> Result<bool, Memory> {
     let mut out = Vec::new(alloc);
     if let Constraint::Is(e) = constraint {
         put_tree(alloc, &mut out, e)?;
@@ -104,8 +104,8 @@ pub fn constraint_of(alloc: Global, text: &[u8]) -> Result<Boxed<Constraint>, Fa
     Ok(Boxed::new(alloc, read_constraint(alloc, text)?)?)
 }
 
-pub fn copy_of(alloc: Global, constraint: &Constraint) -> Result<Boxed<Constraint>, Fail> {
-    Ok(Boxed::new(alloc, constraint.copy(alloc)?)?)
+pub fn copy_of(alloc: Global, constraint: &Constraint) -> Result<Boxed<Constraint>, Memory> {
+    Boxed::new(alloc, constraint.copy(alloc)?)
 }
 
 /// Why a text is no constraint.
@@ -113,18 +113,20 @@ pub fn constraint_fault(alloc: Global, text: &[u8]) -> Option<LangFault> {
     read_constraint(alloc, text).err()
 }
 
+/// What stands before and behind the first ` => ` of a line.
+pub fn cut(line: &str) -> (&str, &str) {
+    line.split_once(" => ").unwrap_or((line, ""))
+}
+
 /// The fault of a name and a place.
-pub fn fault_of(told: &str) -> Result<LangFault, Fail> {
-    if told == "TooLong" {
-        return Ok(LangFault::TooLong);
-    }
-    let (name, place) = told.split_once(' ').ok_or("a place")?;
-    let place = place.parse::<u32>()?;
+pub fn fault_of(told: &str) -> LangFault {
+    let (name, digits) = told.split_once(' ').unwrap_or((told, ""));
+    let place = digits.parse::<u32>().unwrap_or(0);
     match name {
-        "Syntax" => Ok(LangFault::Syntax(place)),
-        "Float" => Ok(LangFault::Float(place)),
-        "Depth" => Ok(LangFault::Depth(place)),
-        _ => Err("a fault".into()),
+        "Syntax" => LangFault::Syntax(place),
+        "Float" => LangFault::Float(place),
+        "Depth" => LangFault::Depth(place),
+        _ => LangFault::TooLong,
     }
 }
 
@@ -142,4 +144,24 @@ pub fn repeated(
     }
     text.extend_from_slice(behind)?;
     Ok(text)
+}
+
+/// What stands before and behind the first bar.
+fn at_bar(line: &str) -> (&str, &str) {
+    line.split_once('|').unwrap_or((line, ""))
+}
+
+/// The text of `BEFORE|PIECE|COUNT|BEHIND`.
+pub fn long_text(alloc: Global, line: &str) -> Result<Vec<u8>, AllocError> {
+    let (before, rest) = at_bar(line);
+    let (piece, rest) = at_bar(rest);
+    let (digits, behind) = at_bar(rest);
+    let count = digits.parse::<usize>().unwrap_or(0);
+    repeated(
+        alloc,
+        before.as_bytes(),
+        piece.as_bytes(),
+        count,
+        behind.as_bytes(),
+    )
 }

@@ -14,24 +14,39 @@ use td_marks::Ring;
 const MOST: u64 = 100;
 
 /// How a query begins: the number of its mark, or that of the mark under which it is remembered.
-#[derive(Clone, Copy, Debug, PartialEq, Eq)]
+#[derive(Clone, Copy, PartialEq, Eq)]
 enum Begun {
     Search(u64),
     Repeat(u64),
     Full,
 }
 
-/// Queries one after the other, each with its identifier, a digit, and how it begins.
-fn begins(rt: &impl Abort, alloc: Global, size: u32, queries: &[(u8, Begun)]) -> Result<(), Fail>
+/// Whether queries one after the other, each with its identifier, a digit, begin as is said.
+fn begins(alloc: Global, size: u32, queries: &[(u8, Begun)]) -> Result<bool, Memory>
     requires { (0 < size) × (size ≤ most_kept) }
 {
     let mut ring = Ring::new(alloc, size)?;
-    assert_eq!(rt; ring.size(), size);
-    for (identifier, want) in queries {
-        assert_eq!(rt; begin(alloc, &mut ring, &[*identifier])?, *want);
-        assert!(rt; ring.len() <= size);
+    let passed = begins_each(alloc, &mut ring, size, queries);
+    drop(ring);
+    passed
+}
+
+fn begins_each(
+    alloc: Global,
+    ring: &mut Ring,
+    size: u32,
+    queries: &[(u8, Begun)],
+) -> Result<bool, Memory> {
+    if ring.size() != size {
+        return Ok(false);
     }
-    Ok(())
+    for (identifier, want) in queries {
+        let begun = begin(alloc, ring, &[*identifier])?;
+        if begun != *want || ring.len() > size {
+            return Ok(false);
+        }
+    }
+    Ok(true)
 }
 
 /// Begins a query that states its identifier.
@@ -81,7 +96,8 @@ fn one(rt: HostRuntime) -> Result<(), Fail> {
         (b'2', Begun::Search(2)),
         (b'1', Begun::Search(3)),
     ];
-    begins(&rt, rt.alloc(), 1, &queries)
+    assert!(rt; begins(rt.alloc(), 1, &queries)?);
+    Ok(())
 }
 
 /// Of three identifiers a ring of two has forgotten the first, and so searches under it again.
@@ -95,7 +111,8 @@ fn two(rt: HostRuntime) -> Result<(), Fail> {
         (b'3', Begun::Repeat(3)),
         (b'2', Begun::Search(5)),
     ];
-    begins(&rt, rt.alloc(), 2, &queries)
+    assert!(rt; begins(rt.alloc(), 2, &queries)?);
+    Ok(())
 }
 
 /// A ring of three has not.
@@ -110,52 +127,86 @@ fn three(rt: HostRuntime) -> Result<(), Fail> {
         (b'1', Begun::Search(5)),
         (b'3', Begun::Repeat(3)),
     ];
-    begins(&rt, rt.alloc(), 3, &queries)
+    assert!(rt; begins(rt.alloc(), 3, &queries)?);
+    Ok(())
+}
+
+/// Whether so many marks were made, and this counter is next.
+fn stands(ring: &Ring, count: u64, counter: u64) -> bool {
+    ring.count() == count && ring.counter() == counter
 }
 
 /// Made identifiers count from 0, and those that are stated leave the counter as it is.
 #[test]
 fn made(rt: HostRuntime) -> Result<(), Fail> {
-    let alloc = rt.alloc();
-    let mut ring = Ring::new(alloc, 2)?;
-    assert_eq!(rt; begin_made(alloc, &mut ring, b"s")?, Some(0));
-    assert_eq!(rt; begin(alloc, &mut ring, b"q")?, Begun::Search(2));
-    assert_eq!(rt; (ring.count(), ring.counter()), (2, 1));
-    assert_eq!(rt; begin_made(alloc, &mut ring, b"s")?, Some(1));
-    assert_eq!(rt; begin_made(alloc, &mut ring, b"")?, Some(2));
-    assert_eq!(rt;
-        begin(alloc, &mut ring, b"s\x00\x00\x00\x00\x00\x00\x00\x01")?,
-        Begun::Repeat(3)
-    );
-    assert_eq!(rt;
-        begin(alloc, &mut ring, b"s\x00\x00\x00\x00\x00\x00\x00\x00")?,
-        Begun::Search(5)
-    );
-    assert_eq!(rt; (ring.count(), ring.counter(), ring.len()), (5, 3, 2));
+    assert!(rt; makes_in_order(rt.alloc())?);
     Ok(())
+}
+
+fn makes_in_order(alloc: Global) -> Result<bool, Memory> {
+    let mut ring = Ring::new(alloc, 2)?;
+    let passed = makes_three(alloc, &mut ring);
+    drop(ring);
+    passed
+}
+
+fn makes_three(alloc: Global, ring: &mut Ring) -> Result<bool, Memory> {
+    Ok(makes_the_first(alloc, ring)? && makes_two_more(alloc, ring)? && forgets_one(alloc, ring)?)
+}
+
+fn makes_the_first(alloc: Global, ring: &mut Ring) -> Result<bool, Memory> {
+    Ok(
+        begin_made(alloc, ring, b"s")? == Some(0)
+            && begin(alloc, ring, b"q")? == Begun::Search(2)
+            && stands(ring, 2, 1),
+    )
+}
+
+fn makes_two_more(alloc: Global, ring: &mut Ring) -> Result<bool, Memory> {
+    Ok(begin_made(alloc, ring, b"s")? == Some(1) && begin_made(alloc, ring, b"")? == Some(2))
+}
+
+fn forgets_one(alloc: Global, ring: &mut Ring) -> Result<bool, Memory> {
+    Ok(
+        begin(alloc, ring, b"s\x00\x00\x00\x00\x00\x00\x00\x01")? == Begun::Repeat(3)
+            && begin(alloc, ring, b"s\x00\x00\x00\x00\x00\x00\x00\x00")? == Begun::Search(5)
+            && stands(ring, 5, 3)
+            && ring.len() == 2,
+    )
 }
 
 /// A value is skipped while its identifier is remembered, and is not come back to.
 #[test]
 fn skipped(rt: HostRuntime) -> Result<(), Fail> {
-    let alloc = rt.alloc();
-    let mut ring = Ring::new(alloc, 3)?;
-    assert_eq!(rt;
-        begin(alloc, &mut ring, b"s\x00\x00\x00\x00\x00\x00\x00\x01")?,
-        Begun::Search(1)
-    );
-    assert_eq!(rt;
-        begin(alloc, &mut ring, b"s\x00\x00\x00\x00\x00\x00\x00\x00")?,
-        Begun::Search(2)
-    );
-    assert_eq!(rt;
-        begin(alloc, &mut ring, b"s\x00\x00\x00\x00\x00\x00\x00\x02")?,
-        Begun::Search(3)
-    );
-    assert_eq!(rt; ring.counter(), 0);
-    assert_eq!(rt; begin_made(alloc, &mut ring, b"s")?, Some(3));
-    assert_eq!(rt; ring.counter(), 4);
-    assert_eq!(rt; begin_made(alloc, &mut ring, b"t")?, Some(4));
-    assert_eq!(rt; begin_made(alloc, &mut ring, b"s")?, Some(5));
+    assert!(rt; skips(rt.alloc())?);
     Ok(())
+}
+
+fn skips(alloc: Global) -> Result<bool, Memory> {
+    let mut ring = Ring::new(alloc, 3)?;
+    let passed = skips_three(alloc, &mut ring);
+    drop(ring);
+    passed
+}
+
+fn skips_three(alloc: Global, ring: &mut Ring) -> Result<bool, Memory> {
+    Ok(remembers_three(alloc, ring)? && makes_behind(alloc, ring)?)
+}
+
+fn remembers_three(alloc: Global, ring: &mut Ring) -> Result<bool, Memory> {
+    Ok(
+        begin(alloc, ring, b"s\x00\x00\x00\x00\x00\x00\x00\x01")? == Begun::Search(1)
+            && begin(alloc, ring, b"s\x00\x00\x00\x00\x00\x00\x00\x00")? == Begun::Search(2)
+            && begin(alloc, ring, b"s\x00\x00\x00\x00\x00\x00\x00\x02")? == Begun::Search(3)
+            && ring.counter() == 0,
+    )
+}
+
+fn makes_behind(alloc: Global, ring: &mut Ring) -> Result<bool, Memory> {
+    Ok(
+        begin_made(alloc, ring, b"s")? == Some(3)
+            && ring.counter() == 4
+            && begin_made(alloc, ring, b"t")? == Some(4)
+            && begin_made(alloc, ring, b"s")? == Some(5),
+    )
 }

@@ -4,7 +4,7 @@ use crate::exceptions::{lookup, text};
 use std::alloc::Global;
 use std::process::Abort;
 use std::test::Fail;
-use td_cdr::{Boxed, Order, Twin, Writer};
+use td_cdr::{Boxed, Memory, Order, Twin, Writer};
 use td_ops::{
     AdminOperation, Attribute, Call, Change, FollowAttribute, IteratorOperation, LinkOperation,
     NumberAttribute, Operation, ProxyOperation, ReferenceAttribute, RegisterOperation, Shape,
@@ -12,18 +12,30 @@ use td_ops::{
 };
 use td_value::{FollowOption, Ior};
 
+/// The reference to a register, where it is known.
+fn register(alloc: Global, known: bool) -> Result<Option<Ior>, Memory> {
+    if known {
+        Ok(Some(lookup(alloc)?))
+    } else {
+        Ok(None)
+    }
+}
+
 /// The change that adds a link to a register, where it is known.
-fn added_link(alloc: Global, register: Option<Ior>) -> Result<Boxed<Call>, Fail> {
+fn added_link(alloc: Global, known: bool) -> Result<Boxed<Call>, Memory> {
     let name = text(alloc, b"north")?;
     let target = lookup(alloc)?;
-    let change = Change::AddLink {
-        name,
-        target,
-        def_pass_on: FollowOption::IfNoLocal,
-        limiting: FollowOption::Always,
-        register,
-    };
-    Ok(Boxed::new(alloc, Call::Change(change))?)
+    let register = register(alloc, known)?;
+    Boxed::new(
+        alloc,
+        Call::Change(Change::AddLink {
+            name,
+            target,
+            def_pass_on: FollowOption::IfNoLocal,
+            limiting: FollowOption::Always,
+            register,
+        }),
+    )
 }
 
 /// Whether the reference is that of the Lookup.
@@ -58,60 +70,96 @@ fn is_added_link(call: &Call, known: bool) -> bool {
 }
 
 /// Whether nothing is written for the call.
-fn is_unwritten(alloc: Global, call: &Call) -> Result<bool, Fail> {
+fn is_unwritten(alloc: Global, call: &Call) -> Result<bool, Memory> {
     let mut writer = Writer::new(alloc, Order::Big);
     write_call(alloc, &mut writer, call)?;
     Ok(writer.bytes().is_empty())
 }
 
-/// The copy is the same, and no request carries it.
-fn link_copied(rt: &impl Abort, alloc: Global, call: &Call, known: bool) -> Result<(), Fail> {
-    let twin = Boxed::new(alloc, call.copy(alloc)?)?;
-    assert!(rt; is_added_link(twin.get(), known));
-    assert!(rt; is_unwritten(alloc, twin.get())?);
-    assert!(rt; operation_of(twin.get()) == "add_link");
-    Ok(())
+/// Whether the call adds the link, and no request carries it.
+fn adds_link(alloc: Global, call: &Call, known: bool) -> Result<bool, Memory> {
+    Ok(is_added_link(call, known) && operation_of(call) == "add_link" && is_unwritten(alloc, call)?)
+}
+
+/// Whether the copy of the change is the same.
+fn is_link_copied(alloc: Global, known: bool) -> Result<bool, Memory> {
+    let call = added_link(alloc, known)?;
+    let twin = Boxed::new(alloc, call.get().copy(alloc)?)?;
+    adds_link(alloc, twin.get(), known)
 }
 
 #[test]
 fn added_links(rt: HostRuntime) -> Result<(), Fail> {
     let alloc = rt.alloc();
-    let unknown = added_link(alloc, None)?;
-    link_copied(&rt, alloc, unknown.get(), false)?;
-    let known = added_link(alloc, Some(lookup(alloc)?))?;
-    link_copied(&rt, alloc, known.get(), true)
-}
-
-#[test]
-fn operations(rt: HostRuntime) -> Result<(), Fail> {
-    let alloc = rt.alloc();
-    assert!(&rt; Operation::IsA.copy(alloc)? == Operation::IsA);
-    assert!(&rt; RegisterOperation::Modify.copy(alloc)? == RegisterOperation::Modify);
-    assert!(&rt; LinkOperation::ListLinks.copy(alloc)? == LinkOperation::ListLinks);
-    assert!(&rt; ProxyOperation::ExportProxy.copy(alloc)? == ProxyOperation::ExportProxy);
-    assert!(&rt; AdminOperation::ListOffers.copy(alloc)? == AdminOperation::ListOffers);
-    assert!(&rt; IteratorOperation::NextN.copy(alloc)? == IteratorOperation::NextN);
-    assert!(&rt; TypesOperation::AddType.copy(alloc)? == TypesOperation::AddType);
+    for known in [false, true] {
+        assert!(rt; is_link_copied(alloc, known)?);
+    }
     Ok(())
 }
 
-#[test]
-fn attributes(rt: HostRuntime) -> Result<(), Fail> {
-    let alloc = rt.alloc();
-    assert!(&rt; Attribute::Incarnation.copy(alloc)? == Attribute::Incarnation);
-    assert!(&rt; ReferenceAttribute::LinkIf.copy(alloc)? == ReferenceAttribute::LinkIf);
-    assert!(&rt;
-        TruthAttribute::SupportsProxyOffers.copy(alloc)? == TruthAttribute::SupportsProxyOffers
-    );
-    assert!(&rt; NumberAttribute::MaxList.copy(alloc)? == NumberAttribute::MaxList);
-    assert!(&rt; FollowAttribute::MaxFollowPolicy.copy(alloc)? == FollowAttribute::MaxFollowPolicy);
-    Ok(())
+fn are_operations_copied(alloc: Global) -> bool {
+    matches!(Operation::IsA.copy(alloc), Ok(Operation::IsA))
+        && matches!(
+            RegisterOperation::Modify.copy(alloc),
+            Ok(RegisterOperation::Modify)
+        )
+        && matches!(
+            LinkOperation::ListLinks.copy(alloc),
+            Ok(LinkOperation::ListLinks)
+        )
+        && matches!(
+            ProxyOperation::ExportProxy.copy(alloc),
+            Ok(ProxyOperation::ExportProxy)
+        )
+        && matches!(
+            AdminOperation::ListOffers.copy(alloc),
+            Ok(AdminOperation::ListOffers)
+        )
+        && matches!(
+            IteratorOperation::NextN.copy(alloc),
+            Ok(IteratorOperation::NextN)
+        )
+        && matches!(
+            TypesOperation::AddType.copy(alloc),
+            Ok(TypesOperation::AddType)
+        )
 }
 
 #[test]
-fn shapes(rt: HostRuntime) -> Result<(), Fail> {
-    let alloc = rt.alloc();
-    assert!(&rt; Shape::Batch.copy(alloc)? == Shape::Batch);
-    assert!(&rt; SystemKind::ImpLimit.copy(alloc)? == SystemKind::ImpLimit);
-    Ok(())
+fn operations(rt: HostRuntime) {
+    assert!(rt; are_operations_copied(rt.alloc()));
+}
+
+fn are_attributes_copied(alloc: Global) -> bool {
+    matches!(
+        Attribute::Incarnation.copy(alloc),
+        Ok(Attribute::Incarnation)
+    ) && matches!(
+        ReferenceAttribute::LinkIf.copy(alloc),
+        Ok(ReferenceAttribute::LinkIf)
+    ) && matches!(
+        TruthAttribute::SupportsProxyOffers.copy(alloc),
+        Ok(TruthAttribute::SupportsProxyOffers)
+    ) && matches!(
+        NumberAttribute::MaxList.copy(alloc),
+        Ok(NumberAttribute::MaxList)
+    ) && matches!(
+        FollowAttribute::MaxFollowPolicy.copy(alloc),
+        Ok(FollowAttribute::MaxFollowPolicy)
+    )
+}
+
+#[test]
+fn attributes(rt: HostRuntime) {
+    assert!(rt; are_attributes_copied(rt.alloc()));
+}
+
+fn are_shapes_copied(alloc: Global) -> bool {
+    matches!(Shape::Batch.copy(alloc), Ok(Shape::Batch))
+        && matches!(SystemKind::ImpLimit.copy(alloc), Ok(SystemKind::ImpLimit))
+}
+
+#[test]
+fn shapes(rt: HostRuntime) {
+    assert!(rt; are_shapes_copied(rt.alloc()));
 }

@@ -1,15 +1,14 @@
 //! User exceptions, by their names.
 
 use std::alloc::Global;
-use std::test::Fail;
-use td_cdr::{Boxed, List, Octets, Text};
+use td_cdr::{Boxed, List, Memory, Octets, Text};
 use td_ops::UserException;
 use td_value::{
     Any, FollowOption, Ior, Policy, Profile, PropStruct, Property, PropertyMode, TypeCode, Value,
 };
 
-pub fn text(alloc: Global, bytes: &[u8]) -> Result<Text, Fail> {
-    Ok(Text::from_slice(alloc, bytes)?)
+pub fn text(alloc: Global, bytes: &[u8]) -> Result<Text, Memory> {
+    Text::from_slice(alloc, bytes)
 }
 
 fn number(number: u32) -> Any {
@@ -19,7 +18,7 @@ fn number(number: u32) -> Any {
     }
 }
 
-fn cost(alloc: Global) -> Result<Property, Fail> {
+fn cost(alloc: Global) -> Result<Property, Memory> {
     let name = text(alloc, b"Cost")?;
     Ok(Property {
         name,
@@ -27,7 +26,7 @@ fn cost(alloc: Global) -> Result<Property, Fail> {
     })
 }
 
-fn policy(alloc: Global) -> Result<Policy, Fail> {
+fn policy(alloc: Global) -> Result<Policy, Memory> {
     let name = text(alloc, b"Cost")?;
     Ok(Policy {
         name,
@@ -35,14 +34,14 @@ fn policy(alloc: Global) -> Result<Policy, Fail> {
     })
 }
 
-fn path(alloc: Global) -> Result<List<Text>, Fail> {
+fn path(alloc: Global) -> Result<List<Text>, Memory> {
     let mut names = List::new(alloc);
     names.push(text(alloc, b"north")?)?;
     names.push(text(alloc, b"east")?)?;
     Ok(names)
 }
 
-pub fn lookup(alloc: Global) -> Result<Ior, Fail> {
+pub fn lookup(alloc: Global) -> Result<Ior, Memory> {
     let mut profiles = List::new(alloc);
     profiles.push(Profile {
         tag: 0,
@@ -53,9 +52,9 @@ pub fn lookup(alloc: Global) -> Result<Ior, Fail> {
 }
 
 /// The exception of a name, with the members that its line has.
-pub fn exception(alloc: Global, name: &str) -> Result<Boxed<UserException>, Fail> {
+pub fn exception(alloc: Global, name: &str) -> Result<Boxed<UserException>, Memory> {
     match name {
-        "NotImplemented" => Ok(Boxed::new(alloc, UserException::NotImplemented)?),
+        "NotImplemented" => Boxed::new(alloc, UserException::NotImplemented),
         "IllegalServiceType" | "UnknownServiceType" => with_service_type(alloc, name),
         "IllegalConstraint" | "NoMatchingOffers" => with_constraint(alloc, name),
         "IllegalPreference" => with_preference(alloc),
@@ -76,7 +75,7 @@ pub fn exception(alloc: Global, name: &str) -> Result<Boxed<UserException>, Fail
 }
 
 /// An exception of members of several types, or whose one member is a name.
-fn repository_exception(alloc: Global, name: &str) -> Result<Boxed<UserException>, Fail> {
+fn repository_exception(alloc: Global, name: &str) -> Result<Boxed<UserException>, Memory> {
     match name {
         "PropertyTypeMismatch" => property_type_mismatch(alloc),
         "InterfaceTypeMismatch" => interface_type_mismatch(alloc),
@@ -90,51 +89,48 @@ fn repository_exception(alloc: Global, name: &str) -> Result<Boxed<UserException
     }
 }
 
-fn with_service_type(alloc: Global, word: &str) -> Result<Boxed<UserException>, Fail> {
+fn with_service_type(alloc: Global, word: &str) -> Result<Boxed<UserException>, Memory> {
     let service_type = text(alloc, b"a")?;
     let exception = match word {
         "IllegalServiceType" => UserException::IllegalServiceType { service_type },
-        "UnknownServiceType" => UserException::UnknownServiceType { service_type },
-        _ => return Err("no such exception".into()),
+        _ => UserException::UnknownServiceType { service_type },
     };
-    Ok(Boxed::new(alloc, exception)?)
+    Boxed::new(alloc, exception)
 }
 
-fn with_constraint(alloc: Global, word: &str) -> Result<Boxed<UserException>, Fail> {
+fn with_constraint(alloc: Global, word: &str) -> Result<Boxed<UserException>, Memory> {
     let constraint = text(alloc, b"a")?;
     let exception = match word {
         "IllegalConstraint" => UserException::IllegalConstraint { constraint },
-        "NoMatchingOffers" => UserException::NoMatchingOffers { constraint },
-        _ => return Err("no such exception".into()),
+        _ => UserException::NoMatchingOffers { constraint },
     };
-    Ok(Boxed::new(alloc, exception)?)
+    Boxed::new(alloc, exception)
 }
 
-fn with_preference(alloc: Global) -> Result<Boxed<UserException>, Fail> {
+fn with_preference(alloc: Global) -> Result<Boxed<UserException>, Memory> {
     let preference = text(alloc, b"a")?;
     let exception = UserException::IllegalPreference { preference };
-    Ok(Boxed::new(alloc, exception)?)
+    Boxed::new(alloc, exception)
 }
 
-fn with_recipe(alloc: Global) -> Result<Boxed<UserException>, Fail> {
+fn with_recipe(alloc: Global) -> Result<Boxed<UserException>, Memory> {
     let recipe = text(alloc, b"a")?;
     let exception = UserException::IllegalRecipe { recipe };
-    Ok(Boxed::new(alloc, exception)?)
+    Boxed::new(alloc, exception)
 }
 
-fn with_id(alloc: Global, word: &str) -> Result<Boxed<UserException>, Fail> {
+fn with_id(alloc: Global, word: &str) -> Result<Boxed<UserException>, Memory> {
     let id = text(alloc, b"a")?;
     let exception = match word {
         "IllegalOfferId" => UserException::IllegalOfferId { id },
         "UnknownOfferId" => UserException::UnknownOfferId { id },
         "ProxyOfferId" => UserException::ProxyOfferId { id },
-        "NotProxyOfferId" => UserException::NotProxyOfferId { id },
-        _ => return Err("no such exception".into()),
+        _ => UserException::NotProxyOfferId { id },
     };
-    Ok(Boxed::new(alloc, exception)?)
+    Boxed::new(alloc, exception)
 }
 
-fn with_property_name(alloc: Global, word: &str) -> Result<Boxed<UserException>, Fail> {
+fn with_property_name(alloc: Global, word: &str) -> Result<Boxed<UserException>, Memory> {
     let service_type = text(alloc, b"a")?;
     let name = text(alloc, b"bcd")?;
     let exception = match word {
@@ -144,32 +140,30 @@ fn with_property_name(alloc: Global, word: &str) -> Result<Boxed<UserException>,
         },
         "ReadonlyDynamicProperty" => UserException::ReadonlyDynamicProperty { service_type, name },
         "MandatoryProperty" => UserException::MandatoryProperty { service_type, name },
-        "ReadonlyProperty" => UserException::ReadonlyProperty { service_type, name },
-        _ => return Err("no such exception".into()),
+        _ => UserException::ReadonlyProperty { service_type, name },
     };
-    Ok(Boxed::new(alloc, exception)?)
+    Boxed::new(alloc, exception)
 }
 
-fn with_path(alloc: Global, word: &str) -> Result<Boxed<UserException>, Fail> {
+fn with_path(alloc: Global, word: &str) -> Result<Boxed<UserException>, Memory> {
     let name = path(alloc)?;
     let exception = match word {
         "IllegalTraderName" => UserException::IllegalTraderName { name },
-        "UnknownTraderName" => UserException::UnknownTraderName { name },
-        _ => return Err("no such exception".into()),
+        _ => UserException::UnknownTraderName { name },
     };
-    Ok(Boxed::new(alloc, exception)?)
+    Boxed::new(alloc, exception)
 }
 
-fn with_policy(alloc: Global, word: &str) -> Result<Boxed<UserException>, Fail> {
+fn with_policy(alloc: Global, word: &str) -> Result<Boxed<UserException>, Memory> {
     let policy = policy(alloc)?;
     let exception = match word {
         "PolicyTypeMismatch" => UserException::PolicyTypeMismatch { policy },
         _ => UserException::InvalidPolicyValue { policy },
     };
-    Ok(Boxed::new(alloc, exception)?)
+    Boxed::new(alloc, exception)
 }
 
-fn with_rules(alloc: Global, word: &str) -> Result<Boxed<UserException>, Fail> {
+fn with_rules(alloc: Global, word: &str) -> Result<Boxed<UserException>, Memory> {
     let exception = match word {
         "DefaultFollowTooPermissive" => UserException::DefaultFollowTooPermissive {
             def_pass_on_follow_rule: FollowOption::Always,
@@ -180,32 +174,30 @@ fn with_rules(alloc: Global, word: &str) -> Result<Boxed<UserException>, Fail> {
             max_link_follow_policy: FollowOption::IfNoLocal,
         },
     };
-    Ok(Boxed::new(alloc, exception)?)
+    Boxed::new(alloc, exception)
 }
 
-fn with_reference(alloc: Global, word: &str) -> Result<Boxed<UserException>, Fail> {
+fn with_reference(alloc: Global, word: &str) -> Result<Boxed<UserException>, Memory> {
     let reference = lookup(alloc)?;
     let exception = match word {
         "InvalidLookupRef" => UserException::InvalidLookupRef { target: reference },
-        "InvalidObjectRef" => UserException::InvalidObjectRef { reference },
-        _ => return Err("no such exception".into()),
+        _ => UserException::InvalidObjectRef { reference },
     };
-    Ok(Boxed::new(alloc, exception)?)
+    Boxed::new(alloc, exception)
 }
 
-fn with_type_name(alloc: Global, word: &str) -> Result<Boxed<UserException>, Fail> {
+fn with_type_name(alloc: Global, word: &str) -> Result<Boxed<UserException>, Memory> {
     let name = text(alloc, b"a")?;
     let exception = match word {
         "ServiceTypeExists" => UserException::ServiceTypeExists { name },
         "AlreadyMasked" => UserException::AlreadyMasked { name },
         "NotMasked" => UserException::NotMasked { name },
-        "DuplicateServiceTypeName" => UserException::DuplicateServiceTypeName { name },
-        _ => return Err("no such exception".into()),
+        _ => UserException::DuplicateServiceTypeName { name },
     };
-    Ok(Boxed::new(alloc, exception)?)
+    Boxed::new(alloc, exception)
 }
 
-fn with_name(alloc: Global, word: &str) -> Result<Boxed<UserException>, Fail> {
+fn with_name(alloc: Global, word: &str) -> Result<Boxed<UserException>, Memory> {
     let name = text(alloc, b"a")?;
     let exception = match word {
         "IllegalPropertyName" => UserException::IllegalPropertyName { name },
@@ -215,43 +207,42 @@ fn with_name(alloc: Global, word: &str) -> Result<Boxed<UserException>, Fail> {
         "UnknownPropertyName" => UserException::UnknownPropertyName { name },
         "IllegalLinkName" => UserException::IllegalLinkName { name },
         "UnknownLinkName" => UserException::UnknownLinkName { name },
-        "DuplicateLinkName" => UserException::DuplicateLinkName { name },
-        _ => return Err("no such exception".into()),
+        _ => UserException::DuplicateLinkName { name },
     };
-    Ok(Boxed::new(alloc, exception)?)
+    Boxed::new(alloc, exception)
 }
 
-fn property_type_mismatch(alloc: Global) -> Result<Boxed<UserException>, Fail> {
+fn property_type_mismatch(alloc: Global) -> Result<Boxed<UserException>, Memory> {
     let service_type = text(alloc, b"a")?;
     let property = cost(alloc)?;
     let exception = UserException::PropertyTypeMismatch {
         service_type,
         property,
     };
-    Ok(Boxed::new(alloc, exception)?)
+    Boxed::new(alloc, exception)
 }
 
-fn interface_type_mismatch(alloc: Global) -> Result<Boxed<UserException>, Fail> {
+fn interface_type_mismatch(alloc: Global) -> Result<Boxed<UserException>, Memory> {
     let service_type = text(alloc, b"a")?;
     let reference = lookup(alloc)?;
     let exception = UserException::InterfaceTypeMismatch {
         service_type,
         reference,
     };
-    Ok(Boxed::new(alloc, exception)?)
+    Boxed::new(alloc, exception)
 }
 
-fn evaluation_failure(alloc: Global) -> Result<Boxed<UserException>, Fail> {
+fn evaluation_failure(alloc: Global) -> Result<Boxed<UserException>, Memory> {
     let name = text(alloc, b"a")?;
     let exception = UserException::DPEvalFailure {
         name,
         returned_type: TypeCode::ULong,
         extra_info: number(9),
     };
-    Ok(Boxed::new(alloc, exception)?)
+    Boxed::new(alloc, exception)
 }
 
-fn repository_mismatch(alloc: Global) -> Result<Boxed<UserException>, Fail> {
+fn repository_mismatch(alloc: Global) -> Result<Boxed<UserException>, Memory> {
     let base_service = text(alloc, b"a")?;
     let base_if = text(alloc, b"bcd")?;
     let derived_service = text(alloc, b"ef")?;
@@ -262,14 +253,14 @@ fn repository_mismatch(alloc: Global) -> Result<Boxed<UserException>, Fail> {
         derived_service,
         derived_if,
     };
-    Ok(Boxed::new(alloc, exception)?)
+    Boxed::new(alloc, exception)
 }
 
-fn has_sub_types(alloc: Global) -> Result<Boxed<UserException>, Fail> {
+fn has_sub_types(alloc: Global) -> Result<Boxed<UserException>, Memory> {
     let the_type = text(alloc, b"a")?;
     let sub_type = text(alloc, b"bcd")?;
     let exception = UserException::HasSubTypes { the_type, sub_type };
-    Ok(Boxed::new(alloc, exception)?)
+    Boxed::new(alloc, exception)
 }
 
 fn declared(name: Text) -> PropStruct {
@@ -280,7 +271,7 @@ fn declared(name: Text) -> PropStruct {
     }
 }
 
-fn value_type_redefinition(alloc: Global) -> Result<Boxed<UserException>, Fail> {
+fn value_type_redefinition(alloc: Global) -> Result<Boxed<UserException>, Memory> {
     let type_1 = text(alloc, b"a")?;
     let name_1 = text(alloc, b"Cost")?;
     let type_2 = text(alloc, b"bcd")?;
@@ -291,5 +282,5 @@ fn value_type_redefinition(alloc: Global) -> Result<Boxed<UserException>, Fail> 
         type_2,
         definition_2: declared(name_2),
     };
-    Ok(Boxed::new(alloc, exception)?)
+    Boxed::new(alloc, exception)
 }

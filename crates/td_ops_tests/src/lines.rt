@@ -1,6 +1,6 @@
 //! Lines of vectors.
 
-use std::alloc::Global;
+use std::alloc::{AllocError, Global};
 use std::test::Fail;
 use td_cdr::{Boxed, Order, Reader};
 use td_ops::{Call, OpsFault, read_call};
@@ -28,8 +28,13 @@ pub fn bytes_of(alloc: Global, digits: &str) -> Result<Vec<u8>, Fail> {
 }
 
 /// The first word of a line, and what stands behind it.
-pub fn cut(line: &str) -> Result<(&str, &str), Fail> {
-    Ok(line.split_once(' ').ok_or("a word")?)
+pub fn cut(line: &str) -> (&str, &str) {
+    line.split_once(' ').unwrap_or((line, ""))
+}
+
+/// The number of decimal digits.
+pub fn number_of(digits: &str) -> u32 {
+    digits.parse::<u32>().unwrap_or(0)
 }
 
 /// The call in front of the bytes, and the place behind it.
@@ -51,18 +56,20 @@ pub fn call_in(
     Ok((call, reader.place()))
 }
 
-/// The body with bytes behind its last value.
-pub fn with_more(alloc: Global, body: &[u8]) -> Result<Vec<u8>, Fail> {
-    let mut bytes = Vec::from_slice(alloc, body)?;
-    bytes.extend_from_slice(b"\xff\x00\xff")?;
+fn joined(alloc: Global, front: &[u8], back: &[u8]) -> Result<Vec<u8>, AllocError> {
+    let mut bytes = Vec::from_slice(alloc, front)?;
+    bytes.extend_from_slice(back)?;
     Ok(bytes)
 }
 
+/// The body with bytes behind its last value.
+pub fn with_more(alloc: Global, body: &[u8]) -> Result<Vec<u8>, AllocError> {
+    joined(alloc, body, b"\xff\x00\xff")
+}
+
 /// Eight bytes and the body.
-pub fn behind_eight(alloc: Global, body: &[u8]) -> Result<Vec<u8>, Fail> {
-    let mut bytes = Vec::from_slice(alloc, b"\x00\x00\x00\x00\x00\x00\x00\x00")?;
-    bytes.extend_from_slice(body)?;
-    Ok(bytes)
+pub fn behind_eight(alloc: Global, body: &[u8]) -> Result<Vec<u8>, AllocError> {
+    joined(alloc, b"\x00\x00\x00\x00\x00\x00\x00\x00", body)
 }
 
 /// The fault that a word names, at a place.

@@ -1,16 +1,17 @@
 //! Replies that another program worked out from the rules of CORBA's chapters.
 
-use crate::exceptions::exception;
-use crate::lines::{behind_eight, bytes_of, call_in, cut, fault_of, kind_of, with_more};
+use crate::exceptions::{exception, text};
+use crate::lines::{behind_eight, bytes_of, call_in, cut, fault_of, kind_of, number_of, with_more};
 use crate::vectors::{REPLY_FAULTS, RESULTS, SYSTEM_EXCEPTIONS, USER_EXCEPTIONS};
 use std::alloc::Global;
 use std::process::Abort;
 use std::test::Fail;
-use td_cdr::{Boxed, Order, Reader, Twin, Writer};
+use td_cdr::{Boxed, List, Memory, Order, Reader, Twin, Writer};
 use td_ops::{
     Answered, Call, OpsFault, Outcome, Reply, SystemKind, UserException, read_outcome, status_of,
     user_id, write_outcome,
 };
+use td_value::Kind;
 
 /// What a reply with this body tells, and the place behind it.
 fn answer_in(
@@ -35,7 +36,7 @@ fn is_written(
     status: u32,
     body: &[u8],
     order: Order,
-) -> Result<bool, Fail> {
+) -> Result<bool, Memory> {
     let twin = Boxed::new(alloc, outcome.copy(alloc)?)?;
     let mut writer = Writer::new(alloc, order);
     write_outcome(alloc, &mut writer, twin.get())?;
@@ -43,7 +44,7 @@ fn is_written(
 }
 
 /// Whether the answer is a result that is written as the body.
-fn is_result(alloc: Global, answer: &Answered, body: &[u8], order: Order) -> Result<bool, Fail> {
+fn is_result(alloc: Global, answer: &Answered, body: &[u8], order: Order) -> Result<bool, Memory> {
     match answer {
         Answered::Done(reply) => {
             let outcome = Boxed::new(alloc, Outcome::Done(reply.copy(alloc)?))?;
@@ -53,41 +54,50 @@ fn is_result(alloc: Global, answer: &Answered, body: &[u8], order: Order) -> Res
     }
 }
 
-/// A result is read with bytes behind its last value.
-fn result_read(
-    rt: &impl Abort,
+/// Whether the copy of the answer is a result that is written as the body.
+fn is_result_copied(
     alloc: Global,
-    call: &Call,
+    answer: &Answered,
     body: &[u8],
     order: Order,
-) -> Result<(), Fail> {
-    let bytes = with_more(alloc, body)?;
+) -> Result<bool, Memory> {
+    let twin = Boxed::new(alloc, answer.copy(alloc)?)?;
+    is_result(alloc, twin.get(), body, order)
+}
+
+/// Whether a result is read with bytes behind its last value, and written again.
+fn is_result_read(alloc: Global, call: &Call, digits: &str, order: Order) -> Result<bool, Fail> {
+    let body = bytes_of(alloc, digits)?;
+    let bytes = with_more(alloc, &body)?;
     let (answer, place) = answer_in(alloc, call, 0, &bytes, order)?;
-    let twin = Boxed::new(alloc, answer.get().copy(alloc)?)?;
-    assert_eq!(rt; place as usize, body.len());
-    assert!(rt; is_result(alloc, twin.get(), body, order)?);
-    Ok(())
+    Ok(place as usize == body.len() && is_result_copied(alloc, answer.get(), &body, order)?)
+}
+
+/// The call that a request makes.
+fn requested(alloc: Global, kind: Kind, name: &str, digits: &str) -> Result<Boxed<Call>, Fail> {
+    let request = bytes_of(alloc, digits)?;
+    let (call, _place) = call_in(alloc, kind, name, &request, Order::Big)?;
+    Ok(call)
 }
 
 /// An object, an operation, its request, and both bodies of its reply.
-fn result_line(rt: &impl Abort, alloc: Global, line: &str) -> Result<(), Fail> {
-    let (kind, rest) = cut(line)?;
-    let (name, rest) = cut(rest)?;
-    let (request, rest) = cut(rest)?;
-    let (big, little) = cut(rest)?;
-    let request = bytes_of(alloc, request)?;
-    let big = bytes_of(alloc, big)?;
-    let little = bytes_of(alloc, little)?;
-    let (call, _place) = call_in(alloc, kind_of(kind), name, &request, Order::Big)?;
-    result_read(rt, alloc, call.get(), &big, Order::Big)?;
-    result_read(rt, alloc, call.get(), &little, Order::Little)
+fn reads_line(alloc: Global, line: &str) -> Result<bool, Fail> {
+    let (kind, rest) = cut(line);
+    let (name, rest) = cut(rest);
+    let (request, rest) = cut(rest);
+    let (big, little) = cut(rest);
+    let call = requested(alloc, kind_of(kind), name, request)?;
+    Ok(
+        is_result_read(alloc, call.get(), big, Order::Big)?
+            && is_result_read(alloc, call.get(), little, Order::Little)?,
+    )
 }
 
 #[test]
 fn results(rt: HostRuntime) -> Result<(), Fail> {
     let alloc = rt.alloc();
     for line in RESULTS.lines() {
-        result_line(&rt, alloc, line)?;
+        assert!(rt; reads_line(alloc, line)?, "at {line}");
     }
     Ok(())
 }
@@ -99,38 +109,62 @@ fn is_user(answer: &Answered, id: &[u8]) -> bool {
     }
 }
 
-/// The exception is written as the body, and a client is told its id.
-fn raised(
-    rt: &impl Abort,
+/// Whether the copy of the exception is written as the body.
+fn is_user_written(
     alloc: Global,
     exception: &UserException,
     body: &[u8],
     order: Order,
-) -> Result<(), Fail> {
+) -> Result<bool, Memory> {
     let outcome = Boxed::new(alloc, Outcome::User(exception.copy(alloc)?))?;
-    assert!(rt; is_written(alloc, outcome.get(), 1, body, order)?);
-    let (answer, _place) = answer_in(alloc, &Call::NonExistent, 1, body, order)?;
+    is_written(alloc, outcome.get(), 1, body, order)
+}
+
+/// Whether a client is told this id, and its copy has it too.
+fn is_user_told(
+    alloc: Global,
+    call: &Call,
+    id: &[u8],
+    body: &[u8],
+    order: Order,
+) -> Result<bool, Fail> {
+    let (answer, _place) = answer_in(alloc, call, 1, body, order)?;
     let twin = Boxed::new(alloc, answer.get().copy(alloc)?)?;
-    assert!(rt; is_user(twin.get(), user_id(exception)));
-    Ok(())
+    Ok(is_user(twin.get(), id))
+}
+
+/// Whether the exception is written as the body, and a client is told its id.
+fn is_raised(
+    alloc: Global,
+    call: &Call,
+    exception: &UserException,
+    digits: &str,
+    order: Order,
+) -> Result<bool, Fail> {
+    let body = bytes_of(alloc, digits)?;
+    Ok(
+        is_user_written(alloc, exception, &body, order)?
+            && is_user_told(alloc, call, user_id(exception), &body, order)?,
+    )
 }
 
 /// An exception and both bodies.
-fn user_line(rt: &impl Abort, alloc: Global, line: &str) -> Result<(), Fail> {
-    let (name, rest) = cut(line)?;
-    let (big, little) = cut(rest)?;
-    let big = bytes_of(alloc, big)?;
-    let little = bytes_of(alloc, little)?;
+fn raises_line(alloc: Global, call: &Call, line: &str) -> Result<bool, Fail> {
+    let (name, rest) = cut(line);
+    let (big, little) = cut(rest);
     let exception = exception(alloc, name)?;
-    raised(rt, alloc, exception.get(), &big, Order::Big)?;
-    raised(rt, alloc, exception.get(), &little, Order::Little)
+    Ok(
+        is_raised(alloc, call, exception.get(), big, Order::Big)?
+            && is_raised(alloc, call, exception.get(), little, Order::Little)?,
+    )
 }
 
 #[test]
 fn user_exceptions(rt: HostRuntime) -> Result<(), Fail> {
     let alloc = rt.alloc();
+    let call = Boxed::new(alloc, Call::NonExistent)?;
     for line in USER_EXCEPTIONS.lines() {
-        user_line(&rt, alloc, line)?;
+        assert!(rt; raises_line(alloc, call.get(), line)?, "at {line}");
     }
     Ok(())
 }
@@ -158,54 +192,75 @@ fn is_system(answer: &Answered, minor: u32, completion: u32) -> bool {
     }
 }
 
-fn system_raised(
-    rt: &impl Abort,
+/// Whether the exception is written as the body.
+fn is_system_written(
     alloc: Global,
     kind: SystemKind,
     numbers: (u32, u32),
     body: &[u8],
     order: Order,
-) -> Result<(), Fail> {
+) -> Result<bool, Memory> {
     let (minor, completion) = numbers;
-    let outcome = Outcome::System {
-        kind,
-        minor,
-        completion,
-    };
-    let outcome = Boxed::new(alloc, outcome)?;
-    assert!(rt; is_written(alloc, outcome.get(), 2, body, order)?);
-    let (answer, place) = answer_in(alloc, &Call::NonExistent, 2, body, order)?;
+    let outcome = Boxed::new(
+        alloc,
+        Outcome::System {
+            kind,
+            minor,
+            completion,
+        },
+    )?;
+    is_written(alloc, outcome.get(), 2, body, order)
+}
+
+/// Whether a client is told these numbers, and the copy of what it is told has them too.
+fn is_system_told(
+    alloc: Global,
+    call: &Call,
+    numbers: (u32, u32),
+    body: &[u8],
+    order: Order,
+) -> Result<bool, Fail> {
+    let (minor, completion) = numbers;
+    let (answer, place) = answer_in(alloc, call, 2, body, order)?;
     let twin = Boxed::new(alloc, answer.get().copy(alloc)?)?;
-    assert_eq!(rt; place as usize, body.len());
-    assert!(rt; is_system(twin.get(), minor, completion));
-    Ok(())
+    Ok(place as usize == body.len() && is_system(twin.get(), minor, completion))
+}
+
+fn is_system_raised(
+    alloc: Global,
+    call: &Call,
+    kind: SystemKind,
+    numbers: (u32, u32),
+    digits: &str,
+    order: Order,
+) -> Result<bool, Fail> {
+    let body = bytes_of(alloc, digits)?;
+    Ok(
+        is_system_written(alloc, kind, numbers, &body, order)?
+            && is_system_told(alloc, call, numbers, &body, order)?,
+    )
 }
 
 /// A system exception, its minor code and completion, and both bodies.
-fn system_line(rt: &impl Abort, alloc: Global, line: &str) -> Result<(), Fail> {
-    let (kind, rest) = cut(line)?;
-    let (minor, rest) = cut(rest)?;
-    let (completion, rest) = cut(rest)?;
-    let (big, little) = cut(rest)?;
-    let numbers = (minor.parse::<u32>()?, completion.parse::<u32>()?);
-    let big = bytes_of(alloc, big)?;
-    let little = bytes_of(alloc, little)?;
-    system_raised(rt, alloc, system_kind(kind), numbers, &big, Order::Big)?;
-    system_raised(
-        rt,
-        alloc,
-        system_kind(kind),
-        numbers,
-        &little,
-        Order::Little,
+fn raises_system_line(alloc: Global, call: &Call, line: &str) -> Result<bool, Fail> {
+    let (word, rest) = cut(line);
+    let (minor, rest) = cut(rest);
+    let (completion, rest) = cut(rest);
+    let (big, little) = cut(rest);
+    let numbers = (number_of(minor), number_of(completion));
+    let kind = system_kind(word);
+    Ok(
+        is_system_raised(alloc, call, kind, numbers, big, Order::Big)?
+            && is_system_raised(alloc, call, kind, numbers, little, Order::Little)?,
     )
 }
 
 #[test]
 fn system_exceptions(rt: HostRuntime) -> Result<(), Fail> {
     let alloc = rt.alloc();
+    let call = Boxed::new(alloc, Call::NonExistent)?;
     for line in SYSTEM_EXCEPTIONS.lines() {
-        system_line(&rt, alloc, line)?;
+        assert!(rt; raises_system_line(alloc, call.get(), line)?, "at {line}");
     }
     Ok(())
 }
@@ -220,40 +275,43 @@ fn fault_in(alloc: Global, call: &Call, status: u32, bytes: &[u8]) -> (Option<Op
     (found, reader.place())
 }
 
-/// A fault, its place and the body of a reply to a call, which is refused; the reader stays.
-fn reply_refused(
-    rt: &impl Abort,
+/// Whether the body of a reply to a call is refused with this fault, and the reader stays.
+fn is_reply_refused(
     alloc: Global,
     call: &Call,
     status: u32,
-    line: &str,
-) -> Result<(), Fail> {
-    let (fault, rest) = cut(line)?;
-    let (place, digits) = cut(rest)?;
+    digits: &str,
+    want: OpsFault,
+) -> Result<bool, Fail> {
     let body = bytes_of(alloc, digits)?;
     let bytes = behind_eight(alloc, &body)?;
     let (found, stands) = fault_in(alloc, call, status, &bytes);
-    assert!(rt; found == Some(fault_of(fault, place.parse::<u32>()?)));
-    assert_eq!(rt; stands, 8);
-    Ok(())
+    Ok(found == Some(want) && stands == 8)
 }
 
-/// An object, an operation, its request, a reply's status, a fault, its place and the body of the reply.
-fn reply_fault_line(rt: &impl Abort, alloc: Global, line: &str) -> Result<(), Fail> {
-    let (kind, rest) = cut(line)?;
-    let (name, rest) = cut(rest)?;
-    let (request, rest) = cut(rest)?;
-    let (status, rest) = cut(rest)?;
-    let request = bytes_of(alloc, request)?;
-    let (call, _place) = call_in(alloc, kind_of(kind), name, &request, Order::Big)?;
-    reply_refused(rt, alloc, call.get(), status.parse::<u32>()?, rest)
+/// A reply's status, a fault, its place and the body of the reply.
+fn refuses_reply(alloc: Global, call: &Call, line: &str) -> Result<bool, Fail> {
+    let (status, rest) = cut(line);
+    let (fault, rest) = cut(rest);
+    let (place, digits) = cut(rest);
+    let want = fault_of(fault, number_of(place));
+    is_reply_refused(alloc, call, number_of(status), digits, want)
+}
+
+/// An object, an operation, its request, and the reply with its fault.
+fn refuses_line(alloc: Global, line: &str) -> Result<bool, Fail> {
+    let (kind, rest) = cut(line);
+    let (name, rest) = cut(rest);
+    let (request, reply) = cut(rest);
+    let call = requested(alloc, kind_of(kind), name, request)?;
+    refuses_reply(alloc, call.get(), reply)
 }
 
 #[test]
 fn reply_faults(rt: HostRuntime) -> Result<(), Fail> {
     let alloc = rt.alloc();
     for line in REPLY_FAULTS.lines() {
-        reply_fault_line(&rt, alloc, line)?;
+        assert!(rt; refuses_line(alloc, line)?, "at {line}");
     }
     Ok(())
 }
@@ -262,10 +320,14 @@ fn reply_faults(rt: HostRuntime) -> Result<(), Fail> {
 #[test]
 fn batch_of_ids(rt: HostRuntime) -> Result<(), Fail> {
     let alloc = rt.alloc();
-    let mut ids = td_cdr::List::new(alloc);
-    ids.push(crate::exceptions::text(alloc, b"12")?)?;
+    assert!(rt; writes_ids(alloc)?);
+    Ok(())
+}
+
+fn writes_ids(alloc: Global) -> Result<bool, Memory> {
+    let mut ids = List::new(alloc);
+    ids.push(text(alloc, b"12")?)?;
     let outcome = Boxed::new(alloc, Outcome::Done(Reply::IdBatch { more: true, ids }))?;
     let body = b"\x01\x00\x00\x00\x00\x00\x00\x01\x00\x00\x00\x0312\x00";
-    assert!(&rt; is_written(alloc, outcome.get(), 0, body, Order::Big)?);
-    Ok(())
+    is_written(alloc, outcome.get(), 0, body, Order::Big)
 }
