@@ -1,6 +1,6 @@
 -- What comes of questions to other traders.
-use Rattle.std.proofs.Common.{◌≡◌, ℕ, suc, ◌-◌, ◌≤◌, List, [], ◌∷◌, length, take, map, Option, Some, None}
-use Rattle.std.proofs.Common.{Ok, Err, sym, ap, ◌∙◌, subst, arith}
+use Rattle.std.proofs.Common.{◌≡◌, ℕ, suc, ◌-◌, ◌≤◌, List, [], ◌∷◌, length, take, map, Some, None}
+use Rattle.std.proofs.Common.{Ok, Err, sym, ap, ◌∙◌, arith}
 use Rattle.td_cdr.specs.Format.{◌>>=◌}
 use Rattle.td_walk.specs.Told.{unanswered, answers_behind, Passes}
 use Rattle.td_walk.specs.Visits.{Reads, forwarded, gathered, sub_answer}
@@ -14,11 +14,6 @@ behind-fewer : (qs : List Next) (answers : List StepAnswer) → length (answers_
 behind-fewer [] answers = omega arith
 behind-fewer (q ∷ qs) [] = omega arith
 behind-fewer (q ∷ qs) (a ∷ answers) = omega (arith, behind-fewer qs answers)
-
-pub fewer : (qs : List Next) (answers after : List StepAnswer) (question : Option Next)
-    → Passes qs answers question after → length after ≤ length answers
-fewer qs answers after question h =
-    subst (λ (xs : List StepAnswer). length xs ≤ length answers) (sym h.left) (behind-fewer qs answers)
 
 abbrev given_by : List StepAnswer → List StepAnswer → List SubAnswer
 given_by answers after = map sub_answer (take (length answers - length after) answers)

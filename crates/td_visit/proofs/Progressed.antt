@@ -1,9 +1,10 @@
 -- A visit stands where its progress says, at the beginning and after each step.
 use Rattle.std.proofs.Common.{◌≡◌, ℕ, ◌+◌, ◌-◌, ◌≤◌, Bool, true, false, List, [], ◌∷◌, ◌++◌, length, take, drop, map}
 use Rattle.std.proofs.Common.{Option, Some, None, Result, Ok, Err, is_some, refl, sym, ap, subst, ◌∙◌, arith}
-use Rattle.std.proofs.Common.{if◌then◌else◌, IfOk, unwrap_or, nat_le}
+use Rattle.std.proofs.Common.{if◌then◌else◌, IfOk, OnOk, OnErr, unwrap_or, nat_le}
 use Rattle.std.proofs.lemmas.List.{append_assoc, append-nil, length-append, length-drop, take-append-drop, drop-drop}
-use Rattle.std.proofs.lemmas.List.{take_at}
+use Rattle.std.proofs.lemmas.List.{take_at, take-append-le}
+use Rattle.std.specs.List.{list_any}
 use Rattle.td_cdr.specs.Format.{◌>>=◌}
 use Rattle.td_cdr.specs.declared.memory.Memory.{Memory}
 use Rattle.td_store.specs.declared.local.Local.{Local}
@@ -13,13 +14,14 @@ use Rattle.td_visit.proofs.Again.{search-again, within-all, all-again, all-ends}
 use Rattle.td_visit.proofs.Never.{asked}
 use Rattle.td_visit.proofs.Forwarding.{asks, ends}
 use Rattle.td_visit.proofs.Readings.{reading-searched, reading-all}
+use Rattle.td_visit.proofs.Turns.{begins_asking}
 use Rattle.td_walk.specs.Answers.{IsRankedAnswer, IsAnswer, AnswersGathered, HasDrawn, DrawsGathered, drawn_by}
 use Rattle.td_visit.specs.Resuming.{tried_on, searched_on, searched_up_to, completed_up_to, questions, completed_on}
-use Rattle.td_visit.specs.Resuming.{searching_on, resumed_by, resumed, start, Stands, answers_left}
-use Rattle.td_visit.specs.Resuming.{gathering, IsEnd, IsAsked, CompletesTo, ComesTo}
-use Rattle.td_walk.specs.Told.{Passes}
+use Rattle.td_visit.specs.Resuming.{searching_on, resumed_by, resumed, start, none_asked, IsPlace, Stands}
+use Rattle.td_visit.specs.Resuming.{answers_left, gathering, IsEnd, IsAsked, CompletesTo, ComesTo}
+use Rattle.td_walk.specs.Told.{Passes, Tells}
 use Rattle.td_walk.specs.Visits.{Reads, searched, completing, visit_by, visit_of, all_completed}
-use Rattle.td_walk.specs.Visits.{gathered, sub_answer, next_of, question_of}
+use Rattle.td_walk.specs.Visits.{gathered, is_ordinary, sub_answer, next_of, question_of}
 use Rattle.td_walk.specs.declared.answer.Next.{Next}
 use Rattle.td_walk.specs.declared.answer.Next.TheVariants.{Done}
 use Rattle.td_walk.specs.declared.answer.StepAnswer.{StepAnswer}
@@ -27,6 +29,7 @@ use Rattle.td_walk.specs.declared.answer.SubAnswer.{SubAnswer}
 use Rattle.td_walk.specs.declared.found.Found.{Found}
 use Rattle.td_walk.specs.declared.gathering.Gathered.{Gathered}
 use Rattle.td_visit.specs.declared.progress.Completion.{Completion}
+use Rattle.td_visit.specs.declared.progress.Others.{Others}
 use Rattle.td_visit.specs.declared.progress.Progress.{Progress}
 use Rattle.td_visit.specs.declared.progress.Scan.{Scan}
 
@@ -59,9 +62,46 @@ starts l answers p e =
       within = omega arith;
       tries = omega arith;
       goes_on = λ rest. begins l.path l rest;
+      asks = λ done. absurd cc;
     })
 
+-- ---- an answer more
+
+pub taken : (l : Local) (answers more : List StepAnswer) (a : StepAnswer) (p : Progress) → more ≡ answers ++ a ∷ []
+    → Stands l answers p → Stands l more p
+taken l answers more a p e h =
+    let long : length more ≡ length answers + 1 = ap length e ∙ length-append answers (a ∷ []) in
+    let same : take p.read more ≡ take p.read answers =
+    ap (take p.read) e ∙ take-append-le p.read answers (a ∷ []) h.within in
+    record {
+      within = omega (arith, h.within, long);
+      tries = h.tries;
+      goes_on = λ rest. ap (λ (xs : List StepAnswer). visit_of l (xs ++ rest)) same ∙ h.goes_on rest;
+      asks = λ done.
+          let others = h.asks done in
+          record {
+            searched = others.searched;
+            complete = others.complete;
+            given = omega (arith, others.given, long);
+            place = others.place;
+          };
+    }
+
+-- or none more, for want of memory
+pub taken_or_kept : {A E : Type 0} (r : Result A E) (l : Local) (answers more : List StepAnswer) (a : StepAnswer)
+    (p : Progress) → OnOk r (more ≡ answers ++ a ∷ []) → OnErr r (more ≡ answers) → Stands l answers p
+    → Stands l more p
+taken_or_kept (Ok x) l answers more a p ok err h = taken l answers more a p ok h
+taken_or_kept (Err e) l answers more a p ok err h =
+    subst (λ (xs : List StepAnswer). Stands l xs p) (sym err) h
+
 -- ---- steps
+
+-- no other trader is asked before the end of the search
+early : (l : Local) (answers : List StepAnswer) (p : Progress) → Stands l answers p → p.searched ≡ false
+    → p.completed ≡ true → ⊥
+early l answers p h search done =
+    let both : true ≡ false = sym ((h.asks done).searched) ∙ search in absurd cc
 
 visits : (l : Local) (answers : List StepAnswer) (p : Progress) → Stands l answers p
     → visit_of l answers ≡ resumed l p (answers_left answers p)
@@ -138,18 +178,20 @@ pub search_stops : (l : Local) (answers : List StepAnswer) (p : Progress) (s : S
     → Stands l answers (record {
       read = length answers;
       searched = p.searched;
+      completed = p.completed;
       scan = s;
       completion = p.completion;
-      given = p.given;
+      others = p.others;
     })
 search_stops l answers p s q h search e is =
     let xs : List StepAnswer = answers_left answers p in
     let next : Progress = record {
       read = length answers;
       searched = p.searched;
+      completed = p.completed;
       scan = s;
       completion = p.completion;
-      given = p.given;
+      others = p.others;
     } in
     let g = search-again l (drop p.scan.tried l.candidates) p.scan.tried p.scan.found p.scan.made xs q e in
     let count : s.tried ≡ p.scan.tried + g.passed = ap (λ (c : Scan). c.tried) is ∙ g.count in
@@ -168,6 +210,7 @@ search_stops l answers p s q h search e is =
           ∙ (ap (λ (os : List OfferRecord). searched_on l os (scanned l p xs).found (scanned l p xs).made rest) behind
           ∙ ap (λ (c : Scan). searched_on l (drop s.tried l.candidates) c.found c.made rest) (sym is)))
           ∙ sym (searching l next rest search)));
+      asks = λ done. absurd (early l answers p h search done);
     }
 
 -- the number of answers that were read before those that are left
@@ -186,18 +229,20 @@ pub search_ends : (l : Local) (answers : List StepAnswer) (p : Progress) (found 
     → Stands l answers (record {
       read = n;
       searched = true;
+      completed = p.completed;
       scan = record { tried = s.tried; made = s.made; found = [] };
       completion = record { waiting = found; complete = [] };
-      given = p.given;
+      others = p.others;
     })
 search_ends l answers p found ys s n h search e is read =
     let xs : List StepAnswer = answers_left answers p in
     let next : Progress = record {
       read = n;
       searched = true;
+      completed = p.completed;
       scan = record { tried = s.tried; made = s.made; found = [] };
       completion = record { waiting = found; complete = [] };
-      given = p.given;
+      others = p.others;
     } in
     let t =
     (reading-searched l (drop p.scan.tried l.candidates) p.scan.found p.scan.made).takes xs found ys e in
@@ -212,7 +257,37 @@ search_ends l answers p found ys s n h search e is read =
           ∙ (searching l p (t.front ++ rest) search
           ∙ (ap (λ (r : Reads (List Found)). r >>= λ x. completed_on l.path l [] x.0 x.1) (t.goes rest)
           ∙ sym (finishing l next rest refl)));
+      asks = λ done. absurd (early l answers p h search done);
     }
+
+-- as the code tells it
+told-none : {X : Type 0} (reads : Reads X) (question : Option Next) (new : X) (left : List StepAnswer)
+    → question ≡ None → Tells reads question new left → reads ≡ Ok (new, left)
+told-none reads None new left is h = h
+told-none reads (Some q) new left is h = absurd cc
+
+told-some : {X : Type 0} (reads : Reads X) (question : Option Next) (q : Next) (new : X) (left : List StepAnswer)
+    → question ≡ Some q → Tells reads question new left → reads ≡ Err q
+told-some {X} reads None q new left is h = absurd cc
+told-some {X} reads (Some p) q new left is h =
+    let same : p ≡ q = cc in subst (λ (x : Next). ◌≡◌ {A = Reads X} reads (Err x)) same h
+
+pub search_done : (l : Local) (answers behind ys : List StepAnswer) (p next : Progress) (s : Scan)
+    (question : Option Next) → Stands l answers p → p.searched ≡ false → behind ≡ answers_left answers p
+    → question ≡ None → Tells (searched_from l p behind) question s.found ys → s ≡ scanned l p behind
+    → next ≡ record {
+      read = length answers - length ys;
+      searched = true;
+      completed = p.completed;
+      scan = record { tried = s.tried; made = s.made; found = [] };
+      completion = record { waiting = s.found; complete = [] };
+      others = p.others;
+    } → Stands l answers next
+search_done l answers behind ys p next s question h search left none told stopped is =
+    subst (Stands l answers) (sym is)
+    (search_ends l answers p s.found ys s (length answers - length ys) h search
+    (ap (searched_from l p) (sym left) ∙ told-none (searched_from l p behind) question s.found ys none told)
+    (stopped ∙ ap (scanned l p) left) refl)
 
 -- ---- desired properties
 
@@ -234,23 +309,25 @@ complete_asks l answers p q h search e = record {
 }
 
 pub complete_stops : (l : Local) (answers : List StepAnswer) (p : Progress) (c : Completion) (q : Next)
-    → Stands l answers p → p.searched ≡ true → completed_from l p (answers_left answers p) ≡ Err q
-    → c ≡ completed_to l p (answers_left answers p)
+    → Stands l answers p → p.searched ≡ true → p.completed ≡ false
+    → completed_from l p (answers_left answers p) ≡ Err q → c ≡ completed_to l p (answers_left answers p)
     → Stands l answers (record {
       read = length answers;
       searched = p.searched;
+      completed = p.completed;
       scan = p.scan;
       completion = c;
-      given = p.given;
+      others = p.others;
     })
-complete_stops l answers p c q h search e is =
+complete_stops l answers p c q h search going e is =
     let xs : List StepAnswer = answers_left answers p in
     let next : Progress = record {
       read = length answers;
       searched = p.searched;
+      completed = p.completed;
       scan = p.scan;
       completion = c;
-      given = p.given;
+      others = p.others;
     } in
     record {
       within = omega arith;
@@ -262,6 +339,7 @@ complete_stops l answers p c q h search e is =
           (all-again l.query.desired p.completion.complete p.completion.waiting xs q rest e
           ∙ ap (λ (d : Completion). all_completed l.query.desired d.complete d.waiting rest) (sym is))
           ∙ sym (finishing l next rest search)));
+      asks = λ done. let both : true ≡ false = sym done ∙ going in absurd cc;
     }
 
 pub complete_fewer : (l : Local) (answers : List StepAnswer) (p : Progress) (all : List Found) (ys : List StepAnswer)
@@ -272,10 +350,10 @@ complete_fewer l answers p all ys h e =
     omega (arith, many l answers p t.front ys h t.whole)
 
 -- none waits any more
-pub complete_none : (l : Local) (answers : List StepAnswer) (p : Progress) (c : Completion) (all : List Found)
+complete-none : (l : Local) (answers : List StepAnswer) (p : Progress) (c : Completion) (all : List Found)
     (ys : List StepAnswer) → completed_from l p (answers_left answers p) ≡ Ok (all, ys)
     → c ≡ completed_to l p (answers_left answers p) → c ≡ record { waiting = []; complete = all }
-complete_none l answers p c all ys e is =
+complete-none l answers p c all ys e is =
     is ∙ all-ends l.query.desired p.completion.complete p.completion.waiting (answers_left answers p) all ys e
 
 pub complete_ends : (l : Local) (answers : List StepAnswer) (p : Progress) (c : Completion) (all : List Found)
@@ -285,23 +363,25 @@ pub complete_ends : (l : Local) (answers : List StepAnswer) (p : Progress) (c : 
     → Stands l answers (record {
       read = n;
       searched = p.searched;
+      completed = true;
       scan = p.scan;
       completion = c;
-      given = p.given;
+      others = none_asked (list_any (λ (f : Found). is_ordinary f.offer) c.complete);
     })
 complete_ends l answers p c all ys n h search e is read =
     let xs : List StepAnswer = answers_left answers p in
     let next : Progress = record {
       read = n;
       searched = p.searched;
+      completed = true;
       scan = p.scan;
       completion = c;
-      given = p.given;
+      others = none_asked (list_any (λ (f : Found). is_ordinary f.offer) c.complete);
     } in
     let t =
     (reading-all l.query.desired p.completion.complete p.completion.waiting).takes xs all ys e in
     let count = many l answers p t.front ys h t.whole in
-    let none = complete_none l answers p c all ys e is in
+    let none = complete-none l answers p c all ys e is in
     record {
       within = omega (arith, count, read);
       tries = h.tries;
@@ -311,86 +391,149 @@ complete_ends l answers p c all ys n h search e is read =
           ∙ (ap (λ (r : Reads (List Found)). r >>= λ x. gathered x.0 x.1 (questions l x.0)) (t.goes rest)
           ∙ (sym (ap (λ (d : Completion). completed_on l.path l d.complete d.waiting rest) none)
           ∙ sym (finishing l next rest search))));
+      asks = λ done. record {
+        searched = search;
+        complete = ap (λ (d : Completion). d.waiting) none;
+        given = omega arith;
+        place = begins_asking l c.complete;
+      };
     }
+
+-- as the code tells it
+pub complete_stood : (l : Local) (answers behind ys : List StepAnswer) (p : Progress) (c : Completion)
+    (question : Option Next) (q : Next) → Stands l answers p → p.searched ≡ true → p.completed ≡ false
+    → behind ≡ answers_left answers p → question ≡ Some q → Tells (completed_from l p behind) question c.complete ys
+    → c ≡ completed_to l p behind
+    → Stands l answers (record {
+      read = length answers;
+      searched = p.searched;
+      completed = p.completed;
+      scan = p.scan;
+      completion = c;
+      others = p.others;
+    })
+complete_stood l answers behind ys p c question q h search going left some told stopped =
+    complete_stops l answers p c q h search going
+    (ap (completed_from l p) (sym left) ∙ told-some (completed_from l p behind) question q c.complete ys some told)
+    (stopped ∙ ap (completed_to l p) left)
+
+pub complete_done : (l : Local) (answers behind ys : List StepAnswer) (p next : Progress) (c : Completion)
+    (question : Option Next) → Stands l answers p → p.searched ≡ true → behind ≡ answers_left answers p
+    → question ≡ None → Tells (completed_from l p behind) question c.complete ys → c ≡ completed_to l p behind
+    → next ≡ record {
+      read = length answers - length ys;
+      searched = p.searched;
+      completed = true;
+      scan = p.scan;
+      completion = c;
+      others = none_asked (list_any (λ (f : Found). is_ordinary f.offer) c.complete);
+    } → Stands l answers next
+complete_done l answers behind ys p next c question h search left none told stopped is =
+    subst (Stands l answers) (sym is)
+    (complete_ends l answers p c c.complete ys (length answers - length ys) h search
+    (ap (completed_from l p) (sym left) ∙ told-none (completed_from l p behind) question c.complete ys none told)
+    (stopped ∙ ap (completed_to l p) left) refl)
 
 -- ---- other traders
 
-pub given_stands : (l : Local) (answers : List StepAnswer) (p : Progress) (n : ℕ) → Stands l answers p
-    → Stands l answers (record {
-      read = p.read;
-      searched = p.searched;
-      scan = p.scan;
-      completion = p.completion;
-      given = n;
-    })
-unfolding resumed
-given_stands l answers p n h = record { within = h.within; tries = h.tries; goes_on = h.goes_on }
+abbrev with_others : Progress → Others → Progress
+with_others p others = record {
+  read = p.read;
+  searched = p.searched;
+  completed = p.completed;
+  scan = p.scan;
+  completion = p.completion;
+  others = others;
+}
 
-asking : (l : Local) (answers : List StepAnswer) (p : Progress) → Stands l answers p → p.searched ≡ true
-    → p.completion.waiting ≡ []
+pub place_of : (l : Local) (answers : List StepAnswer) (p : Progress) (found : List Found) → Stands l answers p
+    → CompletesTo l answers p None → found ≡ p.completion.complete → IsPlace l found p.others
+place_of l answers p found h done all =
+    subst (λ (fs : List Found). IsPlace l fs p.others) (sym all) ((h.asks done).place)
+
+pub given_of : (l : Local) (answers behind : List StepAnswer) (p : Progress) → Stands l answers p
+    → CompletesTo l answers p None → behind ≡ answers_left answers p → p.others.given ≤ length behind
+given_of l answers behind p h done left =
+    omega (arith, (h.asks done).given, ap length left, length-drop p.read answers)
+
+others-stand : (l : Local) (answers behind : List StepAnswer) (p : Progress) (found : List Found) (others : Others)
+    → Stands l answers p → CompletesTo l answers p None → found ≡ p.completion.complete
+    → behind ≡ answers_left answers p → IsPlace l found others → others.given ≤ length behind
+    → Stands l answers (with_others p others)
+unfolding resumed
+others-stand l answers behind p found others h done all left place within = record {
+  within = h.within;
+  tries = h.tries;
+  goes_on = h.goes_on;
+  asks = λ same. record {
+    searched = (h.asks done).searched;
+    complete = (h.asks done).complete;
+    given = omega (arith, within, ap length left, length-drop p.read answers);
+    place = subst (λ (fs : List Found). IsPlace l fs others) all place;
+  };
+}
+
+pub asked_stands : (l : Local) (answers behind : List StepAnswer) (p : Progress) (found : List Found)
+    (others : Others) (r : Result (Option Next) Memory) → Stands l answers p → CompletesTo l answers p None
+    → found ≡ p.completion.complete → behind ≡ answers_left answers p → OnOk r (IsPlace l found others)
+    → OnOk r (others.given ≤ length behind) → OnOk r (Stands l answers (with_others p others))
+asked_stands l answers behind p found others (Ok question) h done all left place within =
+    others-stand l answers behind p found others h done all left place within
+asked_stands l answers behind p found others (Err e) h done all left place within = tt
+
+asking : (l : Local) (answers : List StepAnswer) (p : Progress) → Stands l answers p → CompletesTo l answers p None
     → visit_of l answers
     ≡ gathered p.completion.complete (answers_left answers p) (questions l p.completion.complete)
-asking l answers p h search none =
+asking l answers p h done =
     visits l answers p h
-    ∙ (finishing l p (answers_left answers p) search
-    ∙ ap (λ (fs : List Found). completed_on l.path l p.completion.complete fs (answers_left answers p)) none)
+    ∙ (finishing l p (answers_left answers p) ((h.asks done).searched)
+    ∙ ap (λ (fs : List Found). completed_on l.path l p.completion.complete fs (answers_left answers p))
+    ((h.asks done).complete))
 
-pub others_asked : (l : Local) (answers after : List StepAnswer) (p : Progress) (q : Next) → Stands l answers p
-    → p.searched ≡ true → p.completion.waiting ≡ []
+others-asked : (l : Local) (answers after : List StepAnswer) (p : Progress) (q : Next) → Stands l answers p
+    → CompletesTo l answers p None
     → Passes (questions l p.completion.complete) (answers_left answers p) (Some q) after → IsAsked l answers q
-others_asked l answers after p q h search none passes = record {
+others-asked l answers after p q h done passes = record {
   comes =
-      asking l answers p h search none
+      asking l answers p h done
       ∙ asks p.completion.complete (questions l p.completion.complete) (answers_left answers p) after q passes;
   asks = asked l.path l p.completion.complete (answers_left answers p) q passes.next;
 }
 
-pub others_end : (l : Local) (answers after : List StepAnswer) (p : Progress) (n : ℕ) → Stands l answers p
-    → p.searched ≡ true → p.completion.waiting ≡ []
-    → Passes (questions l p.completion.complete) (answers_left answers p) None after
-    → n ≡ length (answers_left answers p) - length after
-    → IsEnd l answers (record {
-      read = p.read;
-      searched = p.searched;
-      scan = p.scan;
-      completion = p.completion;
-      given = n;
-    })
-others_end l answers after p n h search none passes count = record {
-  within = omega (arith, h.within, length-drop p.read answers, count);
-  after = after;
-  comes =
-      asking l answers p h search none
-      ∙ (ends p.completion.complete (questions l p.completion.complete) (answers_left answers p) after passes
-      ∙ ap (λ (m : ℕ). let r : Reads Gathered = Ok (
-        record {
-          found = p.completion.complete;
-          given = map sub_answer (take m (answers_left answers p));
-        },
-        after,
-      ) in r) (sym count));
-}
+others-end : (l : Local) (answers : List StepAnswer) (p : Progress) (others : Others) → Stands l answers p
+    → CompletesTo l answers p None → others.given ≤ length (answers_left answers p)
+    → Passes (questions l p.completion.complete) (answers_left answers p) None
+    (drop others.given (answers_left answers p)) → IsEnd l answers (with_others p others)
+others-end l answers p others h done within passes =
+    let left : List StepAnswer = answers_left answers p in
+    let after : List StepAnswer = drop others.given left in
+    let count : length left - length after ≡ others.given = omega (arith, within, length-drop others.given left) in
+    record {
+      within = omega (arith, h.within, length-drop p.read answers, within);
+      after = after;
+      comes =
+          asking l answers p h done
+          ∙ (ends p.completion.complete (questions l p.completion.complete) left after passes
+          ∙ ap (λ (m : ℕ). let r : Reads Gathered = Ok (
+            record { found = p.completion.complete; given = map sub_answer (take m left) },
+            after,
+          ) in r) count);
+    }
 
-pub others_come : (l : Local) (answers behind after : List StepAnswer) (p : Progress) (found : List Found) (n : ℕ)
-    (question : Option Next) → Stands l answers p → CompletesTo l answers p None → found ≡ p.completion.complete
-    → behind ≡ answers_left answers p → Passes (questions l found) behind question after
-    → n ≡ length behind - length after
-    → ComesTo l answers (record {
-      read = p.read;
-      searched = p.searched;
-      scan = p.scan;
-      completion = p.completion;
-      given = n;
-    }) question
-others_come l answers behind after p found n None h last all left passes count =
-    others_end l answers after p n h last.0 last.1
-    (subst (λ (xs : List StepAnswer). Passes (questions l p.completion.complete) xs None after) left
-    (subst (λ (fs : List Found). Passes (questions l fs) behind None after) all passes))
-    (count ∙ ap (λ (xs : List StepAnswer). length xs - length after) left)
-others_come l answers behind after p found n (Some q) h last all left passes count =
-    others_asked l answers after p q h last.0 last.1
-    (subst (λ (xs : List StepAnswer). Passes (questions l p.completion.complete) xs (Some q) after) left
-    (subst (λ (fs : List Found). Passes (questions l fs) behind (Some q) after) all passes))
+pub asked_comes : (l : Local) (answers behind : List StepAnswer) (p : Progress) (found : List Found)
+    (others : Others) (r : Result (Option Next) Memory) → Stands l answers p → CompletesTo l answers p None
+    → found ≡ p.completion.complete → behind ≡ answers_left answers p → OnOk r (others.given ≤ length behind)
+    → IfOk r (λ question. Passes (questions l found) behind question (drop others.given behind))
+    → IfOk r (λ question. ComesTo l answers (with_others p others) question)
+asked_comes l answers behind p found others (Ok None) h done all left within passes =
+    others-end l answers p others h done (subst (λ (xs : List StepAnswer). others.given ≤ length xs) left within)
+    (subst (λ (xs : List StepAnswer). Passes (questions l p.completion.complete) xs None (drop others.given xs)) left
+    (subst (λ (fs : List Found). Passes (questions l fs) behind None (drop others.given behind)) all passes))
+asked_comes l answers behind p found others (Ok (Some q)) h done all left within passes =
+    others-asked l answers (drop others.given (answers_left answers p)) p q h done
+    (subst (λ (xs : List StepAnswer). Passes (questions l p.completion.complete) xs (Some q) (drop others.given xs))
+    left (subst (λ (fs : List Found). Passes (questions l fs) behind (Some q) (drop others.given behind)) all passes))
+asked_comes l answers behind p found others (Err e) h done all left within passes = tt
 
 -- ---- the question, and the answer
 
@@ -423,8 +566,10 @@ drawn l answers p before after (Err e) h draws = tt
 
 -- ---- for the functions that go on
 
+pub ruleset take_steps = (taken, taken_or_kept)
+
 pub ruleset search_steps = (search_asks, search_stops, search_ends, fewer_left)
 
-pub ruleset complete_steps = (complete_asks, complete_stops, complete_ends, complete_fewer, complete_none)
+pub ruleset complete_steps = (complete_asks, complete_stops, complete_ends, complete_fewer)
 
 pub ruleset end_steps = (answered, drawn)

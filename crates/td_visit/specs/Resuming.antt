@@ -1,14 +1,15 @@
 -- Where a visit stands that waits for the answer to its question, and how it goes on from there.
-use Rattle.std.specs.Prelude.{◌≡◌, ℕ, ◌+◌, ◌≤◌, nat_le, Bool, true, if◌then◌else◌, List, [], ◌∷◌, ◌++◌, length}
-use Rattle.std.specs.Prelude.{take, drop, map, Option, None, Some, Ok, Err}
+use Rattle.std.specs.Prelude.{◌≡◌, ℕ, ◌+◌, ◌-◌, ◌<◌, ◌≤◌, nat_le, Bool, true, false, if◌then◌else◌, List, [], ◌∷◌}
+use Rattle.std.specs.Prelude.{◌++◌, length, take, drop, map, Option, None, Some, Ok, Err}
+use Rattle.std.specs.List.{filter_map}
 use Rattle.td_cdr.specs.Format.{◌>>=◌}
 use Rattle.td_eval.specs.Mentioning.{names_asked}
 use Rattle.td_store.specs.declared.local.Local.{Local}
 use Rattle.td_store.specs.declared.record.LinkRecord.{LinkRecord}
 use Rattle.td_store.specs.declared.record.OfferRecord.{OfferRecord}
 use Rattle.td_value.specs.declared.unions.SpecifiedProps.{SpecifiedProps}
-use Rattle.td_walk.specs.SubQueries.{path_query}
-use Rattle.td_walk.specs.Told.{comes_to, made_up_to}
+use Rattle.td_walk.specs.SubQueries.{link_step, path_query, proxy_step}
+use Rattle.td_walk.specs.Told.{Passes, comes_to, made_up_to}
 use Rattle.td_walk.specs.Visits.{Reads, evaluated, matches_all, if_matching, desired_names, is_ordinary}
 use Rattle.td_walk.specs.Visits.{completed, all_completed, sub_answer, steps, gathered, visit_of}
 use Rattle.td_walk.specs.declared.answer.Next.{Next}
@@ -18,6 +19,7 @@ use Rattle.td_walk.specs.declared.evaluation.Evaluation.{Evaluation}
 use Rattle.td_walk.specs.declared.found.Found.{Found}
 use Rattle.td_walk.specs.declared.gathering.Gathered.{Gathered}
 use Rattle.td_visit.specs.declared.progress.Completion.{Completion}
+use Rattle.td_visit.specs.declared.progress.Others.{Others}
 use Rattle.td_visit.specs.declared.progress.Progress.{Progress}
 use Rattle.td_visit.specs.declared.progress.Scan.{Scan}
 
@@ -68,6 +70,45 @@ completed_up_to desired before (f ∷ fs) answers =
       complete = before;
     })
 
+-- ---- which questions to other traders are left
+
+-- none was asked yet
+abbrev pub none_asked : (local_match : Bool) → Others
+none_asked local_match = record { local_match = local_match; offers = 0; links = 0; given = 0 }
+
+-- those of the offers and of the links that weren't passed by
+abbrev pub steps_left : Local → List Found → Others → List Next
+steps_left l found others =
+    filter_map (λ f. proxy_step l f.offer) (drop others.offers found)
+    ++ filter_map (link_step l others.local_match) (drop others.links l.links)
+
+-- So many questions of a search have their answers, and what wasn't passed by asks the others.
+pub record IsPlaceInSearch (l : Local) (found : List Found) (others : Others) : Type 0 where
+  pub offers : others.offers ≤ length found
+  pub links : others.links ≤ length l.links
+  pub given : others.given ≤ length (steps l found)
+  pub left : drop others.given (steps l found) ≡ steps_left l found others
+
+-- along a path there is one question
+abbrev pub IsPlaceBy : Option LinkRecord → Local → List Found → Others → Type 0
+IsPlaceBy None l found others = IsPlaceInSearch l found others
+IsPlaceBy (Some link) l found others = others.given ≤ 1
+
+abbrev pub IsPlace : Local → List Found → Others → Type 0
+IsPlace l found others = IsPlaceBy l.path l found others
+
+-- a step comes to its question where that has no answer; else one answer more is given
+abbrev pub StepsTo : (step : Option Next) → (answers given new : ℕ) → Option Next → Type 0
+StepsTo None answers given new question = (question ≡ None) × (new ≡ given)
+StepsTo (Some asked) answers given new None = (given < answers) × (new ≡ given + 1)
+StepsTo (Some asked) answers given new (Some question) = (question ≡ asked) × (given ≡ answers) × (new ≡ given)
+
+-- the offers come to a question that has no answer, or all are passed by
+abbrev pub CallsTo : Local → List Found → List StepAnswer → Others → Option Next → Type 0
+CallsTo l found answers others None = others.offers ≡ length found
+CallsTo l found answers others (Some question) =
+    Passes (steps l found) answers (Some question) (drop others.given answers)
+
 -- ---- how a visit goes on
 
 -- the questions to other traders
@@ -101,16 +142,25 @@ abbrev pub start : (along : Bool) → Progress
 start along = record {
   read = 0;
   searched = along;
+  completed = false;
   scan = record { tried = 0; made = []; found = [] };
   completion = record { waiting = []; complete = [] };
-  given = 0;
+  others = none_asked false;
 }
+
+-- Where no offer waits any more, this is how far the other traders were asked.
+pub record AsksOthers (l : Local) (answers : List StepAnswer) (p : Progress) : Type 0 where
+  pub searched : p.searched ≡ true
+  pub complete : p.completion.waiting ≡ []
+  pub given : p.others.given ≤ length answers - p.read
+  pub place : IsPlace l p.completion.complete p.others
 
 -- This is how far the visit has come with the first answers, whatever comes behind them.
 pub record Stands (l : Local) (answers : List StepAnswer) (p : Progress) : Type 0 where
   pub within : p.read ≤ length answers
   pub tries : p.scan.tried ≤ length l.candidates
   pub goes_on : (rest : List StepAnswer) → visit_of l (take p.read answers ++ rest) ≡ resumed l p rest
+  pub asks : p.completed ≡ true → AsksOthers l answers p
 
 -- ---- the end
 
@@ -120,10 +170,10 @@ answers_left answers p = drop p.read answers
 -- the visit is at its end, and this is what it comes to
 abbrev pub gathering : List StepAnswer → Progress → Gathered
 gathering answers p =
-    record { found = p.completion.complete; given = map sub_answer (take p.given (answers_left answers p)) }
+    record { found = p.completion.complete; given = map sub_answer (take p.others.given (answers_left answers p)) }
 
 pub record IsEnd (l : Local) (answers : List StepAnswer) (p : Progress) : Type 0 where
-  pub within : p.read + p.given ≤ length answers
+  pub within : p.read + p.others.given ≤ length answers
   pub after : List StepAnswer
   pub comes : visit_of l answers ≡ Ok (gathering answers p, after)
 
@@ -141,7 +191,7 @@ SearchesTo l answers p (Some question) = IsAsked l answers question
 
 -- to its question, or to other traders
 abbrev pub CompletesTo : Local → List StepAnswer → Progress → Option Next → Type 0
-CompletesTo l answers p None = (p.searched ≡ true) × (p.completion.waiting ≡ [])
+CompletesTo l answers p None = p.completed ≡ true
 CompletesTo l answers p (Some question) = IsAsked l answers question
 
 -- to its question, or to its end

@@ -1,11 +1,12 @@
 //! How far a visit comes with the answers that there are. What was done before isn't done again.
 
 ghost use Rattle.std.specs.Prelude.{◌≡◌, ◌-◌, [], true, length, unwrap_or, IfOk, OnOk};
-ghost use Rattle.td_visit.specs.Resuming.{start, Stands, SearchesTo, CompletesTo, ComesTo, IsEnd};
-ghost use Rattle.td_walk.specs.Visits.{next_of};
+ghost use Rattle.std.specs.List.{list_any};
+ghost use Rattle.td_visit.specs.Resuming.{start, none_asked, Stands, SearchesTo, CompletesTo, ComesTo, IsEnd};
+ghost use Rattle.td_walk.specs.Visits.{is_ordinary, next_of};
 ghost use Rattle.td_walk.specs.declared.answer.Next.TheVariants.{Done};
 
-use crate::asking::ask;
+use crate::asking::{ask, has_ordinary, none_asked};
 use crate::progress::{Completion, Progress, Scan};
 use crate::queue::Queue;
 use crate::searching::{complete_all, search};
@@ -22,6 +23,7 @@ fn start(alloc: Global, along: bool) -> Progress
     Progress {
         read: 0,
         searched: along,
+        completed: false,
         scan: Scan {
             tried: 0,
             made: List::new(alloc),
@@ -31,7 +33,7 @@ fn start(alloc: Global, along: bool) -> Progress
             waiting: Queue::new(alloc),
             complete: List::new(alloc),
         },
-        given: 0,
+        others: none_asked(false),
     }
 }
 
@@ -48,6 +50,7 @@ fn end_search(alloc: Global, progress: &mut Progress, read: usize)
     ensures { progress.new ≡ record {
       read = read;
       searched = true;
+      completed = progress.old.completed;
       scan = record {
         tried = progress.old.scan.tried;
         made = progress.old.scan.made;
@@ -57,7 +60,7 @@ fn end_search(alloc: Global, progress: &mut Progress, read: usize)
         waiting = progress.old.scan.found;
         complete = [];
       };
-      given = progress.old.given;
+      others = progress.old.others;
     } }
 {
     let found = mem::replace(&mut progress.scan.found, List::new(alloc));
@@ -98,7 +101,24 @@ fn search_on(
     }
 }
 
-/// Goes on with the evaluation of desired properties.
+/// All offers that matched are complete: other traders are asked, where there are any to ask.
+fn end_completion(progress: &mut Progress, read: usize)
+    ensures { progress.new ≡ record {
+      read = read;
+      searched = progress.old.searched;
+      completed = true;
+      scan = progress.old.scan;
+      completion = progress.old.completion;
+      others = none_asked (list_any (λ f. is_ordinary f.offer) progress.old.completion.complete);
+    } }
+{
+    let complete = progress.completion.complete.as_slice();
+    progress.others = none_asked(has_ordinary(complete));
+    progress.completed = true;
+    progress.read = read;
+}
+
+/// Goes on with the evaluation of desired properties, where it isn't at its end.
 #[tactic(auto, using(crate::proofs::Progressed::complete_steps))]
 fn complete_on(
     alloc: Global,
@@ -111,6 +131,9 @@ fn complete_on(
     ensures stands { OnOk result (Stands local.now answers.now progress.new) }
     ensures comes { IfOk result (λ question. CompletesTo local.now answers.now progress.new question) }
 {
+    if progress.completed {
+        return Ok(None);
+    }
     let (_read, behind) = answers.split_at(progress.read);
     let mut left = Left { answers: behind };
     let desired = &local.query.desired;
@@ -120,13 +143,13 @@ fn complete_on(
             Ok(Some(question))
         }
         None => {
-            progress.read = answers.len() - left.answers.len();
+            end_completion(progress, answers.len() - left.answers.len());
             Ok(None)
         }
     }
 }
 
-/// Asks the other traders.
+/// Goes on with the questions to other traders.
 fn ask_on(
     alloc: Global,
     local: &Local,
@@ -139,15 +162,13 @@ fn ask_on(
     ensures comes { IfOk result (λ question. ComesTo local.now answers.now progress.new question) }
 {
     let (_read, behind) = answers.split_at(progress.read);
-    let mut left = Left { answers: behind };
-    let question = ask(
+    ask(
         alloc,
         local,
         progress.completion.complete.as_slice(),
-        &mut left,
-    )?;
-    progress.given = behind.len() - left.answers.len();
-    Ok(question)
+        behind,
+        &mut progress.others,
+    )
 }
 
 /// Goes on as far as there are answers.

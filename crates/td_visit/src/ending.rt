@@ -54,10 +54,10 @@ fn gathering(
     answers: List<StepAnswer>,
     progress: Progress,
 ) -> Result<Gathered, Memory>
-    requires { progress.read + progress.given ≤ length answers }
+    requires { progress.read + progress.others.given ≤ length answers }
     ensures { IfOk result (λ gathered. gathered ≡ gathering answers progress) }
 {
-    let given = sub_answers(alloc, answers, progress.read, progress.given)?;
+    let given = sub_answers(alloc, answers, progress.read, progress.others.given)?;
     let completion = progress.completion;
     Ok(Gathered {
         found: completion.complete,

@@ -35,7 +35,7 @@ impl Model for Frame {
 }
 
 impl Frame {
-    ghost use Rattle.std.specs.Prelude.{◌≡◌, ℕ, [], ◌∷◌, ◌++◌, IfOk, OnOk, OnErr};
+    ghost use Rattle.std.specs.Prelude.{◌≡◌, ℕ, [], ◌∷◌, ◌++◌, length, IfOk, OnOk, OnErr};
     ghost use Rattle.td_walk.specs.Answers.{IsAnswer, HasDrawn};
     ghost use Rattle.td_walk.specs.Visits.{next_of};
     ghost use Rattle.td_walk.specs.declared.answer.Next.TheVariants.{Done};
@@ -74,11 +74,26 @@ impl Frame {
         )
     }
 
+    /// What the trader knew when the query came to it.
+    pub fn local(&self) -> &Local
+        ensures { result.now ≡ self.now.local }
+    {
+        &self.local
+    }
+
+    /// How many answers were taken.
+    pub fn taken(&self) -> usize
+        ensures { result ≡ length self.now.answers }
+    {
+        self.answers.len()
+    }
+
     /// Takes the answer to the question that stands.
     ///
     /// # Errors
     ///
     /// `Memory` for want of memory alone; the answer is then dropped.
+    #[tactic(auto, using(crate::proofs::Progressed::take_steps))]
     pub fn take(&mut self, answer: StepAnswer) -> Result<(), Memory>
         ensures ok { OnOk result
             (self.new ≡ record { local = self.old.local; answers = self.old.answers ++ answer ∷ [] }) }

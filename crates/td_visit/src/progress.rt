@@ -23,15 +23,29 @@ pub(crate) struct Completion {
     pub(crate) complete: List<Found>,
 }
 
+/// How far the other traders were asked.
+#[derive(Drop)]
+pub(crate) struct Others {
+    /// Whether an ordinary offer matched here.
+    pub(crate) local_match: bool,
+    /// How many of the offers that matched were passed by: they ask nobody, or have their answer.
+    pub(crate) offers: usize,
+    /// How many of the links were.
+    pub(crate) links: usize,
+    /// How many answers the other traders gave.
+    pub(crate) given: usize,
+}
+
 /// How far a visit has come.
 #[derive(Drop)]
 pub(crate) struct Progress {
-    /// How many answers were read.
+    /// How many answers were read, without those of other traders.
     pub(crate) read: usize,
     /// Whether the search is at its end.
     pub(crate) searched: bool,
+    /// Whether all offers that matched are complete.
+    pub(crate) completed: bool,
     pub(crate) scan: Scan,
     pub(crate) completion: Completion,
-    /// At the visit's end, how many answers behind those that were read are other traders'.
-    pub(crate) given: usize,
+    pub(crate) others: Others,
 }

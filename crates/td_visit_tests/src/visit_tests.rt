@@ -1,13 +1,13 @@
 //! The questions of a visit and its answer, with given answers.
 
-use crate::making::{link, local, text};
+use crate::making::{link, local, nobody, text};
 use crate::offering::{number, offer, one, property, proxy};
 use std::alloc::Global;
 use std::test::Fail;
 use td_cdr::{Boxed, List, Memory, Text};
 use td_out::MemWords;
 use td_store::{LinkRecord, Local, OfferRecord};
-use td_value::{Any, Property, SpecifiedProps, TypeCode, Value};
+use td_value::{Any, Ior, Offer, Property, SpecifiedProps, TypeCode, Value};
 use td_visit::Frame;
 use td_walk::{Next, StepAnswer, SubAnswer};
 
@@ -454,5 +454,134 @@ fn proxies(rt: HostRuntime) -> Result<(), Fail> {
     let alloc = rt.alloc();
     assert!(rt; expands(alloc)?);
     assert!(rt; gives_the_others(alloc)?);
+    Ok(())
+}
+
+// ---- many other traders
+
+/// A reference with this id.
+fn reference(alloc: Global, id: &str) -> Result<Ior, Memory> {
+    let id = text(alloc, id)?;
+    Ok(Ior {
+        id,
+        profiles: List::new(alloc),
+    })
+}
+
+/// A proxy offer whose trader has this id.
+fn proxied_by(alloc: Global, id: &str) -> Result<OfferRecord, Memory> {
+    let reference = reference(alloc, id)?;
+    let mut offer = proxied(alloc)?;
+    offer.reference = reference;
+    Ok(offer)
+}
+
+/// A link of if_no_local to the trader of this id.
+fn link_to(alloc: Global, id: &str) -> Result<LinkRecord, Memory> {
+    let target = reference(alloc, id)?;
+    let mut link = link(alloc, "if_no_local", "always")?;
+    link.target = target;
+    Ok(link)
+}
+
+fn add_proxies(alloc: Global, offers: &mut List<OfferRecord>, words: &str) -> Result<(), Memory> {
+    for word in words.split(' ') {
+        offers.push(proxied_by(alloc, word)?)?;
+    }
+    Ok(())
+}
+
+fn links_to(alloc: Global, words: &str) -> Result<List<LinkRecord>, Memory> {
+    let mut links = List::new(alloc);
+    for word in words.split(' ') {
+        links.push(link_to(alloc, word)?)?;
+    }
+    Ok(links)
+}
+
+/// A visit over these candidates, three proxy offers behind them, and three links.
+fn over_many(alloc: Global, candidates: List<OfferRecord>) -> Result<Frame, Memory> {
+    let mut candidates = candidates;
+    add_proxies(alloc, &mut candidates, "P Q R")?;
+    let links = links_to(alloc, "L M N")?;
+    let local = local(alloc, "Cost < 10", "", "")?;
+    linked(alloc, local, candidates, links)
+}
+
+/// Whether the question goes to the trader of this id.
+fn goes_to(alloc: Global, frame: &mut Frame, id: &str) -> Result<bool, Memory> {
+    let question = frame.next(alloc)?;
+    let passed = match &question {
+        Next::Forward { target, .. } => target.id.as_slice() == id.as_bytes(),
+        _ => false,
+    };
+    drop(question);
+    Ok(passed)
+}
+
+/// The question is repeated until it is answered.
+fn goes_twice_to(alloc: Global, frame: &mut Frame, id: &str) -> Result<bool, Memory> {
+    Ok(goes_to(alloc, frame, id)? && goes_to(alloc, frame, id)?)
+}
+
+/// Another trader's answer: an offer with one property.
+fn one_offer(alloc: Global) -> Result<SubAnswer, Memory> {
+    let properties = one(alloc, "Floor", 3)?;
+    let mut offers = List::new(alloc);
+    offers.push(Offer {
+        reference: nobody(alloc),
+        properties,
+    })?;
+    Ok(SubAnswer {
+        offers,
+        limits: List::new(alloc),
+    })
+}
+
+/// Whether the traders of these ids are asked, one after the other; each gives an offer.
+fn asks_each(alloc: Global, frame: &mut Frame, words: &str) -> Result<bool, Memory> {
+    for word in words.split(' ') {
+        if !goes_twice_to(alloc, frame, word)? {
+            return Ok(false);
+        }
+        let answer = one_offer(alloc)?;
+        frame.take(StepAnswer::Offers(answer))?;
+    }
+    Ok(true)
+}
+
+/// The measure after these, where nobody else is asked.
+fn after_each(alloc: Global, frame: Frame, words: &str) -> Result<Option<usize>, Memory> {
+    let mut frame = frame;
+    match asks_each(alloc, &mut frame, words) {
+        Ok(true) => measured(alloc, frame),
+        Ok(false) => {
+            drop(frame);
+            Ok(None)
+        }
+        Err(memory) => {
+            drop(frame);
+            Err(memory)
+        }
+    }
+}
+
+fn without_a_match(alloc: Global) -> Result<Option<usize>, Memory> {
+    let frame = over_many(alloc, List::new(alloc))?;
+    after_each(alloc, frame, "P Q R L M N")
+}
+
+fn beside_a_match(alloc: Global) -> Result<Option<usize>, Memory> {
+    let candidates = only(alloc, one(alloc, "Cost", 5)?)?;
+    let frame = over_many(alloc, candidates)?;
+    after_each(alloc, frame, "P Q R")
+}
+
+/// Proxy offers' traders are asked first, and then those that the links lead to, unless an offer matched here.
+#[test]
+fn traders_in_order(rt: HostRuntime) -> Result<(), Fail> {
+    let alloc = rt.alloc();
+    assert!(rt; without_a_match(alloc)? == Some(606));
+    assert!(rt; beside_a_match(alloc)? == Some(404));
     Ok(())
 }

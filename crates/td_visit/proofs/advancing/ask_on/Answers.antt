@@ -1,22 +1,24 @@
-use Rattle.std.proofs.Common.{◌-◌, length, refl}
-use Rattle.td_visit.proofs.Forwarding.{fewer}
-use Rattle.td_visit.proofs.Progressed.{given_stands, others_come}
+use Rattle.td_visit.proofs.Progressed.{place_of, given_of, asked_stands, asked_comes}
 use Rattle.td_visit.proofs.advancing.ask_on.Goals as goal
-use Rattle.td_visit.specs.Resuming.{questions}
 
-pub overflow_sub-progress : goal.overflow_sub-progress
-overflow_sub-progress c =
-    fewer (questions c.args.local.now c.as_slice.result.now) c.split_at.result.1.now c.ask.new.left.answers.now
-    c.in_ok-question.question c.in_ok-question.ensures
+pub ask-requires-clause-place : goal.ask-requires-clause-place
+ask-requires-clause-place c =
+    place_of c.args.local.now c.args.answers.now c.args.progress.now c.as_slice.result.now c.requires.stands
+    c.requires.completed c.as_slice.ensures
+
+pub ask-requires-clause-within : goal.ask-requires-clause-within
+ask-requires-clause-within c =
+    given_of c.args.local.now c.args.answers.now c.split_at.result.1.now c.args.progress.now c.requires.stands
+    c.requires.completed c.split_at.ensures.back
 
 pub returns-clause-stands : goal.returns-clause-stands
 returns-clause-stands c =
-    given_stands c.args.local.now c.args.answers.now c.args.progress.now
-    (length c.split_at.result.1.now - length c.ask.new.left.answers.now) c.requires.stands
+    asked_stands c.args.local.now c.args.answers.now c.split_at.result.1.now c.args.progress.now
+    c.as_slice.result.now c.ask.new.others c.ask.result c.requires.stands c.requires.completed c.as_slice.ensures
+    c.split_at.ensures.back c.ask.ensures.place c.ask.ensures.within
 
 pub returns-clause-comes : goal.returns-clause-comes
 returns-clause-comes c =
-    others_come c.args.local.now c.args.answers.now c.split_at.result.1.now c.ask.new.left.answers.now
-    c.args.progress.now c.as_slice.result.now (length c.split_at.result.1.now - length c.ask.new.left.answers.now)
-    c.in_ok-question.question c.requires.stands c.requires.completed c.as_slice.ensures c.split_at.ensures.back
-    c.in_ok-question.ensures refl
+    asked_comes c.args.local.now c.args.answers.now c.split_at.result.1.now c.args.progress.now
+    c.as_slice.result.now c.ask.new.others c.ask.result c.requires.stands c.requires.completed c.as_slice.ensures
+    c.split_at.ensures.back c.ask.ensures.within c.ask.ensures.passes

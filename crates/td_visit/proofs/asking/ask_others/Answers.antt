@@ -1,30 +1,80 @@
-use Rattle.std.proofs.Common.{Bool, IfOk, sym, subst, ◌∙◌}
-use Rattle.std.specs.List.{filter_map, list_any}
-use Rattle.td_visit.proofs.Turns.{first_asked, both_asked}
+use Rattle.std.proofs.Common.{◌≡◌, drop, length, sym, ap, ◌∙◌, arith}
+use Rattle.std.proofs.lemmas.List.{length-drop}
+use Rattle.td_visit.proofs.Turns.{at_item, given_within, link_passed, link_asks, call_asked, all_called, all_asked}
 use Rattle.td_visit.proofs.asking.ask_others.Goals as goal
-use Rattle.td_walk.specs.SubQueries.{link_step, proxy_step}
-use Rattle.td_walk.specs.Told.{Passes}
-use Rattle.td_walk.specs.Visits.{is_ordinary, steps}
-use Rattle.td_walk.specs.declared.found.Found.{Found}
 
-pub returns-then-is_some : goal.returns-then-is_some
-unfolding steps
-returns-then-is_some c =
-    first_asked (filter_map (λ (f : Found). proxy_step c.args.local.now f.offer) c.args.found.now)
-    (filter_map (link_step c.args.local.now (list_any (λ (f : Found). is_ordinary f.offer) c.args.found.now))
-    c.args.local.now.links)
-    c.args.left.now.answers.now c.ask_proxies.new.left.answers.now c.in_ok-question.question
-    (sym c.is_some.ensures ∙ c.if-is_some.true) c.in_ok-question.ensures
+pub returns-then-is_some-clause-passes : goal.returns-then-is_some-clause-passes
+returns-then-is_some-clause-passes c =
+    call_asked c.args.local.now c.args.found.now c.call_proxies.new.others c.args.answers.now
+    c.in_ok-called.called (sym c.is_some.ensures ∙ c.if-is_some.true) c.in_ok-called.ensures.calls
 
-pub returns : goal.returns
-unfolding steps
-returns c =
-    both_asked (filter_map (λ (f : Found). proxy_step c.args.local.now f.offer) c.args.found.now)
-    (filter_map (link_step c.args.local.now (list_any (λ (f : Found). is_ordinary f.offer) c.args.found.now))
-    c.args.local.now.links)
-    c.args.left.now.answers.now c.ask_proxies.new.left.answers.now c.ask_links.new.left.answers.now
-    c.in_ok-question.question c.ask_links.result (sym c.is_some.ensures ∙ c.if-is_some.false) c.in_ok-question.ensures
-    (subst (λ (b : Bool). IfOk c.ask_links.result
-    (λ q. Passes (filter_map (link_step c.args.local.now b) c.args.local.now.links)
-    c.ask_proxies.new.left.answers.now q c.ask_links.new.left.answers.now))
-    c.has_ordinary.ensures c.ask_links.ensures)
+pub loop-link-init : goal.loop-link-init
+loop-link-init c = (
+  all_called c.args.local.now c.args.found.now c.call_proxies.new.others c.args.answers.now c.in_ok-called.called
+      (sym c.is_some.ensures ∙ c.if-is_some.false) c.in_ok-called.ensures.calls,
+  omega arith,
+  c.in_ok-called.ensures.place,
+  c.in_ok-called.ensures.within,
+)
+
+pub loop-link-preserved : goal.loop-link-preserved
+loop-link-preserved c =
+    let at =
+    at_item c.args.local.now.links c.split_at.result.1.now c.call_proxies.new.others.links c.loop-link.link-index
+    c.loop-link.others.links c.link-item.result
+    (c.split_at.ensures.back ∙ ap (drop c.call_proxies.new.others.links) c.as_slice.ensures)
+    c.loop-link.invariant.1 (omega arith) c.link-item.is in (
+      c.loop-link.invariant.0,
+      omega (arith, c.loop-link.invariant.1),
+      link_passed c.args.local.now c.args.found.now c.loop-link.others (length c.args.answers.now)
+          c.pass-question.new.given c.link-item.result c.in_ok-step.step c.pass-question.result
+          (sym c.is_some-in-loop-link.ensures ∙ c.if-is_some-2.false) c.loop-link.invariant.0 at c.in_ok-step.ensures
+          c.pass-question.ensures c.loop-link.invariant.2,
+      given_within c.in_ok-step.step c.pass-question.result (length c.args.answers.now) c.loop-link.others.given
+          c.pass-question.new.given c.loop-link.invariant.3 c.pass-question.ensures,
+    )
+
+pub returns-then-is_some-2-clause-place : goal.returns-then-is_some-2-clause-place
+returns-then-is_some-2-clause-place c =
+    let at =
+    at_item c.args.local.now.links c.split_at.result.1.now c.call_proxies.new.others.links c.loop-link.link-index
+    c.loop-link.others.links c.link-item.result
+    (c.split_at.ensures.back ∙ ap (drop c.call_proxies.new.others.links) c.as_slice.ensures)
+    c.loop-link.invariant.1 (omega arith) c.link-item.is in
+    let stop =
+    link_asks c.args.local.now c.args.found.now c.loop-link.others c.args.answers.now c.pass-question.new.given
+    c.link-item.result c.in_ok-step.step c.pass-question.result (sym c.is_some-in-loop-link.ensures ∙ c.if-is_some-2.true)
+    c.loop-link.invariant.0 at c.in_ok-step.ensures c.pass-question.ensures c.loop-link.invariant.2 in
+    stop.place
+
+pub returns-then-is_some-2-clause-within : goal.returns-then-is_some-2-clause-within
+returns-then-is_some-2-clause-within c =
+    given_within c.in_ok-step.step c.pass-question.result (length c.args.answers.now) c.loop-link.others.given
+    c.pass-question.new.given c.loop-link.invariant.3 c.pass-question.ensures
+
+pub returns-then-is_some-2-clause-passes : goal.returns-then-is_some-2-clause-passes
+returns-then-is_some-2-clause-passes c =
+    let at =
+    at_item c.args.local.now.links c.split_at.result.1.now c.call_proxies.new.others.links c.loop-link.link-index
+    c.loop-link.others.links c.link-item.result
+    (c.split_at.ensures.back ∙ ap (drop c.call_proxies.new.others.links) c.as_slice.ensures)
+    c.loop-link.invariant.1 (omega arith) c.link-item.is in
+    let stop =
+    link_asks c.args.local.now c.args.found.now c.loop-link.others c.args.answers.now c.pass-question.new.given
+    c.link-item.result c.in_ok-step.step c.pass-question.result (sym c.is_some-in-loop-link.ensures ∙ c.if-is_some-2.true)
+    c.loop-link.invariant.0 at c.in_ok-step.ensures c.pass-question.ensures c.loop-link.invariant.2 in
+    stop.passes
+
+pub returns-clause-passes : goal.returns-clause-passes
+returns-clause-passes c =
+    let all : c.loop-link.others.links ≡ length c.args.local.now.links =
+    omega (
+      arith,
+      c.loop-link.invariant.1,
+      ap length c.split_at.ensures.back,
+      ap length c.as_slice.ensures,
+      length-drop c.call_proxies.new.others.links c.as_slice.result.now,
+      c.in_ok-called.ensures.place.links,
+    ) in
+    all_asked c.args.local.now c.args.found.now c.loop-link.others c.args.answers.now c.loop-link.invariant.0 all
+    c.loop-link.invariant.3 c.loop-link.invariant.2
