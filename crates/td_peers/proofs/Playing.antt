@@ -1,0 +1,95 @@
+-- What peers in memory play is noted.
+use Rattle.std.proofs.Common.{◌≡◌, ℕ, ◌<◌, ◌≤◌, List, [], ◌∷◌, ◌++◌, length, append-nil, sym, ap, ◌∙◌, subst, arith}
+use Rattle.std.specs.Prelude.{Option, IfSome, Result, Ok, Err}
+use Rattle.std.proofs.lemmas.List.{length-map, map-append}
+use Rattle.td_codes.specs.declared.reference.Ior.{Ior}
+use Rattle.td_out.specs.Causes.{raised, Rose}
+use Rattle.td_peers.specs.Noted.{exchange_of, exchanges}
+use Rattle.td_peers.specs.Scripts.{Played, IsPlayed, after, entry_at, faults_after, gives, is_given, next_entry}
+use Rattle.td_peers.specs.Scripts.{place_for, with_call, without}
+use Rattle.td_peers.specs.declared.note.Note.{Note}
+use Rattle.td_peers.specs.declared.scripted.Scripted.{Scripted}
+use Rattle.td_walk.specs.Peering.{PeerCall, Given, Failed, IsNoted, Exchange}
+use Rattle.td_walk.specs.declared.fault.PeerFault.{PeerFault}
+use Rattle.td_walk.specs.declared.fault.PeerFault.TheVariants as fault
+
+-- ---- notes
+
+pub noted_next : (notes new : List Note) (n : Note) (e : Exchange) → new ≡ notes ++ n ∷ [] → exchange_of n ≡ e
+    → exchanges new ≡ exchanges notes ++ e ∷ []
+noted_next notes new n e more is =
+    ap exchanges more
+    ∙ (map-append exchange_of notes (n ∷ []) ∙ ap (λ (x : Exchange). exchanges notes ++ x ∷ []) is)
+
+pub counted : (notes : List Note) → length (exchanges notes) ≡ length notes
+counted notes = length-map notes exchange_of
+
+-- ---- a call is noted, and then its entry taken out
+
+module _ (call : PeerCall) (target : Ior) (place : Option ℕ) (old mid : Played) where
+  pub entry_next : (entry : Option Scripted) → place ≡ place_for old target
+      → mid ≡ with_call old call (gives call (entry_at old.script place)) → entry ≡ entry_at mid.script place
+      → entry ≡ next_entry old target
+  entry_next entry at is given =
+      given ∙ (ap (λ (p : Played). entry_at p.script place) is ∙ ap (entry_at old.script) at)
+
+  pub left_after : (new : Played) → place ≡ place_for old target
+      → mid ≡ with_call old call (gives call (entry_at old.script place)) → new ≡ without mid place
+      → new ≡ after old target call
+  left_after new at is left =
+      left ∙ (ap (λ (p : Played). without p place) is
+      ∙ ap (λ (i : Option ℕ). without (with_call old call (gives call (entry_at old.script i))) i) at)
+
+  pub still_within : mid ≡ with_call old call (gives call (entry_at old.script place))
+      → IfSome place (λ i. i < length old.script) → IfSome place (λ i. i < length mid.script)
+  still_within is within = subst (λ (p : Played). IfSome place (λ i. i < length p.script)) (sym is) within
+
+-- ---- a call that was played is noted
+
+module _ (call : PeerCall) (target : Ior) (old new : Played) where
+  calls-are : (given : Given) → gives call (next_entry old target) ≡ given → new ≡ after old target call
+      → new.calls ≡ old.calls ++ record { call = call; gave = given } ∷ []
+  calls-are given is left =
+      ap (λ (p : Played). p.calls) left
+      ∙ ap (λ (g : Given). old.calls ++ record { call = call; gave = g } ∷ []) is
+
+  rose : (f : PeerFault) → gives call (next_entry old target) ≡ Failed f → new ≡ after old target call
+      → Rose old.faults new.faults
+  rose f is left =
+      let faults : new.faults ≡ raised old.faults =
+      ap (λ (p : Played). p.faults) left ∙ ap (λ (g : Given). faults_after old.faults (is_given g)) is in
+      omega (arith, faults)
+
+  pub noted : {X : Type 0} (given : X → Given) (r : Result X PeerFault) → IsPlayed given call target old new r
+      → old.faults ≤ new.faults → IsNoted given call old.calls new.calls old.faults new.faults r
+  noted given (Ok x) h later = record { calls = calls-are (given x) h.0 h.1; later = later; cause = tt }
+  noted given (Err fault.Wire) h later =
+      record { calls = calls-are (Failed fault.Wire) h.0 h.1; later = later; cause = rose fault.Wire h.0 h.1 }
+  noted given (Err fault.Grammar) h later =
+      record { calls = calls-are (Failed fault.Grammar) h.0 h.1; later = later; cause = rose fault.Grammar h.0 h.1 }
+  noted given (Err fault.Exception) h later = record {
+    calls = calls-are (Failed fault.Exception) h.0 h.1;
+    later = later;
+    cause = rose fault.Exception h.0 h.1;
+  }
+  noted given (Err fault.Memory) h later = record {
+    calls = ap (λ (p : Played). p.calls) h ∙ sym (append-nil old.calls);
+    later = later;
+    cause = tt;
+  }
+
+  -- by what the entry in hand gives
+  pub noted_wire : {X : Type 0} (given : X → Given) (entry : Option Scripted) → gives call entry ≡ Failed fault.Wire
+      → entry ≡ next_entry old target → new ≡ after old target call → old.faults ≤ new.faults
+      → IsNoted given call old.calls new.calls old.faults new.faults (Err fault.Wire)
+  noted_wire given entry is next left later =
+      noted given (Err fault.Wire) (ap (gives call) (sym next) ∙ is, left) later
+
+  pub noted_given : {X : Type 0} (given : X → Given) (entry : Option Scripted) (x : X) → gives call entry ≡ given x
+      → entry ≡ next_entry old target → new ≡ after old target call → old.faults ≤ new.faults
+      → IsNoted given call old.calls new.calls old.faults new.faults (Ok x)
+  noted_given given entry x is next left later = noted given (Ok x) (ap (gives call) (sym next) ∙ is, left) later
+
+  pub noted_memory : {X : Type 0} (given : X → Given) → new ≡ old → old.faults ≤ new.faults
+      → IsNoted given call old.calls new.calls old.faults new.faults (Err fault.Memory)
+  noted_memory given kept later = noted given (Err fault.Memory) kept later

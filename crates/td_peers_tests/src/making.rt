@@ -1,0 +1,126 @@
+//! Scripts and references from a few words.
+
+ghost use Rattle.std.specs.Prelude.{IfOk, OnOk};
+ghost use Rattle.td_peers.specs.Scripts.{IsSmall, AreSmall};
+ghost use Rattle.td_walk.specs.Peering.{IsSmallOffer, HasSmallOffers};
+
+use std::alloc::Global;
+use td_cdr::{Boxed, List, Memory, Octets, Text};
+use td_ior::make_ior;
+use td_peers::{MemPeers, Scripted};
+use td_value::{Any, Ior, Offer, TypeCode, Value, offer_size};
+use td_walk::SubAnswer;
+
+/// A reference without an id and without profiles.
+pub(crate) fn nobody(alloc: Global) -> Ior {
+    Ior {
+        id: Text::new(alloc),
+        profiles: List::new(alloc),
+    }
+}
+
+/// The object of a key; without a key a reference without profiles.
+pub(crate) fn object(alloc: Global, key: &str) -> Result<Boxed<Ior>, Memory> {
+    if key.is_empty() {
+        return Boxed::new(alloc, nobody(alloc));
+    }
+    let object = make_ior(alloc, b"IDL:P:1.0", b"h", 9, key.as_bytes())?;
+    Boxed::new(alloc, object)
+}
+
+pub(crate) fn seven(alloc: Global) -> Result<Boxed<Any>, Memory> {
+    Boxed::new(
+        alloc,
+        Any {
+            code: TypeCode::ULong,
+            value: Value::ULong(7),
+        },
+    )
+}
+
+/// An offer without properties.
+fn offer(alloc: Global) -> Result<Offer, Memory>
+    ensures { IfOk result IsSmallOffer }
+{
+    let reference = nobody(alloc);
+    let properties = List::new(alloc);
+    let size = offer_size(alloc, &reference, &properties)?;
+    if size > 6 << 20 {
+        return Err(Memory);
+    }
+    Ok(Offer {
+        reference,
+        properties,
+    })
+}
+
+/// An answer of one offer.
+#[tactic(auto, using(crate::proofs::Small::one_small))]
+fn offered(alloc: Global) -> Result<SubAnswer, Memory>
+    ensures { IfOk result HasSmallOffers }
+{
+    let mut offers = List::new(alloc);
+    offers.push(offer(alloc)?)?;
+    Ok(SubAnswer {
+        offers,
+        limits: List::new(alloc),
+    })
+}
+
+/// An answer without offers, which this limited.
+fn limited(alloc: Global, limit: &str) -> Result<SubAnswer, Memory>
+    ensures { IfOk result HasSmallOffers }
+{
+    let mut limits = List::new(alloc);
+    limits.push(Text::from_slice(alloc, limit.as_bytes())?)?;
+    Ok(SubAnswer {
+        offers: List::new(alloc),
+        limits,
+    })
+}
+
+/// `failed`, `nobody`, which is a reference, `seven`, which is a value, or an answer: `offer`, or what limited it.
+fn scripted(alloc: Global, word: &str) -> Result<Scripted, Memory>
+    ensures { IfOk result IsSmall }
+{
+    match word {
+        "failed" => Ok(Scripted::Failed),
+        "nobody" => Ok(Scripted::Reference(nobody(alloc))),
+        "seven" => Ok(Scripted::Evaluated(seven(alloc)?)),
+        "offer" => Ok(Scripted::Offers(offered(alloc)?)),
+        _ => Ok(Scripted::Offers(limited(alloc, word)?)),
+    }
+}
+
+/// One entry more, as `KEY:ENTRY`.
+#[tactic(auto, using(td_peers::proofs::Smallness::small_next))]
+fn add(alloc: Global, script: &mut List<(Octets, Scripted)>, word: &str) -> Result<(), Memory>
+    requires { AreSmall script.old }
+    ensures { OnOk result (AreSmall script.new) }
+{
+    let (key, entry) = word.split_once(':').unwrap_or((word, ""));
+    let key = Octets::from_slice(alloc, key.as_bytes())?;
+    script.push((key, scripted(alloc, entry)?))?;
+    Ok(())
+}
+
+/// A script of entries with blanks between them.
+fn script(alloc: Global, words: &str) -> Result<List<(Octets, Scripted)>, Memory>
+    ensures { IfOk result AreSmall }
+{
+    let mut script = List::new(alloc);
+    for word in words.split(' ') {
+        if !word.is_empty() {
+            add(alloc, &mut script, word)?;
+        }
+    }
+    Ok(script)
+}
+
+/// Peers with this script, whose call of this number fails; 0 is none.
+pub(crate) fn peers(alloc: Global, words: &str, failing: u64) -> Result<MemPeers, Memory> {
+    let script = script(alloc, words)?;
+    let mut numbers = List::new(alloc);
+    numbers.push(failing)?;
+    Ok(MemPeers::new(alloc, script, numbers))
+}
