@@ -8,4 +8,6 @@ pub mod Questions
 pub mod Replaced
 pub mod Spending
 pub mod Stating
+pub mod Walked
+pub mod Walking
 pub mod Weights

@@ -2,3 +2,6 @@ pub mod Answering
 pub mod Examples
 pub mod Reach
 pub mod SubQueryLaws
+pub mod WalkExamples
+pub mod WalkLaws
+pub mod Walks

@@ -3,6 +3,7 @@
 ghost use Rattle.std.specs.Prelude.{ℕ};
 ghost use Rattle.td_walk_laws.specs.Examples.{WorkedVisits, WorkedProxies, WorkedEvaluations};
 ghost use Rattle.td_walk_laws.specs.Examples.{WorkedResolving, WorkedAnswers};
+ghost use Rattle.td_walk_laws.specs.WalkExamples.{WorkedWalks};
 
 /// The questions of a visit: over a link, and along a path.
 pub fn worked_visits()
@@ -27,4 +28,9 @@ pub fn worked_resolving()
 /// Answers of visits.
 pub fn worked_answers()
     ensures { (word : ℕ → ℕ) → WorkedAnswers word }
+{}
+
+/// Walks from query to answer.
+pub fn worked_walks()
+    ensures { (word : ℕ → ℕ) → WorkedWalks word }
 {}

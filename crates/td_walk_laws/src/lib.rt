@@ -10,11 +10,13 @@ mod walks;
 pub use answers::{answers_are_one, failed_steps_give_nothing};
 pub use examples::{
     worked_answers, worked_evaluations, worked_proxies, worked_resolving, worked_visits,
+    worked_walks,
 };
 pub use sub_queries::{
     sub_queries_along_a_path, sub_queries_over_a_link, sub_queries_to_a_proxy,
     sub_queries_with_passed_policies,
 };
 pub use walks::{
-    identifiers_are_carried, queries_are_passed_on, visits_end, visits_reach_no_farther, walks_end,
+    identifiers_are_carried, queries_are_passed_on, visits_end, visits_reach_no_farther,
+    walks_are_asked, walks_end,
 };

@@ -1,6 +1,6 @@
 //! Which queries a visit passes on, how many questions it asks, and that a walk from trader to trader ends.
 
-ghost use Rattle.std.specs.Prelude.{◌≡◌, ℕ, ◌<◌, ◌≤◌, ◌^◌, List, length, Ok};
+ghost use Rattle.std.specs.Prelude.{◌≡◌, ℕ, ◌<◌, ◌≤◌, ◌^◌, List, length, Ok, Option};
 ghost use Rattle.td_codes.specs.declared.reference.Ior.{Ior};
 ghost use Rattle.td_ops.specs.declared.call.Query.{Query};
 ghost use Rattle.td_policy.specs.Effective.{effective_of};
@@ -10,8 +10,12 @@ ghost use Rattle.td_store.specs.declared.local.Local.{Local};
 ghost use Rattle.td_walk.specs.Visits.{next_of};
 ghost use Rattle.td_walk.specs.declared.answer.Next.TheVariants.{Done, Forward};
 ghost use Rattle.td_walk.specs.declared.answer.StepAnswer.{StepAnswer};
+ghost use Rattle.td_walk.specs.declared.trace.TraceItem.{TraceItem};
+ghost use Rattle.td_walk.specs.declared.trace.Visit.{Visit};
 ghost use Rattle.td_walk_laws.specs.Reach.{IsPassed, IsRead, weight_of, reach_of, turns_of};
 ghost use Rattle.td_walk_laws.specs.SubQueryLaws.{CarriesIdentifier};
+ghost use Rattle.td_walk_laws.specs.WalkLaws.{BeginsIn, Group, Shows};
+ghost use Rattle.td_walk_laws.specs.Walks.{Course, Walk};
 
 /// Each query that a visit passes on goes over a link or to a proxy offer's trader, where there are hops, or along its
 /// path.
@@ -48,4 +52,12 @@ pub fn walks_end()
 pub fn visits_reach_no_farther()
     ensures { (l : Local) → l.effective ≡ effective_of l.stated l.attributes → l.attributes.max_hop_count ≤ 2 ^ 32
         → reach_of l ≤ weight_of l.stated }
+{}
+
+/// The items Outside, Evaluated and Failed of a walk are, in order, the calls that were made of peers in it and what
+/// each gave.
+pub fn walks_are_asked()
+    ensures { (group : Group) (inside : ℕ → Ior → Option ℕ) (s u : Course ℕ) (trader : ℕ) (q : Query)
+        (items : List TraceItem) (v : Visit) → Walk (BeginsIn group) inside s trader q items v u
+        → Shows items s.calls u.calls }
 {}
