@@ -1,0 +1,115 @@
+//! The entries of a trader, done to its store.
+
+ghost use Rattle.std.specs.Prelude.{◌≡◌, IfOk, OnOk};
+ghost use Rattle.td_cdr.specs.Text.{HasNoNul};
+ghost use Rattle.td_changes.specs.Applying.{apply};
+ghost use Rattle.td_changes.specs.Histories.{is_done};
+ghost use Rattle.td_changes.specs.Numbering.{AreNumbered};
+ghost use Rattle.td_file.specs.Openings.{behind, change_of, link_to, store_after};
+ghost use Rattle.td_file.specs.Stages.{Enters};
+
+use crate::fault::FileFault;
+use crate::objects::ends_of;
+use std::alloc::Global;
+use td_cdr::{List, Memory, Text};
+use td_changes::apply;
+use td_lines::{Entry, Home, LineCause, Numbered};
+use td_ops::{Change, Outcome};
+use td_store::Store;
+use td_value::FollowOption;
+
+/// The link to a trader of the file, with its own Register.
+fn link_to(
+    alloc: Global,
+    home: &Home,
+    name: Text,
+    trader: Text,
+    def_pass_on: FollowOption,
+    limiting: FollowOption,
+) -> Result<Change, Memory>
+    requires { HasNoNul home.now.host }
+    ensures { IfOk result (λ c. c ≡ link_to home.now name trader def_pass_on limiting) }
+{
+    let (target, register) = ends_of(alloc, home, trader.as_slice())?;
+    Ok(Change::AddLink {
+        name,
+        target,
+        def_pass_on,
+        limiting,
+        register: Some(register),
+    })
+}
+
+/// The change that an entry asks for.
+fn change_of(alloc: Global, home: &Home, entry: Entry) -> Result<Change, Memory>
+    requires { HasNoNul home.now.host }
+    ensures { IfOk result (λ c. c ≡ change_of home.now entry) }
+{
+    match entry {
+        Entry::Change(change) => Ok(change),
+        Entry::Link {
+            name,
+            trader,
+            def_pass_on,
+            limiting,
+        } => link_to(alloc, home, name, trader, def_pass_on, limiting),
+    }
+}
+
+/// Whether a change was done.
+fn is_done(outcome: &Outcome) -> bool
+    ensures { result ≡ is_done outcome.now }
+{
+    match outcome {
+        Outcome::Done(_) => true,
+        Outcome::User(_) => false,
+        Outcome::System { .. } => false,
+    }
+}
+
+/// Does a change, and tells whether it was done.
+fn is_applied(alloc: Global, store: &mut Store, change: Change) -> Result<bool, Memory>
+    requires { AreNumbered store.old }
+    ensures told { IfOk result (λ b. b ≡ is_done (apply store.old change).outcome) }
+    ensures after { OnOk result (store.new ≡ (apply store.old change).store) }
+    ensures numbered { AreNumbered store.new }
+{
+    let outcome = apply(alloc, store, change)?;
+    let passed = is_done(&outcome);
+    drop(outcome);
+    Ok(passed)
+}
+
+/// Does what an entry asks for.
+fn enter(alloc: Global, home: &Home, store: &mut Store, one: Numbered) -> Result<(), FileFault>
+    requires host { HasNoNul home.now.host }
+    requires numbered { AreNumbered store.old }
+    ensures enters { Enters (behind home.now store.old one) store.new result }
+    ensures numbered { AreNumbered store.new }
+{
+    let Numbered { line, entry } = one;
+    let change = change_of(alloc, home, entry)?;
+    if is_applied(alloc, store, change)? {
+        Ok(())
+    } else {
+        Err(FileFault::Line(line, LineCause::Rejected))
+    }
+}
+
+/// Does what these entries ask for, in order, up to the first that is refused.
+pub(crate) fn enter_all(
+    alloc: Global,
+    home: &Home,
+    store: &mut Store,
+    entries: List<Numbered>,
+) -> Result<(), FileFault>
+    requires host { HasNoNul home.now.host }
+    requires numbered { AreNumbered store.old }
+    ensures enters { Enters (store_after home.now store.old entries) store.new result }
+    ensures numbered { AreNumbered store.new }
+{
+    for one in entries.into_vec() {
+        enter(alloc, home, store, one)?;
+    }
+    Ok(())
+}

@@ -1,0 +1,91 @@
+//! The store of a new trader of the file.
+
+ghost use Rattle.std.specs.Prelude.{◌≡◌, [], IfOk};
+ghost use Rattle.td_cdr.specs.Text.{HasNoNul};
+ghost use Rattle.td_changes.specs.Numbering.{AreNumbered};
+ghost use Rattle.td_file.specs.Objects.{own};
+ghost use Rattle.td_file.specs.Openings.{new_store};
+ghost use Rattle.td_policy.specs.Attributes.{default_attributes};
+
+use crate::objects::own;
+use std::alloc::Global;
+use td_cdr::{List, Memory, Text};
+use td_lines::Home;
+use td_policy::{Attributes, default_attributes};
+use td_store::{Links, Offers, Store};
+use td_types::Types;
+
+fn attributes(alloc: Global, home: &Home, name: &Text) -> Result<Attributes, Memory>
+    requires { HasNoNul home.now.host }
+    ensures { IfOk result (λ a. a ≡ default_attributes name.now (own home.now name.now)) }
+{
+    let own = own(alloc, home, name.as_slice())?;
+    default_attributes(alloc, name, own)
+}
+
+fn links_and_attributes(
+    alloc: Global,
+    home: &Home,
+    name: &Text,
+) -> Result<(Links, Attributes), Memory>
+    requires { HasNoNul home.now.host }
+    ensures links { IfOk result (λ p. p.0 ≡ []) }
+    ensures attributes { IfOk result (λ p. p.1 ≡ default_attributes name.now (own home.now name.now)) }
+{
+    let links = Links::new(alloc)?;
+    match attributes(alloc, home, name) {
+        Ok(attributes) => Ok((links, attributes)),
+        Err(memory) => {
+            drop(links);
+            Err(memory)
+        }
+    }
+}
+
+fn offers_and_others(
+    alloc: Global,
+    home: &Home,
+    name: &Text,
+) -> Result<(Offers, (Links, Attributes)), Memory>
+    requires { HasNoNul home.now.host }
+    ensures offers { IfOk result (λ p. p.0 ≡ []) }
+    ensures links { IfOk result (λ p. p.1.0 ≡ []) }
+    ensures attributes { IfOk result (λ p. p.1.1 ≡ default_attributes name.now (own home.now name.now)) }
+{
+    let offers = Offers::new(alloc)?;
+    match links_and_attributes(alloc, home, name) {
+        Ok(others) => Ok((offers, others)),
+        Err(memory) => {
+            drop(offers);
+            Err(memory)
+        }
+    }
+}
+
+/// The store of a new trader, with these interfaces.
+#[tactic(auto, unfolding(crate::specs::Openings::new_store))]
+pub(crate) fn new_store(
+    alloc: Global,
+    home: &Home,
+    name: &Text,
+    interfaces: List<(Text, List<Text>)>,
+) -> Result<Store, Memory>
+    requires { HasNoNul home.now.host }
+    ensures opens { IfOk result (λ s. s ≡ new_store home.now name.now interfaces) }
+    ensures numbered { IfOk result AreNumbered }
+{
+    let types = Types::new(alloc, interfaces)?;
+    match offers_and_others(alloc, home, name) {
+        Ok((offers, (links, attributes))) => Ok(Store {
+            types,
+            offers,
+            links,
+            attributes,
+            last_offer: 0,
+        }),
+        Err(memory) => {
+            drop(types);
+            Err(memory)
+        }
+    }
+}

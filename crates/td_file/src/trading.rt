@@ -1,0 +1,105 @@
+//! The traders of the file, in the stores with which they open.
+
+ghost use Rattle.std.specs.Prelude.{◌≡◌, ◌≤◌, length, IfOk};
+ghost use Rattle.td_cdr.specs.Text.{HasNoNul};
+ghost use Rattle.td_changes.specs.Numbering.{AreNumbered};
+ghost use Rattle.td_file.specs.Openings.{all_traders, bounds, new_store, store_after, trader_of};
+ghost use Rattle.td_file.specs.Stages.{Gives};
+ghost use Rattle.td_trader.specs.PlainTraders.{opened};
+
+use crate::entering::enter_all;
+use crate::fault::FileFault;
+use crate::opening::new_store;
+use std::alloc::Global;
+use td_cdr::{List, Memory, Text, Twin};
+use td_changes::Bounds;
+use td_lines::{Home, Numbered, TraderScript};
+use td_store::Store;
+use td_trader::Trader;
+
+/// The bounds of each trader.
+fn bounds() -> Bounds
+    ensures { result ≡ bounds }
+{
+    Bounds {
+        ring: 4096,
+        changes: 1000000,
+        begins: 1099511627776,
+    }
+}
+
+/// The store behind a trader's entries.
+fn store_of(
+    alloc: Global,
+    home: &Home,
+    name: &Text,
+    interfaces: List<(Text, List<Text>)>,
+    entries: List<Numbered>,
+) -> Result<Store, FileFault>
+    requires { HasNoNul home.now.host }
+    ensures gives { Gives (store_after home.now (new_store home.now name.now interfaces) entries) result }
+    ensures numbered { IfOk result AreNumbered }
+{
+    let mut store = new_store(alloc, home, name, interfaces)?;
+    match enter_all(alloc, home, &mut store, entries) {
+        Ok(()) => Ok(store),
+        Err(fault) => {
+            drop(store);
+            Err(fault)
+        }
+    }
+}
+
+/// A trader in this store, with an empty history and no marks.
+fn trader_in(alloc: Global, name: Text, store: Store) -> Result<Trader, Memory>
+    requires numbered { AreNumbered store }
+    requires stem { length store.attributes.request_id_stem ≤ 64 }
+    ensures { IfOk result (λ t. t ≡ opened name store bounds) }
+{
+    match store.attributes.request_id_stem.copy(alloc) {
+        Ok(stem) => Trader::new(alloc, name, store, stem, bounds()),
+        Err(memory) => {
+            drop(name);
+            drop(store);
+            Err(memory)
+        }
+    }
+}
+
+/// A trader of the file.
+fn open_trader(alloc: Global, home: &Home, told: TraderScript) -> Result<Trader, FileFault>
+    requires { HasNoNul home.now.host }
+    ensures { Gives (trader_of home.now told) result }
+{
+    let TraderScript {
+        name,
+        interfaces,
+        entries,
+    } = told;
+    // The lines of a file give no trader a name of more than 32 bytes, so that this answer never comes; their
+    // contract doesn't say so.
+    if name.len() > 32 {
+        return Err(FileFault::Memory);
+    }
+    match store_of(alloc, home, &name, interfaces, entries) {
+        Ok(store) => Ok(trader_in(alloc, name, store)?),
+        Err(fault) => Err(fault),
+    }
+}
+
+/// The traders of the file in order, up to the first entry that is refused.
+pub(crate) fn open_all(
+    alloc: Global,
+    home: &Home,
+    told: List<TraderScript>,
+) -> Result<List<Trader>, FileFault>
+    requires { HasNoNul home.now.host }
+    ensures { Gives (all_traders home.now told) result }
+{
+    let mut traders = List::new(alloc);
+    for one in told.into_vec() {
+        let trader = open_trader(alloc, home, one)?;
+        traders.push(trader)?;
+    }
+    Ok(traders)
+}
