@@ -1,0 +1,96 @@
+-- The loop of a walk through a group: what was done since it began.
+use Rattle.std.proofs.Common.{◌≡◌, ℕ, ◌<◌, List, [], ◌∷◌, ◌++◌, length, None, Some, refl, sym, ap, subst, ◌∙◌, arith}
+use Rattle.td_cdr.specs.Marks.{Marks}
+use Rattle.td_fed.proofs.Measures.{measure_all, most}
+use Rattle.td_fed.proofs.Opening.{entered-read, is-begun}
+use Rattle.td_fed.proofs.Showing.{shown-none, shown-on}
+use Rattle.td_fed.proofs.Turned.{AllRead, Walked, Walking, ended-at-once, first-open, last, less-left, none-left}
+use Rattle.td_fed.proofs.Turned.{still-read, turned}
+use Rattle.td_fed.specs.Entering.{IsEntered}
+use Rattle.td_fed.specs.Targets.{inside_group}
+use Rattle.td_fed.specs.Trails.{IsShown}
+use Rattle.td_fed.specs.Turning.{IsTurn}
+use Rattle.td_fed.specs.Visiting.{Begins, Visited, course}
+use Rattle.td_fed.specs.declared.entering.Entry.TheVariants as entry
+use Rattle.td_ops.specs.declared.call.Query.{Query}
+use Rattle.td_register.specs.declared.history.Accepted.{Accepted}
+use Rattle.td_trader.specs.Worlds.{View}
+use Rattle.td_visit.specs.Standing.{Standing as Frame}
+use Rattle.td_walk.specs.Peering.{Exchange}
+use Rattle.td_walk.specs.declared.trace.Address.{Address}
+use Rattle.td_walk.specs.declared.trace.TraceItem.{TraceItem}
+use Rattle.td_walk.specs.declared.trace.Visit.{Visit}
+use Rattle.td_walk_laws.specs.Reach.{IsRead}
+
+module _ (others : List Accepted → Type 0) (later : Marks → Marks → Type 0) (home : Address) where
+  -- The loop began with these traders, words, calls, items and open visits, and has come to those.
+  pub record Going (w0 : List View) (words0 : ℕ → ℕ) (calls0 : List Exchange) (notes0 : List TraceItem)
+      (stack0 : List Frame) (w : List View) (words : ℕ → ℕ) (calls : List Exchange) (notes : List TraceItem)
+      (stack : List Frame) : Type 0 where
+    pub shown : IsShown w0 calls0 notes0 notes w calls
+    pub read : AllRead stack
+    pub some_left : 0 < length stack
+    pub walking : (v : List View) (k : ℕ) (q : Query) (first : Frame) (before : List TraceItem) → stack0 ≡ first ∷ []
+        → IsEntered (Begins others later) v k q (entry.Open first) before notes0 w0
+        → Walking (Begins others later) (inside_group home) (course v words0 calls0) k q stack (course w words calls)
+        before notes
+
+  pub going-first : (w : List View) (words : ℕ → ℕ) (calls : List Exchange) (notes : List TraceItem)
+      (stack : List Frame) (first : Frame) → stack ≡ first ∷ [] → IsRead first.local
+      → Going w words calls notes stack w words calls notes stack
+  going-first w words calls notes stack first is read = record {
+    shown = shown-none w calls notes;
+    read = subst AllRead (sym is) (read, tt);
+    some_left = let n = ap (λ (fs : List Frame). length fs) is in omega (arith, n);
+    walking = λ v k q f before one h.
+        first-open (Begins others later) (inside_group home) (course v words calls) w k q f stack before notes one h;
+  }
+
+  module _ (w0 : List View) (words0 : ℕ → ℕ) (calls0 : List Exchange) (notes0 : List TraceItem) (stack0 : List Frame)
+      (w : List View) (words : ℕ → ℕ) (calls : List Exchange) (notes : List TraceItem) (stack : List Frame)
+      (going : Going w0 words0 calls0 notes0 stack0 w words calls notes stack)
+      (u : List View) (words1 : ℕ → ℕ) (calls1 : List Exchange) (notes1 : List TraceItem) (after : List Frame) where
+    pub shown-further : IsShown w calls notes notes1 u calls1 → IsShown w0 calls0 notes0 notes1 u calls1
+    shown-further shown = shown-on w0 w u calls0 calls calls1 notes0 notes notes1 going.shown shown
+
+    pub goes-further : IsTurn (Begins others later) (inside_group home) (course w words calls) stack None after notes
+        notes1 (course u words1 calls1) → IsShown w calls notes notes1 u calls1
+        → Going w0 words0 calls0 notes0 stack0 u words1 calls1 notes1 after
+    goes-further t shown = record {
+      shown = shown-further shown;
+      read = still-read (Begins others later) (inside_group home) (is-begun others later) stack after t.items
+          (course w words calls) (course u words1 calls1) t.turns going.read;
+      some_left = none-left (Begins others later) (inside_group home) stack after t.items (course w words calls)
+          (course u words1 calls1) t.turns;
+      walking = λ v k q first before one h.
+          turned (Begins others later) (inside_group home) (course v words0 calls0) (course w words calls)
+          (course u words1 calls1) k q stack after before notes notes1 (going.walking v k q first before one h) t;
+    }
+
+    pub is-less : IsTurn (Begins others later) (inside_group home) (course w words calls) stack None after notes notes1
+        (course u words1 calls1) → measure_all most after < measure_all most stack
+    is-less t =
+        less-left (Begins others later) (inside_group home) (is-begun others later) stack after t.items
+        (course w words calls) (course u words1 calls1) t.turns going.read
+
+    pub is-visited : (visit : Visit) (v : List View) (k : ℕ) (q : Query) (first : Frame) (before : List TraceItem)
+        → IsTurn (Begins others later) (inside_group home) (course w words calls) stack (Some visit) after notes notes1
+        (course u words1 calls1) → stack0 ≡ first ∷ []
+        → IsEntered (Begins others later) v k q (entry.Open first) before notes0 w0
+        → Visited others later home (course v words0 calls0) k q before notes1 visit (course u words1 calls1)
+    is-visited visit v k q first before t one h =
+        let x = last (Begins others later) (inside_group home) (course v words0 calls0) (course w words calls)
+        (course u words1 calls1) k q stack after before notes notes1 visit (going.walking v k q first before one h) t in
+        record { items = x.items; notes = x.notes; walk = x.walk }
+
+  -- a visit that asked nothing
+  pub at-once : (w u : List View) (words : ℕ → ℕ) (calls : List Exchange) (k : ℕ) (q : Query) (v : Visit)
+      (before now : List TraceItem) → IsEntered (Begins others later) w k q (entry.Ended v) before now u
+      → Visited others later home (course w words calls) k q before now v (course u words calls)
+  at-once w u words calls k q v before now h =
+      let x = ended-at-once (Begins others later) (inside_group home) (course w words calls) u k q v before now h in
+      record { items = x.items; notes = x.notes; walk = x.walk }
+
+  pub first-read : (w u : List View) (k : ℕ) (q : Query) (f : Frame) (x y : List TraceItem)
+      → IsEntered (Begins others later) w k q (entry.Open f) x y u → IsRead f.local
+  first-read w u k q f x y h = entered-read others later w u k q f x y h

@@ -1,0 +1,12 @@
+pub mod Called
+pub mod Entered
+pub mod Going
+pub mod Measures
+pub mod Opening
+pub mod Pending
+pub mod Places
+pub mod Quiet
+pub mod Resolved
+pub mod Showing
+pub mod Stacked
+pub mod Turned

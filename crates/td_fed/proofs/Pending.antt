@@ -1,0 +1,187 @@
+-- How far a walk has come: the visits that wait for one another, with what was noted in each.
+use Rattle.std.proofs.Common.{◌≡◌, ℕ, List, [], ◌∷◌, ◌++◌, append_assoc, append-nil, refl, sym, ap, subst, ◌∙◌}
+use Rattle.std.specs.Prelude.{Option, Some}
+use Rattle.td_codes.specs.declared.reference.Ior.{Ior}
+use Rattle.td_fed.specs.Entering.{IsEnd, opened}
+use Rattle.td_ops.specs.declared.call.Query.{Query}
+use Rattle.td_store.specs.declared.local.Local.{Local}
+use Rattle.td_walk.specs.Visits.{next_of}
+use Rattle.td_walk_laws.specs.Walks.{Course, Ends, Opens, Start, Step, Steps, Walk, answer_in, with_world}
+use Rattle.td_walk_laws.specs.Walks.{asked, asking, done, visited}
+use Rattle.td_walk.specs.declared.answer.Next.{Next}
+use Rattle.td_walk.specs.declared.answer.Next.TheVariants.{Done, Forward}
+use Rattle.td_walk.specs.declared.answer.StepAnswer.{StepAnswer}
+use Rattle.td_walk.specs.declared.answer.StepAnswer.TheVariants as answer
+use Rattle.td_walk.specs.declared.answer.SubAnswer.{SubAnswer}
+use Rattle.td_visit.specs.Standing.{Standing as Frame}
+use Rattle.td_walk.specs.declared.trace.TraceItem.{TraceItem}
+use Rattle.td_walk.specs.declared.trace.TraceItem.TheVariants as item
+use Rattle.td_walk.specs.declared.trace.Visit.{Visit}
+use Rattle.td_walk.specs.declared.trace.Visit.TheVariants as visit
+
+module _ {World : Type 0} (Begins : World → (trader : ℕ) → Query → Start → World → Type 0)
+    (inside : World → (target : Ior) → Option ℕ) where
+  -- The visit began so and has taken its answers: whatever is asked from here on, the whole is what was asked and that.
+  pub record Sofar (s : Course World) (k : ℕ) (q : Query) (f : Frame) (items : List TraceItem)
+      (m : Course World) : Type 0 where
+    pub start : Start
+    pub world : World
+    pub begins : Begins s.world k q start world
+    pub head : TraceItem
+    pub opens : Opens k f.local start head
+    pub rest : List TraceItem
+    pub items_are : items ≡ head ∷ rest
+    pub goes : (ts : List TraceItem) (all : List StepAnswer) (u : Course World)
+        → Steps Begins inside m f.local f.answers ts all u
+        → Steps Begins inside (with_world s world) f.local [] (rest ++ ts) all u
+
+  -- the visit waits for the answer of another one, of which this holds
+  pub record Waits (s : Course World) (k : ℕ) (q : Query) (f : Frame) (items : List TraceItem)
+      (Inner : Course World → ℕ → Query → List TraceItem → Type 0) : Type 0 where
+    pub middle : Course World
+    pub before : List TraceItem
+    pub sofar : Sofar s k q f before middle
+    pub target : Ior
+    pub query : Query
+    pub question : next_of f.local f.answers ≡ Forward target query
+    pub trader : ℕ
+    pub is_inside : inside middle.world target ≡ Some trader
+    pub after : List TraceItem
+    pub items_are : items ≡ before ++ after
+    pub inner : Inner middle trader query after
+
+  -- the visits that wait, the outermost first, and the open one
+  unfoldable pub Pending : List Frame → Frame → Course World → Course World → ℕ → Query → List TraceItem → Type 0
+  Pending [] top m s k q items = Sofar s k q top items m
+  Pending (f ∷ fs) top m s k q items = Waits s k q f items (Pending fs top m)
+
+  -- ---- a question was answered
+
+  sofar-asked : (s m u : Course World) (k : ℕ) (q : Query) (l : Local) (rs : List StepAnswer) (items t : List TraceItem)
+      (r : StepAnswer) → Sofar s k q (record { local = l; answers = rs }) items m
+      → Step Begins inside m (next_of l rs) t r u
+      → Sofar s k q (record { local = l; answers = rs ++ r ∷ [] }) (items ++ t) u
+  sofar-asked s m u k q l rs items t r h step = record {
+    start = h.start;
+    world = h.world;
+    begins = h.begins;
+    head = h.head;
+    opens = h.opens;
+    rest = h.rest ++ t;
+    items_are = ap (λ x. x ++ t) h.items_are;
+    goes = λ ts all v more. subst (λ x. Steps Begins inside (with_world s h.world) l [] x all v)
+        (sym (append_assoc h.rest t ts)) (h.goes (t ++ ts) all v (asked step more));
+  }
+
+  pub answered : (fs : List Frame) (s m u : Course World) (k : ℕ) (q : Query) (l : Local) (rs : List StepAnswer)
+      (items t : List TraceItem) (r : StepAnswer) → Pending fs (record { local = l; answers = rs }) m s k q items
+      → Step Begins inside m (next_of l rs) t r u
+      → Pending fs (record { local = l; answers = rs ++ r ∷ [] }) u s k q (items ++ t)
+  unfolding Pending
+  answered [] s m u k q l rs items t r h step = sofar-asked s m u k q l rs items t r h step
+  answered (f ∷ fs) s m u k q l rs items t r h step = record {
+    middle = h.middle;
+    before = h.before;
+    sofar = h.sofar;
+    target = h.target;
+    query = h.query;
+    question = h.question;
+    trader = h.trader;
+    is_inside = h.is_inside;
+    after = h.after ++ t;
+    items_are = ap (λ x. x ++ t) h.items_are ∙ append_assoc h.before h.after t;
+    inner = answered fs h.middle m u h.trader h.query l rs h.after t r h.inner step;
+  }
+
+  -- ---- a visit begins
+
+  pub began : (s : Course World) (k : ℕ) (q : Query) (start : Start) (w : World) (l : Local) (head : TraceItem)
+      → Begins s.world k q start w → Opens k l start head
+      → Sofar s k q (opened l) (head ∷ []) (with_world s w)
+  began s k q start w l head b o = record {
+    start = start;
+    world = w;
+    begins = b;
+    head = head;
+    opens = o;
+    rest = [];
+    items_are = refl;
+    goes = λ ts all u more. more;
+  }
+
+  -- the open visit waits for one that begins
+  pub deeper : (fs : List Frame) (top : Frame) (s m : Course World) (k : ℕ) (q : Query) (items : List TraceItem)
+      (target : Ior) (query : Query) (n : ℕ) (start : Start) (w : World) (l : Local) (head : TraceItem)
+      → Pending fs top m s k q items → next_of top.local top.answers ≡ Forward target query
+      → inside m.world target ≡ Some n → Begins m.world n query start w → Opens n l start head
+      → Pending (fs ++ top ∷ []) (opened l) (with_world m w) s k q (items ++ head ∷ [])
+  unfolding Pending
+  deeper [] top s m k q items target query n start w l head h is i b o = record {
+    middle = m;
+    before = items;
+    sofar = h;
+    target = target;
+    query = query;
+    question = is;
+    trader = n;
+    is_inside = i;
+    after = head ∷ [];
+    items_are = refl;
+    inner = began m n query start w l head b o;
+  }
+  deeper (f ∷ fs) top s m k q items target query n start w l head h is i b o = record {
+    middle = h.middle;
+    before = h.before;
+    sofar = h.sofar;
+    target = h.target;
+    query = h.query;
+    question = h.question;
+    trader = h.trader;
+    is_inside = h.is_inside;
+    after = h.after ++ head ∷ [];
+    items_are = ap (λ x. x ++ head ∷ []) h.items_are ∙ append_assoc h.before h.after (head ∷ []);
+    inner = deeper fs top h.middle m h.trader h.query h.after target query n start w l head h.inner is i b o;
+  }
+
+  -- ---- a visit ends
+
+  -- the one that nothing waits for
+  pub whole : (s m u : Course World) (k : ℕ) (q : Query) (f : Frame) (items : List TraceItem) (v : Visit)
+      → Sofar s k q f items m → IsEnd m f v u → Walk Begins inside s k q (items ++ item.Leave ∷ []) v u
+  whole s m u k q f items v h e =
+      let steps = h.goes [] f.answers m (done e.ends.done) in
+      let walk = asking h.begins h.opens steps e.ends in
+      subst (λ x. Walk Begins inside s k q x v u) (
+      ap (λ x. h.head ∷ (x ++ item.Leave ∷ [])) (append-nil h.rest) ∙ ap (λ x. x ++ item.Leave ∷ []) (sym h.items_are)
+      ) (subst (λ x. Walk Begins inside s k q (h.head ∷ (h.rest ++ []) ++ item.Leave ∷ []) x u) (sym e.is) walk)
+
+  -- the one that another waits for, which takes its answer
+  pub back : (fs : List Frame) (l : Local) (rs : List StepAnswer) (top : Frame) (s m u : Course World) (k : ℕ)
+      (q : Query) (items : List TraceItem) (v : Visit)
+      → Pending (fs ++ record { local = l; answers = rs } ∷ []) top m s k q items → IsEnd m top v u
+      → Pending fs (record { local = l; answers = rs ++ answer.Offers (answer_in v) ∷ [] }) u s k q
+      (items ++ item.Leave ∷ [])
+  unfolding Pending
+  back [] l rs top s m u k q items v h e =
+      let walk = whole h.middle m u h.trader h.query top h.after v h.inner e in
+      let step :
+      Step Begins inside h.middle (next_of l rs) (h.after ++ item.Leave ∷ []) (answer.Offers (answer_in v)) u =
+      subst (λ x. Step Begins inside h.middle x (h.after ++ item.Leave ∷ []) (answer.Offers (answer_in v)) u)
+      (sym h.question) (visited h.is_inside walk) in
+      subst (λ x. Sofar s k q (record { local = l; answers = rs ++ answer.Offers (answer_in v) ∷ [] }) x u)
+      (sym (ap (λ x. x ++ item.Leave ∷ []) h.items_are ∙ append_assoc h.before h.after (item.Leave ∷ [])))
+      (sofar-asked s h.middle u k q l rs h.before (h.after ++ item.Leave ∷ []) (answer.Offers (answer_in v)) h.sofar
+      step)
+  back (f ∷ fs) l rs top s m u k q items v h e = record {
+    middle = h.middle;
+    before = h.before;
+    sofar = h.sofar;
+    target = h.target;
+    query = h.query;
+    question = h.question;
+    trader = h.trader;
+    is_inside = h.is_inside;
+    after = h.after ++ item.Leave ∷ [];
+    items_are = ap (λ x. x ++ item.Leave ∷ []) h.items_are ∙ append_assoc h.before h.after (item.Leave ∷ []);
+    inner = back fs l rs top h.middle m u h.trader h.query h.after v h.inner e;
+  }

@@ -1,0 +1,339 @@
+-- What the names of links lead to, step by step.
+use Rattle.std.proofs.Common.{◌≡◌, ℕ, ◌+◌, ◌<◌, ◌≤◌, Bool, true, false, cond, ◌&&◌, List, [], ◌∷◌, ◌++◌, length}
+use Rattle.std.proofs.Common.{Option, None, Some, Result, Ok, Err, IfOk, OnErr, ◌⊎◌, inl, inr, refl, sym, ap, subst}
+use Rattle.std.proofs.Common.{◌∙◌}
+use Rattle.std.proofs.Common.{arith, slice_set}
+use Rattle.std.proofs.Common.{length-set, nat_eq, nat_le, append-nil, suc}
+use Rattle.std.specs.Option.{option_map}
+use Rattle.std.specs.Str.{bytes_eq}
+use Rattle.td_value.specs.declared.key.Kind.{Kind}
+use Rattle.td_value.specs.declared.key.Kind.TheVariants as kind
+use Rattle.td_value.specs.declared.key.ObjectKey.{ObjectKey}
+use Rattle.std.proofs.lemmas.Bool.{eqb-true, lt-leb, le-leb}
+use Rattle.std.specs.List.{list_all}
+use Rattle.td_cdr.specs.Marks.{Marks}
+use Rattle.td_cdr.specs.Names.{word_name}
+use Rattle.td_cdr.specs.declared.memory.Memory.{Memory as Wanting}
+use Rattle.td_changes.specs.Applying.{seek, seen}
+use Rattle.td_changes.specs.Links.{describe_link, linked}
+use Rattle.td_codes.specs.declared.reference.Ior.{Ior}
+use Rattle.td_exceptions.specs.declared.exception.UserException.{UserException}
+use Rattle.td_exceptions.specs.declared.exception.UserException.TheVariants.{UnknownLinkName, UnknownTraderName}
+use Rattle.td_exceptions.specs.declared.exception.UserException.TheVariants.{IllegalLinkName, IllegalTraderName}
+use Rattle.td_fed.specs.Resolving.{Follows, IsAskedFor, IsGiven, IsUngiven, Leads, LeadsInside, LooksUp, Resolves}
+use Rattle.td_fed.specs.Resolving.{followed, given, illegal, inside, is_path, link_register, most_names, named}
+use Rattle.td_fed.specs.Resolving.{outside, register_of_link}
+use Rattle.td_fed.specs.Resolving.{told_register, unfound, ungiven, unknown, wanting, with_outcome}
+use Rattle.td_fed.specs.Targets.{home_key, keyed_in, inside_group, lookup_by, place_of, register_by, register_inside}
+use Rattle.td_fed.specs.Targets.{registered_in}
+use Rattle.td_fed.specs.declared.resolving.Lead.{Lead}
+use Rattle.td_fed.specs.declared.resolving.Lead.TheVariants as lead
+use Rattle.td_fed.specs.declared.resolving.NameAnswer.{NameAnswer}
+use Rattle.td_ops.specs.declared.call.Look.TheVariants as look
+use Rattle.td_ops.specs.declared.outcome.Outcome.{Outcome}
+use Rattle.td_ops.specs.declared.outcome.Outcome.TheVariants.{Done, User}
+use Rattle.td_ops.specs.declared.outcome.Reply.{Reply}
+use Rattle.td_ops.specs.declared.outcome.Reply.TheVariants as reply
+use Rattle.td_ops.specs.declared.outcome.SystemKind.TheVariants.{NoMemory}
+use Rattle.td_register.specs.Causes.{raise, system, tells, there}
+use Rattle.td_register.specs.Stores.{Store}
+use Rattle.td_register.specs.declared.history.Accepted.{Accepted}
+use Rattle.td_store.specs.LinkLists.{link_of}
+use Rattle.td_store.specs.Stores.{link_info_of}
+use Rattle.td_store.specs.declared.record.LinkRecord.{LinkRecord}
+use Rattle.td_trader.specs.Worlds.{Looks, View, history_at, store_seen, with_view}
+use Rattle.td_value.specs.declared.structures.LinkInfo.{LinkInfo}
+use Rattle.td_walk.specs.Peering.{Exchange, Given, Failed, IsNoted, Referred, Resolving, exchange, is_memory}
+use Rattle.td_walk.specs.declared.fault.PeerFault.{PeerFault}
+use Rattle.td_walk.specs.declared.fault.PeerFault.TheVariants as fault
+use Rattle.td_walk.specs.declared.trace.Address.{Address}
+
+-- ---- names
+
+both : (a b : Bool) → a && b ≡ true → (a ≡ true) × (b ≡ true)
+both true b h = (refl, h)
+both false b h = absurd (let bad : ⊥ = cc in bad)
+
+pub is-some : (names : List (List ℕ)) → is_path names ≡ true → 0 < length names
+is-some [] h = absurd (let bad : ⊥ = cc in bad)
+is-some (name ∷ names) h = omega arith
+
+pub all-words : (names : List (List ℕ)) → is_path names ≡ true → list_all word_name names ≡ true
+all-words [] h = refl
+all-words (name ∷ names) h =
+    (both (nat_le (length (name ∷ names)) most_names) (list_all word_name (name ∷ names)) h).1
+
+pub first-word : (names rest : List (List ℕ)) (name : List ℕ) → names ≡ name ∷ rest → list_all word_name names ≡ true
+    → word_name name ≡ true
+first-word names rest name is h =
+    (both (word_name name) (list_all word_name rest)
+    (subst (λ (ns : List (List ℕ)). list_all word_name ns ≡ true) is h)).0
+
+pub other-words : (names rest : List (List ℕ)) (name : List ℕ) → names ≡ name ∷ rest → list_all word_name names ≡ true
+    → list_all word_name rest ≡ true
+other-words names rest name is h =
+    (both (word_name name) (list_all word_name rest)
+    (subst (λ (ns : List (List ℕ)). list_all word_name ns ≡ true) is h)).1
+
+pub none-left : (names : List (List ℕ)) → nat_eq (length names) 0 ≡ true → names ≡ []
+none-left [] h = refl
+none-left (name ∷ names) h = absurd (let e = eqb-true (length (name ∷ names)) 0 h in omega (arith, e))
+
+pub no-names : (names : List (List ℕ)) → names ≡ [] → false ≡ is_path names
+no-names names is = ap is_path (sym is)
+
+pub too-many : (names : List (List ℕ)) → most_names < length names → false ≡ is_path names
+too-many [] h = refl
+too-many (name ∷ names) h =
+    sym (ap (λ b. b && list_all word_name (name ∷ names)) (lt-leb (length (name ∷ names)) most_names h))
+
+pub words-decide : (names : List (List ℕ)) → 0 < length names → length names ≤ most_names
+    → list_all word_name names ≡ is_path names
+words-decide [] h few = absurd (omega (arith, h))
+words-decide (name ∷ names) h few =
+    sym (ap (λ b. b && list_all word_name (name ∷ names)) (le-leb (length (name ∷ names)) most_names few))
+
+-- ---- a look at a link
+
+told-there : (o : Option LinkRecord) (e : UserException)
+    → told_register (tells (there o e) (λ l. reply.Link (link_info_of l))) ≡ register_of_link o
+told-there None e = refl
+told-there (Some l) e = refl
+
+told-linked : (b : Bool) (o : Option LinkRecord) (e f : UserException) → b ≡ true
+    → told_register (tells (cond b (there o e) (raise f)) (λ l. reply.Link (link_info_of l))) ≡ register_of_link o
+told-linked true o e f h = told-there o e
+told-linked false o e f h = absurd (let bad : ⊥ = cc in bad)
+
+described : (s : Store) (name : List ℕ) → word_name name ≡ true
+    → told_register (seen s (look.DescribeLink name)) ≡ register_of_link (link_of s.links name)
+unfolding seen describe_link
+described s name h =
+    told-linked (word_name name) (link_of s.links name) (UnknownLinkName name) (IllegalLinkName name) h
+
+-- no other reply tells a register
+pub not-link : (r : Reply) → ((i : LinkInfo) → r ≡ reply.Link i → ⊥) → ◌≡◌ {A = Option Ior} None (link_register r)
+not-link reply.Nothing h = refl
+not-link (reply.Id x) h = refl
+not-link (reply.Number x) h = refl
+not-link (reply.Truth x) h = refl
+not-link (reply.Reference x) h = refl
+not-link (reply.Follow x) h = refl
+not-link (reply.Stem x) h = refl
+not-link (reply.Incarnation x) h = refl
+not-link (reply.Names x) h = refl
+not-link (reply.Offer x) h = refl
+not-link (reply.Link i) h = absurd (h i refl)
+not-link (reply.Proxy x) h = refl
+not-link (reply.Typed x) h = refl
+not-link (reply.Found x y z) h = refl
+not-link (reply.Ids x y) h = refl
+not-link (reply.Batch x y) h = refl
+not-link (reply.IdBatch x y) h = refl
+
+-- ---- numbers of traders
+
+-- there is a trader of this number, if there is a number
+abbrev pub Within : ℕ → Option ℕ → Type 0
+Within n None = Unit {0}
+Within n (Some k) = k < n
+
+next-within : (n : ℕ) (o : Option ℕ) → Within n o → Within (suc n) (option_map suc o)
+next-within n None h = tt
+next-within n (Some k) h = omega (arith, h)
+
+choice-within : (n : ℕ) (b : Bool) (x y : Option ℕ) → Within n x → Within n y → Within n (cond b x y)
+choice-within n true x y h k = h
+choice-within n false x y h k = k
+
+place-within : (w : List View) (name : List ℕ) → Within (length w) (place_of w name)
+unfolding place_of
+place-within [] name = tt
+place-within (v ∷ vs) name =
+    choice-within (length (v ∷ vs)) (bytes_eq v.name name) (Some 0) (option_map suc (place_of vs name)) (omega arith)
+    (next-within (length vs) (place_of vs name) (place-within vs name))
+
+lookup-within : (w : List View) (name : List ℕ) (kind : Kind) → Within (length w) (lookup_by w name kind)
+lookup-within w name kind.Lookup = place-within w name
+lookup-within w name kind.Register = tt
+lookup-within w name kind.Link = tt
+lookup-within w name kind.Proxy = tt
+lookup-within w name kind.Admin = tt
+lookup-within w name kind.Types = tt
+lookup-within w name (kind.Iterator n) = tt
+
+register-within : (w : List View) (name : List ℕ) (kind : Kind) → Within (length w) (register_by w name kind)
+register-within w name kind.Lookup = tt
+register-within w name kind.Register = place-within w name
+register-within w name kind.Link = tt
+register-within w name kind.Proxy = tt
+register-within w name kind.Admin = tt
+register-within w name kind.Types = tt
+register-within w name (kind.Iterator n) = tt
+
+keyed-within : (w : List View) (key : Option ObjectKey) → Within (length w) (keyed_in w key)
+keyed-within w None = tt
+keyed-within w (Some key) = lookup-within w key.trader key.kind
+
+registered-within : (w : List View) (key : Option ObjectKey) → Within (length w) (registered_in w key)
+registered-within w None = tt
+registered-within w (Some key) = register-within w key.trader key.kind
+
+pub inside-within : (home : Address) (w : List View) (target : Ior) (k : ℕ) → inside_group home w target ≡ Some k
+    → k < length w
+inside-within home w target k is = subst (Within (length w)) is (keyed-within w (home_key home target))
+
+pub register-inside-within : (home : Address) (w : List View) (register : Ior) (k : ℕ)
+    → register_inside home w register ≡ Some k → k < length w
+register-inside-within home w register k is =
+    subst (Within (length w)) is (registered-within w (home_key home register))
+
+-- the traders stay as many
+pub as-many : (w u : List View) (k n : ℕ) (v : View) → u ≡ with_view w k v → n < length w → n < length u
+as-many w u k n v is h =
+    let e = ap (λ (t : List View). length t) is ∙ length-set w k v in omega (arith, e, h)
+
+-- ---- a name that is looked up
+
+module _ (others : List Accepted → Type 0) (later : Marks → Marks → Type 0) where
+  looks-so : (w u : List View) (k : ℕ) (name : List ℕ) (a : Outcome × ℕ) → word_name name ≡ true
+      → Looks others later w k (look.DescribeLink name) a u → LooksUp others later w k name (told_register a.0) u
+  looks-so w u k name a word h = record {
+    seen = h.seen;
+    meanwhile = h.meanwhile;
+    told = ap (λ (x : Outcome × ℕ). told_register x.0) h.answer ∙ described (store_seen h.seen) name word;
+    world = h.world;
+  }
+
+  pub looks-up : (w u : List View) (k : ℕ) (name : List ℕ) (a : Outcome × ℕ) (r : Option Ior) → word_name name ≡ true
+      → Looks others later w k (look.DescribeLink name) a u → r ≡ told_register a.0 → LooksUp others later w k name r u
+  looks-up w u k name a r word h is =
+      subst (λ (x : Option Ior). LooksUp others later w k name x u) (sym is) (looks-so w u k name a word h)
+
+module _ (others : List Accepted → Type 0) (later : Marks → Marks → Type 0) (home : Address) (whole : List (List ℕ))
+  where
+    pub is-unknown : (calls : List Exchange) (w u : List View) (k : ℕ) (name : List ℕ) (rest : List (List ℕ))
+        (point : ℕ) (a : NameAnswer) → LooksUp others later w k name None u → point ≡ length (history_at u k)
+        → a ≡ record { point = point; asked = None; outcome = User (UnknownTraderName whole) }
+        → Follows others later home whole calls w k (name ∷ rest) a u calls
+    is-unknown calls w u k name rest point a looks seen_at is =
+        subst (λ (x : NameAnswer). Follows others later home whole calls w k (name ∷ rest) x u calls)
+        (sym (is ∙ ap (λ (p : ℕ). record {
+          point = p;
+          asked = None;
+          outcome = User (UnknownTraderName whole);
+        }) seen_at)) (unknown looks)
+
+    pub is-named : (calls : List Exchange) (w u : List View) (k : ℕ) (name : List ℕ) (rest : List (List ℕ)) (point : ℕ)
+        (register : Ior) → rest ≡ [] → LooksUp others later w k name (Some register) u → point ≡ length (history_at u k)
+        → Follows others later home whole calls w k (name ∷ rest)
+        (record { point = point; asked = None; outcome = Done (reply.Reference register) }) u calls
+    is-named calls w u k name rest point register none looks seen_at =
+        subst (λ (ns : List (List ℕ)). Follows others later home whole calls w k (name ∷ ns)
+        (record { point = point; asked = None; outcome = Done (reply.Reference register) }) u calls) (sym none)
+        (subst (λ (p : ℕ). Follows others later home whole calls w k (name ∷ [])
+        (record { point = p; asked = None; outcome = Done (reply.Reference register) }) u calls) (sym seen_at)
+        (named register looks))
+
+    pub is-outside : (calls now : List Exchange) (w u : List View) (k : ℕ) (name : List ℕ) (rest : List (List ℕ))
+        (point : ℕ) (register : Ior) (a : NameAnswer) → 0 < length rest
+        → LooksUp others later w k name (Some register) u
+        → point ≡ length (history_at u k) → register_inside home u register ≡ None
+        → IsAskedFor point whole rest register calls a now
+        → Follows others later home whole calls w k (name ∷ rest) a u now
+    is-outside calls now w u k name [] point register a some looks seen_at gone asked = absurd (omega (arith, some))
+    is-outside calls now w u k name (next ∷ rest) point register a some looks seen_at gone asked =
+        outside register looks gone
+        (subst (λ (p : ℕ). IsAskedFor p whole (next ∷ rest) register calls a now) seen_at asked)
+
+    pub is-inside : (calls now : List Exchange) (w u v : List View) (k n : ℕ) (name : List ℕ) (rest : List (List ℕ))
+        (point : ℕ) (a : NameAnswer) → LeadsInside others later home w k name point n u
+        → Follows others later home whole calls u n rest a v now
+        → Follows others later home whole calls w k (name ∷ rest)
+        (record { point = point; asked = a.asked; outcome = a.outcome }) v now
+    is-inside calls now w u v k n name rest point a leads follows =
+        subst (λ (p : ℕ). Follows others later home whole calls w k (name ∷ rest)
+        (record { point = p; asked = a.asked; outcome = a.outcome }) v now) (sym leads.point_is)
+        (inside leads.register n leads.looks leads.is_inside follows)
+
+-- ---- a register outside
+
+unasked-by : (gives : Ior → Given) (register : Ior) (rest : List (List ℕ)) (f : PeerFault) → is_memory f ≡ true
+    → exchange gives (Resolving register rest) (Err f) ≡ []
+unasked-by gives register rest fault.Memory h = refl
+unasked-by gives register rest fault.Wire h = absurd (let bad : ⊥ = cc in bad)
+unasked-by gives register rest fault.Grammar h = absurd (let bad : ⊥ = cc in bad)
+unasked-by gives register rest fault.Exception h = absurd (let bad : ⊥ = cc in bad)
+
+asked-by : (gives : Ior → Given) (register : Ior) (rest : List (List ℕ)) (f : PeerFault) → is_memory f ≡ false
+    → exchange gives (Resolving register rest) (Err f)
+    ≡ record { call = Resolving register rest; gave = Failed f } ∷ []
+asked-by gives register rest fault.Memory h = absurd (let bad : ⊥ = cc in bad)
+asked-by gives register rest fault.Wire h = refl
+asked-by gives register rest fault.Grammar h = refl
+asked-by gives register rest fault.Exception h = refl
+
+pub not-memory : (f : PeerFault) → (f ≡ fault.Memory → ⊥) → is_memory f ≡ false
+not-memory fault.Memory h = absurd (h refl)
+not-memory fault.Wire h = refl
+not-memory fault.Grammar h = refl
+not-memory fault.Exception h = refl
+
+module _ (point : ℕ) (whole rest : List (List ℕ)) (register : Ior) (calls now : List Exchange) (faults later : ℕ) where
+  pub was-given : (r : Ior) (a : NameAnswer)
+      → IsNoted (λ x. Referred x) (Resolving register rest) calls now faults later (Ok r) → IsGiven point r a
+      → IsAskedFor point whole rest register calls a now
+  was-given r a noted (inl is) =
+      subst (λ (x : NameAnswer). IsAskedFor point whole rest register calls x now) (sym is)
+      (subst (IsAskedFor point whole rest register calls (with_outcome point r (Done (reply.Reference r))))
+      (sym noted.calls) (given r))
+  was-given r a noted (inr is) =
+      subst (λ (x : NameAnswer). IsAskedFor point whole rest register calls x now) (sym is)
+      (subst (IsAskedFor point whole rest register calls (with_outcome point r (system NoMemory)))
+      (sym noted.calls) (wanting r))
+
+  pub was-ungiven : (f : PeerFault) (res : Result NameAnswer Wanting)
+      → IsNoted {X = Ior} (λ x. Referred x) (Resolving register rest) calls now faults later (Err f)
+      → IsUngiven point f whole res → IfOk res (λ a. IsAskedFor point whole rest register calls a now)
+  was-ungiven f (Ok a) noted h =
+      subst (λ (x : NameAnswer). IsAskedFor point whole rest register calls x now) (sym h.1)
+      (subst (IsAskedFor point whole rest register calls (unfound point f whole))
+      (sym (noted.calls ∙ ap (λ t. calls ++ t) (asked-by (λ x. Referred x) register rest f h.0)))
+      (ungiven f h.0))
+  was-ungiven f (Err e) noted h = tt
+
+  pub nothing-asked : (f : PeerFault) (res : Result NameAnswer Wanting)
+      → IsNoted {X = Ior} (λ x. Referred x) (Resolving register rest) calls now faults later (Err f)
+      → IsUngiven point f whole res → OnErr res (now ≡ calls)
+  nothing-asked f (Ok a) noted h = tt
+  nothing-asked f (Err e) noted h =
+      noted.calls ∙ (ap (λ t. calls ++ t) (unasked-by (λ x. Referred x) register rest f h) ∙ append-nil calls)
+
+-- ---- in all
+
+module _ (others : List Accepted → Type 0) (later : Marks → Marks → Type 0) (home : Address) (w : List View)
+    (calls : List Exchange) (k : ℕ) (name : List (List ℕ)) where
+  pub illegal-if : (point : ℕ) (r : Result NameAnswer Wanting) → is_path name ≡ false → point ≡ length (history_at w k)
+      → IfOk r (λ a. a ≡ record { point = point; asked = None; outcome = User (IllegalTraderName name) })
+      → IfOk r (λ a. Resolves others later home w calls k name a w calls)
+  illegal-if point (Ok a) bad seen_at is =
+      subst (λ (x : NameAnswer). Resolves others later home w calls k name x w calls)
+      (sym (is ∙ ap (λ (p : ℕ). record {
+        point = p;
+        asked = None;
+        outcome = User (IllegalTraderName name);
+      }) seen_at)) (illegal bad)
+  illegal-if point (Err e) bad seen_at is = tt
+
+  pub followed-if : (u : List View) (now : List Exchange) (r : Result NameAnswer Wanting) → is_path name ≡ true
+      → IfOk r (λ a. Follows others later home name calls w k name a u now)
+      → IfOk r (λ a. Resolves others later home w calls k name a u now)
+  followed-if u now (Ok a) good h = followed good h
+  followed-if u now (Err e) good h = tt
+
+  -- the names begin with this one
+  pub follows-so : (whole names rest : List (List ℕ)) (one : List ℕ) (a : NameAnswer) (u : List View)
+      (now : List Exchange) → names ≡ one ∷ rest → Follows others later home whole calls w k (one ∷ rest) a u now
+      → Follows others later home whole calls w k names a u now
+  follows-so whole names rest one a u now is h =
+      subst (λ (ns : List (List ℕ)). Follows others later home whole calls w k ns a u now) (sym is) h

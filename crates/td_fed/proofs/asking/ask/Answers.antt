@@ -1,0 +1,27 @@
+use Rattle.std.proofs.Common.{◌≡◌, rules, sym, subst}
+use Rattle.td_fed.proofs.Called.{evaluates, peered-asked}
+use Rattle.td_fed.proofs.asking.ask.Goals as goal
+use Rattle.td_fed.specs.Entering.{IsAsked}
+use Rattle.td_fed.specs.Targets.{inside_group}
+use Rattle.td_fed.specs.Visiting.{Begins, course}
+use Rattle.td_fed.specs.declared.asking.Asking.TheVariants.{Answered}
+use Rattle.td_walk.specs.declared.answer.Next.{Next}
+use Rattle.td_walk.specs.declared.answer.Next.TheVariants.{Evaluate}
+
+pub returns-in_ok-answer-in-Evaluate-clause-asked : goal.returns-in_ok-answer-in-Evaluate-clause-asked
+returns-in_ok-answer-in-Evaluate-clause-asked g c = λ words.
+    let w = g.T.Traders.world c.args.traders.now in
+    let s = course w words (g.P.Peers.calls c.args.peers.now) in
+    let u = course w words (g.P.Peers.calls c.evaluate-answer.new.peers) in
+    let a = c.in-Evaluate in
+    let e : c.args.question ≡ Evaluate a.evaluator a.name c.get.result.now c.get-in-Evaluate.result.now =
+    search rules in
+    subst (λ (q : Next). IsAsked (Begins g.T.Traders.others g.T.Traders.later) (inside_group c.args.home.now) s q
+    (Answered c.in_ok-answer-in-Evaluate.field-0) c.args.notes.now.items c.evaluate-answer.new.notes.items u)
+    (sym e)
+    (peered-asked (Begins g.T.Traders.others g.T.Traders.later) (inside_group c.args.home.now) s
+    (Evaluate a.evaluator a.name c.get.result.now c.get-in-Evaluate.result.now)
+    c.in_ok-answer-in-Evaluate.field-0 c.args.notes.now.items c.evaluate-answer.new.notes.items
+    (g.P.Peers.calls c.evaluate-answer.new.peers)
+    (evaluates (Begins g.T.Traders.others g.T.Traders.later) (inside_group c.args.home.now) s a.evaluator a.name
+    c.get.result.now c.get-in-Evaluate.result.now) c.in_ok-answer-in-Evaluate.ensures.peered)

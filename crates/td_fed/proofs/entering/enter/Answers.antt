@@ -1,0 +1,28 @@
+use Rattle.std.proofs.Common.{[], refl}
+use Rattle.td_fed.proofs.Entered.{entered-if, shown-begun, shown-watched}
+use Rattle.td_fed.proofs.Resolved.{as-many}
+use Rattle.td_fed.proofs.Showing.{shown-same}
+use Rattle.td_fed.proofs.entering.enter.Goals as goal
+use Rattle.td_trader.specs.Worlds.{after_begin, store_seen}
+use Rattle.td_trader.specs.Beginning.{after_begin as marks_after}
+
+pub returns-in_err-begin-clause-shown : goal.returns-in_err-begin-clause-shown
+returns-in_err-begin-clause-shown g c =
+    shown-watched g.T.Traders.others g.T.Traders.later (g.T.Traders.world c.args.traders.now)
+    (g.T.Traders.world c.begin.new.self) c.args.trader c.args.notes.now.items c.reserve.new.self.items
+    c.in_err-begin.ensures.err c.reserve.ensures.items
+
+pub returns-clause-entered : goal.returns-clause-entered
+returns-clause-entered g c =
+    entered-if g.T.Traders.others g.T.Traders.later (g.T.Traders.world c.args.traders.now)
+    (g.T.Traders.world c.begin.new.self) c.args.trader c.point-point.result c.args.q.now c.in_ok-begin.begin
+    c.note_begin.result c.args.notes.now.items c.reserve.new.self.items c.note_begin.new.notes.items
+    c.in_ok-begin.ensures.ok c.point-point.ensures.point c.note_begin.ensures.entry c.reserve.ensures.items
+    c.note_begin.ensures.noted
+
+pub returns-clause-shown : goal.returns-clause-shown
+returns-clause-shown g c =
+    shown-begun g.T.Traders.others g.T.Traders.later (g.T.Traders.world c.args.traders.now)
+    (g.T.Traders.world c.begin.new.self) c.args.trader c.point-point.result c.args.q.now c.in_ok-begin.begin
+    c.args.notes.now.items c.reserve.new.self.items c.note_begin.new.notes.items c.in_ok-begin.ensures.ok
+    c.reserve.ensures.items c.note_begin.ensures.noted

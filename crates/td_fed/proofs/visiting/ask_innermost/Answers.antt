@@ -1,0 +1,26 @@
+use Rattle.td_fed.proofs.Stacked.{one-asks, turn-answered, turn-opened}
+use Rattle.td_fed.proofs.visiting.ask_innermost.Goals as goal
+use Rattle.td_fed.specs.Targets.{inside_group}
+use Rattle.td_fed.specs.Visiting.{Begins, course}
+
+pub answer_innermost-requires : goal.answer_innermost-requires
+answer_innermost-requires g c = one-asks c.args.stack.now.items c.args.question c.requires.asks
+
+pub returns-in-Answered-clause-turns : goal.returns-in-Answered-clause-turns
+returns-in-Answered-clause-turns g c = λ words.
+    turn-answered (Begins g.T.Traders.others g.T.Traders.later) (inside_group c.args.home.now)
+    (course (g.T.Traders.world c.args.traders.now) words (g.P.Peers.calls c.args.peers.now))
+    c.args.stack.now.items c.args.question c.requires.asks c.in-Answered.answer
+    (course (g.T.Traders.world c.ask.new.traders) words (g.P.Peers.calls c.ask.new.peers))
+    c.args.notes.now.items c.ask.new.notes.items c.answer_innermost.new.stack.items c.answer_innermost.result
+    (rw c.in-Answered.is at (c.in_ok-answer.ensures.asked words)) c.answer_innermost.ensures
+
+pub returns-in-Open-clause-turns : goal.returns-in-Open-clause-turns
+returns-in-Open-clause-turns g c = λ words.
+    turn-opened (Begins g.T.Traders.others g.T.Traders.later) (inside_group c.args.home.now)
+    (course (g.T.Traders.world c.args.traders.now) words (g.P.Peers.calls c.args.peers.now))
+    c.args.stack.now.items c.args.question c.requires.asks c.in-Open.visit
+    (course (g.T.Traders.world c.ask.new.traders) words (g.P.Peers.calls c.ask.new.peers))
+    c.args.notes.now.items c.ask.new.notes.items c.open_innermost.new.stack.items c.open_innermost.result
+    (rw c.in-Open.is at (c.in_ok-answer.ensures.asked words)) c.open_innermost.ensures.few
+    c.open_innermost.ensures.opened

@@ -1,0 +1,26 @@
+use Rattle.std.proofs.Common.{List, IfOk, subst}
+use Rattle.td_fed.proofs.Showing.{shown-none}
+use Rattle.td_fed.proofs.Stacked.{turn-closes}
+use Rattle.td_fed.proofs.visiting.turn.Goals as goal
+use Rattle.td_fed.specs.Targets.{inside_group}
+use Rattle.td_fed.specs.Turning.{IsTurn}
+use Rattle.td_fed.specs.Visiting.{Begins, course}
+use Rattle.td_visit.specs.Standing.{Standing as Frame}
+
+pub returns-in_err-question-clause-shown : goal.returns-in_err-question-clause-shown
+returns-in_err-question-clause-shown g c =
+    shown-none (g.T.Traders.world c.args.traders.now) (g.P.Peers.calls c.args.peers.now) c.args.notes.now.items
+
+pub returns-in-Done-clause-turns : goal.returns-in-Done-clause-turns
+returns-in-Done-clause-turns g c =
+    let w = g.T.Traders.world c.args.traders.now in
+    let calls = g.P.Peers.calls c.args.peers.now in
+    let s = course w (g.W.Words.word c.args.words.now) calls in
+    let u = course w (g.W.Words.word c.end_innermost.new.words) calls in
+    subst (λ (fs : List Frame). IfOk c.end_innermost.result (λ v. IsTurn (Begins g.T.Traders.others g.T.Traders.later)
+    (inside_group c.args.home.now) s fs v c.end_innermost.new.stack.items c.args.notes.now.items
+    c.end_innermost.new.notes.items u)) c.next_of_innermost.ensures.kept
+    (turn-closes (Begins g.T.Traders.others g.T.Traders.later) (inside_group c.args.home.now) s u
+    c.next_of_innermost.new.stack.items c.end_innermost.new.stack.items c.args.notes.now.items
+    c.end_innermost.new.notes.items c.end_innermost.result (c.end_innermost.ensures.closes w calls)
+    c.end_innermost.ensures.noted)

@@ -1,0 +1,67 @@
+use Rattle.std.proofs.Common.{◌≡◌, [], ◌∷◌, rules}
+use Rattle.td_fed.proofs.Going.{goes-further, going-first, is-less, is-visited}
+use Rattle.td_fed.proofs.Showing.{shown-none, shown-on}
+use Rattle.td_fed.proofs.visiting.walk_on.Goals as goal
+
+pub returns-in_err-push-clause-shown : goal.returns-in_err-push-clause-shown
+returns-in_err-push-clause-shown g c =
+    shown-none (g.T.Traders.world c.args.traders.now) (g.P.Peers.calls c.args.peers.now) c.args.notes.now.items
+
+pub turns-init : goal.turns-init
+turns-init g c =
+    let one : c.push.new.self.items ≡ c.args.first ∷ [] = search rules in (
+      g.met.T.Traders.same_itself _,
+      g.met.P.Peers.same_self _,
+      g.met.W.Words.same_self _,
+      going-first g.T.Traders.others g.T.Traders.later c.args.home.now _ _ _ _ _ c.args.first one c.requires,
+    )
+
+pub turn-requires : goal.turn-requires
+turn-requires g c = c.turns.invariant.3.some_left
+
+pub turns-preserved : goal.turns-preserved
+turns-preserved g c =
+    let i = c.turns.invariant in
+    let t = rw c.in-None.is at c.in_ok-visit.ensures.turns in (
+      g.met.T.Traders.same_on _ _ _ i.0 c.turn.ensures.same,
+      g.met.P.Peers.same_on _ _ _ i.1 c.turn.ensures.same_peers,
+      g.met.W.Words.same_on _ _ _ i.2 c.turn.ensures.same_words,
+      goes-further _ _ _ _ _ _ _ _ _ _ _ _ _ i.3 _ _ _ _ _ t c.turn.ensures.shown,
+    )
+
+pub turns-smaller : goal.turns-smaller
+turns-smaller g c =
+    let t = rw c.in-None.is at c.in_ok-visit.ensures.turns in
+    is-less _ _ _ _ _ _ _ _ _ _ _ _ _ c.turns.invariant.3 _ _ _ _ _ t
+
+pub returns-in-Some-clause-same : goal.returns-in-Some-clause-same
+returns-in-Some-clause-same g c = g.met.T.Traders.same_on _ _ _ c.turns.invariant.0 c.turn.ensures.same
+
+pub returns-in-Some-clause-same_peers : goal.returns-in-Some-clause-same_peers
+returns-in-Some-clause-same_peers g c = g.met.P.Peers.same_on _ _ _ c.turns.invariant.1 c.turn.ensures.same_peers
+
+pub returns-in-Some-clause-same_words : goal.returns-in-Some-clause-same_words
+returns-in-Some-clause-same_words g c = g.met.W.Words.same_on _ _ _ c.turns.invariant.2 c.turn.ensures.same_words
+
+pub returns-in-Some-clause-visited : goal.returns-in-Some-clause-visited
+returns-in-Some-clause-visited g c = λ w k q before h.
+    let one : c.push.new.self.items ≡ c.args.first ∷ [] = search rules in
+    let t = rw c.in-Some.is at c.in_ok-visit.ensures.turns in
+    is-visited _ _ _ _ _ _ _ _ _ _ _ _ _ c.turns.invariant.3 _ _ _ _ _ c.in-Some.visit w k q c.args.first before t one h
+
+pub returns-in-Some-clause-shown : goal.returns-in-Some-clause-shown
+returns-in-Some-clause-shown g c =
+    shown-on _ _ _ _ _ _ _ _ _ c.turns.invariant.3.shown c.turn.ensures.shown
+
+pub returns-in_err-visit-clause-same : goal.returns-in_err-visit-clause-same
+returns-in_err-visit-clause-same g c = g.met.T.Traders.same_on _ _ _ c.turns.invariant.0 c.turn.ensures.same
+
+pub returns-in_err-visit-clause-same_peers : goal.returns-in_err-visit-clause-same_peers
+returns-in_err-visit-clause-same_peers g c = g.met.P.Peers.same_on _ _ _ c.turns.invariant.1 c.turn.ensures.same_peers
+
+pub returns-in_err-visit-clause-same_words : goal.returns-in_err-visit-clause-same_words
+returns-in_err-visit-clause-same_words g c = g.met.W.Words.same_on _ _ _ c.turns.invariant.2 c.turn.ensures.same_words
+
+pub returns-in_err-visit-clause-shown : goal.returns-in_err-visit-clause-shown
+returns-in_err-visit-clause-shown g c =
+    shown-on _ _ _ _ _ _ _ _ _ c.turns.invariant.3.shown c.turn.ensures.shown

@@ -1,0 +1,47 @@
+-- What a trace shows at any moment, also where a visit ended for want of memory: the marks that were made and what
+-- peers gave.
+use Rattle.std.specs.Prelude.{◌≡◌, ℕ, nat_eq, cond, List, [], ◌∷◌, ◌++◌, Option, None, Some, slice_get}
+use Rattle.td_trader.specs.Worlds.{View}
+use Rattle.td_walk.specs.Peering.{Exchange}
+use Rattle.td_walk_laws.specs.Walks.{Asked}
+use Rattle.td_walk.specs.declared.trace.TraceItem.{TraceItem}
+use Rattle.td_walk.specs.declared.trace.TraceItem.TheVariants as item
+
+abbrev pub own_marks_in : Option View → List ℕ
+own_marks_in None = []
+own_marks_in (Some v) = v.own_marks
+
+abbrev pub own_marks_at : List View → ℕ → List ℕ
+own_marks_at w k = own_marks_in (slice_get w k)
+
+abbrev pub own_in : Option View → List ℕ
+own_in None = []
+own_in (Some v) = v.own
+
+abbrev pub own_at : List View → ℕ → List ℕ
+own_at w k = own_in (slice_get w k)
+
+-- one has changed nothing and marked nothing
+pub record IsQuiet (w u : List View) : Type 0 where
+  pub own : (k : ℕ) → own_at u k ≡ own_at w k
+  pub own_marks : (k : ℕ) → own_marks_at u k ≡ own_marks_at w k
+
+-- the marks of a trader that an item shows
+abbrev pub mark_of : (trader : ℕ) → TraceItem → List ℕ
+mark_of k (item.Search trader point mark) = cond (nat_eq trader k) (mark ∷ []) []
+mark_of k other = []
+
+abbrev pub marks_of : (trader : ℕ) → List TraceItem → List ℕ
+marks_of k [] = []
+marks_of k (i ∷ is) = mark_of k i ++ marks_of k is
+
+-- Between these two moments the items came behind the old ones. They show each mark that was made at each trader, in
+-- order, and what each call of a peer gave.
+pub record IsShown (w : List View) (calls : List Exchange) (before after : List TraceItem) (u : List View)
+    (now : List Exchange) : Type 0 where
+  pub items : List TraceItem
+  pub notes : after ≡ before ++ items
+  pub marks : (k : ℕ) → own_marks_at u k ≡ own_marks_at w k ++ marks_of k items
+  pub made : List Exchange
+  pub calls_are : now ≡ calls ++ made
+  pub asked : Asked items made

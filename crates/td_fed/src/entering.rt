@@ -1,0 +1,122 @@
+//! How a visit of a trader begins.
+
+ghost use Rattle.std.specs.Prelude.{◌≡◌, ◌<◌, [], ◌∷◌, ◌++◌, length, vec_len, vec_capacity, IfOk};
+ghost use Rattle.td_fed.specs.Entering.{IsEntered, begin_item, entry_of};
+ghost use Rattle.td_fed.specs.Trails.{IsShown};
+ghost use Rattle.td_fed.specs.Visiting.{Begins};
+ghost use Rattle.td_walk_laws.specs.Walks.{nothing};
+ghost use Rattle.td_walk.specs.declared.trace.TraceItem.TheVariants as item;
+ghost use Rattle.td_fed.specs.declared.entering.Entry.TheVariants as entry;
+ghost use Rattle.td_fed.specs.Entering.{opened};
+ghost use Rattle.td_walk.specs.declared.trace.Visit.TheVariants as visit;
+
+use std::alloc::Global;
+use td_cdr::{Boxed, List, Memory};
+use td_ops::{Outcome, Query};
+use td_store::Local;
+use td_trader::{Begin, Traders};
+use td_visit::Frame;
+use td_walk::{SubAnswer, TraceItem, Visit};
+
+/// A visit that began.
+#[derive(Drop)]
+pub(crate) enum Entry {
+    /// It asks nothing, and comes to this.
+    Ended(Visit),
+    /// It asks its questions.
+    Open(Frame),
+}
+
+/// No offers and no limits.
+pub(crate) fn nothing(alloc: Global) -> SubAnswer
+    ensures { result ≡ nothing }
+{
+    SubAnswer {
+        offers: List::new(alloc),
+        limits: List::new(alloc),
+    }
+}
+
+/// Begins a visit of a trader with a query, and notes how it began. Room for the note is taken first, so that a
+/// mark that was made is noted.
+///
+/// # Errors
+///
+/// `Memory` for want of memory alone.
+pub(crate) fn enter<T: Traders>(
+    alloc: Global,
+    traders: &mut T,
+    trader: usize,
+    q: &Query,
+    notes: &mut Vec<TraceItem>,
+) -> Result<Entry, Memory>
+    requires { trader < length (T.world traders.old) }
+    ensures same { T.same traders.old traders.new }
+    ensures entered { IfOk result (λ e. IsEntered (Begins T.others T.later) (T.world traders.old) trader q.now e
+        notes.old.items notes.new.items (T.world traders.new)) }
+    ensures shown { IsShown (T.world traders.old) [] notes.old.items notes.new.items (T.world traders.new) [] }
+{
+    notes.reserve(1)?;
+    let begin = traders.begin(trader, q)?;
+    let point = traders.point(trader);
+    note_begin(alloc, trader, point, begin, notes)
+}
+
+/// Notes how a visit began, in the room that there is.
+fn note_begin(
+    alloc: Global,
+    trader: usize,
+    point: u64,
+    begin: Begin,
+    notes: &mut Vec<TraceItem>,
+) -> Result<Entry, Memory>
+    requires { vec_len notes.old < vec_capacity notes.old }
+    ensures noted { notes.new.items ≡ notes.old.items ++ begin_item trader point begin ∷ [] }
+    ensures entry { IfOk result (λ e. e ≡ entry_of begin) }
+{
+    match begin {
+        Begin::Refused(outcome) => {
+            notes.push_reserved(TraceItem::Refused { trader, point });
+            refused(alloc, outcome)
+        }
+        Begin::Repeat(mark) => {
+            notes.push_reserved(TraceItem::Repeat {
+                trader,
+                point,
+                mark,
+            });
+            Ok(Entry::Ended(Visit::Answered {
+                answer: nothing(alloc),
+                max_list: 0,
+            }))
+        }
+        Begin::Search(local) => {
+            notes.push_reserved(TraceItem::Search {
+                trader,
+                point: local.point,
+                mark: local.mark,
+            });
+            open(alloc, local)
+        }
+        Begin::Path(local) => {
+            notes.push_reserved(TraceItem::Path {
+                trader,
+                point: local.point,
+            });
+            open(alloc, local)
+        }
+    }
+}
+
+fn refused(alloc: Global, outcome: Outcome) -> Result<Entry, Memory>
+    ensures { IfOk result (λ e. e ≡ entry.Ended (visit.Refused outcome)) }
+{
+    let outcome = Boxed::new(alloc, outcome)?;
+    Ok(Entry::Ended(Visit::Refused(outcome)))
+}
+
+fn open(alloc: Global, local: Local) -> Result<Entry, Memory>
+    ensures { IfOk result (λ e. e ≡ entry.Open (opened local)) }
+{
+    Ok(Entry::Open(Frame::new(alloc, local)?))
+}
