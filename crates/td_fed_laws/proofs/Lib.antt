@@ -1,0 +1,11 @@
+pub mod Alone
+pub mod Carried
+pub mod Determined
+pub mod Growing
+pub mod Heading
+pub mod Hopping
+pub mod Leading
+pub mod Noting
+pub mod Recalling
+pub mod Searching
+pub mod Spacing

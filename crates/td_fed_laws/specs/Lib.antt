@@ -1,0 +1,4 @@
+pub mod Examples
+pub mod Fresh
+pub mod Traces
+pub mod WalkLaws
