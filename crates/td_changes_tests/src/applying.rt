@@ -2,12 +2,13 @@
 
 ghost use Rattle.std.specs.Prelude.{◌≡◌, []};
 
+use crate::seen::{Held, holds, is_told};
 use std::alloc::Global;
 use std::process::Abort;
 use std::test::Fail;
 use td_cdr::Memory;
 use td_changes::{apply, seek};
-use td_ops::{Attribute, Change, Look, NumberAttribute, Outcome, Reply};
+use td_ops::{Attribute, Change, Look, NumberAttribute, Outcome};
 use td_samples::{Told, empty_store, outcome, text};
 use td_store::Store;
 
@@ -29,13 +30,11 @@ fn changed_and_looked_at(alloc: Global) -> Result<bool, Memory> {
 fn refused_then_changed(alloc: Global, store: &mut Store) -> Result<bool, Memory>
     requires { store.old.offers ≡ [] }
 {
-    let unknown = Change::RemoveLink {
-        name: text(alloc, "b")?,
-    };
+    let name = text(alloc, "b")?;
     Ok(
-        outcome(apply(alloc, store, unknown)) == Told::UnknownName
+        outcome(apply(alloc, store, Change::RemoveLink { name })) == Told::UnknownName
             && reads(alloc, store, 100)
-            && is_number(
+            && is_told(
                 apply(
                     alloc,
                     store,
@@ -44,17 +43,10 @@ fn refused_then_changed(alloc: Global, store: &mut Store) -> Result<bool, Memory
                         value: 7,
                     },
                 ),
-                100,
+                Held::Number(100),
             )
             && reads(alloc, store, 7),
     )
-}
-
-fn is_number(answer: Result<Outcome, Memory>, number: u32) -> bool {
-    match &answer {
-        Ok(Outcome::Done(Reply::Number(told))) => *told == number,
-        _ => false,
-    }
 }
 
 fn reads(alloc: Global, store: &Store, max_list: u32) -> bool {
@@ -64,8 +56,8 @@ fn reads(alloc: Global, store: &Store, max_list: u32) -> bool {
 
 fn is_read(answer: Result<(Outcome, u32), Memory>, max_list: u32) -> bool {
     match &answer {
-        Ok((Outcome::Done(Reply::Number(told)), beside)) => {
-            *told == max_list && *beside == max_list
+        Ok((Outcome::Done(reply), beside)) => {
+            holds(reply, Held::Number(max_list)) && *beside == max_list
         }
         _ => false,
     }

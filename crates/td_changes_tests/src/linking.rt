@@ -1,12 +1,15 @@
 //! Links that are added and given other rules.
 
+use crate::links::described;
+use crate::parts::{Part, passes};
+use crate::seen::{Held, is_told};
 use std::alloc::Global;
 use std::process::Abort;
 use std::test::Fail;
 use td_cdr::{List, Memory, Text};
-use td_changes::{add_link, describe_link, modify_link};
-use td_ops::{Outcome, Reply};
-use td_samples::{Told, answered, kept_store, profile, text};
+use td_changes::{add_link, modify_link};
+use td_register::{Accepted, Fault};
+use td_samples::{Told, answered, profile, text};
 use td_store::Store;
 use td_value::{FollowOption, Ior};
 
@@ -24,78 +27,67 @@ enum Ends {
 #[test]
 fn a_link_is_added_and_given_other_rules(rt: HostRuntime) -> Result<(), Fail> {
     let alloc = rt.alloc();
-    assert!(rt; added_and_changed(alloc)?);
+    assert!(rt; passes(alloc, Part::NewLinks)?);
     Ok(())
 }
 
-fn added_and_changed(alloc: Global) -> Result<bool, Memory> {
-    let mut store = kept_store(alloc)?;
-    let passed = added_then_changed(alloc, &mut store);
-    drop(store);
-    passed
-}
-
 /// There is one link, `b`.
-fn added_then_changed(alloc: Global, store: &mut Store) -> Result<bool, Memory> {
-    Ok(
-        refuses_ends(alloc, store)?
-            && refuses_rules(alloc, store)?
-            && adds(alloc, store)?
-            && changes(alloc, store)?
-            && refuses_changes(alloc, store)?,
-    )
+pub fn added_then_changed(alloc: Global, store: &mut Store) -> bool {
+    refuses_ends(alloc, store)
+        && refuses_rules(alloc, store)
+        && adds(alloc, store)
+        && changes(alloc, store)
+        && refuses_changes(alloc, store)
 }
 
 /// Each is at fault with all that is refused later, too.
-fn refuses_ends(alloc: Global, store: &mut Store) -> Result<bool, Memory> {
-    Ok(
-        added(
-            alloc,
-            store,
-            "b c",
-            Ends::NoRegister,
-            FollowOption::IfNoLocal,
-        )? == Told::IllegalName
-            && added(alloc, store, "b", Ends::NoRegister, FollowOption::IfNoLocal)?
-                == Told::DuplicateName
-            && added(alloc, store, "c", Ends::NoRegister, FollowOption::IfNoLocal)?
-                == Told::InvalidLookup
-            && added(alloc, store, "c", Ends::NoProfile, FollowOption::IfNoLocal)?
-                == Told::InvalidLookup,
-    )
+fn refuses_ends(alloc: Global, store: &mut Store) -> bool {
+    added(
+        alloc,
+        store,
+        "b c",
+        Ends::NoRegister,
+        FollowOption::IfNoLocal,
+    ) == Told::IllegalName
+        && added(alloc, store, "b", Ends::NoRegister, FollowOption::IfNoLocal)
+            == Told::DuplicateName
+        && added(alloc, store, "c", Ends::NoRegister, FollowOption::IfNoLocal)
+            == Told::InvalidLookup
+        && added(alloc, store, "c", Ends::NoProfile, FollowOption::IfNoLocal) == Told::InvalidLookup
 }
 
-fn refuses_rules(alloc: Global, store: &mut Store) -> Result<bool, Memory> {
+fn refuses_rules(alloc: Global, store: &mut Store) -> bool {
     store.attributes.max_link_follow_policy = FollowOption::LocalOnly;
-    let default = added(alloc, store, "c", Ends::Known, FollowOption::IfNoLocal)?;
-    let limiting = added(alloc, store, "c", Ends::Known, FollowOption::Always)?;
+    let default = added(alloc, store, "c", Ends::Known, FollowOption::IfNoLocal);
+    let limiting = added(alloc, store, "c", Ends::Known, FollowOption::Always);
     store.attributes.max_link_follow_policy = FollowOption::Always;
-    Ok(default == Told::DefaultTooPermissive && limiting == Told::LimitingTooPermissive)
+    default == Told::DefaultTooPermissive && limiting == Told::LimitingTooPermissive
 }
 
-fn adds(alloc: Global, store: &mut Store) -> Result<bool, Memory> {
-    Ok(
-        added(alloc, store, "c", Ends::Known, FollowOption::Always)? == Told::Nothing
-            && added(alloc, store, "c", Ends::Known, FollowOption::Always)? == Told::DuplicateName
-            && has_rules(
-                described(alloc, store, "c")?,
-                FollowOption::Always,
-                FollowOption::Always,
-            ),
-    )
+fn adds(alloc: Global, store: &mut Store) -> bool {
+    added(alloc, store, "c", Ends::Known, FollowOption::Always) == Told::Nothing
+        && added(alloc, store, "c", Ends::Known, FollowOption::Always) == Told::DuplicateName
+        && is_told(
+            described(alloc, store, "c"),
+            Held::Rules(FollowOption::Always, FollowOption::Always),
+        )
+}
+
+fn added(alloc: Global, store: &mut Store, name: &str, ends: Ends, limiting: FollowOption) -> Told {
+    answered(try_to_add(alloc, store, name, ends, limiting))
 }
 
 /// Adds a link whose default is `Always`.
-fn added(
+fn try_to_add(
     alloc: Global,
     store: &mut Store,
     name: &str,
     ends: Ends,
     limiting: FollowOption,
-) -> Result<Told, Memory> {
+) -> Result<Accepted, Fault> {
     let name = text(alloc, name)?;
     let target = target_of(alloc, ends)?;
-    Ok(answered(add_link(
+    add_link(
         alloc,
         store,
         name,
@@ -103,7 +95,7 @@ fn added(
         FollowOption::Always,
         limiting,
         register_of(alloc, ends),
-    )))
+    )
 }
 
 fn target_of(alloc: Global, ends: Ends) -> Result<Ior, Memory> {
@@ -127,78 +119,54 @@ fn register_of(alloc: Global, ends: Ends) -> Option<Ior> {
     }
 }
 
-fn described(alloc: Global, store: &Store, name: &str) -> Result<Result<Outcome, Memory>, Memory> {
-    let name = text(alloc, name)?;
-    Ok(describe_link(alloc, store, &name))
+fn changes(alloc: Global, store: &mut Store) -> bool {
+    changed(
+        alloc,
+        store,
+        "b",
+        FollowOption::LocalOnly,
+        FollowOption::IfNoLocal,
+    ) == Told::Nothing
+        && is_told(
+            described(alloc, store, "b"),
+            Held::Rules(FollowOption::LocalOnly, FollowOption::IfNoLocal),
+        )
 }
 
-fn has_rules(
-    answer: Result<Outcome, Memory>,
-    def_pass_on: FollowOption,
-    limiting: FollowOption,
-) -> bool {
-    match &answer {
-        Ok(Outcome::Done(Reply::Link(info))) => {
-            info.def_pass_on_follow_rule == def_pass_on && info.limiting_follow_rule == limiting
-        }
-        _ => false,
-    }
-}
-
-fn changes(alloc: Global, store: &mut Store) -> Result<bool, Memory> {
-    Ok(
-        changed(
+fn refuses_changes(alloc: Global, store: &mut Store) -> bool {
+    store.attributes.max_link_follow_policy = FollowOption::LocalOnly;
+    changed(
+        alloc,
+        store,
+        "b c",
+        FollowOption::Always,
+        FollowOption::IfNoLocal,
+    ) == Told::IllegalName
+        && changed(
+            alloc,
+            store,
+            "d",
+            FollowOption::Always,
+            FollowOption::IfNoLocal,
+        ) == Told::UnknownName
+        && changed(
+            alloc,
+            store,
+            "b",
+            FollowOption::Always,
+            FollowOption::IfNoLocal,
+        ) == Told::DefaultTooPermissive
+        && changed(
             alloc,
             store,
             "b",
             FollowOption::LocalOnly,
-            FollowOption::IfNoLocal,
-        )? == Told::Nothing
-            && has_rules(
-                described(alloc, store, "b")?,
-                FollowOption::LocalOnly,
-                FollowOption::IfNoLocal,
-            ),
-    )
-}
-
-fn refuses_changes(alloc: Global, store: &mut Store) -> Result<bool, Memory> {
-    store.attributes.max_link_follow_policy = FollowOption::LocalOnly;
-    Ok(
-        changed(
-            alloc,
-            store,
-            "b c",
             FollowOption::Always,
-            FollowOption::IfNoLocal,
-        )? == Told::IllegalName
-            && changed(
-                alloc,
-                store,
-                "d",
-                FollowOption::Always,
-                FollowOption::IfNoLocal,
-            )? == Told::UnknownName
-            && changed(
-                alloc,
-                store,
-                "b",
-                FollowOption::Always,
-                FollowOption::IfNoLocal,
-            )? == Told::DefaultTooPermissive
-            && changed(
-                alloc,
-                store,
-                "b",
-                FollowOption::LocalOnly,
-                FollowOption::Always,
-            )? == Told::LimitingTooPermissive
-            && has_rules(
-                described(alloc, store, "b")?,
-                FollowOption::LocalOnly,
-                FollowOption::IfNoLocal,
-            ),
-    )
+        ) == Told::LimitingTooPermissive
+        && is_told(
+            described(alloc, store, "b"),
+            Held::Rules(FollowOption::LocalOnly, FollowOption::IfNoLocal),
+        )
 }
 
 fn changed(
@@ -207,63 +175,54 @@ fn changed(
     name: &str,
     def_pass_on: FollowOption,
     limiting: FollowOption,
-) -> Result<Told, Memory> {
-    let name = text(alloc, name)?;
-    Ok(answered(modify_link(store, name, def_pass_on, limiting)))
+) -> Told {
+    match text(alloc, name) {
+        Ok(name) => answered(modify_link(store, name, def_pass_on, limiting)),
+        Err(_) => Told::Other,
+    }
 }
 
 #[test]
 fn there_are_at_most_1024_links(rt: HostRuntime) -> Result<(), Fail> {
     let alloc = rt.alloc();
-    assert!(rt; limits_links(alloc)?);
+    assert!(rt; passes(alloc, Part::ManyLinks)?);
     Ok(())
 }
 
-fn limits_links(alloc: Global) -> Result<bool, Memory> {
-    let mut store = kept_store(alloc)?;
-    let limited = limits_more(alloc, &mut store);
-    drop(store);
-    limited
-}
-
 /// The limit comes last.
-fn limits_more(alloc: Global, store: &mut Store) -> Result<bool, Memory> {
-    Ok(
-        fills(alloc, store)?
-            && added(
-                alloc,
-                store,
-                "one_more",
-                Ends::Known,
-                FollowOption::IfNoLocal,
-            )? == Told::DefaultTooPermissive
-            && added(alloc, store, "one_more", Ends::Known, FollowOption::Always)? == Told::Limit,
-    )
+pub fn limits_links(alloc: Global, store: &mut Store) -> bool {
+    fills(alloc, store)
+        && added(
+            alloc,
+            store,
+            "one_more",
+            Ends::Known,
+            FollowOption::IfNoLocal,
+        ) == Told::DefaultTooPermissive
+        && added(alloc, store, "one_more", Ends::Known, FollowOption::Always) == Told::Limit
 }
 
 /// Adds 1,023 links to the one that is there.
-fn fills(alloc: Global, store: &mut Store) -> Result<bool, Memory> {
+fn fills(alloc: Global, store: &mut Store) -> bool {
     for number in 0..1023 {
-        if !adds_numbered(alloc, store, number)? {
-            return Ok(false);
+        if !adds_numbered(alloc, store, number) {
+            return false;
         }
     }
-    Ok(true)
+    true
 }
 
-fn adds_numbered(alloc: Global, store: &mut Store, number: u32) -> Result<bool, Memory> {
+fn adds_numbered(alloc: Global, store: &mut Store, number: u32) -> bool {
     match format!(in alloc; "l{number}") {
         Ok(name) => {
-            Ok(
-                added(
-                    alloc,
-                    store,
-                    name.as_str(),
-                    Ends::Known,
-                    FollowOption::Always,
-                )? == Told::Nothing,
-            )
+            added(
+                alloc,
+                store,
+                name.as_str(),
+                Ends::Known,
+                FollowOption::Always,
+            ) == Told::Nothing
         }
-        Err(_) => Err(Memory),
+        Err(_) => false,
     }
 }

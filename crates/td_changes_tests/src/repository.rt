@@ -1,134 +1,90 @@
 //! Service types that are added, masked, listed and removed.
 
+use crate::parts::{Part, passes};
+use crate::seen::{Held, is_accepted, is_masked, is_told};
 use std::alloc::Global;
 use std::process::Abort;
 use std::test::Fail;
-use td_cdr::{List, Memory, Text};
+use td_cdr::List;
 use td_changes::{
     add_type, describe_type, fully_describe_type, list_types, mask_type, remove_type, unmask_type,
 };
-use td_exceptions::UserException;
-use td_ops::{Outcome, Reply};
-use td_register::{Accepted, Fault, Refusal};
-use td_samples::empty_store;
+use td_register::{Accepted, Fault};
+use td_samples::{Told, answered, text};
 use td_store::Store;
 use td_value::SpecifiedServiceTypes;
+
+/// What is done with the type Printer.
+#[derive(Clone, Copy)]
+enum Step {
+    Mask,
+    Unmask,
+    Remove,
+}
 
 #[test]
 fn a_type_comes_and_goes(rt: HostRuntime) -> Result<(), Fail> {
     let alloc = rt.alloc();
-    assert!(rt; comes_and_goes(alloc)?);
+    assert!(rt; passes(alloc, Part::Types)?);
     Ok(())
 }
 
-fn comes_and_goes(alloc: Global) -> Result<bool, Memory> {
-    let mut store = empty_store(alloc)?;
-    let passed = comes_then_goes(alloc, &mut store);
-    drop(store);
-    passed
+pub fn comes_then_goes(alloc: Global, store: &mut Store) -> bool {
+    comes(alloc, store) && goes(alloc, store)
 }
 
-fn comes_then_goes(alloc: Global, store: &mut Store) -> Result<bool, Memory> {
-    Ok(comes(alloc, store)? && goes(alloc, store)?)
+fn comes(alloc: Global, store: &mut Store) -> bool {
+    is_accepted(added(alloc, store), Held::Incarnation(1))
+        && answered(added(alloc, store)) == Told::TypeExists
+        && answered(done(alloc, store, Step::Mask)) == Told::Nothing
+        && is_masked(done(alloc, store, Step::Mask))
+        && answered(done(alloc, store, Step::Unmask)) == Told::Nothing
 }
 
-fn comes(alloc: Global, store: &mut Store) -> Result<bool, Memory> {
-    Ok(
-        is_incarnation(added(alloc, store)?, 1)
-            && is_there(added(alloc, store)?)
-            && is_done(mask_type(store, printer(alloc)?))
-            && is_masked(mask_type(store, printer(alloc)?))
-            && is_done(unmask_type(store, printer(alloc)?)),
-    )
+fn goes(alloc: Global, store: &mut Store) -> bool {
+    is_listed(store)
+        && is_described(alloc, store)
+        && answered(done(alloc, store, Step::Remove)) == Told::Nothing
+        && answered(done(alloc, store, Step::Remove)) == Told::UnknownType
+        && is_accepted(added(alloc, store), Held::Incarnation(2))
 }
 
-fn goes(alloc: Global, store: &mut Store) -> Result<bool, Memory> {
-    Ok(
-        is_one_name(list_types(store, &SpecifiedServiceTypes::All))
-            && is_described(alloc, store)?
-            && is_done(remove_type(store, printer(alloc)?))
-            && is_unknown(remove_type(store, printer(alloc)?))
-            && is_incarnation(added(alloc, store)?, 2),
-    )
-}
-
-fn printer(alloc: Global) -> Result<Text, Memory> {
-    Text::from_slice(alloc, b"Printer")
-}
-
-fn added(alloc: Global, store: &mut Store) -> Result<Result<Accepted, Fault>, Memory> {
-    let name = printer(alloc)?;
-    let if_name = Text::from_slice(alloc, b"IDL:Printer:1.0")?;
-    Ok(add_type(
+/// Adds the type Printer.
+pub fn added(alloc: Global, store: &mut Store) -> Result<Accepted, Fault> {
+    let name = text(alloc, "Printer")?;
+    let if_name = text(alloc, "IDL:Printer:1.0")?;
+    add_type(
         alloc,
         store,
         name,
         if_name,
         List::new(alloc),
         List::new(alloc),
-    ))
+    )
 }
 
-fn is_incarnation(answer: Result<Accepted, Fault>, low: u32) -> bool {
-    match &answer {
-        Ok(
-            Accepted {
-                reply: Reply::Incarnation(incarnation),
-                ..
-            },
-        ) => incarnation.high == 0 && incarnation.low == low,
-        _ => false,
+fn done(alloc: Global, store: &mut Store, step: Step) -> Result<Accepted, Fault> {
+    let name = text(alloc, "Printer")?;
+    match step {
+        Step::Mask => mask_type(store, name),
+        Step::Unmask => unmask_type(store, name),
+        Step::Remove => remove_type(store, name),
     }
 }
 
-fn is_done(answer: Result<Accepted, Fault>) -> bool {
-    matches!(
-        &answer,
-        Ok(Accepted {
-            reply: Reply::Nothing,
-            ..
-        })
+fn is_listed(store: &Store) -> bool {
+    is_told(
+        list_types(store, &SpecifiedServiceTypes::All),
+        Held::Names(1),
     )
 }
 
-fn is_there(answer: Result<Accepted, Fault>) -> bool {
-    matches!(
-        &answer,
-        Err(Fault::Refused(Refusal::Raised(UserException::ServiceTypeExists { .. })))
-    )
-}
-
-fn is_masked(answer: Result<Accepted, Fault>) -> bool {
-    matches!(
-        &answer,
-        Err(Fault::Refused(Refusal::Raised(UserException::AlreadyMasked { .. })))
-    )
-}
-
-fn is_unknown(answer: Result<Accepted, Fault>) -> bool {
-    matches!(
-        &answer,
-        Err(Fault::Refused(Refusal::Raised(UserException::UnknownServiceType { .. })))
-    )
-}
-
-fn is_one_name(answer: Result<Outcome, Memory>) -> bool {
-    match &answer {
-        Ok(Outcome::Done(Reply::Names(names))) => names.len() == 1,
-        _ => false,
-    }
-}
-
-fn is_described(alloc: Global, store: &Store) -> Result<bool, Memory> {
-    let name = printer(alloc)?;
-    Ok(is_typed(describe_type(store, &name)) && is_typed(fully_describe_type(store, &name)))
-}
-
-fn is_typed(answer: Result<Outcome, Memory>) -> bool {
-    match &answer {
-        Ok(Outcome::Done(Reply::Typed(described))) => {
-            described.if_name.as_slice() == b"IDL:Printer:1.0".as_slice()
+fn is_described(alloc: Global, store: &Store) -> bool {
+    match text(alloc, "Printer") {
+        Ok(name) => {
+            is_told(describe_type(store, &name), Held::Printer)
+                && is_told(fully_describe_type(store, &name), Held::Printer)
         }
-        _ => false,
+        Err(_) => false,
     }
 }

@@ -2,7 +2,8 @@
 
 ghost use Rattle.std.specs.Prelude.{◌≡◌};
 
-use crate::support::{add_type, attributes, made_offers, made_types, removes, text};
+use crate::many::finds_over;
+use crate::support::{add_type, attributes, is_done, made_offers, made_types, removes, text};
 use std::alloc::Global;
 use std::marker::Brand;
 use std::process::Abort;
@@ -11,7 +12,7 @@ use std::test::Fail;
 use td_cdr::{Boxed, List, Memory, Text};
 use td_policy::{Attributes, Stated};
 use td_store::{OfferRecord, Offers, Steps};
-use td_types::{Types, TypesFault};
+use td_types::Types;
 
 /// The types, their incarnations, and what the offers have; their numbers are 1 to 8.
 const OFFERS: [(&str, u64, &str); 8] = [
@@ -63,107 +64,112 @@ const AFTER_ADDING_AGAIN: &str = "Laser;;;9;
 Laser;exact;;9;
 Device;;;9;125";
 
+/// What is asked of the three types and the eight offers.
+#[derive(Clone, Copy)]
+pub(crate) enum Question {
+    Queries,
+    Removals,
+    AddingAgain,
+    Conforming,
+    Printers,
+}
+
+/// Whether a question over the three types has the right answer.
+pub(crate) fn is_right(alloc: Global, question: Question) -> Result<bool, Memory> {
+    let mut types = made_types(alloc)?;
+    let right = is_right_over(alloc, &mut types, question);
+    drop(types);
+    Ok(right)
+}
+
+fn is_right_over(alloc: Global, types: &mut Types, question: Question) -> bool {
+    match question {
+        Question::AddingAgain => {
+            is_removed(alloc, types, "Laser")
+                && add_type(alloc, types, "Laser", "Printer", "Room:normal")
+                && is_right_among(alloc, types, question)
+        }
+        Question::Printers => finds_over(alloc, types),
+        _ => is_right_among(alloc, types, question),
+    }
+}
+
+/// The same over the eight offers.
+fn is_right_among(alloc: Global, types: &Types, question: Question) -> bool {
+    match made_offers(alloc, &OFFERS) {
+        Ok(offers) => {
+            let mut offers = offers;
+            let right = answers(alloc, types, &mut offers, question);
+            drop(offers);
+            right
+        }
+        Err(_) => false,
+    }
+}
+
+fn answers(alloc: Global, types: &Types, offers: &mut Offers, question: Question) -> bool {
+    match question {
+        Question::Removals => {
+            are_removed(offers, &REMOVED) && answers_lines(alloc, types, offers, AFTER_REMOVALS)
+        }
+        Question::AddingAgain => answers_lines(alloc, types, offers, AFTER_ADDING_AGAIN),
+        Question::Conforming => finds_each(alloc, types, offers),
+        _ => answers_lines(alloc, types, offers, QUERIES),
+    }
+}
+
 #[test]
 fn queries(rt: HostRuntime) -> Result<(), Fail> {
     let alloc = rt.alloc();
-    assert!(rt; answers_queries(alloc)?);
+    assert!(rt; is_right(alloc, Question::Queries)?);
     Ok(())
-}
-
-fn answers_queries(alloc: Global) -> Result<bool, Memory> {
-    let types = made_types(alloc)?;
-    let answered = answers(alloc, &types, &[], QUERIES);
-    drop(types);
-    answered
 }
 
 #[test]
 fn removed_offers(rt: HostRuntime) -> Result<(), Fail> {
     let alloc = rt.alloc();
-    assert!(rt; answers_without_removed(alloc)?);
+    assert!(rt; is_right(alloc, Question::Removals)?);
     Ok(())
-}
-
-fn answers_without_removed(alloc: Global) -> Result<bool, Memory> {
-    let types = made_types(alloc)?;
-    let answered = answers(alloc, &types, &REMOVED, AFTER_REMOVALS);
-    drop(types);
-    answered
 }
 
 #[test]
 fn a_type_removed_and_added_again(rt: HostRuntime) -> Result<(), Fail> {
     let alloc = rt.alloc();
-    assert!(rt; answers_after_adding_again(alloc)?);
+    assert!(rt; is_right(alloc, Question::AddingAgain)?);
     Ok(())
 }
 
-fn answers_after_adding_again(alloc: Global) -> Result<bool, Memory> {
-    let mut types = made_types(alloc)?;
-    let answered = answers_once_added(alloc, &mut types);
-    drop(types);
-    answered
-}
-
-fn answers_once_added(alloc: Global, types: &mut Types) -> Result<bool, Memory> {
-    if !is_added_again(alloc, types) {
-        return Ok(false);
+/// Whether a type is removed.
+fn is_removed(alloc: Global, types: &mut Types, name: &str) -> bool {
+    match text(alloc, name) {
+        Ok(name) => is_done(types.remove(&name)),
+        Err(_) => false,
     }
-    answers(alloc, types, &[], AFTER_ADDING_AGAIN)
-}
-
-/// Whether Laser is removed and added again.
-fn is_added_again(alloc: Global, types: &mut Types) -> bool {
-    add_again(alloc, types).is_ok()
-}
-
-fn add_again(alloc: Global, types: &mut Types) -> Result<(), TypesFault> {
-    let name = text(alloc, "Laser")?;
-    types.remove(&name)?;
-    add_type(alloc, types, "Laser", "Printer", "Room:normal")
 }
 
 /// All offers whose type conforms, proxy offers too.
 #[test]
 fn offers_of_conforming_types(rt: HostRuntime) -> Result<(), Fail> {
     let alloc = rt.alloc();
-    assert!(rt; finds_conforming(alloc)?);
+    assert!(rt; is_right(alloc, Question::Conforming)?);
     Ok(())
 }
 
-fn finds_conforming(alloc: Global) -> Result<bool, Memory> {
-    let types = made_types(alloc)?;
-    let found = finds_all(alloc, &types);
-    drop(types);
-    found
-}
-
-fn finds_all(alloc: Global, types: &Types) -> Result<bool, Memory> {
-    let offers = made_offers(alloc, &OFFERS)?;
-    let found = finds_each(alloc, types, &offers);
-    drop(offers);
-    found
-}
-
-fn finds_each(alloc: Global, types: &Types, offers: &Offers) -> Result<bool, Memory> {
-    Ok(
-        offers.len() == 8
-            && conform(alloc, types, offers, "Device", b"12345678")?
-            && conform(alloc, types, offers, "Printer", b"2345678")?
-            && conform(alloc, types, offers, "Scanner", b"")?,
-    )
+fn finds_each(alloc: Global, types: &Types, offers: &Offers) -> bool {
+    offers.len() == 8
+        && conform(alloc, types, offers, "Device", b"12345678")
+        && conform(alloc, types, offers, "Printer", b"2345678")
+        && conform(alloc, types, offers, "Scanner", b"")
 }
 
 /// Whether the offers whose type conforms are those of the digits.
-fn conform(
-    alloc: Global,
-    types: &Types,
-    offers: &Offers,
-    asked: &str,
-    digits: &[u8],
-) -> Result<bool, Memory> {
-    let asked = text(alloc, asked)?;
-    conform_counted::<Brand>(alloc, types, offers, &asked, digits, Blank::new(1))
+fn conform(alloc: Global, types: &Types, offers: &Offers, asked: &str, digits: &[u8]) -> bool {
+    match text(alloc, asked) {
+        Ok(asked) => {
+            conform_counted::<Brand>(alloc, types, offers, &asked, digits, Blank::new(1))
+        }
+        Err(_) => false,
+    }
 }
 
 fn conform_counted<L: Ledger>(
@@ -173,14 +179,16 @@ fn conform_counted<L: Ledger>(
     asked: &Text,
     digits: &[u8],
     blank: Blank,
-) -> Result<bool, Memory>
+) -> bool
     requires name { blank.name ≡ L.name }
     requires parts { blank.parts ≡ L.parts }
     requires one { L.parts ≡ 1 }
 {
     let mut steps = Steps::<L>::new(blank);
-    let found = offers.conforming(alloc, types, asked, &mut steps)?;
-    Ok(have_numbers(found.as_slice(), digits))
+    match offers.conforming(alloc, types, asked, &mut steps) {
+        Ok(found) => have_numbers(found.as_slice(), digits),
+        Err(_) => false,
+    }
 }
 
 fn have_numbers(found: &[&OfferRecord], digits: &[u8]) -> bool {
@@ -195,30 +203,6 @@ fn have_numbers(found: &[&OfferRecord], digits: &[u8]) -> bool {
     true
 }
 
-/// Whether each line's query finds what the line says, once the offers of these numbers are gone.
-fn answers(alloc: Global, types: &Types, gone: &[u32], lines: &str) -> Result<bool, Memory> {
-    let mut offers = made_offers(alloc, &OFFERS)?;
-    let answered = answers_over(alloc, types, &mut offers, gone, lines);
-    drop(offers);
-    answered
-}
-
-fn answers_over(
-    alloc: Global,
-    types: &Types,
-    offers: &mut Offers,
-    gone: &[u32],
-    lines: &str,
-) -> Result<bool, Memory> {
-    if !are_removed(offers, gone) {
-        return Ok(false);
-    }
-    let mut attributes = attributes(alloc)?;
-    let answered = are_answered(alloc, types, offers, &mut attributes, lines);
-    drop(attributes);
-    answered
-}
-
 fn are_removed(offers: &mut Offers, gone: &[u32]) -> bool {
     for number in gone {
         if !removes(offers, *number) {
@@ -228,19 +212,32 @@ fn are_removed(offers: &mut Offers, gone: &[u32]) -> bool {
     true
 }
 
+/// Whether each line's query finds what the line says.
+fn answers_lines(alloc: Global, types: &Types, offers: &Offers, lines: &str) -> bool {
+    match attributes(alloc) {
+        Ok(attributes) => {
+            let mut attributes = attributes;
+            let answered = are_answered(alloc, types, offers, &mut attributes, lines);
+            drop(attributes);
+            answered
+        }
+        Err(_) => false,
+    }
+}
+
 fn are_answered(
     alloc: Global,
     types: &Types,
     offers: &Offers,
     attributes: &mut Attributes,
     lines: &str,
-) -> Result<bool, Memory> {
+) -> bool {
     for line in lines.lines() {
-        if !is_answered(alloc, types, offers, attributes, line)? {
-            return Ok(false);
+        if !is_answered(alloc, types, offers, attributes, line) {
+            return false;
         }
     }
-    Ok(true)
+    true
 }
 
 /// Whether a query finds what its line says.
@@ -250,25 +247,25 @@ fn is_answered(
     offers: &Offers,
     attributes: &mut Attributes,
     line: &str,
-) -> Result<bool, Memory> {
+) -> bool {
     let (asked, rest) = cut(line);
     let (stating, rest) = cut(rest);
     let (unsupported, rest) = cut(rest);
     let (count, digits) = cut(rest);
     let count = count.parse::<u32>().unwrap_or(0);
     set_unsupported(attributes, unsupported);
-    let asked = text(alloc, asked)?;
-    let stated = Boxed::new(alloc, stated(stating))?;
-    let found = found(
-        alloc,
-        types,
-        offers,
-        attributes,
-        stated.get(),
-        &asked,
-        count,
-    )?;
-    Ok(are_numbered(found.as_slice(), digits.as_bytes()))
+    are_found(
+        found(alloc, types, offers, attributes, stating, asked, count),
+        digits.as_bytes(),
+    )
+}
+
+/// Whether these are found, and are the offers of the digits.
+fn are_found(found: Result<List<OfferRecord>, Memory>, digits: &[u8]) -> bool {
+    match found {
+        Ok(found) => are_numbered(found.as_slice(), digits),
+        Err(_) => false,
+    }
 }
 
 /// What stands before and behind the first semicolon.
@@ -319,17 +316,19 @@ fn found(
     types: &Types,
     offers: &Offers,
     attributes: &Attributes,
-    stated: &Stated,
-    asked: &Text,
+    stating: &str,
+    asked: &str,
     count: u32,
 ) -> Result<List<OfferRecord>, Memory> {
+    let asked = text(alloc, asked)?;
+    let stated = Boxed::new(alloc, stated(stating))?;
     counted::<Brand>(
         alloc,
         types,
         offers,
         attributes,
-        stated,
-        asked,
+        stated.get(),
+        &asked,
         count,
         Blank::new(1),
     )

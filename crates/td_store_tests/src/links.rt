@@ -4,126 +4,109 @@ use crate::support::reference;
 use std::alloc::Global;
 use std::process::Abort;
 use std::test::Fail;
-use td_cdr::{Boxed, List, Memory, Text, Twin};
+use td_cdr::{List, Memory, Text, Twin};
 use td_store::{LinkRecord, Links, StoreFault};
 use td_value::FollowOption;
+
+/// What is asked of links, of which there are none yet.
+#[derive(Clone, Copy)]
+enum Question {
+    Limit,
+    Removals,
+    Rules,
+}
+
+/// Whether a question over no links has the right answer.
+fn is_right(alloc: Global, question: Question) -> Result<bool, Memory> {
+    let mut links = Links::new(alloc)?;
+    let right = is_right_over(alloc, &mut links, question);
+    drop(links);
+    Ok(right)
+}
+
+fn is_right_over(alloc: Global, links: &mut Links, question: Question) -> bool {
+    match question {
+        Question::Limit => are_filled(alloc, links),
+        Question::Removals => are_added(alloc, links, 4) && goes_and_comes_back(alloc, links),
+        Question::Rules => are_set(alloc, links),
+    }
+}
 
 /// 1,024 links are added, in order, and no one more.
 #[test]
 fn as_many_as_may_be(rt: HostRuntime) -> Result<(), Fail> {
     let alloc = rt.alloc();
-    assert!(rt; holds_as_many(alloc).or(Err("no links"))?);
+    assert!(rt; is_right(alloc, Question::Limit)?);
     Ok(())
 }
 
-fn holds_as_many(alloc: Global) -> Result<bool, StoreFault> {
-    let mut links = Links::new(alloc)?;
-    let passed = are_filled(alloc, &mut links);
-    drop(links);
-    passed
-}
-
-fn are_filled(alloc: Global, links: &mut Links) -> Result<bool, StoreFault> {
-    Ok(
-        are_added(alloc, links, 1024)?
-            && is_refused(alloc, links, 1024)?
-            && have_count(alloc, links, 1024)?
-            && stands_at(alloc, links, 1023, Some(1023))?,
-    )
+fn are_filled(alloc: Global, links: &mut Links) -> bool {
+    are_added(alloc, links, 1024)
+        && add(alloc, links, 1024) == Err(StoreFault::Full)
+        && have_count(alloc, links, 1024)
+        && stands_at(alloc, links, 1023, Some(1023))
 }
 
 /// Whether links of the first so many names are added.
-fn are_added(alloc: Global, links: &mut Links, count: u32) -> Result<bool, StoreFault> {
+fn are_added(alloc: Global, links: &mut Links, count: u32) -> bool {
     for number in 0..count {
-        if !is_added(alloc, links, number)? {
-            return Ok(false);
+        if !is_added(alloc, links, number) {
+            return false;
         }
     }
-    Ok(true)
+    true
 }
 
-fn is_added(alloc: Global, links: &mut Links, number: u32) -> Result<bool, StoreFault> {
-    let name = name(alloc, number)?;
-    add(alloc, links, &name)
+fn is_added(alloc: Global, links: &mut Links, number: u32) -> bool {
+    add(alloc, links, number) == Ok(true)
 }
 
-/// Whether there is no room for a link of this name.
-fn is_refused(alloc: Global, links: &mut Links, number: u32) -> Result<bool, Memory> {
-    let name = name(alloc, number)?;
-    Ok(add(alloc, links, &name) == Err(StoreFault::Full))
-}
-
-fn have_count(alloc: Global, links: &Links, count: usize) -> Result<bool, Memory> {
-    let names = links.names(alloc)?;
-    Ok(names.len() == count)
+fn have_count(alloc: Global, links: &Links, count: usize) -> bool {
+    match links.names(alloc) {
+        Ok(names) => names.len() == count,
+        Err(_) => false,
+    }
 }
 
 /// One in the middle is removed: the others stay in order, and its name may be added again, at the end.
 #[test]
 fn removing(rt: HostRuntime) -> Result<(), Fail> {
     let alloc = rt.alloc();
-    assert!(rt; removes_one(alloc).or(Err("no links"))?);
+    assert!(rt; is_right(alloc, Question::Removals)?);
     Ok(())
 }
 
-fn removes_one(alloc: Global) -> Result<bool, StoreFault> {
-    let mut links = Links::new(alloc)?;
-    let passed = removes_the_second(alloc, &mut links);
-    drop(links);
-    passed
+fn goes_and_comes_back(alloc: Global, links: &mut Links) -> bool {
+    add(alloc, links, 1) == Ok(false)
+        && goes(alloc, links)
+        && is_added(alloc, links, 1)
+        && stands_at(alloc, links, 1, Some(3))
 }
 
-fn removes_the_second(alloc: Global, links: &mut Links) -> Result<bool, StoreFault> {
-    let second = name(alloc, 1)?;
-    if !are_added(alloc, links, 4)? {
-        return Ok(false);
-    }
-    goes_and_comes_back(alloc, links, &second)
-}
-
-fn goes_and_comes_back(
-    alloc: Global,
-    links: &mut Links,
-    second: &Text,
-) -> Result<bool, StoreFault> {
-    Ok(
-        !add(alloc, links, second)?
-            && goes(alloc, links, second)?
-            && add(alloc, links, second)?
-            && stands_at(alloc, links, 1, Some(3))?,
-    )
-}
-
-fn goes(alloc: Global, links: &mut Links, second: &Text) -> Result<bool, Memory> {
-    Ok(
-        is_removed(links, second)
-            && !is_removed(links, second)
-            && stands_at(alloc, links, 3, Some(2))?
-            && stands_at(alloc, links, 1, None)?,
-    )
+fn goes(alloc: Global, links: &mut Links) -> bool {
+    remove(alloc, links, 1) == Ok(true)
+        && remove(alloc, links, 1) == Ok(false)
+        && stands_at(alloc, links, 3, Some(2))
+        && stands_at(alloc, links, 1, None)
 }
 
 /// A link's rules change in its place, and no other link's.
 #[test]
 fn other_rules(rt: HostRuntime) -> Result<(), Fail> {
     let alloc = rt.alloc();
-    assert!(rt; sets_rules(alloc).or(Err("no links"))?);
+    assert!(rt; is_right(alloc, Question::Rules)?);
     Ok(())
 }
 
-fn sets_rules(alloc: Global) -> Result<bool, StoreFault> {
-    let mut links = Links::new(alloc)?;
-    let set = are_set(alloc, &mut links);
-    drop(links);
-    set
+fn are_set(alloc: Global, links: &mut Links) -> bool {
+    are_added(alloc, links, 2)
+        && are_set_of_both(alloc, links) == Ok(true)
+        && stands_at(alloc, links, 0, Some(0))
 }
 
-fn are_set(alloc: Global, links: &mut Links) -> Result<bool, StoreFault> {
+fn are_set_of_both(alloc: Global, links: &mut Links) -> Result<bool, Memory> {
     let first = name(alloc, 0)?;
     let second = name(alloc, 1)?;
-    if !add(alloc, links, &first)? || !add(alloc, links, &second)? {
-        return Ok(false);
-    }
     links.set_rules(&first, FollowOption::LocalOnly, FollowOption::IfNoLocal);
     Ok(
         has_rules(
@@ -136,7 +119,7 @@ fn are_set(alloc: Global, links: &mut Links) -> Result<bool, StoreFault> {
             &second,
             FollowOption::IfNoLocal,
             FollowOption::Always,
-        ) && stands_at(alloc, links, 0, Some(0))?,
+        ),
     )
 }
 
@@ -155,15 +138,27 @@ fn has_rules(
 #[test]
 fn copies(rt: HostRuntime) -> Result<(), Fail> {
     let alloc = rt.alloc();
-    let name = name(alloc, 7)?;
-    assert!(rt; is_copied(alloc, &name)?);
+    assert!(rt; is_copied(alloc, 7)?);
     Ok(())
 }
 
-fn is_copied(alloc: Global, name: &Text) -> Result<bool, Memory> {
-    let link = Boxed::new(alloc, link(alloc, name)?)?;
-    let twin = Boxed::new(alloc, link.get().copy(alloc)?)?;
-    Ok(is_alike(twin.get(), name))
+fn is_copied(alloc: Global, number: u32) -> Result<bool, Memory> {
+    let name = name(alloc, number)?;
+    let link = link(alloc, &name)?;
+    let copied = has_twin(alloc, &link, &name);
+    drop(link);
+    Ok(copied)
+}
+
+fn has_twin(alloc: Global, link: &LinkRecord, name: &Text) -> bool {
+    match link.copy(alloc) {
+        Ok(twin) => {
+            let alike = is_alike(&twin, name);
+            drop(twin);
+            alike
+        }
+        Err(_) => false,
+    }
 }
 
 fn is_alike(link: &LinkRecord, name: &Text) -> bool {
@@ -174,9 +169,10 @@ fn is_alike(link: &LinkRecord, name: &Text) -> bool {
         && link.limiting == FollowOption::Always
 }
 
-/// Adds a link, unless there is one of its name.
-fn add(alloc: Global, links: &mut Links, name: &Text) -> Result<bool, StoreFault> {
-    let link = link(alloc, name)?;
+/// Adds a link of the name of a number, unless there is one.
+fn add(alloc: Global, links: &mut Links, number: u32) -> Result<bool, StoreFault> {
+    let name = name(alloc, number)?;
+    let link = link(alloc, &name)?;
     if links.get(&link.name).is_some() {
         return Ok(false);
     }
@@ -200,6 +196,12 @@ fn name(alloc: Global, number: u32) -> Result<Text, Memory> {
     Text::from_slice(alloc, &digits)
 }
 
+/// Whether the link of the name of a number is there and is removed.
+fn remove(alloc: Global, links: &mut Links, number: u32) -> Result<bool, Memory> {
+    let name = name(alloc, number)?;
+    Ok(is_removed(links, &name))
+}
+
 fn is_removed(links: &mut Links, name: &Text) -> bool {
     match links.remove(name) {
         None => false,
@@ -208,15 +210,18 @@ fn is_removed(links: &mut Links, name: &Text) -> bool {
 }
 
 /// Whether the name of a number stands at this place among the names.
-fn stands_at(
-    alloc: Global,
-    links: &Links,
-    number: u32,
-    place: Option<usize>,
-) -> Result<bool, Memory> {
-    let name = name(alloc, number)?;
-    let names = links.names(alloc)?;
-    Ok(place_of(&names, &name) == place)
+fn stands_at(alloc: Global, links: &Links, number: u32, place: Option<usize>) -> bool {
+    match name(alloc, number) {
+        Ok(name) => name_stands_at(alloc, links, &name, place),
+        Err(_) => false,
+    }
+}
+
+fn name_stands_at(alloc: Global, links: &Links, name: &Text, place: Option<usize>) -> bool {
+    match links.names(alloc) {
+        Ok(names) => place_of(&names, name) == place,
+        Err(_) => false,
+    }
 }
 
 fn place_of(names: &List<Text>, name: &Text) -> Option<usize> {

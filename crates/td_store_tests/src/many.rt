@@ -5,13 +5,14 @@ ghost use Rattle.std.specs.List.{AllByRecursion};
 ghost use Rattle.td_store.specs.Candidates.{is_among};
 ghost use Rattle.td_types.specs.Conforming.{subtypes};
 
-use crate::support::{append, attributes, made_types, text};
+use crate::candidates::{Question, is_right};
+use crate::support::{append, attributes, text};
 use std::alloc::Global;
 use std::marker::Brand;
 use std::process::Abort;
 use std::sync::ledger::{Blank, Ledger};
 use std::test::Fail;
-use td_cdr::{Boxed, Memory, Text};
+use td_cdr::{Memory, Text};
 use td_policy::{Attributes, Stated};
 use td_store::{Offers, Steps, StoreFault};
 use td_types::Types;
@@ -21,30 +22,45 @@ use td_types::Types;
 #[test]
 fn a_query_for_printers(rt: HostRuntime) -> Result<(), Fail> {
     let alloc = rt.alloc();
-    assert!(rt; finds_printers(alloc)?);
+    assert!(rt; is_right(alloc, Question::Printers)?);
     Ok(())
 }
 
-fn finds_printers(alloc: Global) -> Result<bool, Memory> {
-    let types = made_types(alloc)?;
-    let found = finds_over(alloc, &types);
-    drop(types);
-    found
+/// Whether the query finds the three among the thousand.
+pub(crate) fn finds_over(alloc: Global, types: &Types) -> bool {
+    match mostly_devices(alloc) {
+        Ok(offers) => {
+            let found = finds_among(alloc, types, &offers);
+            drop(offers);
+            found
+        }
+        Err(_) => false,
+    }
 }
 
-fn finds_over(alloc: Global, types: &Types) -> Result<bool, Memory> {
-    let offers = mostly_devices(alloc).or(Err(Memory))?;
-    let found = finds_among(alloc, types, &offers);
-    drop(offers);
-    found
-}
-
-fn finds_among(alloc: Global, types: &Types, offers: &Offers) -> Result<bool, Memory>
+fn finds_among(alloc: Global, types: &Types, offers: &Offers) -> bool
     requires { length (filter (is_among (2 ∷ 3 ∷ [])) offers.now) ≤ 3 }
 {
-    let attributes = Boxed::new(alloc, attributes(alloc)?)?;
-    let stated = Boxed::new(alloc, nothing_stated())?;
-    query(alloc, types, offers, attributes.get(), stated.get())
+    match attributes(alloc) {
+        Ok(attributes) => {
+            let found = finds_stating(alloc, types, offers, &attributes, nothing_stated());
+            drop(attributes);
+            found
+        }
+        Err(_) => false,
+    }
+}
+
+fn finds_stating(
+    alloc: Global,
+    types: &Types,
+    offers: &Offers,
+    attributes: &Attributes,
+    stated: Stated,
+) -> bool
+    requires { length (filter (is_among (2 ∷ 3 ∷ [])) offers.now) ≤ 3 }
+{
+    query(alloc, types, offers, attributes, &stated).unwrap_or(false)
 }
 
 /// The query on a counter of its own.

@@ -4,8 +4,9 @@ use crate::support::{made_offers, offer, properties, removes};
 use std::alloc::Global;
 use std::process::Abort;
 use std::test::Fail;
-use td_cdr::{Boxed, List, Memory, Twin};
+use td_cdr::{List, Memory, Twin};
 use td_store::{OfferRecord, Offers};
+use td_value::Property;
 
 const OFFERS: [(&str, u64, &str); 5] = [
     ("Device", 1, "Serial"),
@@ -15,106 +16,99 @@ const OFFERS: [(&str, u64, &str); 5] = [
     ("Laser", 3, "proxy"),
 ];
 
+/// What is asked of the five offers.
+#[derive(Clone, Copy)]
+enum Question {
+    Kinds,
+    Middle,
+    Last,
+    Properties,
+}
+
+/// Whether a question over the five offers has the right answer.
+fn is_right(alloc: Global, question: Question) -> Result<bool, Memory> {
+    let mut offers = made_offers(alloc, &OFFERS)?;
+    let right = is_right_over(alloc, &mut offers, question);
+    drop(offers);
+    Ok(right)
+}
+
+fn is_right_over(alloc: Global, offers: &mut Offers, question: Question) -> bool {
+    match question {
+        Question::Kinds => have_ids(alloc, offers, &[1, 2, 4], &[3, 5]),
+        Question::Middle => removes_the_second(alloc, offers),
+        Question::Last => removes_both_proxies(alloc, offers),
+        Question::Properties => modifies_the_second(alloc, offers),
+    }
+}
+
 #[test]
 fn ids_of_both_kinds(rt: HostRuntime) -> Result<(), Fail> {
     let alloc = rt.alloc();
-    assert!(rt; lists_both_kinds(alloc)?);
+    assert!(rt; is_right(alloc, Question::Kinds)?);
     Ok(())
 }
 
-fn lists_both_kinds(alloc: Global) -> Result<bool, Memory> {
-    let offers = made_offers(alloc, &OFFERS)?;
-    let passed = have_ids(alloc, &offers, &[1, 2, 4], &[3, 5]);
-    drop(offers);
-    passed
-}
-
 /// Whether the ordinary offers and the proxy offers have these numbers.
-fn have_ids(
-    alloc: Global,
-    offers: &Offers,
-    ordinary: &[u32],
-    proxies: &[u32],
-) -> Result<bool, Memory> {
-    Ok(have_ids_of(alloc, offers, false, ordinary)? && have_ids_of(alloc, offers, true, proxies)?)
+fn have_ids(alloc: Global, offers: &Offers, ordinary: &[u32], proxies: &[u32]) -> bool {
+    have_ids_of(alloc, offers, false, ordinary) && have_ids_of(alloc, offers, true, proxies)
 }
 
-fn have_ids_of(
-    alloc: Global,
-    offers: &Offers,
-    proxy: bool,
-    numbers: &[u32],
-) -> Result<bool, Memory> {
-    let found = offers.ids(alloc, proxy)?;
-    Ok(found.as_slice() == numbers)
+fn have_ids_of(alloc: Global, offers: &Offers, proxy: bool, numbers: &[u32]) -> bool {
+    match offers.ids(alloc, proxy) {
+        Ok(found) => found.as_slice() == numbers,
+        Err(_) => false,
+    }
 }
 
 /// The second Printer is in the middle of its type's chain and of its kind's.
 #[test]
 fn removing_from_the_middle(rt: HostRuntime) -> Result<(), Fail> {
     let alloc = rt.alloc();
-    assert!(rt; removes_from_the_middle(alloc)?);
+    assert!(rt; is_right(alloc, Question::Middle)?);
     Ok(())
 }
 
-fn removes_from_the_middle(alloc: Global) -> Result<bool, Memory> {
-    let mut offers = made_offers(alloc, &OFFERS)?;
-    let passed = removes_the_second(alloc, &mut offers);
-    drop(offers);
-    passed
-}
-
-fn removes_the_second(alloc: Global, offers: &mut Offers) -> Result<bool, Memory> {
-    Ok(
-        removes(offers, 2)
-            && !removes(offers, 2)
-            && have_ids(alloc, offers, &[1, 4], &[3, 5])?
-            && has_properties(offers, 4, 2)
-            && has_properties(offers, 1, 1),
-    )
+fn removes_the_second(alloc: Global, offers: &mut Offers) -> bool {
+    removes(offers, 2)
+        && !removes(offers, 2)
+        && have_ids(alloc, offers, &[1, 4], &[3, 5])
+        && has_properties(offers, 4, 2)
+        && has_properties(offers, 1, 1)
 }
 
 /// The last offer of a type and the last one of a kind go, and others stay.
 #[test]
 fn removing_the_last(rt: HostRuntime) -> Result<(), Fail> {
     let alloc = rt.alloc();
-    assert!(rt; removes_the_last(alloc)?);
+    assert!(rt; is_right(alloc, Question::Last)?);
     Ok(())
 }
 
-fn removes_the_last(alloc: Global) -> Result<bool, Memory> {
-    let mut offers = made_offers(alloc, &OFFERS)?;
-    let passed = removes_both_proxies(alloc, &mut offers);
-    drop(offers);
-    passed
-}
-
-fn removes_both_proxies(alloc: Global, offers: &mut Offers) -> Result<bool, Memory> {
-    Ok(removes(offers, 5) && removes(offers, 3) && have_ids(alloc, offers, &[1, 2, 4], &[])?)
+fn removes_both_proxies(alloc: Global, offers: &mut Offers) -> bool {
+    removes(offers, 5) && removes(offers, 3) && have_ids(alloc, offers, &[1, 2, 4], &[])
 }
 
 #[test]
 fn modifying(rt: HostRuntime) -> Result<(), Fail> {
     let alloc = rt.alloc();
-    assert!(rt; modifies_one(alloc)?);
+    assert!(rt; is_right(alloc, Question::Properties)?);
     Ok(())
 }
 
-fn modifies_one(alloc: Global) -> Result<bool, Memory> {
-    let mut offers = made_offers(alloc, &OFFERS)?;
-    let passed = modifies_the_second(alloc, &mut offers);
-    drop(offers);
-    passed
+fn modifies_the_second(alloc: Global, offers: &mut Offers) -> bool {
+    modifies(offers, 2, properties(alloc, "Cost Room Note"))
+        && has_properties(offers, 2, 3)
+        && has_properties(offers, 4, 2)
+        && !offers.modify(6, List::new(alloc))
 }
 
-fn modifies_the_second(alloc: Global, offers: &mut Offers) -> Result<bool, Memory> {
-    let changed = properties(alloc, "Cost Room Note")?;
-    Ok(
-        offers.modify(2, changed)
-            && has_properties(offers, 2, 3)
-            && has_properties(offers, 4, 2)
-            && !offers.modify(6, List::new(alloc)),
-    )
+/// Whether the offer of a number is there and gets these properties.
+fn modifies(offers: &mut Offers, number: u32, changed: Result<List<Property>, Memory>) -> bool {
+    match changed {
+        Ok(changed) => offers.modify(number, changed),
+        Err(_) => false,
+    }
 }
 
 /// Copies of an ordinary offer and of a proxy offer.
@@ -127,9 +121,21 @@ fn copies(rt: HostRuntime) -> Result<(), Fail> {
 }
 
 fn is_copied(alloc: Global, words: &str, proxy: bool) -> Result<bool, Memory> {
-    let offer = Boxed::new(alloc, offer(alloc, 7, "Laser", 3, words)?)?;
-    let twin = Boxed::new(alloc, offer.get().copy(alloc)?)?;
-    Ok(is_alike(twin.get(), proxy))
+    let offer = offer(alloc, 7, "Laser", 3, words)?;
+    let copied = has_twin(alloc, &offer, proxy);
+    drop(offer);
+    Ok(copied)
+}
+
+fn has_twin(alloc: Global, offer: &OfferRecord, proxy: bool) -> bool {
+    match offer.copy(alloc) {
+        Ok(twin) => {
+            let alike = is_alike(&twin, proxy);
+            drop(twin);
+            alike
+        }
+        Err(_) => false,
+    }
 }
 
 fn is_alike(offer: &OfferRecord, proxy: bool) -> bool {

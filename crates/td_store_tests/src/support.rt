@@ -9,7 +9,7 @@ use std::alloc::Global;
 use td_cdr::{List, Memory, Text};
 use td_policy::{Attributes, OwnReferences, default_attributes};
 use td_store::{OfferRecord, Offers, ProxyPart, StoreFault};
-use td_types::{Types, TypesFault};
+use td_types::{Types, TypesFault, TypesReply};
 use td_value::{Any, Ior, Member, PropStruct, Property, PropertyMode, TypeCode, Value};
 
 /// The service types, in the order of adding: each one's name, its supertype, and its properties with
@@ -23,40 +23,58 @@ const TYPES: [(&str, &str, &str); 3] = [
 /// The three types, each below the one before.
 pub(crate) fn made_types(alloc: Global) -> Result<Types, Memory> {
     let mut types = Types::new(alloc, List::new(alloc))?;
-    match add_types(alloc, &mut types) {
-        Ok(()) => Ok(types),
-        Err(fault) => {
-            drop(fault);
-            drop(types);
-            Err(Memory)
+    if add_types(alloc, &mut types) {
+        Ok(types)
+    } else {
+        drop(types);
+        Err(Memory)
+    }
+}
+
+fn add_types(alloc: Global, types: &mut Types) -> bool {
+    for (name, base, properties) in TYPES {
+        if !add_type(alloc, types, name, base, properties) {
+            return false;
         }
     }
+    true
 }
 
-fn add_types(alloc: Global, types: &mut Types) -> Result<(), TypesFault> {
-    for (name, base, properties) in TYPES {
-        add_type(alloc, types, name, base, properties)?;
-    }
-    Ok(())
-}
-
-/// Adds a type.
+/// Whether a type is added.
 pub(crate) fn add_type(
     alloc: Global,
     types: &mut Types,
     name: &str,
     base: &str,
     properties: &str,
-) -> Result<(), TypesFault> {
+) -> bool {
+    add_named(alloc, types, name, base, properties).unwrap_or(false)
+}
+
+fn add_named(
+    alloc: Global,
+    types: &mut Types,
+    name: &str,
+    base: &str,
+    properties: &str,
+) -> Result<bool, Memory> {
     let supers = supers(alloc, base)?;
     let declared = declared(alloc, properties)?;
     let name = text(alloc, name)?;
-    match types.add(name, Text::new(alloc), declared, supers) {
+    Ok(is_done(types.add(name, Text::new(alloc), declared, supers)))
+}
+
+/// Whether a change of types is done.
+pub(crate) fn is_done(answer: Result<TypesReply, TypesFault>) -> bool {
+    match answer {
         Ok(reply) => {
             drop(reply);
-            Ok(())
+            true
         }
-        Err(fault) => Err(fault),
+        Err(fault) => {
+            drop(fault);
+            false
+        }
     }
 }
 
@@ -73,14 +91,19 @@ fn supers(alloc: Global, base: &str) -> Result<List<Text>, Memory> {
 fn declared(alloc: Global, words: &str) -> Result<List<PropStruct>, Memory> {
     let mut declared = List::new(alloc);
     for word in words.split(' ') {
-        let (name, mode) = word.split_once(':').unwrap_or((word, ""));
-        declared.push(PropStruct {
-            name: text(alloc, name)?,
-            value_type: TypeCode::ULong,
-            mode: mode_of(mode),
-        })?;
+        declare(alloc, &mut declared, word)?;
     }
     Ok(declared)
+}
+
+fn declare(alloc: Global, declared: &mut List<PropStruct>, word: &str) -> Result<(), Memory> {
+    let (name, mode) = word.split_once(':').unwrap_or((word, ""));
+    let name = text(alloc, name)?;
+    declared.push(PropStruct {
+        name,
+        value_type: TypeCode::ULong,
+        mode: mode_of(mode),
+    })
 }
 
 fn mode_of(word: &str) -> PropertyMode {
@@ -138,10 +161,17 @@ pub(crate) fn properties(alloc: Global, words: &str) -> Result<List<Property>, M
     let mut properties = List::new(alloc);
     for word in words.split(' ') {
         if !word.is_empty() && word != "proxy" {
-            properties.push(property(alloc, word)?)?;
+            push(&mut properties, property(alloc, word))?;
         }
     }
     Ok(properties)
+}
+
+fn push(properties: &mut List<Property>, property: Result<Property, Memory>) -> Result<(), Memory> {
+    match property {
+        Ok(property) => properties.push(property),
+        Err(memory) => Err(memory),
+    }
 }
 
 fn property(alloc: Global, word: &str) -> Result<Property, Memory> {

@@ -2,16 +2,17 @@
 
 ghost use Rattle.std.specs.Prelude.{◌≡◌, ◌∷◌, [], IfOk};
 
+use crate::asking::{identifier, query_of};
+use crate::starting::{Start, is_begun};
 use std::alloc::Global;
 use std::process::Abort;
 use std::test::Fail;
-use td_cdr::{Boxed, List, Memory, Octets, Text};
+use td_cdr::{List, Memory, Octets, Text};
 use td_changes::Bounds;
 use td_ops::{Change, Look, Outcome, Query, Reply};
-use td_policy::octets_policy;
 use td_register::Accepted;
-use td_samples::{INTERFACE, Told, empty_store, outcome, query_with, reference, text};
-use td_trader::{Begin, Trader};
+use td_samples::{INTERFACE, Told, empty_store, outcome, reference, text};
+use td_trader::Trader;
 use td_value::SpecifiedServiceTypes;
 
 /// A trader with an empty store, that accepts so many changes and begins two queries.
@@ -51,29 +52,61 @@ fn names(alloc: Global) -> Result<(Text, Octets), Memory>
     }
 }
 
+/// What becomes of a trader.
+#[derive(Clone, Copy)]
+enum Course {
+    Kept,
+    Withdrawn,
+    Limited,
+    Begun,
+}
+
+fn goes(alloc: Global, course: Course) -> Result<bool, Memory> {
+    let mut trader = opened(alloc, changes_of(course))?;
+    let passed = goes_on(alloc, &mut trader, course);
+    drop(trader);
+    Ok(passed)
+}
+
+/// How many changes the trader accepts.
+fn changes_of(course: Course) -> u64 {
+    match course {
+        Course::Limited => 1,
+        _ => 10,
+    }
+}
+
+fn goes_on(alloc: Global, trader: &mut Trader, course: Course) -> bool {
+    match course {
+        Course::Kept => keeps_accepted(alloc, trader),
+        Course::Withdrawn => withdraws_exported(alloc, trader),
+        Course::Limited => accepts_one(alloc, trader),
+        Course::Begun => begins_after_a_change(alloc, trader),
+    }
+}
+
+/// Whether a change comes to this.
+fn comes_to(trader: &mut Trader, change: Result<Change, Memory>, told: Told) -> bool {
+    match change {
+        Ok(change) => outcome(trader.change(change)) == told,
+        Err(_) => false,
+    }
+}
+
 #[test]
 fn accepted_changes_are_kept(rt: HostRuntime) -> Result<(), Fail> {
     let alloc = rt.alloc();
-    assert!(rt; keeps(alloc)?);
+    assert!(rt; goes(alloc, Course::Kept)?);
     Ok(())
 }
 
-fn keeps(alloc: Global) -> Result<bool, Memory> {
-    let mut trader = opened(alloc, 10)?;
-    let passed = keeps_accepted(alloc, &mut trader);
-    drop(trader);
-    passed
-}
-
 /// What is refused isn't kept.
-fn keeps_accepted(alloc: Global, trader: &mut Trader) -> Result<bool, Memory> {
-    Ok(
-        outcome(trader.change(masked(alloc, "Printer")?)) == Told::UnknownType
-            && trader.history().is_empty()
-            && outcome(trader.change(added(alloc, "Printer")?)) == Told::Incarnation
-            && is_added(trader.history(), b"Printer")
-            && is_listed(trader.look(&all_types()), b"Printer"),
-    )
+fn keeps_accepted(alloc: Global, trader: &mut Trader) -> bool {
+    comes_to(trader, masked(alloc, "Printer"), Told::UnknownType)
+        && trader.history().is_empty()
+        && comes_to(trader, added(alloc, "Printer"), Told::Incarnation)
+        && is_added(trader.history(), b"Printer")
+        && lists(trader, b"Printer")
 }
 
 /// Whether a history is a type that was added first of all.
@@ -96,6 +129,14 @@ fn is_first(reply: &Reply) -> bool {
         Reply::Incarnation(incarnation) => incarnation.high == 0 && incarnation.low == 1,
         _ => false,
     }
+}
+
+/// Whether this name alone is listed.
+fn lists(trader: &Trader, name: &[u8]) -> bool {
+    let look = all_types();
+    let passed = is_listed(trader.look(&look), name);
+    drop(look);
+    passed
 }
 
 /// Whether a look is answered with this name alone, and with max_list.
@@ -143,30 +184,17 @@ fn added(alloc: Global, name: &str) -> Result<Change, Memory> {
 #[test]
 fn an_offer_is_withdrawn_in_reserved_room(rt: HostRuntime) -> Result<(), Fail> {
     let alloc = rt.alloc();
-    assert!(rt; withdraws(alloc)?);
+    assert!(rt; goes(alloc, Course::Withdrawn)?);
     Ok(())
 }
 
-fn withdraws(alloc: Global) -> Result<bool, Memory> {
-    let mut trader = opened(alloc, 10)?;
-    let passed = withdraws_exported(alloc, &mut trader);
-    drop(trader);
-    passed
-}
-
-fn withdraws_exported(alloc: Global, trader: &mut Trader) -> Result<bool, Memory> {
-    Ok(
-        outcome(trader.change(added(alloc, "Printer")?)) == Told::Incarnation
-            && outcome(trader.change(exported(alloc)?)) == Told::Id
-            && withdraws_reserved(alloc, trader)?
-            && outcome(trader.change(withdrawn(alloc)?)) == Told::UnknownId
-            && trader.point() == 3,
-    )
-}
-
-fn withdraws_reserved(alloc: Global, trader: &mut Trader) -> Result<bool, Memory> {
-    trader.reserve_change()?;
-    Ok(outcome(trader.change(withdrawn(alloc)?)) == Told::Nothing)
+fn withdraws_exported(alloc: Global, trader: &mut Trader) -> bool {
+    comes_to(trader, added(alloc, "Printer"), Told::Incarnation)
+        && comes_to(trader, exported(alloc), Told::Id)
+        && trader.reserve_change().is_ok()
+        && comes_to(trader, withdrawn(alloc), Told::Nothing)
+        && comes_to(trader, withdrawn(alloc), Told::UnknownId)
+        && trader.point() == 3
 }
 
 fn exported(alloc: Global) -> Result<Change, Memory> {
@@ -188,77 +216,42 @@ fn withdrawn(alloc: Global) -> Result<Change, Memory> {
 #[test]
 fn changes_above_the_limit(rt: HostRuntime) -> Result<(), Fail> {
     let alloc = rt.alloc();
-    assert!(rt; is_limited(alloc)?);
+    assert!(rt; goes(alloc, Course::Limited)?);
     Ok(())
 }
 
-fn is_limited(alloc: Global) -> Result<bool, Memory> {
-    let mut trader = opened(alloc, 1)?;
-    let passed = accepts_one(alloc, &mut trader);
-    drop(trader);
-    passed
-}
-
-fn accepts_one(alloc: Global, trader: &mut Trader) -> Result<bool, Memory> {
-    Ok(
-        outcome(trader.change(added(alloc, "Printer")?)) == Told::Incarnation
-            && outcome(trader.change(added(alloc, "Scanner")?)) == Told::Limit
-            && outcome(trader.change(added(alloc, "Printer")?)) == Told::TypeExists
-            && outcome(trader.change(masked(alloc, "Printer")?)) == Told::Limit
-            && outcome(trader.change(masked(alloc, "Scanner")?)) == Told::UnknownType
-            && is_added(trader.history(), b"Printer"),
-    )
+fn accepts_one(alloc: Global, trader: &mut Trader) -> bool {
+    comes_to(trader, added(alloc, "Printer"), Told::Incarnation)
+        && comes_to(trader, added(alloc, "Scanner"), Told::Limit)
+        && comes_to(trader, added(alloc, "Printer"), Told::TypeExists)
+        && comes_to(trader, masked(alloc, "Printer"), Told::Limit)
+        && comes_to(trader, masked(alloc, "Scanner"), Told::UnknownType)
+        && is_added(trader.history(), b"Printer")
 }
 
 /// A query is searched at the point where it begins, and marked once.
 #[test]
 fn a_query_begins_at_a_trader(rt: HostRuntime) -> Result<(), Fail> {
     let alloc = rt.alloc();
-    assert!(rt; begins(alloc)?);
+    assert!(rt; goes(alloc, Course::Begun)?);
     Ok(())
 }
 
-fn begins(alloc: Global) -> Result<bool, Memory> {
-    let mut trader = opened(alloc, 10)?;
-    let passed = begins_after_a_change(alloc, &mut trader);
-    drop(trader);
-    passed
+fn begins_after_a_change(alloc: Global, trader: &mut Trader) -> bool {
+    comes_to(trader, added(alloc, "Printer"), Told::Incarnation)
+        && begins_twice(alloc, trader)
+        && trader.marks() == 1
 }
 
-fn begins_after_a_change(alloc: Global, trader: &mut Trader) -> Result<bool, Memory> {
-    Ok(
-        outcome(trader.change(added(alloc, "Printer")?)) == Told::Incarnation
-            && begins_twice(alloc, trader)?
-            && trader.marks() == 1,
-    )
+fn begins_twice(alloc: Global, trader: &mut Trader) -> bool {
+    match query_of(alloc, identifier(alloc, b"q")) {
+        Ok(query) => is_searched_then_repeated(trader, query.get()),
+        Err(_) => false,
+    }
 }
 
-fn begins_twice(alloc: Global, trader: &mut Trader) -> Result<bool, Memory> {
-    let policy = octets_policy(alloc, b"request_id".as_slice(), b"q".as_slice())?;
-    let query = Boxed::new(alloc, query_with(alloc, policy)?)?;
-    Ok(is_searched_then_repeated(trader, query.get()))
-}
-
+/// The query is searched at the point 1, with the first mark, and then repeats the one with this mark.
 fn is_searched_then_repeated(trader: &mut Trader, query: &Query) -> bool {
-    is_search(trader.begin(query)) && is_repeat(trader.begin(query))
-}
-
-/// Whether a query is searched at the point 1, with the first mark.
-fn is_search(answer: Result<Begin, Memory>) -> bool {
-    let passed = match &answer {
-        Ok(Begin::Search(local)) => local.point == 1 && local.mark == 1,
-        _ => false,
-    };
-    drop(answer);
-    passed
-}
-
-/// Whether a query repeats the one with the first mark.
-fn is_repeat(answer: Result<Begin, Memory>) -> bool {
-    let passed = match &answer {
-        Ok(Begin::Repeat(number)) => *number == 1,
-        _ => false,
-    };
-    drop(answer);
-    passed
+    is_begun(trader.begin(query), Start::First(1))
+        && is_begun(trader.begin(query), Start::Repeat(1))
 }

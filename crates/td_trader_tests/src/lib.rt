@@ -2,6 +2,8 @@
 #![tactic(auto)]
 
 #[cfg(test)]
+mod asking;
+#[cfg(test)]
 mod begins;
 #[cfg(test)]
 mod histories;
@@ -9,3 +11,5 @@ mod histories;
 mod queries;
 #[cfg(test)]
 mod served;
+#[cfg(test)]
+mod starting;

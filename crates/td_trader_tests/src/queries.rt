@@ -1,5 +1,6 @@
 //! Queries that are judged, in the order of the causes for which they are refused.
 
+use crate::asking::{identifier, names, path, query_of, stored};
 use std::alloc::Global;
 use std::process::Abort;
 use std::test::Fail;
@@ -7,9 +8,9 @@ use td_cdr::{Boxed, List, Memory, Text};
 use td_changes::Bounds;
 use td_exceptions::UserException;
 use td_ops::{Desired, Query};
-use td_policy::{number_policy, octets_policy, texts_policy, truth_policy};
+use td_policy::{number_policy, truth_policy};
 use td_register::{Fault, Refusal};
-use td_samples::{printer_store, query_with, text};
+use td_samples::text;
 use td_store::Store;
 use td_trader::{Parts, judge};
 use td_value::Policy;
@@ -24,36 +25,56 @@ const BOUNDS: Bounds = Bounds {
 /// How many things can be at fault with a query.
 const CAUSES: u32 = 12;
 
+/// What queries are judged for.
+#[derive(Clone, Copy)]
+enum Subject {
+    Causes,
+    Limits,
+}
+
+fn judges(alloc: Global, subject: Subject) -> Result<bool, Memory> {
+    let store = stored(alloc)?;
+    Ok(judges_with(alloc, store.get(), subject))
+}
+
+fn judges_with(alloc: Global, store: &Store, subject: Subject) -> bool {
+    match subject {
+        Subject::Causes => each_in_order(alloc, store),
+        Subject::Limits => each_limit_holds(alloc, store),
+    }
+}
+
 /// A query in which all is at fault is refused for the first cause; that query with the first fault mended for the
 /// second one, and so on. At last it is taken.
 #[test]
 fn causes_come_in_order(rt: HostRuntime) -> Result<(), Fail> {
     let alloc = rt.alloc();
-    assert!(rt; come_in_order(alloc)?);
+    assert!(rt; judges(alloc, Subject::Causes)?);
     Ok(())
 }
 
-fn come_in_order(alloc: Global) -> Result<bool, Memory> {
-    let store = printer_store(alloc)?;
-    let passed = each_in_order(alloc, &store);
-    drop(store);
-    passed
-}
-
-fn each_in_order(alloc: Global, store: &Store) -> Result<bool, Memory> {
+fn each_in_order(alloc: Global, store: &Store) -> bool {
     for mended in 0..=CAUSES {
-        if answer_to(alloc, store, mended)? != mended {
-            return Ok(false);
+        let count = if mended < CAUSES { 3 } else { 2 };
+        if !is_at(alloc, store, count, mended_query(alloc, mended), mended) {
+            return false;
         }
     }
-    Ok(true)
+    true
 }
 
-/// The place in the order of what a query is refused for of which so many faults are mended.
-fn answer_to(alloc: Global, store: &Store, mended: u32) -> Result<u32, Memory> {
-    let query = Boxed::new(alloc, mended_query(alloc, mended)?)?;
-    let count = if mended < CAUSES { 3 } else { 2 };
-    Ok(place_of(judge(alloc, &BOUNDS, count, store, query.get())))
+/// Whether a query, where so many began, is refused for what has this place in the order.
+fn is_at(
+    alloc: Global,
+    store: &Store,
+    count: u64,
+    query: Result<Boxed<Query>, Memory>,
+    place: u32,
+) -> bool {
+    match query {
+        Ok(query) => place_of(judge(alloc, &BOUNDS, count, store, query.get())) == place,
+        Err(_) => false,
+    }
 }
 
 fn place_of(answer: Result<Parts, Fault>) -> u32 {
@@ -93,17 +114,27 @@ fn policy_place(policy: &Policy) -> u32 {
 }
 
 /// A query of which so many faults are mended.
-fn mended_query(alloc: Global, mended: u32) -> Result<Query, Memory> {
-    let policies = mended_policies(alloc, mended)?;
-    let desired = mended_names(alloc, mended)?;
-    Ok(Query {
-        service_type: text(alloc, mended_type(mended))?,
-        constraint: text(alloc, if mended <= 2 { "Cost < 1.5" } else { "" })?,
-        preference: text(alloc, if mended <= 3 { "least Cost" } else { "" })?,
-        policies,
-        desired: Desired::Some(desired),
-        how_many: 10,
-    })
+fn mended_query(alloc: Global, mended: u32) -> Result<Boxed<Query>, Memory> {
+    let (service_type, (constraint, preference)) = mended_texts(alloc, mended)?;
+    let (names, policies) = mended_lists(alloc, mended)?;
+    Boxed::new(
+        alloc,
+        Query {
+            service_type,
+            constraint,
+            preference,
+            policies,
+            desired: Desired::Some(names),
+            how_many: 10,
+        },
+    )
+}
+
+fn mended_texts(alloc: Global, mended: u32) -> Result<(Text, (Text, Text)), Memory> {
+    let service_type = text(alloc, mended_type(mended))?;
+    let constraint = text(alloc, if mended <= 2 { "Cost < 1.5" } else { "" })?;
+    let preference = text(alloc, if mended <= 3 { "least Cost" } else { "" })?;
+    Ok((service_type, (constraint, preference)))
 }
 
 fn mended_type(mended: u32) -> &'static str {
@@ -116,17 +147,25 @@ fn mended_type(mended: u32) -> &'static str {
     }
 }
 
+fn mended_lists(alloc: Global, mended: u32) -> Result<(List<Text>, List<Policy>), Memory> {
+    let names = mended_names(alloc, mended)?;
+    let policies = mended_policies(alloc, mended)?;
+    Ok((names, policies))
+}
+
 fn mended_names(alloc: Global, mended: u32) -> Result<List<Text>, Memory> {
-    let mut names = List::new(alloc);
-    names.push(text(alloc, if mended <= 8 { "2x" } else { "Cost" })?)?;
-    names.push(text(alloc, if mended <= 9 { "Cost" } else { "Colour" })?)?;
-    Ok(names)
+    names(
+        alloc,
+        if mended <= 8 { "2x" } else { "Cost" },
+        if mended <= 9 { "Cost" } else { "Colour" },
+        2,
+    )
 }
 
 fn mended_policies(alloc: Global, mended: u32) -> Result<List<Policy>, Memory> {
+    let count = if mended <= 5 { 2 } else { 1 };
     let mut policies = List::new(alloc);
-    policies.push(mended_policy(alloc, mended)?)?;
-    if mended <= 5 {
+    for _ in 0..count {
         policies.push(mended_policy(alloc, mended)?)?;
     }
     Ok(policies)
@@ -140,20 +179,10 @@ fn mended_policy(alloc: Global, mended: u32) -> Result<Policy, Memory> {
     } else if mended == 6 {
         truth_policy(alloc, b"hop_count".as_slice(), true)
     } else if mended == 7 {
-        octets_policy(alloc, b"request_id".as_slice(), [7; 257].as_slice())
+        identifier(alloc, [7; 257].as_slice())
     } else {
         path(alloc, if mended <= 10 { "c" } else { "b" }, 1)
     }
-}
-
-/// The policy starting_trader with so many names.
-fn path(alloc: Global, first: &str, count: usize) -> Result<Policy, Memory> {
-    let mut names = List::new(alloc);
-    names.push(text(alloc, first)?)?;
-    for _ in 1..count {
-        names.push(text(alloc, "c")?)?;
-    }
-    texts_policy(alloc, b"starting_trader".as_slice(), names.as_slice())
 }
 
 /// The longest identifier and path are taken, and one octet, one name more isn't; nor is a link
@@ -161,37 +190,18 @@ fn path(alloc: Global, first: &str, count: usize) -> Result<Policy, Memory> {
 #[test]
 fn policies_at_their_limits(rt: HostRuntime) -> Result<(), Fail> {
     let alloc = rt.alloc();
-    assert!(rt; limits_hold(alloc)?);
+    assert!(rt; judges(alloc, Subject::Limits)?);
     Ok(())
 }
 
-fn limits_hold(alloc: Global) -> Result<bool, Memory> {
-    let store = printer_store(alloc)?;
-    let passed = each_limit_holds(alloc, &store);
-    drop(store);
-    passed
+fn each_limit_holds(alloc: Global, store: &Store) -> bool {
+    comes_to(alloc, store, identifier(alloc, [7; 256].as_slice()), CAUSES)
+        && comes_to(alloc, store, identifier(alloc, [7; 257].as_slice()), 7)
+        && comes_to(alloc, store, path(alloc, "b", 64), CAUSES)
+        && comes_to(alloc, store, path(alloc, "b", 65), 10)
 }
 
-fn each_limit_holds(alloc: Global, store: &Store) -> Result<bool, Memory> {
-    Ok(
-        is_taken(alloc, store, identifier(alloc, 256)?)?
-            && !is_taken(alloc, store, identifier(alloc, 257)?)?
-            && is_taken(alloc, store, path(alloc, "b", 64)?)?
-            && !is_taken(alloc, store, path(alloc, "b", 65)?)?,
-    )
-}
-
-/// The policy request_id with so many octets.
-fn identifier(alloc: Global, count: usize) -> Result<Policy, Memory> {
-    let mut octets = List::new(alloc);
-    for _ in 0..count {
-        octets.push(7)?;
-    }
-    octets_policy(alloc, b"request_id".as_slice(), octets.as_slice())
-}
-
-/// Whether a query with this policy is taken.
-fn is_taken(alloc: Global, store: &Store, policy: Policy) -> Result<bool, Memory> {
-    let query = Boxed::new(alloc, query_with(alloc, policy)?)?;
-    Ok(place_of(judge(alloc, &BOUNDS, 0, store, query.get())) == CAUSES)
+/// Whether a query with this policy is refused for what has this place in the order, or taken at the last.
+fn comes_to(alloc: Global, store: &Store, policy: Result<Policy, Memory>, place: u32) -> bool {
+    is_at(alloc, store, 0, query_of(alloc, policy), place)
 }
