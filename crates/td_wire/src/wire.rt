@@ -1,0 +1,82 @@
+//! Connections to peers.
+
+ghost use Rattle.std.specs.Prelude.{◌≡◌, ℕ, Option};
+ghost use Rattle.td_out.specs.Causes.{HasCause, Takes};
+ghost use Rattle.td_wire.specs.Connections.{Traffic, Connects, Writes, Reads};
+
+use td_out::Failed;
+
+/// A wire, which connects to one peer at a time.
+pub trait Wire {
+    /// The connections that were made and what those to come will give, where the wire tells.
+    ghost told: { Self → Option Traffic };
+
+    /// How many faults there were. The count never falls, and stands still at 2^64 - 1.
+    ghost faults: { Self → ℕ };
+
+    /// It is the same wire still: of a borrow, that no other was put in its place.
+    ghost same: { Self → Self → Type 0 };
+
+    /// Ends the connection that stands, and makes one to this host and port.
+    ///
+    /// # Errors
+    ///
+    /// `Failed` only where the count of faults rose. The connection that stood may have ended then.
+    fn connect(&mut self, host: &[u8], port: u16) -> Result<(), Failed>
+        ensures same { same self.old self.new }
+        ensures bytes { Connects host.now port (told self.old) (told self.new) result }
+        ensures cause { HasCause (faults self.old) (faults self.new) result };
+
+    /// Moves bytes from the front of what the connection gives into the front of `into`, and answers how many.
+    /// None are moved only where `into` is empty or the connection gives no more.
+    ///
+    /// # Errors
+    ///
+    /// `Failed` only where the count of faults rose; no byte was then moved.
+    fn read(&mut self, into: &mut [u8]) -> Result<usize, Failed>
+        ensures same { same self.old self.new }
+        ensures bytes { Reads into.new (told self.old) (told self.new) result }
+        ensures cause { HasCause (faults self.old) (faults self.new) result };
+
+    /// Writes the first bytes of the piece over the connection, and answers how many: at least one of a piece that
+    /// isn't empty. They are handed on at once; a wire holds nothing back.
+    ///
+    /// # Errors
+    ///
+    /// `Failed` only where the count of faults rose; no byte was then written, as far as the wire tells.
+    fn write(&mut self, piece: &[u8]) -> Result<usize, Failed>
+        ensures same { same self.old self.new }
+        ensures some { Takes result piece.now }
+        ensures bytes { Writes piece.now (told self.old) (told self.new) result }
+        ensures cause { HasCause (faults self.old) (faults self.new) result };
+
+    ghost same_self: { (a : Self) → same a a };
+
+    ghost same_on: { (a b c : Self) → same a b → same b c → same a c };
+}
+
+impl<L: Wire> Wire for &mut L {
+    ghost told = { λ s. L.told s.now };
+
+    ghost faults = { λ s. L.faults s.now };
+
+    ghost same = { λ a b. a.ghost_name ≡ b.ghost_name };
+
+    ghost use Rattle.std.proofs.Common.{◌∙◌, refl};
+
+    ghost same_self = { λ a. refl };
+
+    ghost same_on = { λ a b c p q. p ∙ q };
+
+    fn connect(&mut self, host: &[u8], port: u16) -> Result<(), Failed> {
+        (**self).connect(host, port)
+    }
+
+    fn read(&mut self, into: &mut [u8]) -> Result<usize, Failed> {
+        (**self).read(into)
+    }
+
+    fn write(&mut self, piece: &[u8]) -> Result<usize, Failed> {
+        (**self).write(piece)
+    }
+}
