@@ -85,7 +85,11 @@ fn are_counted(alloc: Global, traders: &[Trader], told: &str) -> Result<bool, Fa
     Ok(rest.is_empty() || rest == "none")
 }
 
-fn is_told(alloc: Global, opened: &Result<Opened, FileFault>, told: &str) -> Result<bool, Fail> {
+pub(crate) fn is_told(
+    alloc: Global,
+    opened: &Result<Opened, FileFault>,
+    told: &str,
+) -> Result<bool, Fail> {
     match opened {
         Ok(opened) => are_counted(alloc, opened.solo.traders.as_slice(), told),
         Err(_) => Ok(false),

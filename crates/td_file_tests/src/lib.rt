@@ -2,6 +2,8 @@
 #![tactic(auto)]
 
 #[cfg(test)]
+mod cities;
+#[cfg(test)]
 mod counted;
 #[cfg(test)]
 mod files;
