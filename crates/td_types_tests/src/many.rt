@@ -46,7 +46,7 @@ fn adds(
     Ok(is_added(answer.get()))
 }
 
-/// Adds so many types with nothing but a name: T0, T1 and so on. Whether each was added.
+/// Adds so many types with nothing but a name, which is the letter T and their number. Whether each was added.
 pub(crate) fn add_types(alloc: Global, types: &mut Types, count: u64) -> Result<bool, Memory> {
     let mut all = true;
     for number in 0..count {
