@@ -22,16 +22,17 @@ use td_value::{Kind, ObjectKey};
 pub fn read_key(alloc: Global, octets: &[u8]) -> Result<ObjectKey, IorFault>
     ensures { ReadsKey (key_of octets.now) result }
 {
-    let Some((name, kind)) = parts_of(octets) else {
+    let Some((name, kind)) = key_parts(octets) else {
         return Err(IorFault::BadKey);
     };
     let trader = Text::from_slice(alloc, name)?;
     Ok(ObjectKey { trader, kind })
 }
 
-/// The trader's name in a key, and which object it is of.
+/// The trader's name in a key, and which object it is of; `None` exactly where the octets are the key of no object.
+/// Takes no memory.
 #[tactic(auto, unfolding(crate::specs::Keys::key_of))]
-fn parts_of(octets: &[u8]) -> Option<(&[u8], Kind)>
+pub fn key_parts(octets: &[u8]) -> Option<(&[u8], Kind)>
     ensures { option_map (λ p. record { trader = p.0.now; kind = p.1 }) result ≡ key_of octets.now }
 {
     let (name, object) = at_slash(octets)?;

@@ -11,7 +11,7 @@ mod profile;
 mod text;
 
 pub use fault::IorFault;
-pub use key::{read_key, write_key};
+pub use key::{key_parts, read_key, write_key};
 pub use laws::{keys_are_read, profiles_are_read, texts_are_read};
 pub use profile::{Iiop, iiop_of, make_ior};
 pub use td_value::{Kind, ObjectKey};
