@@ -20,11 +20,12 @@ use Rattle.td_changes.specs.Applying.{seek}
 use Rattle.td_trader.specs.Beginning.{after_begin}
 use Rattle.td_changes.specs.Histories.{Legal, LegalFrom}
 use Rattle.td_register.specs.Entries.{entry}
-use Rattle.td_trader.specs.PlainTraders.{PlainTrader, after_change, after_outcome, begin_at, outcome_of, store_of}
+use Rattle.td_trader.specs.PlainTraders.{HasShortReplies, PlainTrader, after_change, after_outcome, begin_at}
+use Rattle.td_trader.specs.PlainTraders.{outcome_of, store_of}
 use Rattle.td_trader.specs.PlainTraders.{after_begin as trader_after}
 use Rattle.td_trader.specs.Solos.{AreDistinct, nothing, places, solo_view, unchanged, up_to}
 use Rattle.td_register.specs.Stores.{Store}
-use Rattle.td_trader.specs.Worlds.{Begun, number_between, after_begin as seen_after}
+use Rattle.td_trader.specs.Worlds.{AdmittedAt, AdmittedIn, Begun, number_between, after_begin as seen_after}
 use Rattle.td_trader.specs.Worlds.{Changes, LegalAt, LegalIn, Looks, Meanwhile, View, Watches, after_own, history_at}
 use Rattle.td_trader.specs.Worlds.{history_in, name_at, name_in, with_view}
 use Rattle.td_trader.specs.declared.begin.Begin.{Begin}
@@ -185,3 +186,6 @@ module _ (ts : List PlainTrader) (k : ℕ) (t : PlainTrader) (inside : k < lengt
 
   pub legal-at : Legal t.bounds t.opening t.history → LegalAt (map solo_view ts) k
   legal-at h = subst LegalIn (sym view-at) h
+
+  pub admitted-at : HasShortReplies t.opening → AdmittedAt (map solo_view ts) k
+  admitted-at h = subst AdmittedIn (sym view-at) h

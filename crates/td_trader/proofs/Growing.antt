@@ -32,7 +32,7 @@ unfolding after_all
 after-append s [] more = refl
 after-append s (x ∷ h) more = after-append (apply s x.change).store h more
 
-legal-none : (b : Bounds) (n : ℕ) (s : Store) → LegalFrom b n s []
+pub legal-none : (b : Bounds) (n : ℕ) (s : Store) → LegalFrom b n s []
 unfolding LegalFrom
 legal-none b n s = tt
 

@@ -1,5 +1,5 @@
 -- What a trader keeps through a change.
-use Rattle.std.proofs.Common.{◌≡◌, ℕ, Bool, true, false, List, [], length, Result, Ok, Err, cond, if◌then◌else◌}
+use Rattle.std.proofs.Common.{◌≡◌, ◌≤◌, ℕ, Bool, true, false, List, [], length, Result, Ok, Err, cond, if◌then◌else◌}
 use Rattle.std.proofs.Common.{refl, sym}
 use Rattle.std.proofs.Common.{ap, subst, ◌∙◌}
 use Rattle.td_cdr.specs.declared.memory.Memory.{Memory as Wanting}
@@ -13,8 +13,10 @@ use Rattle.td_register.specs.Causes.{Applied, Comes, applied}
 use Rattle.td_changes.specs.Histories.{Legal, after_all, is_done, noted}
 use Rattle.td_changes.specs.Laws.{Extends, applied_after}
 use Rattle.td_changes.specs.Numbering.{AreNumbered}
-use Rattle.td_trader.specs.PlainTraders.{IsKept, PlainTrader, after_change, after_outcome, outcome_of, store_of}
+use Rattle.td_trader.specs.PlainTraders.{HasShortReplies, IsKept, PlainTrader, after_change, after_outcome}
+use Rattle.td_trader.specs.PlainTraders.{outcome_of, store_of}
 use Rattle.td_changes.specs.Recording.{Records}
+use Rattle.td_register.specs.Registers.{last_number}
 use Rattle.td_register.specs.Stores.{Store}
 use Rattle.td_changes.specs.declared.bounds.Bounds.{Bounds}
 use Rattle.td_register.specs.declared.history.Accepted.{Accepted}
@@ -99,6 +101,12 @@ kept-opening b o s h e n counted =
       legal = legal-empty b s;
       numbered = counted;
     }))
+
+pub short-opening : (o s : Store) (stem : List ℕ) → o ≡ s → (stem ≡ s.attributes.request_id_stem) × (length stem ≤ 64)
+    → s.last_offer ≤ last_number → HasShortReplies o
+short-opening o s stem e h last =
+    subst HasShortReplies (sym e)
+    (record { stem = subst (λ (x : List ℕ). length x ≤ 64) h.0 h.1; last_offer = last })
 
 -- ---- the trader's value
 

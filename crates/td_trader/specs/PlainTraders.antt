@@ -2,6 +2,7 @@
 use Rattle.std.specs.Prelude.{◌≡◌, ℕ, ◌≤◌, ◌^◌, Bool, false, List, [], length}
 use Rattle.td_cdr.specs.Marks.{Marks}
 use Rattle.td_marks.specs.Keeping.{no_marks}
+use Rattle.td_ops.specs.Outcomes.{short_length}
 use Rattle.td_ops.specs.declared.call.Change.{Change}
 use Rattle.td_ops.specs.declared.call.Query.{Query}
 use Rattle.td_ops.specs.declared.outcome.Outcome.{Outcome}
@@ -10,6 +11,7 @@ use Rattle.td_trader.specs.Beginning.{begin_of, after_begin as marks_after}
 use Rattle.td_changes.specs.Histories.{Legal, after_all, noted}
 use Rattle.td_changes.specs.Laws.{applied_after}
 use Rattle.td_changes.specs.Numbering.{AreNumbered}
+use Rattle.td_register.specs.Registers.{last_number}
 use Rattle.td_register.specs.Stores.{Store}
 use Rattle.td_trader.specs.declared.begin.Begin.{Begin}
 use Rattle.td_changes.specs.declared.bounds.Bounds.{Bounds}
@@ -65,6 +67,13 @@ begin_at t q = begin_of t.bounds (store_of t) (length t.history) t.marks q
 -- the trader behind a query that began so
 abbrev pub after_begin : PlainTrader → Query → Begin → PlainTrader
 after_begin t q b = record t { marks = marks_after (store_of t) t.marks q b }
+
+-- ---- replies that fit in few bytes
+
+-- a stem is short, and the numbers of offers are ulongs
+pub record HasShortReplies (s : Store) : Type 0 where
+  pub stem : length s.attributes.request_id_stem ≤ short_length
+  pub last_offer : s.last_offer ≤ last_number
 
 -- ---- what is kept
 

@@ -12,7 +12,7 @@ use Rattle.td_changes.specs.Applying.{seek}
 use Rattle.td_trader.specs.Beginning.{begin_of, after_begin as marks_after}
 use Rattle.td_changes.specs.Histories.{Legal, LegalFrom, after_all, noted}
 use Rattle.td_changes.specs.Laws.{applied_after}
-use Rattle.td_trader.specs.PlainTraders.{PlainTrader}
+use Rattle.td_trader.specs.PlainTraders.{HasShortReplies, PlainTrader}
 use Rattle.td_register.specs.Stores.{Store}
 use Rattle.td_trader.specs.declared.begin.Begin.{Begin}
 use Rattle.td_changes.specs.declared.bounds.Bounds.{Bounds}
@@ -68,6 +68,14 @@ LegalIn (Some v) = Legal v.bounds v.opening v.history
 -- the history that is seen of it is legal from its opening store on
 abbrev pub LegalAt : List View → ℕ → Type 0
 LegalAt w k = LegalIn (slice_get w k)
+
+abbrev pub AdmittedIn : Option View → Type 0
+AdmittedIn None = Unit {0}
+AdmittedIn (Some v) = HasShortReplies v.opening
+
+-- its opening store was admitted: each change that is accepted from there on has a short reply
+abbrev pub AdmittedAt : List View → ℕ → Type 0
+AdmittedAt w k = AdmittedIn (slice_get w k)
 
 -- ---- what is seen after a step
 

@@ -7,8 +7,8 @@ ghost use Rattle.td_changes.specs.Applying.{is_at_limit, seek};
 ghost use Rattle.td_changes.specs.Histories.{Legal};
 ghost use Rattle.td_changes.specs.Kinds.{is_free};
 ghost use Rattle.td_changes.specs.Numbering.{AreNumbered};
-ghost use Rattle.td_trader.specs.PlainTraders.{AreBounds, after_begin, after_change, begin_at, opened};
-ghost use Rattle.td_trader.specs.PlainTraders.{outcome_of, store_of};
+ghost use Rattle.td_trader.specs.PlainTraders.{AreBounds, HasShortReplies, after_begin, after_change, begin_at};
+ghost use Rattle.td_trader.specs.PlainTraders.{opened, outcome_of, store_of};
 ghost use Rattle.td_changes.specs.Recording.{HasRoom, Records};
 
 use crate::begin::{Begin, begin_query};
@@ -45,7 +45,7 @@ impl Model for Trader {
     ghost use Rattle.std.specs.Coded.{codes};
     ghost use Rattle.td_codes.specs.contracts.code.TypeCode as code;
     ghost use Rattle.td_codes.specs.contracts.code.Value as value;
-    ghost use Rattle.td_trader.specs.PlainTraders.{AreBounds, IsKept, PlainTrader};
+    ghost use Rattle.td_trader.specs.PlainTraders.{AreBounds, HasShortReplies, IsKept, PlainTrader};
     ghost use Rattle.td_changes.specs.Recording.{HasRoom};
 
     ghost Value = { PlainTrader };
@@ -62,7 +62,7 @@ impl Model for Trader {
     } };
 
     ghost invariant = { λ t. AreBounds t.bounds × IsKept t.bounds t.opening.value t.store t.history.items
-        × HasRoom t.reserved (vec_len t.history) (vec_capacity t.history) };
+        × HasRoom t.reserved (vec_len t.history) (vec_capacity t.history) × HasShortReplies t.opening.value };
 }
 
 impl Trader {
@@ -124,6 +124,7 @@ impl Trader {
     pub fn point(&self) -> u64
         ensures count { result ≡ length self.now.history }
         ensures legal { Legal self.now.bounds self.now.opening self.now.history }
+        ensures admitted { HasShortReplies self.now.opening }
     {
         self.history.len() as u64
     }

@@ -4,7 +4,8 @@ ghost use Rattle.std.specs.Prelude.{◌≡◌, ◌<◌, List, length, map, IfOk,
 ghost use Rattle.std.specs.List.{IsDistinct};
 ghost use Rattle.std.specs.Str.{bytes_eq};
 ghost use Rattle.td_cdr.specs.Marks.{Marks};
-ghost use Rattle.td_trader.specs.Worlds.{Begun, Changes, LegalAt, Looks, View, Watches, history_at, name_at};
+ghost use Rattle.td_trader.specs.Worlds.{AdmittedAt, Begun, Changes, LegalAt, Looks, View, Watches};
+ghost use Rattle.td_trader.specs.Worlds.{history_at, name_at};
 ghost use Rattle.td_register.specs.declared.history.Accepted.{Accepted};
 
 use crate::begin::Begin;
@@ -73,7 +74,8 @@ pub trait Traders {
     fn point(&self, trader: usize) -> u64
         requires { trader < length (world self.now) }
         ensures point { result ≡ length (history_at (world self.now) trader) }
-        ensures legal { LegalAt (world self.now) trader };
+        ensures legal { LegalAt (world self.now) trader }
+        ensures admitted { AdmittedAt (world self.now) trader };
 
     ghost same_itself: { (a : Self) → same a a };
 

@@ -18,4 +18,5 @@ invariant_of-self-2 c =
           c.record_change.new.reserved c.args.c c.record_change.result c.self.invariant.1 (subst (λ (n : ℕ).
           is_at_limit c.self.inside.bounds n ≡ false) counted below) c.record_change.ensures.records,
       c.record_change.ensures.room,
+      c.self.invariant.3,
     )
