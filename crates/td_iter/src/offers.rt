@@ -27,7 +27,6 @@ impl Model for OfferIter {
     ghost use Rattle.td_codes.specs.contracts.code.TypeCode as code;
     ghost use Rattle.td_codes.specs.contracts.code.Value as value;
     ghost use Rattle.td_value.specs.declared.structures.Offer.{Offer as an_offer};
-    ghost use Rattle.td_iter.specs.Heads.{AreSmallOffers as are_small};
 
     ghost Value = { Row an_offer };
 
@@ -35,15 +34,13 @@ impl Model for OfferIter {
 
     ghost view = { λ it. drop it.given it.offers };
 
-    ghost invariant = { λ it.
-        (it.given ≤ length it.offers) × (length it.offers < 2 ^ 32) × are_small (drop it.given it.offers) };
+    ghost invariant = { λ it. (it.given ≤ length it.offers) × (length it.offers < 2 ^ 32) };
 }
 
 impl OfferIter {
-    /// An iterator over these offers, each of at most 6 MiB.
+    /// An iterator over these offers.
     pub fn new(left: List<Offer>) -> OfferIter
-        requires few { length left < 2 ^ 32 }
-        requires small { AreSmallOffers left }
+        requires { length left < 2 ^ 32 }
         ensures { result ≡ left }
     {
         OfferIter {
@@ -61,8 +58,8 @@ impl OfferIter {
 
     /// Appends the result of a query: the batch for n offers, the iterator's reference where something
     /// is left behind it and nil where nothing is, and the limits. Answers whether something is left.
-    /// The writer holds what stands before the body of a reply. Where n is at least 1 and something is
-    /// left, the batch isn't empty.
+    /// The writer holds what stands before the body of a reply. Where each offer has at most 6 MiB, n is
+    /// at least 1 and something is left, the batch isn't empty.
     ///
     /// # Errors
     ///
@@ -80,7 +77,8 @@ impl OfferIter {
         requires limits { AreLimits limits.now }
         ensures batch { IfOk result (λ more.
             GivesBatch (offers_found iterator.now limits.now) self.old n self.new w.old w.new more) }
-        ensures some { OnOk result (0 < n → 0 < length self.old → length self.new < length self.old) }
+        ensures some { OnOk result
+            (AreSmallOffers self.old → 0 < n → 0 < length self.old → length self.new < length self.old) }
         ensures err { OnErr result ((self.new ≡ self.old) × (w.new.bytes ≡ w.old.bytes)) }
         ensures order { w.new.order ≡ w.old.order }
     {
@@ -92,7 +90,8 @@ impl OfferIter {
 
     /// Appends the result of `next_n`: whether something is left behind the batch for n offers, and the
     /// batch. Answers whether something is left. The writer holds what stands before the body of a
-    /// reply. Where n is at least 1 and something is left, the batch isn't empty.
+    /// reply. Where each offer has at most 6 MiB, n is at least 1 and something is left, the batch isn't
+    /// empty.
     ///
     /// # Errors
     ///
@@ -100,7 +99,8 @@ impl OfferIter {
     pub fn next_n(&mut self, alloc: Global, n: u32, w: &mut Writer) -> Result<bool, Memory>
         requires { length w.old.bytes ≡ REPLY_START }
         ensures batch { IfOk result (λ more. GivesBatch next_offers self.old n self.new w.old w.new more) }
-        ensures some { OnOk result (0 < n → 0 < length self.old → length self.new < length self.old) }
+        ensures some { OnOk result
+            (AreSmallOffers self.old → 0 < n → 0 < length self.old → length self.new < length self.old) }
         ensures err { OnErr result ((self.new ≡ self.old) × (w.new.bytes ≡ w.old.bytes)) }
         ensures order { w.new.order ≡ w.old.order }
     {

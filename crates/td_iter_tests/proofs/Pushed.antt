@@ -2,18 +2,13 @@
 use Rattle.std.proofs.Common.{◌≡◌, ℕ, ◌≤◌, List, [], ◌∷◌, ◌++◌, length, subst, sym, arith}
 use Rattle.std.specs.List.{AllByRecursion}
 use Rattle.td_codes.specs.declared.reference.Ior.{Ior}
-use Rattle.td_value.specs.declared.structures.Offer.{Offer}
-use Rattle.td_iter.specs.Heads.{nil, IsSmallOffer, AreSmallOffers, AreSmallIds, IsSmallReference, AreLimits}
+use Rattle.td_iter.specs.Heads.{nil, AreSmallIds, IsSmallReference, AreLimits}
 use Rattle.td_iter.proofs.Endings.{nil-small}
 
 all-pushed : {X : Type 0} (P : X → Type 0) (xs : List X) (x : X) → AllByRecursion P xs → P x
     → AllByRecursion P (xs ++ x ∷ [])
 all-pushed P [] x all h = (h, tt)
 all-pushed P (y ∷ xs) x all h = (all.0, all-pushed P xs x all.1 h)
-
-pub offers_pushed : (offers new : List Offer) (o : Offer) → new ≡ offers ++ o ∷ [] → AreSmallOffers offers
-    → IsSmallOffer o → AreSmallOffers new
-offers_pushed offers new o e all h = subst AreSmallOffers (sym e) (all-pushed IsSmallOffer offers o all h)
 
 pub ids_pushed : (ids new : List (List ℕ)) (id : List ℕ) → new ≡ ids ++ id ∷ [] → AreSmallIds ids
     → length id ≤ 256 → AreSmallIds new

@@ -1,14 +1,14 @@
 //! Offers, ids and writers for the tests.
 
 ghost use Rattle.std.specs.Prelude.{◌≡◌, ◌<◌, ◌≤◌, ◌^◌, length, IfOk, OnOk};
-ghost use Rattle.td_iter.specs.Heads.{IsSmallOffer, AreSmallOffers, AreSmallIds, IsSmallReference, AreLimits};
+ghost use Rattle.td_iter.specs.Heads.{AreSmallIds, IsSmallReference, AreLimits};
 ghost use Rattle.td_iter.specs.declared.limits.TheConstants.{REPLY_START};
 
 use std::alloc::Global;
 use std::test::Fail;
 use td_cdr::{List, Memory, Order, Text, Writer};
 use td_iter::{IdIter, OfferIter, REPLY_START};
-use td_value::{Ior, Offer, offer_size};
+use td_value::{Ior, Offer};
 
 /// The nil reference.
 #[tactic(auto, using(crate::proofs::Pushed::nil_short))]
@@ -41,39 +41,22 @@ pub fn started(alloc: Global, order: Order) -> Result<Writer, Fail>
 }
 
 /// An offer without properties whose reference has this id.
-pub fn offer(alloc: Global, id: &[u8]) -> Result<Offer, Fail>
-    ensures { IfOk result IsSmallOffer }
-{
+pub fn offer(alloc: Global, id: &[u8]) -> Result<Offer, Fail> {
     let reference = Ior {
         id: Text::from_slice(alloc, id)?,
         profiles: List::new(alloc),
     };
-    let properties = List::new(alloc);
-    let size = offer_size(alloc, &reference, &properties)?;
-    if size > 6 << 20 {
-        return Err("too long".into());
-    }
     Ok(Offer {
         reference,
-        properties,
+        properties: List::new(alloc),
     })
-}
-
-/// One offer more, whose reference has this id.
-#[tactic(auto, using(crate::proofs::Pushed::offers_pushed))]
-fn add_offer(alloc: Global, offers: &mut List<Offer>, id: &[u8]) -> Result<(), Fail>
-    requires { AreSmallOffers offers.old }
-    ensures { OnOk result (AreSmallOffers offers.new) }
-{
-    offers.push(offer(alloc, id)?)?;
-    Ok(())
 }
 
 /// An iterator over offers, an id for each.
 pub fn offers(alloc: Global, ids: &[u8]) -> Result<OfferIter, Fail> {
     let mut left = List::new(alloc);
     for i in 0..ids.len() {
-        add_offer(alloc, &mut left, &ids[i..i + 1])?;
+        left.push(offer(alloc, &ids[i..i + 1])?)?;
     }
     if left.len() > 1000 {
         return Err("too many".into());

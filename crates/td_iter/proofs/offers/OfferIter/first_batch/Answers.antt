@@ -1,5 +1,5 @@
-use Rattle.std.proofs.Common.{ap, subst, ◌∙◌, drop}
-use Rattle.td_iter.specs.Heads.{offers_found, AreSmallOffers}
+use Rattle.std.proofs.Common.{ap, ◌∙◌, drop}
+use Rattle.td_iter.specs.Heads.{offers_found}
 use Rattle.td_iter.proofs.Giving.{gives-batch, moves-on, found-one}
 use Rattle.td_iter.proofs.offers.OfferIter.first_batch.Goals as goal
 
@@ -13,8 +13,7 @@ returns-clause-batch c =
 
 pub returns-clause-some : goal.returns-clause-some
 returns-clause-some c =
-    let small = subst AreSmallOffers c.self.view_is c.self.invariant.2 in
-    moves-on (offers_found c.args.iterator.now c.args.limits.now) c.args.self.now c.split_at.result.1.now
+    λ small. moves-on (offers_found c.args.iterator.now c.args.limits.now) c.args.self.now c.split_at.result.1.now
     c.self.inside.offers c.self.inside.given c.args.n c.in_ok-count.count c.len.result c.args.w.now
     c.put_found.new.w
     (c.split_at.ensures.back ∙ ap (drop c.self.inside.given) c.as_slice.ensures) c.self.view_is

@@ -1,5 +1,5 @@
-use Rattle.std.proofs.Common.{ap, subst, ◌∙◌, drop}
-use Rattle.td_iter.specs.Heads.{next_offers, AreSmallOffers}
+use Rattle.std.proofs.Common.{ap, ◌∙◌, drop}
+use Rattle.td_iter.specs.Heads.{next_offers}
 use Rattle.td_iter.proofs.Giving.{gives-batch, moves-on, next_offers-one}
 use Rattle.td_iter.proofs.offers.OfferIter.next_n.Goals as goal
 
@@ -12,8 +12,7 @@ returns-clause-batch c =
 
 pub returns-clause-some : goal.returns-clause-some
 returns-clause-some c =
-    let small = subst AreSmallOffers c.self.view_is c.self.invariant.2 in
-    moves-on next_offers c.args.self.now c.split_at.result.1.now c.self.inside.offers c.self.inside.given c.args.n
-    c.in_ok-count.count c.len.result c.args.w.now c.put_next.new.w
+    λ small. moves-on next_offers c.args.self.now c.split_at.result.1.now c.self.inside.offers c.self.inside.given
+    c.args.n c.in_ok-count.count c.len.result c.args.w.now c.put_next.new.w
     (c.split_at.ensures.back ∙ ap (drop c.self.inside.given) c.as_slice.ensures) c.self.view_is
     c.in_ok-count.ensures.puts c.self.invariant.0 (next_offers-one c.args.self.now c.args.w.now c.requires small)
