@@ -1,4 +1,5 @@
 pub mod Blanks
 pub mod Feeds
+pub mod Pairs
 pub mod Sounding
 pub mod Stepping

@@ -1,15 +1,19 @@
--- What every file says has a host without NUL and traders of distinct names.
-use Rattle.std.proofs.Common.{◌≡◌, ℕ, ◌+◌, nat_eq, nat_le, nat_lt, Bool, true, false, not, ◌||◌, List, [], ◌∷◌}
-use Rattle.std.proofs.Common.{◌++◌, length}
-use Rattle.std.proofs.Common.{map, if◌then◌else◌, Option, Some, None, is_some, IfSome, Result, Ok, Err, refl, sym, ap}
-use Rattle.std.proofs.Common.{◌∙◌, subst, arith}
-use Rattle.std.specs.List.{IsDistinct, list_any}
+-- What every file says has a host without NUL, a seed of 32 octets, and traders of distinct and short names.
+use Rattle.std.proofs.Common.{◌≡◌, ℕ, ◌+◌, ◌≤◌, nat_eq, nat_le, nat_lt, Bool, true, false, not, ◌&&◌, ◌||◌, List}
+use Rattle.std.proofs.Common.{[], ◌∷◌, ◌++◌, length}
+use Rattle.std.proofs.Common.{map, if◌then◌else◌, Option, Some, None, is_some, IfSome, Result, Ok, Err, IfOk, refl}
+use Rattle.std.proofs.Common.{sym, ap, ◌∙◌, subst, arith}
+use Rattle.std.specs.List.{IsDistinct, list_all, list_any}
+use Rattle.std.specs.Result.{result_ok}
 use Rattle.std.specs.Str.{bytes_eq}
 use Rattle.std.specs.Str.Lines.{lines}
+use Rattle.std.proofs.lemmas.Bool.{eqb-true, leb-true, ltb-false, not-false}
 use Rattle.std.proofs.lemmas.Bool.Decides.{nat_tests}
 use Rattle.std.proofs.lemmas.Cmp.{nat_list_eq_equiv}
 use Rattle.std.proofs.lemmas.Map.Keys.{IsDistinct-push}
-use Rattle.td_cdr.specs.Names.{trader_name}
+use Rattle.hex.specs.Hex.{decode_of}
+use Rattle.hex.specs.declared.error.FromHexError.{FromHexError}
+use Rattle.td_cdr.specs.Names.{is_trader_byte, trader_name}
 use Rattle.td_cdr.specs.Reading.{◌>>=◌}
 use Rattle.td_cdr.specs.Text.{has_nul, HasNoNul}
 use Rattle.td_ior.specs.Number.{port_of}
@@ -26,7 +30,7 @@ use Rattle.td_lines.specs.Heads.{finished, is_declared, last_trader, opened_trad
 use Rattle.td_lines.specs.Heads.{with_declared, with_seed, with_set, with_stem, with_trader}
 use Rattle.td_lines.specs.Homes.{home_told}
 use Rattle.td_lines.specs.Keywords.{begin_of}
-use Rattle.td_lines.specs.Laws.{IsSound}
+use Rattle.td_lines.specs.Laws.{AreShort, IsSound}
 use Rattle.td_lines.specs.Linked.{ends_told, inside_link, outside_link, rules_told, with_inside, with_link}
 use Rattle.td_lines.specs.Linked.{with_outside}
 use Rattle.td_lines.specs.Octets.{octets_told, seed_told}
@@ -34,7 +38,7 @@ use Rattle.td_lines.specs.Offered.{new_offer, proxy_told, with_added_property, w
 use Rattle.td_lines.specs.Offered.{with_offer, with_proxy, with_value}
 use Rattle.td_lines.specs.Properties.{dynamic_told, prop_told, property_told}
 use Rattle.td_lines.specs.References.{reference_told}
-use Rattle.td_lines.specs.Scripts.{ended, go_on, rest_of_file, script, script_of}
+use Rattle.td_lines.specs.Scripts.{ended, go_on, rest_of_file, script, script_of, seed_or_zeros}
 use Rattle.td_lines.specs.Steps.{Step, goes, stops, step, with_alone, with_begin, with_belonging, with_head}
 use Rattle.td_lines.specs.Steps.{with_keyword, with_line, with_part}
 use Rattle.td_lines.specs.Settings.{setting_told}
@@ -47,7 +51,6 @@ use Rattle.td_lines.specs.declared.draft.Draft.{Draft}
 use Rattle.td_lines.specs.declared.draft.Open.{Open}
 use Rattle.td_lines.specs.declared.draft.Open.TheVariants as opened
 use Rattle.td_lines.specs.declared.draft.ProxyWords.{ProxyWords}
-use Rattle.td_lines.specs.declared.entry.Entry.{Entry}
 use Rattle.td_lines.specs.declared.entry.Entry.TheVariants as entry
 use Rattle.td_lines.specs.declared.entry.Home.{Home}
 use Rattle.td_lines.specs.declared.entry.Refused.{Refused}
@@ -59,6 +62,7 @@ use Rattle.td_lines.specs.declared.keyword.Keyword.{Keyword}
 use Rattle.td_lines.specs.declared.keyword.Keyword.TheVariants.{Begins, Belongs}
 use Rattle.td_lines.specs.declared.keyword.Part.{Part}
 use Rattle.td_lines.specs.declared.keyword.Part.TheVariants as part
+use Rattle.td_lines.proofs.Pairs.{IsHalf, half}
 
 abbrev names_in : List TraderScript → List (List ℕ)
 names_in ts = map (λ (t : TraderScript). t.name) ts
@@ -72,10 +76,22 @@ abbrev names_of : Bool → List TraderScript → List ℕ → List (List ℕ)
 names_of true ts name = names_in ts ++ name ∷ []
 names_of false ts name = names_in ts
 
-record IsDraft (d : Draft) : Type 0 where
-  pub host : IfSome d.home (λ (home : Home). HasNoNul home.host)
-  pub distinct : IsDistinct bytes_eq d.names
-  pub named : names_of (has_trader d) d.finished d.name ≡ d.names
+abbrev IsSeed : List ℕ → Type 0
+IsSeed seed = length seed ≡ 32
+
+record Holds (home : Option Home) (seed : Option (List ℕ)) (names : List (List ℕ)) (ended_traders : List TraderScript)
+    (name : List ℕ) : Type 0 where
+  pub host : IfSome home (λ (h : Home). HasNoNul h.host)
+  pub short : IfSome home (λ (h : Home). length h.host ≤ 1000)
+  pub octets : IfSome seed IsSeed
+  pub distinct : IsDistinct bytes_eq names
+  pub named : names_of (not (nat_eq (length names) 0)) ended_traders name ≡ names
+  pub last : length name ≤ 32
+  pub others : AreShort ended_traders
+
+-- the lines that leave these parts as they are keep this
+abbrev IsDraft : Draft → Type 0
+IsDraft d = Holds d.home d.seed d.names d.finished d.name
 
 abbrev Keeps : Result Draft LineCause → Type 0
 Keeps (Ok d) = IsDraft d
@@ -96,20 +112,28 @@ keeps-if false c told h = h refl
 abbrev home_with : List ℕ → ℕ → Home
 home_with host port = record { host = host; port = port }
 
-keeps-home_case : (d : Draft) (host : List ℕ) (large nul : Bool) (port : Option ℕ) → has_nul host ≡ nul → IsDraft d
+keeps-home_case : (d : Draft) (host : List ℕ) (large nul : Bool) (port : Option ℕ) → nat_lt 1000 (length host) ≡ large
+    → has_nul host ≡ nul → IsDraft d
     → Keeps (refused_if (large || nul) cause.Name
     (or_cause cause.Number port >>= λ (n : ℕ). Ok (home_with host n))
     >>= λ (home : Home). Ok (record d { home = Some home }))
-keeps-home_case d host true nul port e h = tt
-keeps-home_case d host false true port e h = tt
-keeps-home_case d host false false None e h = tt
-keeps-home_case d host false false (Some n) e h =
-    record { host = e; distinct = h.distinct; named = h.named }
+keeps-home_case d host true nul port l e h = tt
+keeps-home_case d host false true port l e h = tt
+keeps-home_case d host false false None l e h = tt
+keeps-home_case d host false false (Some n) l e h = record {
+  host = e;
+  short = ltb-false 1000 (length host) l;
+  octets = h.octets;
+  distinct = h.distinct;
+  named = h.named;
+  last = h.last;
+  others = h.others;
+}
 
 keeps-home : (d : Draft) (host port : List ℕ) → IsDraft d
     → Keeps (home_told host port >>= λ (home : Home). Ok (record d { home = Some home }))
 keeps-home d host port h =
-    keeps-home_case d host (nat_lt 1000 (length host)) (has_nul host) (port_of port) refl h
+    keeps-home_case d host (nat_lt 1000 (length host)) (has_nul host) (port_of port) refl refl h
 
 keeps-address : (d : Draft) (line : List ℕ) → IsDraft d → Keeps (with_address d line)
 unfolding with_address
@@ -132,11 +156,34 @@ keeps-made : {A : Type 0} (told : Result A LineCause) (make : A → Draft) → (
     → Keeps (told >>= λ x. Ok (make x))
 keeps-made told make h = keeps-bind told (λ x. Ok (make x)) h
 
-kept-entry : (d : Draft) (n : ℕ) (e : Entry) → IsDraft d → IsDraft (with_entry d n e)
-kept-entry d n e h = record { host = h.host; distinct = h.distinct; named = h.named }
+-- what is made of what is told, where that has a property
+keeps-held : {A : Type 0} (P : A → Type 0) (told : Result A LineCause) (make : A → Draft) → IfOk told P
+    → ((x : A) → P x → IsDraft (make x)) → Keeps (told >>= λ x. Ok (make x))
+keeps-held P (Ok x) make p h = h x p
+keeps-held P (Err c) make p h = tt
+
+seed-case : (digits : List ℕ) (r : Result (List ℕ) FromHexError) (right : Bool) → nat_eq (length digits) 64 ≡ right
+    → IfOk r (IsHalf digits) → IfOk (refused_if (not right) cause.Value (or_cause cause.Value (result_ok r))) IsSeed
+seed-case digits (Ok os) true e h = omega (arith, h, eqb-true (length digits) 64 e)
+seed-case digits (Err f) true e h = tt
+seed-case digits r false e h = tt
+
+seed-long : (digits : List ℕ) → IfOk (seed_told digits) IsSeed
+seed-long digits = seed-case digits (decode_of digits) (nat_eq (length digits) 64) refl (half digits)
 
 abbrev seeded : Draft → List ℕ → Draft
 seeded d seed = record d { seed = Some seed }
+
+kept-seed : (d : Draft) (seed : List ℕ) → IsSeed seed → IsDraft d → IsDraft (seeded d seed)
+kept-seed d seed long h = record {
+  host = h.host;
+  short = h.short;
+  octets = long;
+  distinct = h.distinct;
+  named = h.named;
+  last = h.last;
+  others = h.others;
+}
 
 keeps-seed : (d : Draft) (line : List ℕ) → IsDraft d → Keeps (with_seed d line)
 unfolding with_seed
@@ -146,8 +193,22 @@ keeps-seed d line h =
     (seed_told said >>= λ (seed : List ℕ). Ok (seeded d seed)))
     (λ (said : List ℕ). keeps-when (is_some d.seed) cause.Twice
     (seed_told said >>= λ (seed : List ℕ). Ok (seeded d seed))
-    (keeps-made (seed_told said) (seeded d)
-    (λ seed. record { host = h.host; distinct = h.distinct; named = h.named })))
+    (keeps-held IsSeed (seed_told said) (seeded d) (seed-long said) (λ (seed : List ℕ) long. kept-seed d seed long h)))
+
+short-push : (ts : List TraderScript) (t : TraderScript) → AreShort ts → length t.name ≤ 32 → AreShort (ts ++ t ∷ [])
+short-push [] t h k = (k, tt)
+short-push (x ∷ ts) t h k = (h.0, short-push ts t h.1 k)
+
+second-holds : (a b c : Bool) → (a && b && c) ≡ true → b ≡ true
+second-holds true true c e = refl
+second-holds true false c e = absurd (let bad : ⊥ = cc in bad)
+second-holds false b c e = absurd (let bad : ⊥ = cc in bad)
+
+short-name : (name : List ℕ) → not (trader_name name) ≡ false → length name ≤ 32
+short-name name e =
+    leb-true (length name) 32
+    (second-holds (nat_le 1 (length name)) (nat_le (length name) 32) (list_all is_trader_byte name)
+    (not-false (trader_name name) e))
 
 has-one : (names : List (List ℕ)) (name : List ℕ) → not (nat_eq (length (names ++ name ∷ [])) 0) ≡ true
 has-one [] name = refl
@@ -160,25 +221,33 @@ finished_at test d =
     then record d { finished = d.finished ++ last_trader d ∷ []; name = []; interfaces = []; entries = [] }
     else d
 
-keeps-opened : (d : Draft) (name : List ℕ) (test : Bool) → has_trader d ≡ test → IsDraft d
+keeps-opened : (d : Draft) (name : List ℕ) (test : Bool) → has_trader d ≡ test → IsDraft d → length name ≤ 32
     → list_any (bytes_eq name) d.names ≡ false → IsDraft (opened_trader (finished_at test d) name)
-keeps-opened d name true e h apart =
+keeps-opened d name true e h fits apart =
     let before : names_in d.finished ++ d.name ∷ [] ≡ d.names =
     ap (λ t. names_of t d.finished d.name) (sym e) ∙ h.named in
     record {
       host = h.host;
+      short = h.short;
+      octets = h.octets;
       distinct = IsDistinct-push nat_list_eq_equiv d.names name h.distinct apart;
       named =
           ap (λ t. names_of t (d.finished ++ last_trader d ∷ []) name) (has-one d.names name)
           ∙ ap (λ ns. ns ++ name ∷ []) (names-push d.finished (last_trader d) ∙ before);
+      last = fits;
+      others = short-push d.finished (last_trader d) h.others h.last;
     }
-keeps-opened d name false e h apart =
+keeps-opened d name false e h fits apart =
     let before : names_in d.finished ≡ d.names = ap (λ t. names_of t d.finished d.name) (sym e) ∙ h.named in
     record {
       host = h.host;
+      short = h.short;
+      octets = h.octets;
       distinct = IsDistinct-push nat_list_eq_equiv d.names name h.distinct apart;
       named =
           ap (λ t. names_of t d.finished name) (has-one d.names name) ∙ ap (λ ns. ns ++ name ∷ []) before;
+      last = fits;
+      others = h.others;
     }
 
 keeps-trader : (d : Draft) (line : List ℕ) → IsDraft d → Keeps (with_trader d line)
@@ -187,10 +256,10 @@ keeps-trader d line h =
     keeps-placed (or_cause cause.Words (one_word line)) (not (is_some d.home) || nat_le 64 (length d.names)) cause.Place
     (λ (said : List ℕ). refused_if (not (trader_name said)) cause.Name
     (refused_if (list_any (bytes_eq said) d.names) cause.Twice (Ok (opened_trader (finished d) said))))
-    (λ (said : List ℕ). keeps-when (not (trader_name said)) cause.Name
+    (λ (said : List ℕ). keeps-if (not (trader_name said)) cause.Name
     (refused_if (list_any (bytes_eq said) d.names) cause.Twice (Ok (opened_trader (finished d) said)))
-    (keeps-if (list_any (bytes_eq said) d.names) cause.Twice (Ok (opened_trader (finished d) said))
-    (λ apart. keeps-opened d said (has_trader d) refl h apart)))
+    (λ rightly. keeps-if (list_any (bytes_eq said) d.names) cause.Twice (Ok (opened_trader (finished d) said))
+    (λ apart. keeps-opened d said (has_trader d) refl h (short-name said rightly) apart)))
 
 abbrev stemmed : Draft → ℕ → List ℕ → Draft
 stemmed d n stem = with_entry d n (entry.Change (change.SetRequestIdStem stem))
@@ -201,7 +270,7 @@ keeps-stem d n line h =
     keeps-placed (or_cause cause.Words (one_word line)) (not (has_trader d)) cause.Place
     (λ (said : List ℕ). octets_told said >>= λ (stem : List ℕ). Ok (stemmed d n stem))
     (λ (said : List ℕ). keeps-made (octets_told said) (stemmed d n)
-    (λ stem. kept-entry d n (entry.Change (change.SetRequestIdStem stem)) h))
+    (λ stem. h))
 
 abbrev changed : Draft → ℕ → Change → Draft
 changed d n c = with_entry d n (entry.Change c)
@@ -212,7 +281,7 @@ keeps-set d n line h =
     keeps-placed (or_cause cause.Words (two_words line)) (not (has_trader d)) cause.Place
     (λ (said : List ℕ × List ℕ). setting_told said.0 said.1 >>= λ (set : Change). Ok (changed d n set))
     (λ (said : List ℕ × List ℕ). keeps-made (setting_told said.0 said.1) (changed d n)
-    (λ set. kept-entry d n (entry.Change set) h))
+    (λ set. h))
 
 keeps-interface : (d : Draft) (line : List ℕ) → IsDraft d → Keeps (with_interface d line)
 unfolding with_interface
@@ -227,7 +296,7 @@ keeps-interface d line h =
     (keeps-when (is_declared said.0 d.interfaces) cause.Twice
     (refused_if (list_any has_nul (words said.1)) cause.Name (Ok (with_declared d said.0 (words said.1))))
     (keeps-when (list_any has_nul (words said.1)) cause.Name (Ok (with_declared d said.0 (words said.1)))
-    (record { host = h.host; distinct = h.distinct; named = h.named }))))
+    h)))
 
 abbrev typed_by : Draft → ℕ → List ℕ × List ℕ → List ℕ × List ℕ → Draft
 typed_by d n name if_name = with_new_type d (new_type n name.0 if_name.0 if_name.1)
@@ -243,7 +312,7 @@ keeps-type d n line h =
     keeps-placed (or_cause cause.Words (cut_word name.1)) (not (has_trader d)) cause.Place
     (λ (if_name : List ℕ × List ℕ). refused_if (has_nul if_name.0) cause.Name (Ok (typed_by d n name if_name)))
     (λ (if_name : List ℕ × List ℕ). keeps-when (has_nul if_name.0) cause.Name (Ok (typed_by d n name if_name))
-    (record { host = h.host; distinct = h.distinct; named = h.named })))
+    h))
 
 abbrev offered_by : Draft → ℕ → List ℕ → Ior → Draft
 offered_by d n name reference = with_new_offer d (new_offer n name reference None)
@@ -254,7 +323,7 @@ keeps-offer d n line h =
     keeps-placed (or_cause cause.Words (two_words line)) (not (has_trader d)) cause.Place
     (λ (said : List ℕ × List ℕ). reference_told said.1 >>= λ (r : Ior). Ok (offered_by d n said.0 r))
     (λ (said : List ℕ × List ℕ). keeps-made (reference_told said.1) (offered_by d n said.0)
-    (λ r. record { host = h.host; distinct = h.distinct; named = h.named }))
+    (λ r. h))
 
 abbrev proxied_by : Draft → ℕ → List ℕ → Ior → ProxyWords → Draft
 proxied_by d n name reference proxy = with_new_offer d (new_offer n name reference (Some proxy))
@@ -268,7 +337,7 @@ keeps-proxy d n line h =
     (λ (said : List ℕ × List ℕ × List ℕ × List ℕ). keeps-bind (reference_told said.1)
     (λ (r : Ior). proxy_told said.2 said.3 >>= λ (p : ProxyWords). Ok (proxied_by d n said.0 r p))
     (λ (r : Ior). keeps-made (proxy_told said.2 said.3) (proxied_by d n said.0 r)
-    (λ p. record { host = h.host; distinct = h.distinct; named = h.named })))
+    (λ p. h)))
 
 abbrev outside : Draft → ℕ → List ℕ → Ior × Option Ior → FollowOption × FollowOption → Draft
 outside d n name ends rules = with_entry d n (outside_link name ends.0 ends.1 rules.0 rules.1)
@@ -283,7 +352,7 @@ keeps-outside d n line h =
     (λ (ends : Ior × Option Ior). rules_told said.3 said.4 >>= λ (rules : FollowOption × FollowOption).
     Ok (outside d n said.0 ends rules))
     (λ (ends : Ior × Option Ior). keeps-made (rules_told said.3 said.4) (outside d n said.0 ends)
-    (λ rules. kept-entry d n (outside_link said.0 ends.0 ends.1 rules.0 rules.1) h)))
+    (λ rules. h)))
 
 abbrev inside : Draft → ℕ → (name trader : List ℕ) → FollowOption × FollowOption → Draft
 inside d n name trader rules = with_entry d n (inside_link name trader rules.0 rules.1)
@@ -295,7 +364,7 @@ keeps-inside d n line (Some said) h =
     keeps-when (not (has_trader d)) cause.Place
     (rules_told said.2 said.3 >>= λ (rules : FollowOption × FollowOption). Ok (inside d n said.0 said.1 rules))
     (keeps-made (rules_told said.2 said.3) (inside d n said.0 said.1)
-    (λ rules. kept-entry d n (inside_link said.0 said.1 rules.0 rules.1) h))
+    (λ rules. h))
 
 keeps-link : (d : Draft) (n : ℕ) (line : List ℕ) → IsDraft d → Keeps (with_link d n line)
 unfolding with_link
@@ -316,7 +385,7 @@ keeps-head d n head.Link line h = keeps-link d n line h
 -- ---- lines that belong to an entry
 
 keeps-added_prop : (d : Draft) (above : Open) (p : PropStruct) → IsDraft d → Keeps (with_added_prop d above p)
-keeps-added_prop d (opened.Type t) p h = record { host = h.host; distinct = h.distinct; named = h.named }
+keeps-added_prop d (opened.Type t) p h = h
 keeps-added_prop d (opened.Offer o) p h = tt
 keeps-added_prop d opened.Nothing p h = tt
 
@@ -330,7 +399,7 @@ keeps-prop d line h =
     (λ (p : PropStruct). with_added_prop d d.above p) (λ (p : PropStruct). keeps-added_prop d d.above p h))
 
 keeps-added_property : (d : Draft) (above : Open) (p : Property) → IsDraft d → Keeps (with_added_property d above p)
-keeps-added_property d (opened.Offer o) p h = record { host = h.host; distinct = h.distinct; named = h.named }
+keeps-added_property d (opened.Offer o) p h = h
 keeps-added_property d (opened.Type t) p h = tt
 keeps-added_property d opened.Nothing p h = tt
 
@@ -369,9 +438,9 @@ keeps-step d n (Err c) h k = h
 
 keeps-closed_with : (d : Draft) (above : Open) → IsDraft d
     → IsDraft (closed_with (record d { above = opened.Nothing }) above)
-keeps-closed_with d opened.Nothing h = record { host = h.host; distinct = h.distinct; named = h.named }
-keeps-closed_with d (opened.Type t) h = record { host = h.host; distinct = h.distinct; named = h.named }
-keeps-closed_with d (opened.Offer o) h = record { host = h.host; distinct = h.distinct; named = h.named }
+keeps-closed_with d opened.Nothing h = h
+keeps-closed_with d (opened.Type t) h = h
+keeps-closed_with d (opened.Offer o) h = h
 
 keeps-closed : (d : Draft) → IsDraft d → IsDraft (closed d)
 keeps-closed d h = keeps-closed_with d d.above h
@@ -411,10 +480,21 @@ names-finished : (d : Draft) (test : Bool) → names_in (finished_at test d).fin
 names-finished d true = names-push d.finished (last_trader d)
 names-finished d false = refl
 
+short-finished : (d : Draft) (test : Bool) → IsDraft d → AreShort (finished_at test d).finished
+short-finished d true h = short-push d.finished (last_trader d) h.others h.last
+short-finished d false h = h.others
+
+seed-or_zeros : (seed : Option (List ℕ)) → IfSome seed IsSeed → length (seed_or_zeros seed) ≡ 32
+seed-or_zeros (Some seed) h = h
+seed-or_zeros None h = refl
+
 sound-script : (d : Draft) (refused : Option Refused) → IsDraft d → IsSound (script d refused)
 sound-script d refused h = record {
   host = h.host;
+  short = h.short;
+  seed = seed-or_zeros d.seed h.octets;
   distinct = subst (λ ns. IsDistinct bytes_eq ns) (sym (names-finished d (has_trader d) ∙ h.named)) h.distinct;
+  names = short-finished d (has_trader d) h;
 }
 
 sound-whole_case : (d : Draft) (test : Bool) (refused : Refused) → IsDraft d
@@ -436,6 +516,18 @@ sound-rest n d (line ∷ rest) h =
     sound-on (with_line d (n + 1) line) (λ (more : Draft). rest_of_file (n + 1) more rest) (keeps-line d (n + 1) line h)
     (λ (more : Draft) k. sound-rest (n + 1) more rest k)
 
+nothing-said : IsDraft nothing_yet
+unfolding IsDistinct
+nothing-said = record {
+  host = tt;
+  short = tt;
+  octets = tt;
+  distinct = tt;
+  named = refl;
+  last = omega arith;
+  others = tt;
+}
+
 pub sound : (text : List ℕ) → IsSound (script_of text)
-unfolding script_of IsDistinct
-sound text = sound-rest 0 nothing_yet (lines text) (record { host = tt; distinct = tt; named = refl })
+unfolding script_of
+sound text = sound-rest 0 nothing_yet (lines text) nothing-said

@@ -12,7 +12,8 @@ ghost use Rattle.td_ops.specs.declared.attribute.NumberAttribute.TheVariants.{Ma
 ghost use Rattle.td_ops.specs.declared.call.Change.TheVariants as change;
 ghost use Rattle.td_value.specs.declared.enumerations.FollowOption.TheVariants.{Always, LocalOnly};
 
-/// What a file says has a host without NUL, and traders of distinct names.
+/// What a file says has a host of 1,000 bytes at most without NUL, a seed of 32 octets, and traders of distinct names,
+/// each of 32 bytes at most.
 pub fn scripts_are_sound()
     ensures { (text : List ℕ) → IsSound (script_of text) }
 {}
