@@ -1,13 +1,16 @@
--- A whole file: what its script opens.
-use Rattle.std.proofs.Common.{◌≡◌, ℕ, List, Option, Result, Ok, sym, subst}
+-- A whole file: what its script opens, with a server's address and a seed of 32 octets.
+use Rattle.std.proofs.Common.{◌≡◌, ℕ, ◌≤◌, List, length, Option, Some, None, IfSome, Result, Ok, Err, IfOk, sym, subst}
 use Rattle.td_cdr.specs.Reading.{◌>>=◌}
+use Rattle.td_cdr.specs.Text.{HasNoNul}
+use Rattle.td_lines.specs.Laws.{IsSound}
 use Rattle.td_lines.specs.Scripts.{script_of}
 use Rattle.td_lines.specs.declared.entry.Home.{Home}
 use Rattle.td_lines.specs.declared.entry.Refused.{Refused}
 use Rattle.td_lines.specs.declared.entry.Script.{Script}
 use Rattle.td_lines.specs.declared.entry.TraderScript.{TraderScript}
 use Rattle.td_trader.specs.PlainTraders.{PlainTrader}
-use Rattle.td_file.specs.Files.{Answers, Opening, opening, opening_at, opening_of, opening_with, unless_refused}
+use Rattle.td_file.specs.Files.{Answers, IsAddress, Opening, opening, opening_at, opening_of, opening_with, seen}
+use Rattle.td_file.specs.Files.{unless_refused}
 use Rattle.td_file.specs.Openings.{all_traders, later_refusal, missing_in}
 use Rattle.td_file.specs.Stages.{Refuses}
 use Rattle.td_file.specs.declared.fault.FileFault.{FileFault}
@@ -27,8 +30,7 @@ pub opens_at : (home : Home) (seed : List ℕ) (told : List TraderScript) (refus
 opens_at home seed told refused later ts r all tried h =
     let here : Answers (behind_all home seed told refused ts) r =
     subst (λ (x : Option Refused). Answers (unless_refused x (opening home seed ts)) r) tried h in
-    subst (λ (x : Result (List PlainTrader) Refused). Answers (x >>= behind_all home seed told refused) r) (sym all)
-    here
+    subst (λ (x : Result (List PlainTrader) Refused). Answers (x >>= behind_all home seed told refused) r) (sym all) here
 
 pub refuses_at : (home : Home) (seed : List ℕ) (told : List TraderScript) (refused : Option Refused)
     (fault : FileFault) → Refuses (all_traders home told) fault
@@ -42,3 +44,49 @@ pub opens : (text : List ℕ) (s : Script) (r : Result Opened FileFault) → s �
     → Answers (opening_with s s.home) r → Answers (opening_of text) r
 unfolding opening_of
 opens text s r e h = subst (λ (x : Script). Answers (opening_with x x.home) r) e h
+
+abbrev Fits : Result Opening Refused → Type 0
+Fits (Ok o) = IsAddress o.home × (length o.seed ≡ 32)
+Fits (Err refused) = Unit {0}
+
+fits-unless : (later : Option Refused) (o : Opening) → IsAddress o.home → length o.seed ≡ 32
+    → Fits (unless_refused later o)
+fits-unless None o address seed = (address, seed)
+fits-unless (Some refused) o address seed = tt
+
+fits-at : (home : Home) (seed : List ℕ) (told : List TraderScript) (refused : Option Refused)
+    (all : Result (List PlainTrader) Refused) → length home.host ≤ 1000 → HasNoNul home.host → length seed ≡ 32
+    → Fits (all >>= behind_all home seed told refused)
+fits-at home seed told refused (Ok ts) short text long =
+    fits-unless (later_refusal refused (missing_in told told)) (opening home seed ts)
+    (record { short = short; no_nul = text }) long
+fits-at home seed told refused (Err e) short text long = tt
+
+fits-with : (s : Script) (home : Option Home) → IfSome home (λ (h : Home). length h.host ≤ 1000)
+    → IfSome home (λ (h : Home). HasNoNul h.host) → length s.seed ≡ 32 → Fits (opening_with s home)
+fits-with s (Some home) short text long =
+    fits-at home s.seed s.traders s.refused (all_traders home s.traders) short text long
+fits-with s None short text long = tt
+
+fits : (text : List ℕ) → IsSound (script_of text) → Fits (opening_of text)
+unfolding opening_of
+fits text sound =
+    fits-with (script_of text) (script_of text).home sound.short sound.host sound.seed
+
+address-in : (told : Result Opening Refused) (r : Result Opened FileFault) → Fits told → Answers told r
+    → IfOk r (λ (o : Opened). IsAddress o.home)
+address-in told (Ok o) h e = let both : Fits (Ok (seen o)) = subst Fits e h in both.0
+address-in told (Err fault) h e = tt
+
+seed-in : (told : Result Opening Refused) (r : Result Opened FileFault) → Fits told → Answers told r
+    → IfOk r (λ (o : Opened). length o.seed ≡ 32)
+seed-in told (Ok o) h e = let both : Fits (Ok (seen o)) = subst Fits e h in both.1
+seed-in told (Err fault) h e = tt
+
+pub address_of : (text : List ℕ) (r : Result Opened FileFault) → IsSound (script_of text)
+    → Answers (opening_of text) r → IfOk r (λ (o : Opened). IsAddress o.home)
+address_of text r sound h = address-in (opening_of text) r (fits text sound) h
+
+pub seed_of : (text : List ℕ) (r : Result Opened FileFault) → IsSound (script_of text)
+    → Answers (opening_of text) r → IfOk r (λ (o : Opened). length o.seed ≡ 32)
+seed_of text r sound h = seed-in (opening_of text) r (fits text sound) h

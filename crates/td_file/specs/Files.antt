@@ -1,7 +1,8 @@
 -- What a server's file opens: its address, its seed and its traders; or the entry that is answered, by its first line
 -- and the cause.
-use Rattle.std.specs.Prelude.{◌≡◌, ℕ, List, Option, Some, None, Result, Ok, Err}
+use Rattle.std.specs.Prelude.{◌≡◌, ℕ, ◌≤◌, List, length, Option, Some, None, Result, Ok, Err}
 use Rattle.td_cdr.specs.Reading.{◌>>=◌}
+use Rattle.td_cdr.specs.Text.{HasNoNul}
 use Rattle.td_lines.specs.Scripts.{script_of}
 use Rattle.td_lines.specs.declared.cause.LineCause.TheVariants.{Place}
 use Rattle.td_lines.specs.declared.entry.Home.{Home}
@@ -61,3 +62,8 @@ seen o = record { home = o.home; seed = o.seed; traders = o.solo.traders.items }
 abbrev pub Answers : Result Opening Refused → Result Opened FileFault → Type 0
 Answers told (Ok o) = told ≡ Ok (seen o)
 Answers told (Err fault) = Refuses told fault
+
+-- where a server is reached: a host of 1,000 bytes at most, none of them NUL
+pub record IsAddress (a : Address) : Type 0 where
+  pub short : length a.host ≤ 1000
+  pub no_nul : HasNoNul a.host

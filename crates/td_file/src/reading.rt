@@ -1,11 +1,11 @@
 //! A whole file.
 
-ghost use Rattle.std.specs.Prelude.{◌≡◌, ◌<◌, ◌^◌, length, None, Err};
+ghost use Rattle.std.specs.Prelude.{◌≡◌, ◌<◌, ◌^◌, length, IfOk, None, Err};
 ghost use Rattle.td_cdr.specs.Text.{HasNoNul};
-ghost use Rattle.td_file.specs.Files.{Answers, opening, opening_at, opening_of, opening_with, or_place};
+ghost use Rattle.td_file.specs.Files.{Answers, IsAddress, opening, opening_at, opening_of, opening_with, or_place};
 ghost use Rattle.td_file.specs.Files.{unless_refused};
 ghost use Rattle.td_file.specs.Openings.{AreApart, later_refusal};
-ghost use Rattle.td_lines.specs.Laws.{IsSound};
+ghost use Rattle.td_lines.specs.Laws.{AreShort, IsSound};
 ghost use Rattle.td_trader.specs.Solos.{AreDistinct};
 
 use crate::fault::FileFault;
@@ -85,6 +85,7 @@ fn open_at(
     refused: Option<Refused>,
 ) -> Result<Opened, FileFault>
     requires host { HasNoNul home.host }
+    requires short { AreShort told }
     requires distinct { AreApart told }
     ensures { Answers (opening_at home seed told refused) result }
 {
@@ -131,7 +132,9 @@ fn open_script(alloc: Global, script: Script) -> Result<Opened, FileFault>
 /// trader that the file doesn't have is refused last. `Memory` for want of memory.
 pub fn read_file(alloc: Global, text: &[u8]) -> Result<Opened, FileFault>
     requires { length text.now < 2 ^ 32 }
-    ensures { Answers (opening_of text.now) result }
+    ensures answers { Answers (opening_of text.now) result }
+    ensures address { IfOk result (λ o. IsAddress o.home) }
+    ensures seed { IfOk result (λ o. length o.seed ≡ 32) }
 {
     scripts_are_sound();
     match read_script(alloc, text) {

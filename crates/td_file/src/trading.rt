@@ -5,6 +5,7 @@ ghost use Rattle.td_cdr.specs.Text.{HasNoNul};
 ghost use Rattle.td_changes.specs.Numbering.{AreNumbered};
 ghost use Rattle.td_file.specs.Openings.{all_traders, bounds, new_store, store_after, trader_of};
 ghost use Rattle.td_file.specs.Stages.{Gives};
+ghost use Rattle.td_lines.specs.Laws.{AreShort};
 ghost use Rattle.td_trader.specs.PlainTraders.{opened};
 
 use crate::entering::enter_all;
@@ -68,7 +69,8 @@ fn trader_in(alloc: Global, name: Text, store: Store) -> Result<Trader, Memory>
 
 /// A trader of the file.
 fn open_trader(alloc: Global, home: &Home, told: TraderScript) -> Result<Trader, FileFault>
-    requires { HasNoNul home.now.host }
+    requires host { HasNoNul home.now.host }
+    requires short { length told.name ≤ 32 }
     ensures { Gives (trader_of home.now told) result }
 {
     let TraderScript {
@@ -76,11 +78,6 @@ fn open_trader(alloc: Global, home: &Home, told: TraderScript) -> Result<Trader,
         interfaces,
         entries,
     } = told;
-    // The lines of a file give no trader a name of more than 32 bytes, so that this answer never comes; their
-    // contract doesn't say so.
-    if name.len() > 32 {
-        return Err(FileFault::Memory);
-    }
     match store_of(alloc, home, &name, interfaces, entries) {
         Ok(store) => Ok(trader_in(alloc, name, store)?),
         Err(fault) => Err(fault),
@@ -93,7 +90,8 @@ pub(crate) fn open_all(
     home: &Home,
     told: List<TraderScript>,
 ) -> Result<List<Trader>, FileFault>
-    requires { HasNoNul home.now.host }
+    requires host { HasNoNul home.now.host }
+    requires short { AreShort told }
     ensures { Gives (all_traders home.now told) result }
 {
     let mut traders = List::new(alloc);

@@ -1,13 +1,11 @@
-use Rattle.std.proofs.Common.{◌≤◌, length, arith}
 use Rattle.td_file.proofs.Rows.{trader_not_made}
 use Rattle.td_file.proofs.Stems.{short_stem}
 use Rattle.td_file.proofs.trading.open_trader.Goals as goal
 
 pub trader_in-requires-clause-stem : goal.trader_in-requires-clause-stem
 trader_in-requires-clause-stem c =
-    let short : length c.args.told.name ≤ 32 = omega arith in
-    short_stem c.args.home.now c.args.told.name c.args.told.interfaces c.args.told.entries c.in-Ok.store short
-    c.in-Ok.ensures.gives
+    short_stem c.args.home.now c.args.told.name c.args.told.interfaces c.args.told.entries c.in-Ok.store
+    c.requires.short c.in-Ok.ensures.gives
 
 pub returns-in-Err : goal.returns-in-Err
 returns-in-Err c = trader_not_made c.args.home.now c.args.told c.in-Err.fault c.in-Err.ensures.gives
