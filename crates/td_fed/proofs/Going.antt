@@ -2,13 +2,14 @@
 use Rattle.std.proofs.Common.{◌≡◌, ℕ, ◌<◌, List, [], ◌∷◌, ◌++◌, length, None, Some, refl, sym, ap, subst, ◌∙◌, arith}
 use Rattle.td_cdr.specs.Marks.{Marks}
 use Rattle.td_fed.proofs.Measures.{measure_all, most}
+use Rattle.td_fed.proofs.Moving.{draws-after, draws-none, goes-after, goes-none}
 use Rattle.td_fed.proofs.Opening.{entered-read, is-begun}
 use Rattle.td_fed.proofs.Showing.{shown-none, shown-on}
 use Rattle.td_fed.proofs.Turned.{AllRead, Walked, Walking, ended-at-once, first-open, last, less-left, none-left}
 use Rattle.td_fed.proofs.Turned.{still-read, turned}
 use Rattle.td_fed.specs.Entering.{IsEntered}
 use Rattle.td_fed.specs.Targets.{inside_group}
-use Rattle.td_fed.specs.Trails.{IsShown}
+use Rattle.td_fed.specs.Trails.{DrawsOn, Goes, IsShown}
 use Rattle.td_fed.specs.Turning.{IsTurn}
 use Rattle.td_fed.specs.Visiting.{Begins, Visited, course}
 use Rattle.td_fed.specs.declared.entering.Entry.TheVariants as entry
@@ -28,6 +29,8 @@ module _ (others : List Accepted → Type 0) (later : Marks → Marks → Type 0
       (stack0 : List Frame) (w : List View) (words : ℕ → ℕ) (calls : List Exchange) (notes : List TraceItem)
       (stack : List Frame) : Type 0 where
     pub shown : IsShown w0 calls0 notes0 notes w calls
+    pub goes : Goes others later w0 w
+    pub draws : DrawsOn words0 words
     pub read : AllRead stack
     pub some_left : 0 < length stack
     pub walking : (v : List View) (k : ℕ) (q : Query) (first : Frame) (before : List TraceItem) → stack0 ≡ first ∷ []
@@ -40,6 +43,8 @@ module _ (others : List Accepted → Type 0) (later : Marks → Marks → Type 0
       → Going w words calls notes stack w words calls notes stack
   going-first w words calls notes stack first is read = record {
     shown = shown-none w calls notes;
+    goes = goes-none others later w;
+    draws = draws-none words;
     read = subst AllRead (sym is) (read, tt);
     some_left = let n = ap (λ (fs : List Frame). length fs) is in omega (arith, n);
     walking = λ v k q f before one h.
@@ -54,10 +59,12 @@ module _ (others : List Accepted → Type 0) (later : Marks → Marks → Type 0
     shown-further shown = shown-on w0 w u calls0 calls calls1 notes0 notes notes1 going.shown shown
 
     pub goes-further : IsTurn (Begins others later) (inside_group home) (course w words calls) stack None after notes
-        notes1 (course u words1 calls1) → IsShown w calls notes notes1 u calls1
-        → Going w0 words0 calls0 notes0 stack0 u words1 calls1 notes1 after
-    goes-further t shown = record {
+        notes1 (course u words1 calls1) → IsShown w calls notes notes1 u calls1 → Goes others later w u
+        → DrawsOn words words1 → Going w0 words0 calls0 notes0 stack0 u words1 calls1 notes1 after
+    goes-further t shown goes draws = record {
       shown = shown-further shown;
+      goes = goes-after others later w0 w u going.goes goes;
+      draws = draws-after words0 words words1 going.draws draws;
       read = still-read (Begins others later) (inside_group home) (is-begun others later) stack after t.items
           (course w words calls) (course u words1 calls1) t.turns going.read;
       some_left = none-left (Begins others later) (inside_group home) stack after t.items (course w words calls)

@@ -2,6 +2,7 @@ pub mod Called
 pub mod Entered
 pub mod Going
 pub mod Measures
+pub mod Moving
 pub mod Opening
 pub mod Pending
 pub mod Places
@@ -9,4 +10,5 @@ pub mod Quiet
 pub mod Resolved
 pub mod Showing
 pub mod Stacked
+pub mod Staying
 pub mod Turned

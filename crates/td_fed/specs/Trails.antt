@@ -1,7 +1,11 @@
 -- What a trace shows at any moment, also where a visit ended for want of memory: the marks that were made and what
--- peers gave.
-use Rattle.std.specs.Prelude.{◌≡◌, ℕ, nat_eq, cond, List, [], ◌∷◌, ◌++◌, Option, None, Some, slice_get}
-use Rattle.td_trader.specs.Worlds.{View}
+-- peers gave; and what became of the traders and of the random words meanwhile.
+use Rattle.std.specs.Prelude.{◌≡◌, ℕ, ◌+◌, nat_eq, cond, List, [], ◌∷◌, ◌++◌, Option, None, Some, slice_get}
+use Rattle.td_cdr.specs.Marks.{Marks}
+use Rattle.td_ops.specs.declared.call.Query.{Query}
+use Rattle.td_register.specs.declared.history.Accepted.{Accepted}
+use Rattle.td_trader.specs.Worlds.{Begun, View, Watches}
+use Rattle.td_trader.specs.declared.begin.Begin.{Begin}
 use Rattle.td_walk.specs.Peering.{Exchange}
 use Rattle.td_walk_laws.specs.Walks.{Asked}
 use Rattle.td_walk.specs.declared.trace.TraceItem.{TraceItem}
@@ -45,3 +49,18 @@ pub record IsShown (w : List View) (calls : List Exchange) (before after : List 
   pub made : List Exchange
   pub calls_are : now ≡ calls ++ made
   pub asked : Asked items made
+
+-- ---- what was done meanwhile
+
+-- Between these two moments queries began at traders of the group, and others acted. Through this value nothing was
+-- changed.
+pub data Goes (others : List Accepted → Type 0) (later : Marks → Marks → Type 0) : List View → List View → Type 0 where
+  stays : {w : List View} → Goes others later w w
+  began : {w u v : List View} (k : ℕ) (q : Query) (b : Begin) → Begun others later w k q b u → Goes others later u v
+      → Goes others later w v
+  watched : {w u v : List View} (k : ℕ) → Watches others later w k u → Goes others later u v → Goes others later w v
+
+-- of the random words to come the first so many were drawn
+pub record DrawsOn (before after : ℕ → ℕ) : Type 0 where
+  pub count : ℕ
+  pub rest : (k : ℕ) → after k ≡ before (count + k)

@@ -1,10 +1,10 @@
 //! The questions of a visit: to evaluators, to traders of the group, and to traders outside.
 
-ghost use Rattle.std.specs.Prelude.{◌≡◌, ◌<◌, ℕ, List, [], ◌∷◌, ◌++◌, vec_len, vec_capacity, is_some, IfOk};
+ghost use Rattle.std.specs.Prelude.{◌≡◌, ◌<◌, ◌≤◌, ℕ, List, [], ◌∷◌, ◌++◌, vec_len, vec_capacity, is_some, IfOk};
 ghost use Rattle.td_fed.specs.Calling.{IsPeered};
 ghost use Rattle.td_fed.specs.Entering.{IsAsked, NotesFault, asking_of};
 ghost use Rattle.td_fed.specs.Targets.{inside_group};
-ghost use Rattle.td_fed.specs.Trails.{IsShown};
+ghost use Rattle.td_fed.specs.Trails.{Goes, IsShown};
 ghost use Rattle.td_fed.specs.Visiting.{Begins, course};
 ghost use Rattle.td_walk_laws.specs.Walks.{answer_in};
 ghost use Rattle.td_walk.specs.declared.answer.Next.TheVariants.{Done, Evaluate, Forward};
@@ -14,7 +14,7 @@ ghost use Rattle.td_ior.specs.Profiles.{iiop_of};
 ghost use Rattle.td_trader.specs.Worlds.{View};
 
 use crate::entering::{Entry, enter, nothing};
-use crate::target::inside;
+use crate::target::inside_group;
 use std::alloc::Global;
 use td_cdr::{Boxed, Memory, Text, Twin};
 use td_ior::{IorFault, iiop_of};
@@ -54,6 +54,8 @@ pub(crate) fn ask<T: Traders, P: Peers>(
         (course (T.world traders.new) words (P.calls peers.new))) }
     ensures shown { IsShown (T.world traders.old) (P.calls peers.old) notes.old.items notes.new.items
         (T.world traders.new) (P.calls peers.new) }
+    ensures goes { Goes T.others T.later (T.world traders.old) (T.world traders.new) }
+    ensures faults { P.faults peers.old ≤ P.faults peers.new }
 {
     match question {
         Next::Evaluate {
@@ -106,6 +108,7 @@ fn evaluate<P: Peers>(
         (P.calls peers.new)) }
     ensures shown { (w : List View) →
         IsShown w (P.calls peers.old) notes.old.items notes.new.items w (P.calls peers.new) }
+    ensures faults { P.faults peers.old ≤ P.faults peers.new }
 {
     notes.reserve(1)?;
     if !is_reachable(alloc, evaluator) {
@@ -162,8 +165,10 @@ fn forward<T: Traders, P: Peers>(
         notes.new.items (course (T.world traders.new) words (P.calls peers.new))) }
     ensures shown { IsShown (T.world traders.old) (P.calls peers.old) notes.old.items notes.new.items
         (T.world traders.new) (P.calls peers.new) }
+    ensures goes { Goes T.others T.later (T.world traders.old) (T.world traders.new) }
+    ensures faults { P.faults peers.old ≤ P.faults peers.new }
 {
-    match inside(alloc, traders, home, target)? {
+    match inside_group(alloc, traders, home, target)? {
         Some(trader) => {
             let entry = enter(alloc, traders, trader, query, notes)?;
             Ok(asking_of(alloc, entry))
@@ -208,6 +213,7 @@ fn call<P: Peers>(
         notes.new.items (P.calls peers.new)) }
     ensures shown { (w : List View) →
         IsShown w (P.calls peers.old) notes.old.items notes.new.items w (P.calls peers.new) }
+    ensures faults { P.faults peers.old ≤ P.faults peers.new }
 {
     notes.reserve(1)?;
     match peers.query(alloc, target, query) {

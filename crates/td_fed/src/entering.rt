@@ -2,7 +2,7 @@
 
 ghost use Rattle.std.specs.Prelude.{◌≡◌, ◌<◌, [], ◌∷◌, ◌++◌, length, vec_len, vec_capacity, IfOk};
 ghost use Rattle.td_fed.specs.Entering.{IsEntered, begin_item, entry_of};
-ghost use Rattle.td_fed.specs.Trails.{IsShown};
+ghost use Rattle.td_fed.specs.Trails.{Goes, IsShown};
 ghost use Rattle.td_fed.specs.Visiting.{Begins};
 ghost use Rattle.td_walk_laws.specs.Walks.{nothing};
 ghost use Rattle.td_walk.specs.declared.trace.TraceItem.TheVariants as item;
@@ -55,6 +55,7 @@ pub(crate) fn enter<T: Traders>(
     ensures entered { IfOk result (λ e. IsEntered (Begins T.others T.later) (T.world traders.old) trader q.now e
         notes.old.items notes.new.items (T.world traders.new)) }
     ensures shown { IsShown (T.world traders.old) [] notes.old.items notes.new.items (T.world traders.new) [] }
+    ensures goes { Goes T.others T.later (T.world traders.old) (T.world traders.new) }
 {
     notes.reserve(1)?;
     let begin = traders.begin(trader, q)?;

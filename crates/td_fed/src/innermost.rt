@@ -3,7 +3,7 @@
 ghost use Rattle.std.specs.Prelude.{◌≡◌, ◌^◌, ◌<◌, ℕ, List, [], ◌∷◌, ◌++◌, length, vec_len, vec_capacity};
 ghost use Rattle.std.specs.Prelude.{IfOk, OnOk, OnErr};
 ghost use Rattle.td_fed.specs.Entering.{IsEnd};
-ghost use Rattle.td_fed.specs.Trails.{IsShown};
+ghost use Rattle.td_fed.specs.Trails.{DrawsOn, IsShown};
 ghost use Rattle.td_fed.specs.Turning.{Asks, Closes, Returns, Takes};
 ghost use Rattle.td_fed.specs.Visiting.{course};
 ghost use Rattle.td_trader.specs.Worlds.{View};
@@ -90,6 +90,7 @@ pub(crate) fn end_innermost<W: Words>(
     ensures noted { OnOk result (notes.new.items ≡ notes.old.items ++ item.Leave ∷ []) }
     ensures shown { (w : List View) (calls : List Exchange) →
         IsShown w calls notes.old.items notes.new.items w calls }
+    ensures draws { DrawsOn (W.word words.old) (W.word words.new) }
 {
     notes.reserve(1)?;
     match stack.pop() {
@@ -115,6 +116,7 @@ fn end<W: Words>(
     ensures unchanged { OnErr result (notes.new.items ≡ notes.old.items) }
     ensures ends { IfOk result (λ v. (w : List View) (calls : List Exchange) →
         IsEnd (course w (W.word words.old) calls) visit v (course w (W.word words.new) calls)) }
+    ensures draws { DrawsOn (W.word words.old) (W.word words.new) }
 {
     let max_list = visit.local().attributes.max_list;
     let answer = visit.finish(alloc, words)?;

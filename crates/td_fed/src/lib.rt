@@ -10,4 +10,5 @@ mod target;
 mod visiting;
 
 pub use resolving::{NameAnswer, resolve};
+pub use target::{inside_group, place_of};
 pub use visiting::visit;

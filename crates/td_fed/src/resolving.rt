@@ -5,7 +5,7 @@ ghost use Rattle.std.specs.List.{list_all};
 ghost use Rattle.td_cdr.specs.Names.{word_name};
 ghost use Rattle.td_fed.specs.Resolving.{Follows, IsAskedFor, IsGiven, IsUngiven, Leads, LooksUp, Resolves};
 ghost use Rattle.td_fed.specs.Resolving.{is_path, link_register, told_register, with_outcome};
-ghost use Rattle.td_fed.specs.Trails.{IsQuiet};
+ghost use Rattle.td_fed.specs.Trails.{Goes, IsQuiet};
 ghost use Rattle.td_exceptions.specs.declared.exception.UserException.TheVariants as user;
 ghost use Rattle.td_ops.specs.declared.outcome.Outcome.TheVariants as outcome;
 ghost use Rattle.td_ops.specs.declared.outcome.Reply.TheVariants as reply;
@@ -72,6 +72,8 @@ pub fn resolve<T: Traders, P: Peers>(
         trader name.now a (T.world traders.new) (P.calls peers.new)) }
     ensures unasked { OnErr result (P.calls peers.new ≡ P.calls peers.old) }
     ensures quiet { IsQuiet (T.world traders.old) (T.world traders.new) }
+    ensures goes { Goes T.others T.later (T.world traders.old) (T.world traders.new) }
+    ensures faults { P.faults peers.old ≤ P.faults peers.new }
 {
     if !is_path(name.as_slice()) {
         return illegal(alloc, traders.point(trader), name);
@@ -149,6 +151,8 @@ fn follow<T: Traders, P: Peers>(
         (T.world traders.old) trader names.now a (T.world traders.new) (P.calls peers.new)) }
     ensures unasked { OnErr result (P.calls peers.new ≡ P.calls peers.old) }
     ensures quiet { IsQuiet (T.world traders.old) (T.world traders.new) }
+    ensures goes { Goes T.others T.later (T.world traders.old) (T.world traders.new) }
+    ensures faults { P.faults peers.old ≤ P.faults peers.new }
 {
     match names.split_first() {
         None => unreachable!(),
@@ -184,6 +188,8 @@ fn lead_from<T: Traders, P: Peers>(
         (T.world traders.old) trader name.now rest.now r (T.world traders.new) (P.calls peers.new)) }
     ensures unasked { OnErr result (P.calls peers.new ≡ P.calls peers.old) }
     ensures quiet { IsQuiet (T.world traders.old) (T.world traders.new) }
+    ensures goes { Goes T.others T.later (T.world traders.old) (T.world traders.new) }
+    ensures faults { P.faults peers.old ≤ P.faults peers.new }
 {
     let register = look_up(alloc, traders, trader, name)?;
     let point = traders.point(trader);
@@ -214,6 +220,7 @@ fn lead_over<T: Traders, P: Peers>(
         IfOk result (λ r. Leads T.others T.later home.now whole.now (P.calls peers.old) w k name rest.now r
         (T.world traders.now) (P.calls peers.new)) }
     ensures unasked { OnErr result (P.calls peers.new ≡ P.calls peers.old) }
+    ensures faults { P.faults peers.old ≤ P.faults peers.new }
 {
     if rest.is_empty() {
         return Ok(Lead::Ended(NameAnswer {
@@ -244,6 +251,7 @@ fn look_up<T: Traders>(
     ensures looks { IfOk result (λ r. LooksUp T.others T.later (T.world traders.old) trader name.now r
         (T.world traders.new)) }
     ensures quiet { IsQuiet (T.world traders.old) (T.world traders.new) }
+    ensures goes { Goes T.others T.later (T.world traders.old) (T.world traders.new) }
 {
     let name = name.copy(alloc)?;
     let look = Look::DescribeLink { name };
@@ -290,6 +298,7 @@ fn ask_register<P: Peers>(
     ensures asks { IfOk result (λ a. IsAskedFor point whole.now rest.now register.now (P.calls peers.old) a
         (P.calls peers.new)) }
     ensures unasked { OnErr result (P.calls peers.new ≡ P.calls peers.old) }
+    ensures faults { P.faults peers.old ≤ P.faults peers.new }
 {
     let rest = copies(alloc, rest)?;
     let name = whole.copy(alloc)?;

@@ -17,7 +17,7 @@ use td_walk::Address;
 /// # Errors
 ///
 /// `Memory` for want of memory alone.
-pub(crate) fn inside<T: Traders>(
+pub fn inside_group<T: Traders>(
     alloc: Global,
     traders: &T,
     home: &Address,
@@ -93,7 +93,7 @@ fn register_of<T: Traders>(traders: &T, key: &ObjectKey) -> Option<usize>
 }
 
 /// The number of the trader of a name.
-fn place_of<T: Traders>(traders: &T, name: &[u8]) -> Option<usize>
+pub fn place_of<T: Traders>(traders: &T, name: &[u8]) -> Option<usize>
     ensures { result ≡ place_of (T.world traders.now) name.now }
 {
     let count = traders.count();

@@ -1,9 +1,9 @@
 //! A query's visit of a trader, with all that it goes on to.
 
-ghost use Rattle.std.specs.Prelude.{◌≡◌, ◌<◌, ℕ, List, [], ◌∷◌, ◌++◌, length, None, IfOk, OnOk};
+ghost use Rattle.std.specs.Prelude.{◌≡◌, ◌<◌, ◌≤◌, ℕ, List, [], ◌∷◌, ◌++◌, length, None, IfOk, OnOk};
 ghost use Rattle.td_fed.specs.Entering.{IsEntered};
 ghost use Rattle.td_fed.specs.Targets.{inside_group};
-ghost use Rattle.td_fed.specs.Trails.{IsShown};
+ghost use Rattle.td_fed.specs.Trails.{DrawsOn, Goes, IsShown};
 ghost use Rattle.td_fed.specs.Turning.{Asks, IsTurn};
 ghost use Rattle.td_fed.specs.Visiting.{Begins, Visited, course};
 ghost use Rattle.td_fed.specs.declared.entering.Entry.TheVariants as entry;
@@ -51,6 +51,9 @@ pub fn visit<T: Traders, P: Peers, W: Words>(
         trace.new.items v (course (T.world traders.new) (W.word words.new) (P.calls peers.new))) }
     ensures shown { IsShown (T.world traders.old) (P.calls peers.old) trace.old.items trace.new.items
         (T.world traders.new) (P.calls peers.new) }
+    ensures goes { Goes T.others T.later (T.world traders.old) (T.world traders.new) }
+    ensures draws { DrawsOn (W.word words.old) (W.word words.new) }
+    ensures faults { P.faults peers.old ≤ P.faults peers.new }
 {
     let items = mem::replace(&mut trace.items, List::new(alloc));
     let mut notes = items.into_vec();
@@ -79,6 +82,9 @@ fn walk<T: Traders, P: Peers, W: Words>(
         notes.new.items v (course (T.world traders.new) (W.word words.new) (P.calls peers.new))) }
     ensures shown { IsShown (T.world traders.old) (P.calls peers.old) notes.old.items notes.new.items
         (T.world traders.new) (P.calls peers.new) }
+    ensures goes { Goes T.others T.later (T.world traders.old) (T.world traders.new) }
+    ensures draws { DrawsOn (W.word words.old) (W.word words.new) }
+    ensures faults { P.faults peers.old ≤ P.faults peers.new }
 {
     match enter(alloc, traders, trader, q, notes)? {
         Entry::Ended(visit) => Ok(visit),
@@ -106,6 +112,9 @@ fn walk_on<T: Traders, P: Peers, W: Words>(
         before notes.new.items v (course (T.world traders.new) (W.word words.new) (P.calls peers.new))) }
     ensures shown { IsShown (T.world traders.old) (P.calls peers.old) notes.old.items notes.new.items
         (T.world traders.new) (P.calls peers.new) }
+    ensures goes { Goes T.others T.later (T.world traders.old) (T.world traders.new) }
+    ensures draws { DrawsOn (W.word words.old) (W.word words.new) }
+    ensures faults { P.faults peers.old ≤ P.faults peers.new }
 {
     let mut stack: Vec<Frame> = Vec::new(alloc);
     stack.push(first)?;
@@ -136,6 +145,9 @@ fn turn<T: Traders, P: Peers, W: Words>(
         notes.old.items notes.new.items (course (T.world traders.new) (W.word words.new) (P.calls peers.new))) }
     ensures shown { IsShown (T.world traders.old) (P.calls peers.old) notes.old.items notes.new.items
         (T.world traders.new) (P.calls peers.new) }
+    ensures goes { Goes T.others T.later (T.world traders.old) (T.world traders.new) }
+    ensures draws { DrawsOn (W.word words.old) (W.word words.new) }
+    ensures faults { P.faults peers.old ≤ P.faults peers.new }
 {
     match next_of_innermost(alloc, stack)? {
         Next::Done => end_innermost(alloc, words, notes, stack),
@@ -165,6 +177,8 @@ fn ask_innermost<T: Traders, P: Peers>(
         notes.old.items notes.new.items (course (T.world traders.new) words (P.calls peers.new))) }
     ensures shown { IsShown (T.world traders.old) (P.calls peers.old) notes.old.items notes.new.items
         (T.world traders.new) (P.calls peers.new) }
+    ensures goes { Goes T.others T.later (T.world traders.old) (T.world traders.new) }
+    ensures faults { P.faults peers.old ≤ P.faults peers.new }
 {
     match ask(alloc, traders, home, peers, notes, question)? {
         Asking::Answered(answer) => answer_innermost(stack, answer),

@@ -1,5 +1,6 @@
 use Rattle.std.proofs.Common.{◌≡◌, rules, sym, subst}
 use Rattle.td_fed.proofs.Called.{evaluates, peered-asked}
+use Rattle.td_fed.proofs.Moving.{goes-none}
 use Rattle.td_fed.proofs.asking.ask.Goals as goal
 use Rattle.td_fed.specs.Entering.{IsAsked}
 use Rattle.td_fed.specs.Targets.{inside_group}
@@ -25,3 +26,11 @@ returns-in_ok-answer-in-Evaluate-clause-asked g c = λ words.
     (g.P.Peers.calls c.evaluate-answer.new.peers)
     (evaluates (Begins g.T.Traders.others g.T.Traders.later) (inside_group c.args.home.now) s a.evaluator a.name
     c.get.result.now c.get-in-Evaluate.result.now) c.in_ok-answer-in-Evaluate.ensures.peered)
+
+pub returns-in_err-answer-in-Evaluate-clause-goes : goal.returns-in_err-answer-in-Evaluate-clause-goes
+returns-in_err-answer-in-Evaluate-clause-goes g c =
+    goes-none g.T.Traders.others g.T.Traders.later (g.T.Traders.world c.args.traders.now)
+
+pub returns-in_ok-answer-in-Evaluate-clause-goes : goal.returns-in_ok-answer-in-Evaluate-clause-goes
+returns-in_ok-answer-in-Evaluate-clause-goes g c =
+    goes-none g.T.Traders.others g.T.Traders.later (g.T.Traders.world c.args.traders.now)

@@ -1,6 +1,7 @@
 use Rattle.std.proofs.Common.{◌≡◌, None, Some, rules, sym, subst, ◌∙◌}
 use Rattle.td_fed.proofs.Called.{outsides, peered-asked}
 use Rattle.td_fed.proofs.Entered.{entered-asked}
+use Rattle.td_fed.proofs.Moving.{goes-none}
 use Rattle.td_fed.proofs.Resolved.{inside-within}
 use Rattle.td_fed.proofs.Showing.{shown-none}
 use Rattle.td_fed.proofs.asking.forward.Goals as goal
@@ -43,3 +44,15 @@ returns-in_ok-answer-in-None-clause-asked g c = λ words.
     c.call.new.notes.items (g.P.Peers.calls c.call.new.peers)
     (outsides (Begins g.T.Traders.others g.T.Traders.later) (inside_group c.args.home.now) s c.args.target.now
     c.args.query.now e) c.in_ok-answer-in-None.ensures.peered
+
+pub returns-in_err-trader-clause-goes : goal.returns-in_err-trader-clause-goes
+returns-in_err-trader-clause-goes g c =
+    goes-none g.T.Traders.others g.T.Traders.later (g.T.Traders.world c.args.traders.now)
+
+pub returns-in_err-answer-in-None-clause-goes : goal.returns-in_err-answer-in-None-clause-goes
+returns-in_err-answer-in-None-clause-goes g c =
+    goes-none g.T.Traders.others g.T.Traders.later (g.T.Traders.world c.args.traders.now)
+
+pub returns-in_ok-answer-in-None-clause-goes : goal.returns-in_ok-answer-in-None-clause-goes
+returns-in_ok-answer-in-None-clause-goes g c =
+    goes-none g.T.Traders.others g.T.Traders.later (g.T.Traders.world c.args.traders.now)

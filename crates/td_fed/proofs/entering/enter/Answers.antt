@@ -1,10 +1,11 @@
 use Rattle.std.proofs.Common.{[], refl}
 use Rattle.td_fed.proofs.Entered.{entered-if, shown-begun, shown-watched}
+use Rattle.td_fed.proofs.Moving.{goes-begun, goes-none, goes-watched}
 use Rattle.td_fed.proofs.Resolved.{as-many}
 use Rattle.td_fed.proofs.Showing.{shown-same}
 use Rattle.td_fed.proofs.entering.enter.Goals as goal
-use Rattle.td_trader.specs.Worlds.{after_begin, store_seen}
 use Rattle.td_trader.specs.Beginning.{after_begin as marks_after}
+use Rattle.td_trader.specs.Worlds.{after_begin, store_seen}
 
 pub returns-in_err-begin-clause-shown : goal.returns-in_err-begin-clause-shown
 returns-in_err-begin-clause-shown g c =
@@ -26,3 +27,17 @@ returns-clause-shown g c =
     (g.T.Traders.world c.begin.new.self) c.args.trader c.point-point.result c.args.q.now c.in_ok-begin.begin
     c.args.notes.now.items c.reserve.new.self.items c.note_begin.new.notes.items c.in_ok-begin.ensures.ok
     c.reserve.ensures.items c.note_begin.ensures.noted
+
+pub returns-in_err-reserve-clause-goes : goal.returns-in_err-reserve-clause-goes
+returns-in_err-reserve-clause-goes g c =
+    goes-none g.T.Traders.others g.T.Traders.later (g.T.Traders.world c.args.traders.now)
+
+pub returns-in_err-begin-clause-goes : goal.returns-in_err-begin-clause-goes
+returns-in_err-begin-clause-goes g c =
+    goes-watched g.T.Traders.others g.T.Traders.later (g.T.Traders.world c.args.traders.now)
+    (g.T.Traders.world c.begin.new.self) c.args.trader c.in_err-begin.ensures.err
+
+pub returns-clause-goes : goal.returns-clause-goes
+returns-clause-goes g c =
+    goes-begun g.T.Traders.others g.T.Traders.later (g.T.Traders.world c.args.traders.now)
+    (g.T.Traders.world c.begin.new.self) c.args.trader c.args.q.now c.in_ok-begin.begin c.in_ok-begin.ensures.ok

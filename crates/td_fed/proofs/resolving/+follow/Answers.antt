@@ -1,4 +1,5 @@
 use Rattle.std.proofs.Common.{◌≡◌, ◌<◌, length, arith, rules}
+use Rattle.td_fed.proofs.Moving.{goes-after}
 use Rattle.td_fed.proofs.Resolved.{follows-so, is-inside, other-words, register-inside-within}
 use Rattle.td_fed.proofs.resolving.+follow.Goals as goal
 
@@ -26,3 +27,15 @@ follow-requires g t c =
     other-words c.args.names.now c.in-Some.rest.now c.in-Some.name.now c.in-Some.ensures.cases.0 c.requires.words in
     let fewer : length c.in-Some.rest.now < length c.args.names.now = omega (arith, c.in-Some.ensures.cases.1) in
     search (rules, within, some, words, fewer)
+
+pub returns-in_err-answer-in-Inside-clause-goes : goal.returns-in_err-answer-in-Inside-clause-goes
+returns-in_err-answer-in-Inside-clause-goes g t c =
+    goes-after g.T.Traders.others g.T.Traders.later (g.T.Traders.world c.args.traders.now)
+    (g.T.Traders.world c.lead_from.new.traders) (g.T.Traders.world c.follow.new.traders) c.lead_from.ensures.goes
+    c.follow.ensures.goes
+
+pub returns-in_ok-answer-in-Inside-clause-goes : goal.returns-in_ok-answer-in-Inside-clause-goes
+returns-in_ok-answer-in-Inside-clause-goes g t c =
+    goes-after g.T.Traders.others g.T.Traders.later (g.T.Traders.world c.args.traders.now)
+    (g.T.Traders.world c.lead_from.new.traders) (g.T.Traders.world c.follow.new.traders) c.lead_from.ensures.goes
+    c.follow.ensures.goes

@@ -1,4 +1,5 @@
 use Rattle.std.proofs.Common.{List, IfOk, subst}
+use Rattle.td_fed.proofs.Moving.{draws-none, goes-none}
 use Rattle.td_fed.proofs.Showing.{shown-none}
 use Rattle.td_fed.proofs.Stacked.{turn-closes}
 use Rattle.td_fed.proofs.visiting.turn.Goals as goal
@@ -24,3 +25,17 @@ returns-in-Done-clause-turns g c =
     c.next_of_innermost.new.stack.items c.end_innermost.new.stack.items c.args.notes.now.items
     c.end_innermost.new.notes.items c.end_innermost.result (c.end_innermost.ensures.closes w calls)
     c.end_innermost.ensures.noted)
+
+pub returns-in_err-question-clause-goes : goal.returns-in_err-question-clause-goes
+returns-in_err-question-clause-goes g c =
+    goes-none g.T.Traders.others g.T.Traders.later (g.T.Traders.world c.args.traders.now)
+
+pub returns-in_err-question-clause-draws : goal.returns-in_err-question-clause-draws
+returns-in_err-question-clause-draws g c = draws-none (g.W.Words.word c.args.words.now)
+
+pub returns-in-Done-clause-goes : goal.returns-in-Done-clause-goes
+returns-in-Done-clause-goes g c =
+    goes-none g.T.Traders.others g.T.Traders.later (g.T.Traders.world c.args.traders.now)
+
+pub returns-in_ok-ask_innermost-in_default-clause-draws : goal.returns-in_ok-ask_innermost-in_default-clause-draws
+returns-in_ok-ask_innermost-in_default-clause-draws g c = draws-none (g.W.Words.word c.args.words.now)

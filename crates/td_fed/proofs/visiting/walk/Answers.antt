@@ -1,4 +1,5 @@
 use Rattle.td_fed.proofs.Going.{at-once, first-read}
+use Rattle.td_fed.proofs.Moving.{draws-none, goes-after}
 use Rattle.td_fed.proofs.Showing.{shown-beside, shown-on}
 use Rattle.td_fed.proofs.visiting.walk.Goals as goal
 
@@ -28,3 +29,15 @@ returns-in-Open-clause-shown g c =
     c.args.notes.now.items c.enter.new.notes.items c.walk_on.new.notes.items
     (shown-beside (g.T.Traders.world c.args.traders.now) (g.T.Traders.world c.enter.new.traders) calls
     c.args.notes.now.items c.enter.new.notes.items c.enter.ensures.shown) c.walk_on.ensures.shown
+
+pub returns-in_err-visit-clause-draws : goal.returns-in_err-visit-clause-draws
+returns-in_err-visit-clause-draws g c = draws-none (g.W.Words.word c.args.words.now)
+
+pub returns-in-Ended-clause-draws : goal.returns-in-Ended-clause-draws
+returns-in-Ended-clause-draws g c = draws-none (g.W.Words.word c.args.words.now)
+
+pub returns-in-Open-clause-goes : goal.returns-in-Open-clause-goes
+returns-in-Open-clause-goes g c =
+    goes-after g.T.Traders.others g.T.Traders.later (g.T.Traders.world c.args.traders.now)
+    (g.T.Traders.world c.enter.new.traders) (g.T.Traders.world c.walk_on.new.traders) c.enter.ensures.goes
+    c.walk_on.ensures.goes

@@ -1,5 +1,6 @@
-use Rattle.std.proofs.Common.{◌≡◌, [], ◌∷◌, rules}
+use Rattle.std.proofs.Common.{◌≡◌, [], ◌∷◌, rules, arith}
 use Rattle.td_fed.proofs.Going.{goes-further, going-first, is-less, is-visited}
+use Rattle.td_fed.proofs.Moving.{draws-after, draws-none, goes-after, goes-none}
 use Rattle.td_fed.proofs.Showing.{shown-none, shown-on}
 use Rattle.td_fed.proofs.visiting.walk_on.Goals as goal
 
@@ -14,6 +15,7 @@ turns-init g c =
       g.met.P.Peers.same_self _,
       g.met.W.Words.same_self _,
       going-first g.T.Traders.others g.T.Traders.later c.args.home.now _ _ _ _ _ c.args.first one c.requires,
+      omega arith,
     )
 
 pub turn-requires : goal.turn-requires
@@ -26,7 +28,9 @@ turns-preserved g c =
       g.met.T.Traders.same_on _ _ _ i.0 c.turn.ensures.same,
       g.met.P.Peers.same_on _ _ _ i.1 c.turn.ensures.same_peers,
       g.met.W.Words.same_on _ _ _ i.2 c.turn.ensures.same_words,
-      goes-further _ _ _ _ _ _ _ _ _ _ _ _ _ i.3 _ _ _ _ _ t c.turn.ensures.shown,
+      goes-further _ _ _ _ _ _ _ _ _ _ _ _ _ i.3 _ _ _ _ _ t c.turn.ensures.shown c.turn.ensures.goes
+          c.turn.ensures.draws,
+      omega (arith, i.4, c.turn.ensures.faults),
     )
 
 pub turns-smaller : goal.turns-smaller
@@ -65,3 +69,28 @@ returns-in_err-visit-clause-same_words g c = g.met.W.Words.same_on _ _ _ c.turns
 pub returns-in_err-visit-clause-shown : goal.returns-in_err-visit-clause-shown
 returns-in_err-visit-clause-shown g c =
     shown-on _ _ _ _ _ _ _ _ _ c.turns.invariant.3.shown c.turn.ensures.shown
+
+pub returns-in_err-push-clause-goes : goal.returns-in_err-push-clause-goes
+returns-in_err-push-clause-goes g c =
+    goes-none g.T.Traders.others g.T.Traders.later (g.T.Traders.world c.args.traders.now)
+
+pub returns-in_err-push-clause-draws : goal.returns-in_err-push-clause-draws
+returns-in_err-push-clause-draws g c = draws-none (g.W.Words.word c.args.words.now)
+
+pub returns-in-Some-clause-goes : goal.returns-in-Some-clause-goes
+returns-in-Some-clause-goes g c = goes-after _ _ _ _ _ c.turns.invariant.3.goes c.turn.ensures.goes
+
+pub returns-in-Some-clause-draws : goal.returns-in-Some-clause-draws
+returns-in-Some-clause-draws g c = draws-after _ _ _ c.turns.invariant.3.draws c.turn.ensures.draws
+
+pub returns-in-Some-clause-faults : goal.returns-in-Some-clause-faults
+returns-in-Some-clause-faults g c = omega (arith, c.turns.invariant.4, c.turn.ensures.faults)
+
+pub returns-in_err-visit-clause-goes : goal.returns-in_err-visit-clause-goes
+returns-in_err-visit-clause-goes g c = goes-after _ _ _ _ _ c.turns.invariant.3.goes c.turn.ensures.goes
+
+pub returns-in_err-visit-clause-draws : goal.returns-in_err-visit-clause-draws
+returns-in_err-visit-clause-draws g c = draws-after _ _ _ c.turns.invariant.3.draws c.turn.ensures.draws
+
+pub returns-in_err-visit-clause-faults : goal.returns-in_err-visit-clause-faults
+returns-in_err-visit-clause-faults g c = omega (arith, c.turns.invariant.4, c.turn.ensures.faults)

@@ -1,3 +1,4 @@
+use Rattle.std.proofs.Common.{◌≤◌}
 use Rattle.td_fed.proofs.Going.{Going}
 use Rattle.td_fed.proofs.Measures.{measure_all, most}
 use Rattle.td_fed.proofs.visiting.walk_on.Given as goal
@@ -12,6 +13,7 @@ invariant-turns g l =
     (g.T.Traders.world l.initial.traders) (g.W.Words.word l.initial.words) (g.P.Peers.calls l.initial.peers)
     l.initial.notes.items l.initial.stack.items
     (g.T.Traders.world l.traders) (g.W.Words.word l.words) (g.P.Peers.calls l.peers) l.notes.items l.stack.items
+    × (g.P.Peers.faults l.initial.peers ≤ g.P.Peers.faults l.peers)
 
 abbrev pub decreases-turns : goal.decreases-turns
 decreases-turns g l = measure_all most l.stack.items
