@@ -1,0 +1,12 @@
+pub mod Backing
+pub mod FirstBatch
+pub mod Keeping
+pub mod Linked
+pub mod Looked
+pub mod Naming
+pub mod Nexts
+pub mod Seen
+pub mod Shortness
+pub mod Sizes
+pub mod Standing
+pub mod Worked

@@ -1,0 +1,8 @@
+use Rattle.std.proofs.Common.{arith}
+use Rattle.td_reply.proofs.Sizes.{offers_if_small}
+use Rattle.td_reply.proofs.references.offer_iterator.Goals as goal
+
+pub returns-clause-small : goal.returns-clause-small
+returns-clause-small c =
+    offers_if_small c.args.home.now c.args.name.now c.args.number c.own_reference.result c.requires.home c.requires.name
+    (omega arith) c.own_reference.ensures

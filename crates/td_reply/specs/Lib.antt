@@ -1,0 +1,13 @@
+pub mod Answers
+pub mod Changing
+pub mod Examples
+pub mod Interfaces
+pub mod Iterating
+pub mod Judging
+pub mod Laws
+pub mod Linking
+pub mod Listing
+pub mod Looking
+pub mod Objects
+pub mod References
+pub mod Targets

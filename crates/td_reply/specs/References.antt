@@ -1,0 +1,34 @@
+-- The references that the server gives of its own objects (CORBA, chapter on General Inter-ORB Protocol, "IIOP IOR
+-- Profiles").
+use Rattle.std.specs.Prelude.{ℕ, ◌≤◌, List, length}
+use Rattle.td_cdr.specs.Text.{HasNoNul}
+use Rattle.td_codes.specs.declared.reference.Ior.{Ior}
+use Rattle.td_ior.specs.Keys.{written_key}
+use Rattle.td_ior.specs.Profiles.{made_reference}
+use Rattle.td_value.specs.declared.key.Kind.{Kind}
+use Rattle.td_value.specs.declared.key.Kind.TheVariants as kind
+use Rattle.td_walk.specs.declared.trace.Address.{Address}
+use Rattle.td_reply.specs.Interfaces.{interface_id}
+use Rattle.td_reply.specs.declared.interface.Interface.{Interface}
+use Rattle.td_reply.specs.declared.interface.Interface.TheVariants as interface
+
+-- where a server may listen
+pub record IsAddress (home : Address) : Type 0 where
+  pub short : length home.host ≤ 1000
+  pub no_nul : HasNoNul home.host
+
+-- the object of a kind that the trader of a name has, reached where the server listens
+abbrev pub own_reference : Address → Interface → (name : List ℕ) → Kind → Ior
+own_reference home i name k =
+    made_reference (interface_id i) home.host home.port (written_key (record { trader = name; kind = k }))
+
+abbrev pub register_reference : Address → (name : List ℕ) → Ior
+register_reference home name = own_reference home interface.Register name kind.Register
+
+-- an iterator over offers, by its number
+abbrev pub offer_iterator : Address → (name : List ℕ) → ℕ → Ior
+offer_iterator home name n = own_reference home interface.OfferIterator name (kind.Iterator n)
+
+-- an iterator over the ids of offers
+abbrev pub iterator_reference : Address → (name : List ℕ) → ℕ → Ior
+iterator_reference home name n = own_reference home interface.OfferIdIterator name (kind.Iterator n)

@@ -1,0 +1,24 @@
+-- Where a target is that is to be asked: in the group, outside, or nowhere that can be reached (CORBA, chapter on
+-- General Inter-ORB Protocol, "IIOP IOR Profiles").
+use Rattle.std.specs.Prelude.{ℕ, List, Option, None, Some}
+use Rattle.td_codes.specs.declared.reference.Ior.{Ior}
+use Rattle.td_fed.specs.Targets.{inside_group}
+use Rattle.td_ior.specs.Profiles.{iiop_of}
+use Rattle.td_ior.specs.declared.profile.Iiop.{Iiop}
+use Rattle.td_trader.specs.Worlds.{View}
+use Rattle.td_walk.specs.declared.trace.Address.{Address}
+use Rattle.td_reply.specs.declared.target.Target.{Target}
+use Rattle.td_reply.specs.declared.target.Target.TheVariants.{Inside, Outside, Unreachable}
+
+-- a target that can be reached is a trader of the group or one outside
+abbrev pub reached : Option ℕ → Target
+reached (Some k) = Inside k
+reached None = Outside
+
+abbrev pub target_by : Address → List View → Ior → Option Iiop → Target
+target_by home w target None = Unreachable
+target_by home w target (Some profile) = reached (inside_group home w target)
+
+-- where a target is: one without an IIOP profile can't be reached
+abbrev pub target_of : Address → List View → Ior → Target
+target_of home w target = target_by home w target (iiop_of target)
