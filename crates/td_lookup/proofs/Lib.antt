@@ -1,0 +1,7 @@
+pub mod Batched
+pub mod Chosen
+pub mod Followed
+pub mod Limited
+pub mod Moved
+pub mod Queried
+pub mod Worked

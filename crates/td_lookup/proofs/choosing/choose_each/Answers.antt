@@ -1,0 +1,10 @@
+use Rattle.std.proofs.Common.{◌<◌, length, arith}
+use Rattle.td_lookup.proofs.Chosen.{changed_on}
+use Rattle.td_lookup.proofs.choosing.choose_each.Goals as goal
+use Rattle.td_lookup.specs.Choosing.{chosen}
+
+pub loop-offer-preserved : goal.loop-offer-preserved
+loop-offer-preserved c =
+    let within : c.loop-offer.offer-index < length c.deref_mut-offer-items.result.now = omega arith in
+    changed_on (chosen c.args.desired.now) c.deref_mut-offer-items.result.now c.loop-offer.offer-items
+    c.loop-offer.offer-index c.offer-item.result c.choose.new.offer c.loop-offer.invariant within c.in_ok-choose.ensures

@@ -1,0 +1,63 @@
+use Rattle.std.proofs.Common.{sym, subst}
+use Rattle.td_cdr.specs.Names.{IsTraderName}
+use Rattle.td_lookup.proofs.Limited.{visited_limits}
+use Rattle.td_lookup.proofs.Moved.{still_named, still_within}
+use Rattle.td_lookup.proofs.Queried.{query_back, query_told}
+use Rattle.td_lookup.proofs.querying.answer_query.Goals as goal
+use Rattle.td_lookup.specs.Scenes.{scene}
+use Rattle.td_reply.specs.Linking.{peers_seen}
+
+pub name-requires : goal.name-requires
+name-requires g c =
+    still_within g.T.Traders.others g.T.Traders.later _ _ c.args.trader c.visit-visited.ensures.goes
+    c.requires.named.within
+
+pub tell_visited-told-requires-clause-name : goal.tell_visited-told-requires-clause-name
+tell_visited-told-requires-clause-name g c =
+    subst IsTraderName (sym c.name.ensures)
+    (still_named g.T.Traders.others g.T.Traders.later _ _ c.args.trader c.visit-visited.ensures.goes c.requires.named)
+
+pub tell_visited-told-requires-clause-limits : goal.tell_visited-told-requires-clause-limits
+tell_visited-told-requires-clause-limits g c =
+    visited_limits g.T.Traders.others g.T.Traders.later c.args.home.now _ _ c.args.trader c.args.q.now _ _
+    c.visit-visited.result c.visit-visited.ensures.visited
+
+pub returns-clause-told : goal.returns-clause-told
+returns-clause-told g c = λ x.
+    let s =
+    scene (g.T.Traders.world c.args.traders.now) c.args.desk.now
+    (peers_seen (g.P.Peers.calls c.args.peers.now) (g.P.Peers.faults c.args.peers.now))
+    (g.W.Words.word c.args.words.now) in
+    let t =
+    scene (g.T.Traders.world c.visit-visited.new.traders) c.tell_visited-told.new.desk
+    (peers_seen (g.P.Peers.calls c.visit-visited.new.peers) (g.P.Peers.faults c.visit-visited.new.peers))
+    (g.W.Words.word c.visit-visited.new.words) in
+    query_told g.T.Traders.others g.T.Traders.later c.args.home.now x c.args.trader c.args.q.now s t
+    c.visit-visited.new.trace c.args.w.now c.tell_visited-told.new.w c.tell_visited-told.result c.visit-visited.result
+    c.new.result c.name.result.now c.walked.result
+    (record {
+      came = c.visit-visited.ensures.visited;
+      seen = c.visit-visited.ensures.shown;
+      goes = c.visit-visited.ensures.goes;
+      draws = c.visit-visited.ensures.draws;
+    }) c.new.ensures c.name.ensures c.tell_visited-told.ensures.told c.tell_visited-told.ensures.err c.walked.ensures
+
+pub returns-clause-taken_back : goal.returns-clause-taken_back
+returns-clause-taken_back g c = λ x.
+    let s =
+    scene (g.T.Traders.world c.args.traders.now) c.args.desk.now
+    (peers_seen (g.P.Peers.calls c.args.peers.now) (g.P.Peers.faults c.args.peers.now))
+    (g.W.Words.word c.args.words.now) in
+    let t =
+    scene (g.T.Traders.world c.visit-visited.new.traders) c.tell_visited-told.new.desk
+    (peers_seen (g.P.Peers.calls c.visit-visited.new.peers) (g.P.Peers.faults c.visit-visited.new.peers))
+    (g.W.Words.word c.visit-visited.new.words) in
+    query_back g.T.Traders.others g.T.Traders.later c.args.home.now x c.args.trader c.args.q.now s t
+    c.visit-visited.new.trace c.args.w.now c.tell_visited-told.new.w c.tell_visited-told.result c.visit-visited.result
+    c.new.result c.walked.result
+    (record {
+      came = c.visit-visited.ensures.visited;
+      seen = c.visit-visited.ensures.shown;
+      goes = c.visit-visited.ensures.goes;
+      draws = c.visit-visited.ensures.draws;
+    }) c.new.ensures c.tell_visited-told.ensures.unwritten c.tell_visited-told.ensures.err c.walked.ensures

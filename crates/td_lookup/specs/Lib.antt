@@ -1,0 +1,7 @@
+pub mod Choosing
+pub mod Examples
+pub mod Naming
+pub mod Querying
+pub mod Scenes
+pub mod Telling
+pub mod Unserved

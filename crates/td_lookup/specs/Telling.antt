@@ -1,0 +1,132 @@
+-- How an answer is told: of a visit, of names, and where memory is wanted.
+use Rattle.std.specs.Prelude.{◌≡◌, ◌⊎◌, ℕ, ◌++◌, Bool, true, false, if◌then◌else◌, List, length, drop, Result, Ok, Err}
+use Rattle.td_cdr.specs.Marks.{Marks}
+use Rattle.td_cdr.specs.Writing.{Draft}
+use Rattle.td_cdr.specs.declared.memory.Memory.{Memory as Wanting}
+use Rattle.td_codes.specs.declared.reference.Ior.{Ior}
+use Rattle.td_fed.specs.declared.resolving.NameAnswer.{NameAnswer}
+use Rattle.td_iter.specs.Batches.{IsBatch, PutsBatch}
+use Rattle.td_iter.specs.Desks.{Live}
+use Rattle.td_iter.specs.Heads.{AreLimits, offers_found}
+use Rattle.td_lookup.specs.Naming.{NameComes, name_entry}
+use Rattle.td_lookup.specs.Querying.{QueryComes, VisitTold, first_offers, offers_kept}
+use Rattle.td_lookup.specs.Scenes.{Scene}
+use Rattle.td_lookup.specs.Unserved.{Unserved, wanting}
+use Rattle.td_ops.specs.Outcomes.{outcome_piece}
+use Rattle.td_ops.specs.declared.call.Call.TheVariants as call
+use Rattle.td_ops.specs.declared.call.Query.{Query}
+use Rattle.td_ops.specs.declared.outcome.Outcome.{Outcome}
+use Rattle.td_ops.specs.declared.outcome.Outcome.TheVariants.{System}
+use Rattle.td_ops.specs.declared.outcome.SystemKind.TheVariants.{NoMemory}
+use Rattle.td_register.specs.declared.history.Accepted.{Accepted}
+use Rattle.td_reply.specs.Answers.{IsTold, IsToldPlainly, Tells}
+use Rattle.td_reply.specs.References.{offer_iterator}
+use Rattle.td_reply.specs.declared.answer.Answer.{Answer}
+use Rattle.td_reply.specs.declared.answer.ReplyBody.{ReplyBody}
+use Rattle.td_reply.specs.declared.answer.ReplyBody.TheVariants as reply_body
+use Rattle.td_reply.specs.declared.entry.Entry.{Entry}
+use Rattle.td_reply.specs.declared.entry.Entry.TheVariants.{Asked, Plain, Point, Walk}
+use Rattle.td_reply.specs.declared.judging.Judged.{Judged}
+use Rattle.td_reply.specs.declared.judging.Judged.TheVariants.{Call}
+use Rattle.td_reply.specs.declared.objects.Object.{Object}
+use Rattle.td_trader.specs.Worlds.{View, history_at}
+use Rattle.td_value.specs.declared.structures.Offer.{Offer}
+use Rattle.td_walk.specs.declared.trace.Address.{Address}
+use Rattle.td_walk.specs.declared.trace.Trace.{Trace}
+use Rattle.td_walk.specs.declared.trace.Visit.{Visit}
+use Rattle.td_walk.specs.declared.trace.Visit.TheVariants as visit
+
+-- ---- offers
+
+-- only policies that limit a query are among an answer's limits, each at most once
+abbrev pub HasLimits : Visit → Type 0
+HasLimits (visit.Answered a max_list) = AreLimits a.limits
+HasLimits (visit.Refused o) = Unit {0}
+
+-- the first batch for n of these offers was written, with this reference where any are left, and those are kept
+pub record PutsBatched (reference : Ior) (limits : List (List ℕ)) (name : List ℕ) (n : ℕ) (offers : List Offer)
+    (old new : Draft) (d e : Live) : Type 0 where
+  pub count : ℕ
+  pub puts : PutsBatch (offers_found reference limits) offers n old new count
+  pub kept : e ≡ offers_kept name (drop count offers) d
+
+-- the first batch for n of the offers was written, with the reference of the desk's next iterator, and the others are
+-- kept
+pub record PutsFirst (home : Address) (name : List ℕ) (n : ℕ) (limits : List (List ℕ)) (offers : List Offer)
+    (old new : Draft) (d e : Live) : Type 0 where
+  pub count : ℕ
+  pub batch : IsBatch (offers_found (offer_iterator home name d.1) limits) offers old n count
+  pub bytes : new.bytes ≡
+      old.bytes ++ outcome_piece (first_offers home name d.1 limits offers count) old.order (length old.bytes)
+  pub kept : e ≡ offers_kept name (drop count offers) d
+
+-- ---- a visit
+
+-- a visit was told so
+pub record TellsVisit (home : Address) (name : List ℕ) (q : Query) (v : Visit) (old : Draft) (d : Live) (b : ReplyBody)
+    (new : Draft) (e : Live) : Type 0 where
+  pub outcome : Outcome
+  pub told : VisitTold home name q v old d outcome e
+  pub tells : Tells outcome b old new
+
+-- only a visit that came to an end is told
+abbrev pub TellsVisited : Address → (name : List ℕ) → Query → Result Visit Wanting → Draft → Live → ReplyBody → Draft
+    → Live → Type 0
+TellsVisited home name q (Ok v) old d b new e = TellsVisit home name q v old d b new e
+TellsVisited home name q (Err m) old d b new e = ⊥
+
+-- this holds where the body isn't written yet
+abbrev pub IfOutcome : ReplyBody → Type 0 → Type 0
+IfOutcome (reply_body.Outcome o) X = X
+IfOutcome reply_body.Written X = Unit {0}
+
+-- ---- answers where memory is wanted
+
+-- NO_MEMORY, with what is noted
+abbrev pub unanswered : Entry → Answer
+unanswered e = record { body = reply_body.Outcome (wanting e); entry = e }
+
+-- what is noted of a visit: its trace, whatever it came to
+abbrev pub walked : Trace → Result ReplyBody Wanting → Answer
+walked t (Ok b) = record { body = b; entry = Walk t }
+walked t (Err m) = unanswered (Walk t)
+
+-- What is noted in place of an entry whose answer is taken back: what a peer gave, at how many changes are seen, a
+-- query's trace, and nothing of any other call.
+abbrev pub in_vain : List View → (k : ℕ) → Entry → Entry
+in_vain w k Plain = Plain
+in_vain w k (Point j point) = Plain
+in_vain w k (Asked j point gave) = Asked k (length (history_at w k)) gave
+in_vain w k (Walk t) = Walk t
+
+-- ---- names
+
+abbrev pub wants_memory : Outcome → Bool
+wants_memory (System NoMemory minor completion) = true
+wants_memory other = false
+
+-- what names are answered with; where memory was wanted for what a register outside gave, that is noted all the same
+abbrev pub name_told : List View → (k : ℕ) → NameAnswer → Answer
+name_told w k a =
+    if wants_memory a.outcome then unanswered (in_vain w k (name_entry k a.point a.asked))
+    else record { body = reply_body.Outcome a.outcome; entry = name_entry k a.point a.asked }
+
+-- ---- what the answers say
+
+module _ (others : List Accepted → Type 0) (later : Marks → Marks → Type 0) where
+  -- NO_MEMORY may stand in place of the answer, with this entry
+  abbrev pub TakenBack : Judged → Scene → Entry → Scene → Type 0
+  TakenBack j s e t = Unserved others later j s (wanting e) e t
+
+  -- a query is answered with what it comes to, or memory was wanted
+  abbrev pub QueryTold : Address → Object → Scene → (k : ℕ) → Query → (old : Draft) → Answer → (new : Draft) → Scene
+      → Type 0
+  QueryTold home x s k q old a new t =
+      IsTold (λ o e. QueryComes others later home s k q old o e t) a old new
+      ⊎ IsTold (λ o e. Unserved others later (Call x (call.Query q)) s o e t) a old new
+
+  -- and so are names; an answer that memory was wanted for isn't what they come to
+  abbrev pub NameTold : Address → Object → Scene → (k : ℕ) → (names : List (List ℕ)) → Answer → Scene → Type 0
+  NameTold home x s k names a t =
+      IsToldPlainly (λ o e. NameComes others later home s k names o e t × (wants_memory o ≡ false)) a
+      ⊎ IsToldPlainly (λ o e. Unserved others later (Call x (call.Resolve names)) s o e t) a

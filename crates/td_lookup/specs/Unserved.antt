@@ -1,0 +1,84 @@
+-- What stands in place of any answer where memory is wanted (CORBA, chapter "Standard Exceptions", NO_MEMORY).
+use Rattle.std.specs.Prelude.{◌≡◌, ℕ, Bool, true, false, if◌then◌else◌, List, [], ◌∷◌, ◌++◌, length, Result, Ok, Err}
+use Rattle.std.specs.List.{list_any}
+use Rattle.td_cdr.specs.Marks.{Marks}
+use Rattle.td_codes.specs.declared.reference.Ior.{Ior}
+use Rattle.td_fed.specs.Trails.{DrawsOn, Goes, marks_of, own_marks_at}
+use Rattle.td_lookup.specs.Scenes.{Scene}
+use Rattle.td_ops.specs.declared.call.AddLink.{AddLink}
+use Rattle.td_ops.specs.declared.call.Call.TheVariants as call
+use Rattle.td_ops.specs.declared.call.Query.{Query}
+use Rattle.td_ops.specs.declared.outcome.Outcome.{Outcome}
+use Rattle.td_ops.specs.declared.outcome.Outcome.TheVariants.{System}
+use Rattle.td_ops.specs.declared.outcome.SystemKind.TheVariants.{NoMemory}
+use Rattle.td_register.specs.declared.history.Accepted.{Accepted}
+use Rattle.td_reply.specs.Linking.{PeersSeen}
+use Rattle.td_reply.specs.declared.entry.Entry.{Entry}
+use Rattle.td_reply.specs.declared.entry.Entry.TheVariants.{Asked, Plain, Walk}
+use Rattle.td_reply.specs.declared.judging.Judged.{Judged}
+use Rattle.td_reply.specs.declared.judging.Judged.TheVariants.{Call}
+use Rattle.td_reply.specs.declared.objects.Object.{Object}
+use Rattle.td_trader.specs.Worlds.{View, history_at}
+use Rattle.td_walk.specs.Peering.{Exchange, Failed, Given, Referred}
+use Rattle.td_walk.specs.declared.fault.PeerFault.{PeerFault}
+use Rattle.td_walk.specs.declared.trace.Trace.{Trace}
+use Rattle.td_walk.specs.declared.trace.TraceItem.{TraceItem}
+use Rattle.td_walk.specs.declared.trace.TraceItem.TheVariants as item
+use Rattle.td_walk_laws.specs.Walks.{given_in, shown}
+
+-- ---- what an entry shows
+
+abbrev pub items_of : Entry → List TraceItem
+items_of (Walk t) = t.items
+items_of other = []
+
+-- what peers gave
+abbrev pub gave_in : Entry → List Given
+gave_in (Asked k point (Ok r)) = Referred r ∷ []
+gave_in (Asked k point (Err f)) = Failed f ∷ []
+gave_in (Walk t) = shown t.items
+gave_in other = []
+
+abbrev pub is_search : TraceItem → Bool
+is_search (item.Search k point mark) = true
+is_search other = false
+
+-- COMPLETED_MAYBE (2) exactly where a mark was made, else COMPLETED_NO (1)
+abbrev pub completion_of : Entry → ℕ
+completion_of e = if list_any is_search (items_of e) then 2 else 1
+
+abbrev pub wanting : Entry → Outcome
+wanting e = System NoMemory 0 (completion_of e)
+
+-- these calls of peers were made meanwhile, and gave this
+pub record Gives (before : PeersSeen) (gave : List Given) (after : PeersSeen) : Type 0 where
+  pub made : List Exchange
+  pub calls : after.calls ≡ before.calls ++ made
+  pub given : given_in made ≡ gave
+
+-- What is noted then: a query's trace so far; what a peer gave for add_link or resolve, at how many changes are seen;
+-- and nothing for any other Request, and where memory was wanted before anything was done.
+pub data WantingEntry (w : List View) : Judged → Entry → Type 0 where
+  nothing : {j : Judged} → WantingEntry w j Plain
+  trace : {x : Object} {q : Query} (t : Trace) → WantingEntry w (Call x (call.Query q)) (Walk t)
+  link : {x : Object} {l : AddLink} (gave : Result Ior PeerFault)
+      → WantingEntry w (Call x (call.AddLink l)) (Asked x.trader (length (history_at w x.trader)) gave)
+  name : {x : Object} {names : List (List ℕ)} (gave : Result Ior PeerFault)
+      → WantingEntry w (Call x (call.Resolve names)) (Asked x.trader (length (history_at w x.trader)) gave)
+
+abbrev pub is_query : Judged → Bool
+is_query (Call x (call.Query q)) = true
+is_query other = false
+
+module _ (others : List Accepted → Type 0) (later : Marks → Marks → Type 0) where
+  -- The desk is as it was, and so are the stores but for what others did. The entry shows each mark that was made and
+  -- what each peer gave. Only a query may have drawn words.
+  pub record Unserved (j : Judged) (s : Scene) (o : Outcome) (e : Entry) (t : Scene) : Type 0 where
+    pub entry : WantingEntry t.world j e
+    pub outcome : o ≡ wanting e
+    pub desk : t.desk ≡ s.desk
+    pub goes : Goes others later s.world t.world
+    pub marks : (k : ℕ) → own_marks_at t.world k ≡ own_marks_at s.world k ++ marks_of k (items_of e)
+    pub peers : Gives s.peers (gave_in e) t.peers
+    pub draws : DrawsOn s.words t.words
+    pub words : is_query j ≡ false → t.words ≡ s.words

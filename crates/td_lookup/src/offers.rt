@@ -1,0 +1,185 @@
+//! The offers that a query is answered with: their first batch (OMG's Trading Object Service, interface Lookup, query).
+
+ghost use Rattle.std.specs.Prelude.{◌≡◌, ◌<◌, ◌^◌, length, map, min, if◌then◌else◌, IfOk, IfSome, OnOk, OnErr};
+ghost use Rattle.td_cdr.specs.Names.{IsTraderName};
+ghost use Rattle.td_iter.specs.Desks.{added};
+ghost use Rattle.td_iter.specs.Heads.{AreLimits, IsSmallReference};
+ghost use Rattle.td_iter.specs.declared.item.Item.TheVariants.{Offers};
+ghost use Rattle.td_iter.specs.declared.limits.TheConstants.{REPLY_START};
+ghost use Rattle.td_lookup.specs.Choosing.{chosen};
+ghost use Rattle.td_lookup.specs.Telling.{PutsBatched, PutsFirst};
+ghost use Rattle.td_reply.specs.References.{IsAddress, offer_iterator};
+
+use crate::choosing::choose_each;
+use std::alloc::Global;
+use td_cdr::{List, Memory, Text, Twin, Writer};
+use td_iter::{Desk, Item, OfferIter};
+use td_ops::Query;
+use td_reply::{ReplyBody, offer_iterator};
+use td_value::{Ior, Offer};
+use td_walk::Address;
+
+/// How many offers an iterator holds at most.
+const MOST_OFFERS: usize = 4294967295;
+
+/// What an iterator is put on the desk with: the trader's name, and the iterator's reference.
+#[derive(Drop)]
+struct Label {
+    trader: Text,
+    reference: Ior,
+}
+
+/// Appends the first batch of these offers for the lesser of how_many and max_list, each with the properties that are
+/// desired of it; the desk keeps the others for an iterator of the trader of this name.
+///
+/// # Errors
+///
+/// `Memory` for want of memory, or for more offers than an iterator can hold; the desk and what the writer holds are
+/// then as they were.
+pub(crate) fn tell_offers(
+    alloc: Global,
+    home: &Address,
+    name: &Text,
+    q: &Query,
+    max_list: u32,
+    offers: List<Offer>,
+    limits: &List<Text>,
+    desk: &mut Desk,
+    w: &mut Writer,
+) -> Result<ReplyBody, Memory>
+    requires home { IsAddress home.now }
+    requires name { IsTraderName name.now }
+    requires limits { AreLimits limits.now }
+    requires start { length w.old.bytes ≡ REPLY_START }
+    requires numbers { desk.old.1 < 2 ^ 63 }
+    ensures written { IfOk result (λ b. b ≡ ReplyBody.Written) }
+    ensures puts { OnOk result (PutsFirst home.now name.now (min q.now.how_many max_list) limits.now
+        (map (chosen q.now.desired) offers) w.old w.new desk.old desk.new) }
+    ensures err { OnErr result ((desk.new ≡ desk.old) × (w.new.bytes ≡ w.old.bytes)) }
+    ensures order { w.new.order ≡ w.old.order }
+{
+    let offers = choose_each(alloc, &q.desired, offers)?;
+    put_offers(
+        alloc,
+        home,
+        name,
+        q.how_many.min(max_list),
+        offers,
+        limits,
+        desk,
+        w,
+    )
+}
+
+/// Appends the first batch for n of these offers; the desk keeps the others.
+fn put_offers(
+    alloc: Global,
+    home: &Address,
+    name: &Text,
+    n: u32,
+    offers: List<Offer>,
+    limits: &List<Text>,
+    desk: &mut Desk,
+    w: &mut Writer,
+) -> Result<ReplyBody, Memory>
+    requires home { IsAddress home.now }
+    requires name { IsTraderName name.now }
+    requires limits { AreLimits limits.now }
+    requires start { length w.old.bytes ≡ REPLY_START }
+    requires numbers { desk.old.1 < 2 ^ 63 }
+    ensures written { IfOk result (λ b. b ≡ ReplyBody.Written) }
+    ensures puts { OnOk result (PutsFirst home.now name.now n limits.now offers w.old w.new desk.old desk.new) }
+    ensures err { OnErr result ((desk.new ≡ desk.old) × (w.new.bytes ≡ w.old.bytes)) }
+    ensures order { w.new.order ≡ w.old.order }
+{
+    let Some(left) = over_offers(offers) else {
+        return Err(Memory);
+    };
+    match label_for(alloc, home, name, desk.next_number()) {
+        Ok(label) => put_first(alloc, n, label, left, limits, desk, w),
+        Err(memory) => {
+            drop(left);
+            Err(memory)
+        }
+    }
+}
+
+/// An iterator over these offers, where it can hold them.
+fn over_offers(offers: List<Offer>) -> Option<OfferIter>
+    ensures { IfSome result (λ left. left ≡ offers) }
+{
+    if offers.len() <= MOST_OFFERS {
+        Some(OfferIter::new(offers))
+    } else {
+        None
+    }
+}
+
+/// What the iterator of this number is put on the desk with.
+fn label_for(alloc: Global, home: &Address, name: &Text, number: u64) -> Result<Label, Memory>
+    requires home { IsAddress home.now }
+    requires name { IsTraderName name.now }
+    ensures trader { IfOk result (λ l. l.trader ≡ name.now) }
+    ensures reference { IfOk result (λ l. l.reference ≡ offer_iterator home.now name.now number) }
+    ensures small { IfOk result (λ l. IsSmallReference l.reference) }
+{
+    let trader = name.copy(alloc)?;
+    match offer_iterator(alloc, home, name, number) {
+        Ok(reference) => Ok(Label { trader, reference }),
+        Err(memory) => {
+            drop(trader);
+            Err(memory)
+        }
+    }
+}
+
+/// Appends the first batch for n of what is left, and keeps the rest. Where the batch is written nothing fails any
+/// more.
+fn put_first(
+    alloc: Global,
+    n: u32,
+    label: Label,
+    left: OfferIter,
+    limits: &List<Text>,
+    desk: &mut Desk,
+    w: &mut Writer,
+) -> Result<ReplyBody, Memory>
+    requires small { IsSmallReference label.reference }
+    requires limits { AreLimits limits.now }
+    requires start { length w.old.bytes ≡ REPLY_START }
+    requires numbers { desk.old.1 < 2 ^ 63 }
+    ensures written { IfOk result (λ b. b ≡ ReplyBody.Written) }
+    ensures puts { OnOk result (PutsBatched label.reference limits.now label.trader n left w.old w.new desk.old
+        desk.new) }
+    ensures err { OnErr result ((desk.new ≡ desk.old) × (w.new.bytes ≡ w.old.bytes)) }
+    ensures order { w.new.order ≡ w.old.order }
+{
+    let mut left = left;
+    let Label { trader, reference } = label;
+    match left.first_batch(alloc, n, w, &reference, limits) {
+        Ok(more) => {
+            drop(reference);
+            keep(desk, trader, left, more);
+            Ok(ReplyBody::Written)
+        }
+        Err(memory) => {
+            drop(reference);
+            drop(trader);
+            drop(left);
+            Err(memory)
+        }
+    }
+}
+
+/// Keeps what is left, where there is any.
+fn keep(desk: &mut Desk, trader: Text, left: OfferIter, more: bool)
+    requires { desk.old.1 < 2 ^ 63 }
+    ensures { desk.new ≡ (if more then added trader (Offers left) desk.old else desk.old) }
+{
+    if more {
+        let _number = desk.add(trader, Item::Offers(left));
+    } else {
+        drop(trader);
+        drop(left);
+    }
+}
