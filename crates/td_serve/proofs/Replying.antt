@@ -1,0 +1,177 @@
+-- A Request that was performed and whose reply was settled is served.
+use Rattle.std.proofs.Common.{◌≡◌, ◌⊎◌, inl, inr, ℕ, ◌<◌, Bool, true, false, cond, List, [], ◌++◌, length, refl, sym}
+use Rattle.std.proofs.Common.{ap, subst, ◌∙◌, arith, length-append}
+use Rattle.td_cdr.specs.Marks.{Marks}
+use Rattle.td_cdr.specs.Writing.{Draft}
+use Rattle.td_cdr.specs.declared.order.Order.{Order}
+use Rattle.td_giop.proofs.Lengths.{reply_start_length}
+use Rattle.td_giop.specs.Written.{reply_start, sealed}
+use Rattle.td_lookup.specs.Scenes.{Scene}
+use Rattle.td_lookup.specs.Telling.{in_vain}
+use Rattle.td_lookup.specs.Unserved.{Unserved, wanting}
+use Rattle.td_ops.specs.Outcomes.{outcome_piece, outcome_status}
+use Rattle.td_ops.specs.declared.outcome.Outcome.{Outcome}
+use Rattle.td_register.specs.declared.history.Accepted.{Accepted}
+use Rattle.td_reply.specs.Answers.{IfLong, no_memory}
+use Rattle.td_reply.specs.declared.answer.ReplyBody.{ReplyBody}
+use Rattle.td_reply.specs.declared.answer.ReplyBody.TheVariants as reply_body
+use Rattle.td_reply.specs.declared.entry.Entry.{Entry}
+use Rattle.td_reply.specs.declared.entry.Entry.TheVariants.{Plain}
+use Rattle.td_reply.specs.declared.judging.Judged.{Judged}
+use Rattle.td_reply.specs.declared.judging.Judged.TheVariants.{Refused}
+use Rattle.td_serve.proofs.Performing.{long_from}
+use Rattle.td_serve.proofs.Wanting.{nothing_done}
+use Rattle.td_serve.specs.ReplyBytes.{BeginsReply, outcome_reply, reply_for}
+use Rattle.td_serve.specs.Requests.{Answers, Served}
+use Rattle.td_serve.specs.Serving.{HasHead, IsBodyOf, MayBeRefused, Performed, Settles}
+use Rattle.td_walk.specs.declared.trace.Address.{Address}
+
+-- ---- the bytes
+
+expected : (b : Bool) (order : Order) (id : ℕ) (o : Outcome) → b ≡ true
+    → reply_for b order id o ≡ outcome_reply order id o
+expected b order id o e = ap (λ c. cond c (outcome_reply order id o) []) e
+
+unexpected : (b : Bool) (order : Order) (id : ℕ) (o : Outcome) → b ≡ false → reply_for b order id o ≡ []
+unexpected b order id o e = ap (λ c. cond c (outcome_reply order id o) []) e
+
+-- the Reply for a result whose body stands behind the head
+result_bytes : (order : Order) (id status : ℕ) (o : Outcome) (bytes : List ℕ) → status ≡ 0
+    → bytes ≡ reply_start order id 0 ++ outcome_piece o order (length (reply_start order id 0))
+    → sealed order bytes ≡ sealed order (reply_start order id status ++ outcome_piece o order (length (reply_start order
+    id status)))
+result_bytes order id status o bytes done is =
+    subst
+    (λ (n : ℕ). sealed order bytes ≡ sealed order (reply_start order id n ++ outcome_piece o order (length (reply_start
+    order id n)))) (sym done) (ap (sealed order) is)
+
+written_bytes : (order : Order) (id : ℕ) (o : Outcome) (draft written : Draft) → BeginsReply order id draft
+    → outcome_status o ≡ 0 → written.bytes ≡ draft.bytes ++ outcome_piece o draft.order (length draft.bytes)
+    → written.order ≡ draft.order → sealed written.order written.bytes ≡ outcome_reply order id o
+written_bytes order id o draft written begun done bytes same =
+    let in_order : written.order ≡ order = same ∙ begun.is_in in
+    let with_head : written.bytes ≡ reply_start order id 0 ++ outcome_piece o draft.order (length (reply_start order id
+    0)) = bytes ∙ ap (λ (xs : List ℕ). xs ++ outcome_piece o draft.order (length xs)) begun.bytes in
+    let whole : written.bytes ≡ reply_start order id 0 ++ outcome_piece o order (length (reply_start order id 0)) =
+    with_head ∙ ap (λ (x : Order). reply_start order id 0 ++ outcome_piece o x (length (reply_start order id 0)))
+    begun.is_in in
+    ap (λ (x : Order). sealed x written.bytes) in_order
+    ∙ result_bytes order id (outcome_status o) o written.bytes done whole
+
+module _ (others : List Accepted → Type 0) (later : Marks → Marks → Type 0) (home : Address) (order : Order) (id : ℕ)
+    (answered : Bool) where
+  serves : (j : Judged) (s t : Scene) (o : Outcome) (e settled : Entry) (draft : Draft) (bytes : List ℕ)
+      → BeginsReply order id draft → Answers others later home j draft s o e t → settled ≡ e
+      → bytes ≡ reply_for answered order id o → Served others later home order id answered j s o settled bytes t
+  serves j s t o e settled draft bytes begun answers same is = record {
+    draft = draft;
+    begun = begun;
+    answers = subst (λ (n : Entry). Answers others later home j draft s o n t) (sym same) answers;
+    reply = is;
+  }
+
+  -- NO_MEMORY, with what is noted then
+  serves_in_vain : (j : Judged) (k : ℕ) (s t : Scene) (e settled : Entry) (draft : Draft) (bytes : List ℕ)
+      → BeginsReply order id draft → MayBeRefused others later j k s e t → settled ≡ in_vain t.world k e
+      → bytes ≡ reply_for answered order id (wanting settled)
+      → Served others later home order id answered j s (wanting settled) settled bytes t
+  serves_in_vain j k s t e settled draft bytes begun back same is = record {
+    draft = draft;
+    begun = begun;
+    answers = inr
+        (subst (λ (n : Entry). Unserved others later j s (wanting n) n t) (sym same) back.unserved);
+    reply = is;
+  }
+
+  pub served : (j : Judged) (k : ℕ) (s t : Scene) (b : ReplyBody) (e settled : Entry) (written : Draft)
+      (bytes : List ℕ) → Performed others later home order id j k s b e written t
+      → Settles t.world k order id answered b e written settled bytes
+      → (o : Outcome) × Served others later home order id answered j s o settled bytes t
+  served j k s t (reply_body.Outcome told) e settled written bytes p (inl (yes_, inl whole)) =
+      let q = p.performs in (
+        q.outcome,
+        serves j s t q.outcome e settled p.draft bytes p.begun q.answers whole.0
+            (whole.1 ∙ ap (outcome_reply order id) q.body ∙ sym (expected answered order id q.outcome yes_)),
+      )
+  served j k s t (reply_body.Outcome told) e settled written bytes p (inl (yes_, inr vain)) =
+      let q = p.performs in (
+        wanting settled,
+        serves_in_vain j k s t e settled p.draft bytes p.begun (q.taken_back vain.0) vain.1
+            (vain.2 ∙ sym (expected answered order id (wanting settled) yes_)),
+      )
+  served j k s t reply_body.Written e settled written bytes p (inl (yes_, whole)) =
+      let q = p.performs in (
+        q.outcome,
+        serves j s t q.outcome e settled p.draft bytes p.begun q.answers whole.0
+            (whole.1
+            ∙ written_bytes order id q.outcome p.draft written p.begun q.body.0 q.body.1 q.body.2
+            ∙ sym (expected answered order id q.outcome yes_)),
+      )
+  served j k s t b e settled written bytes p (inr none) =
+      let q = p.performs in (
+        q.outcome,
+        serves j s t q.outcome e settled p.draft bytes p.begun q.answers none.1
+            (none.2 ∙ sym (unexpected answered order id q.outcome none.0)),
+      )
+
+-- ---- what settling asks for
+
+-- a body that is written stands behind a head
+head_before : (b : ReplyBody) (o : Outcome) (order : Order) (id : ℕ) (draft written : Draft)
+    → BeginsReply order id draft → IsBodyOf o b draft written → HasHead b written
+head_before (reply_body.Outcome told) o order id draft written begun h = tt
+head_before reply_body.Written o order id draft written begun h =
+    omega (
+      arith,
+      ap (length {A = ℕ}) h.1,
+      ap (length {A = ℕ}) begun.bytes,
+      length-append draft.bytes (outcome_piece o draft.order (length draft.bytes)),
+      reply_start_length order id 0,
+    )
+
+module _ (others : List Accepted → Type 0) (later : Marks → Marks → Type 0) (home : Address) (order : Order) (id : ℕ)
+    (j : Judged) (k : ℕ) (s t : Scene) (b : ReplyBody) (e : Entry) (written : Draft) where
+  pub performed_head : Performed others later home order id j k s b e written t → HasHead b written
+  performed_head p = head_before b p.performs.outcome order id p.draft written p.begun p.performs.body
+
+  pub performed_within : Performed others later home order id j k s b e written t
+      → IfLong b (k < length t.world)
+  performed_within p =
+      long_from b (MayBeRefused others later j k s e t) (k < length t.world) (λ back. back.within) p.performs.taken_back
+
+-- ---- no call
+
+module _ (others : List Accepted → Type 0) (later : Marks → Marks → Type 0) (home : Address) (order : Order) (id : ℕ)
+    (answered : Bool) (s : Scene) where
+  abbrev begun_draft : Draft
+  begun_draft = record { bytes = reply_start order id 0; order = order; room = 0 }
+
+  -- a Request that is refused
+  pub refusal_served : (o : Outcome) (e : Entry) (bytes : List ℕ) → e ≡ Plain
+      → bytes ≡ reply_for answered order id o
+      → Served others later home order id answered (Refused o) s o e bytes s
+  refusal_served o e bytes noted is = record {
+    draft = begun_draft;
+    begun = record { bytes = refl; is_in = refl };
+    answers = inl (refl, noted, refl);
+    reply = is;
+  }
+
+  -- memory was wanted, and nothing was called
+  pub memory_served : (j : Judged) (e : Entry) (bytes : List ℕ) → e ≡ Plain
+      → bytes ≡ reply_for answered order id no_memory
+      → Served others later home order id answered j s no_memory e bytes s
+  memory_served j e bytes noted is = record {
+    draft = begun_draft;
+    begun = record { bytes = refl; is_in = refl };
+    answers = inr (subst (λ (n : Entry). Unserved others later j s no_memory n s) (sym noted)
+        (nothing_done others later j s.world s.world 0 s.desk s.desk s.peers s.peers s.words (inl refl) refl refl));
+    reply = is;
+  }
+
+  -- one of both
+  pub either_served : (o : Outcome) (e : Entry) (bytes : List ℕ) → e ≡ Plain
+      → (bytes ≡ reply_for answered order id o) ⊎ (bytes ≡ reply_for answered order id no_memory)
+      → (told : Outcome) × Served others later home order id answered (Refused o) s told e bytes s
+  either_served o e bytes noted (inl is) = (o, refusal_served o e bytes noted is)
+  either_served o e bytes noted (inr is) = (no_memory, memory_served (Refused o) e bytes noted is)

@@ -1,0 +1,110 @@
+-- What stands in place of an answer where memory is wanted.
+use Rattle.std.proofs.Common.{◌≡◌, inl, inr, ℕ, false, true, List, [], ◌∷◌, ◌++◌, length, Ok, Err, IfErr}
+use Rattle.std.proofs.Common.{append-nil, refl, sym, ap, subst, ◌∙◌}
+use Rattle.td_cdr.specs.Marks.{Marks}
+use Rattle.td_fed.proofs.Moving.{draws-none}
+use Rattle.td_fed.proofs.Quiet.{quiet-watched}
+use Rattle.td_fed.specs.Trails.{Goes, own_marks_at, stays, watched}
+use Rattle.td_iter.specs.Desks.{Live}
+use Rattle.td_lookup.specs.Scenes.{scene}
+use Rattle.td_lookup.specs.Telling.{in_vain}
+use Rattle.td_lookup.specs.Unserved.{Gives, Unserved, WantingEntry, gave_in, is_query, wanting}
+use Rattle.td_lookup.specs.Unserved.{link, name, nothing, trace}
+use Rattle.td_ops.specs.declared.call.AddLink.{AddLink}
+use Rattle.td_ops.specs.declared.call.Call.TheVariants as call
+use Rattle.td_register.specs.declared.history.Accepted.{Accepted}
+use Rattle.td_reply.specs.Changing.{Rests}
+use Rattle.td_reply.specs.Linking.{Gave, PeersSeen}
+use Rattle.td_reply.specs.declared.entry.Entry.{Entry}
+use Rattle.td_reply.specs.declared.entry.Entry.TheVariants.{Asked, Plain}
+use Rattle.td_reply.specs.declared.judging.Judged.{Judged}
+use Rattle.td_reply.specs.declared.judging.Judged.TheVariants.{Call}
+use Rattle.td_reply.specs.declared.objects.Object.{Object}
+use Rattle.td_trader.specs.Worlds.{View, history_at}
+use Rattle.td_walk.specs.Peering.{Failed, IsNoted, PeerCall, Referred, is_memory}
+use Rattle.td_walk.specs.declared.fault.PeerFault.TheVariants as fault
+
+-- ---- peers
+
+none_given : (before after : PeersSeen) → after.calls ≡ before.calls → Gives before [] after
+none_given before after same = record { made = []; calls = same ∙ sym (append-nil before.calls); given = refl }
+
+-- a peer that was asked gave what is noted
+pub one_given : (k point : ℕ) (c : PeerCall) (before after : PeersSeen) (gave : Gave)
+    → IsNoted (λ r. Referred r) c before.calls after.calls before.faults after.faults gave
+    → IfErr gave (λ f. is_memory f ≡ false) → Gives before (gave_in (Asked k point gave)) after
+one_given k point c before after (Ok r) asked answered =
+    record { made = record { call = c; gave = Referred r } ∷ []; calls = asked.calls; given = refl }
+one_given k point c before after (Err fault.Wire) asked answered = record {
+  made = record { call = c; gave = Failed fault.Wire } ∷ [];
+  calls = asked.calls;
+  given = refl;
+}
+one_given k point c before after (Err fault.Grammar) asked answered = record {
+  made = record { call = c; gave = Failed fault.Grammar } ∷ [];
+  calls = asked.calls;
+  given = refl;
+}
+one_given k point c before after (Err fault.Exception) asked answered = record {
+  made = record { call = c; gave = Failed fault.Exception } ∷ [];
+  calls = asked.calls;
+  given = refl;
+}
+one_given k point c before after (Err fault.Memory) asked answered = absurd cc
+
+-- ---- traders
+
+module _ (others : List Accepted → Type 0) (later : Marks → Marks → Type 0) where
+  rests_goes : (w u : List View) (k : ℕ) → Rests others later w k u → Goes others later w u
+  rests_goes w u k (inl same) = subst (λ (x : List View). Goes others later w x) (sym same) stays
+  rests_goes w u k (inr seen) = watched k seen stays
+
+  rests_marks : (w u : List View) (k : ℕ) → Rests others later w k u → (i : ℕ)
+      → own_marks_at u i ≡ own_marks_at w i ++ []
+  rests_marks w u k (inl same) i = ap (λ (x : List View). own_marks_at x i) same ∙ sym (append-nil (own_marks_at w i))
+  rests_marks w u k (inr seen) i =
+      (quiet-watched others later w u k seen).own_marks i ∙ sym (append-nil (own_marks_at w i))
+
+  -- ---- what is noted
+
+  -- nothing was done but by others, and nothing is noted
+  pub nothing_done : (j : Judged) (w u : List View) (k : ℕ) (d e : Live) (before after : PeersSeen) (words : ℕ → ℕ)
+      → Rests others later w k u → e ≡ d → after.calls ≡ before.calls
+      → Unserved others later j (scene w d before words) (wanting Plain) Plain (scene u e after words)
+  nothing_done j w u k d e before after words rests same unasked = record {
+    entry = nothing;
+    outcome = refl;
+    desk = same;
+    goes = rests_goes w u k rests;
+    marks = rests_marks w u k rests;
+    peers = none_given before after unasked;
+    draws = draws-none words;
+    words = λ q. refl;
+  }
+
+  -- nothing was done but by others and that a peer was asked for a register
+  pub asked_in_vain : (x : Object) (l : AddLink) (w u : List View) (c : PeerCall) (d : Live) (before after : PeersSeen)
+      (words : ℕ → ℕ) (gave : Gave) → Rests others later w x.trader u
+      → IsNoted (λ r. Referred r) c before.calls after.calls before.faults after.faults gave
+      → IfErr gave (λ f. is_memory f ≡ false)
+      → Unserved others later (Call x (call.AddLink l)) (scene w d before words)
+      (wanting (Asked x.trader (length (history_at u x.trader)) gave))
+      (Asked x.trader (length (history_at u x.trader)) gave) (scene u d after words)
+  asked_in_vain x l w u c d before after words gave rests asked answered = record {
+    entry = link gave;
+    outcome = refl;
+    desk = refl;
+    goes = rests_goes w u x.trader rests;
+    marks = rests_marks w u x.trader rests;
+    peers = one_given x.trader (length (history_at u x.trader)) c before after gave asked answered;
+    draws = draws-none words;
+    words = λ q. refl;
+  }
+
+-- what a query notes is noted where it is taken back
+pub query_kept : (w v : List View) (k : ℕ) (j : Judged) (e : Entry) → WantingEntry w j e → is_query j ≡ true
+    → in_vain v k e ≡ e
+query_kept w v k j e nothing q = refl
+query_kept w v k j e (trace t) q = refl
+query_kept w v k j e (link gave) q = absurd cc
+query_kept w v k j e (name gave) q = absurd cc

@@ -1,0 +1,31 @@
+use Rattle.std.proofs.Common.{inl, refl, sym, ap, subst}
+use Rattle.td_cdr.specs.Writing.{Draft}
+use Rattle.td_lookup.specs.Scenes.{scene}
+use Rattle.td_reply.specs.Linking.{peers_seen}
+use Rattle.td_reply.specs.declared.answer.Answer.{Answer}
+use Rattle.td_reply.specs.declared.judging.Judged.TheVariants.{Call}
+use Rattle.td_serve.proofs.Performing.{head_length, unbegun_performed}
+use Rattle.td_serve.proofs.Wanting.{nothing_done}
+use Rattle.td_serve.proofs.serving.perform.Goals as goal
+use Rattle.td_serve.specs.Serving.{Performed}
+
+pub answer_call-requires-clause-start : goal.answer_call-requires-clause-start
+answer_call-requires-clause-start g c =
+    head_length c.restart.new.self.bytes c.start_reply.new.w.bytes c.restart.new.self.order c.args.id 0
+    (ap (λ (d : Draft). d.bytes) c.restart.ensures) c.in-Ok.ensures.done.0
+
+pub returns-in-Err-clause-performed : goal.returns-in-Err-clause-performed
+returns-in-Err-clause-performed g c =
+    let w = g.T.Traders.world c.args.traders.now in
+    let p = peers_seen (g.P.Peers.calls c.args.peers.now) (g.P.Peers.faults c.args.peers.now) in
+    let words = g.W.Words.word c.args.words.now in
+    let s = scene w c.args.desk.now p words in
+    let j = Call c.args.object c.args.call in
+    let k = c.args.object.trader in
+    subst
+    (λ (a : Answer). Performed g.T.Traders.others g.T.Traders.later c.args.home.now c.args.order c.args.id j k s a.body
+    a.entry c.start_reply.new.w s) (sym c.unserved.ensures)
+    (unbegun_performed g.T.Traders.others g.T.Traders.later c.args.home.now j k s s c.args.order c.args.id
+    c.start_reply.new.w
+    (nothing_done g.T.Traders.others g.T.Traders.later j w w k c.args.desk.now c.args.desk.now p p words (inl refl) refl
+    refl))

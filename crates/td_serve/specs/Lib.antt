@@ -1,0 +1,4 @@
+pub mod Examples
+pub mod ReplyBytes
+pub mod Requests
+pub mod Serving

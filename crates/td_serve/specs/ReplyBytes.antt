@@ -1,0 +1,30 @@
+-- The bytes of a Reply (CORBA, chapter on General Inter-ORB Protocol, "Reply Message").
+use Rattle.std.specs.Prelude.{◌≡◌, ℕ, Bool, if◌then◌else◌, List, [], ◌++◌, length}
+use Rattle.td_cdr.specs.declared.order.Order.{Order}
+use Rattle.td_cdr.specs.Writing.{Draft}
+use Rattle.td_giop.specs.Written.{locate_reply_written, reply_start, sealed}
+use Rattle.td_ops.specs.Outcomes.{outcome_piece, outcome_status}
+use Rattle.td_ops.specs.declared.outcome.Outcome.{Outcome}
+
+-- the whole Reply for an outcome
+abbrev pub outcome_reply : Order → ℕ → Outcome → List ℕ
+outcome_reply order id outcome =
+    let start = reply_start order id (outcome_status outcome) in
+    sealed order (start ++ outcome_piece outcome order (length start))
+
+-- a Request that expects no reply gets no bytes
+abbrev pub reply_for : (answered : Bool) → Order → ℕ → Outcome → List ℕ
+reply_for answered order id outcome = if answered then outcome_reply order id outcome else []
+
+-- what stands in a writer behind the head of a Reply with a result
+pub record BeginsReply (order : Order) (id : ℕ) (draft : Draft) : Type 0 where
+  pub bytes : draft.bytes ≡ reply_start order id 0
+  pub is_in : draft.order ≡ order
+
+-- the LocateReply: OBJECT_HERE for the key of a live object, else UNKNOWN_OBJECT
+abbrev pub locate_reply : Order → ℕ → (live : Bool) → List ℕ
+locate_reply order id live = sealed order (locate_reply_written order id (if live then 1 else 0))
+
+-- the bytes of the writer that has the reply
+abbrev pub chosen : (is_long : Bool) → (short long : Draft) → List ℕ
+chosen is_long short long = if is_long then long.bytes else short.bytes

@@ -1,0 +1,72 @@
+-- What a Request comes to: an outcome, what is noted of it, and how everything stands then (OMG's Trading Object
+-- Service; CORBA, chapter "ORB Interface" for the calls of all objects).
+use Rattle.std.specs.Prelude.{◌≡◌, ◌⊎◌, ℕ, Bool, false, List}
+use Rattle.td_cdr.specs.Marks.{Marks}
+use Rattle.td_cdr.specs.Writing.{Draft}
+use Rattle.td_cdr.specs.declared.order.Order.{Order}
+use Rattle.td_lookup.specs.Naming.{NameComes}
+use Rattle.td_lookup.specs.Querying.{QueryComes}
+use Rattle.td_lookup.specs.Scenes.{Scene}
+use Rattle.td_lookup.specs.Unserved.{Unserved}
+use Rattle.td_ops.specs.declared.call.Call.{Call as Asked}
+use Rattle.td_ops.specs.declared.call.Call.TheVariants as call
+use Rattle.td_ops.specs.declared.outcome.Outcome.{Outcome}
+use Rattle.td_ops.specs.declared.outcome.Outcome.TheVariants.{Done}
+use Rattle.td_ops.specs.declared.outcome.Reply.TheVariants.{Truth}
+use Rattle.td_register.specs.declared.history.Accepted.{Accepted}
+use Rattle.td_reply.specs.Changing.{ChangeComes}
+use Rattle.td_reply.specs.Interfaces.{is_a}
+use Rattle.td_reply.specs.Iterating.{IteratorComes}
+use Rattle.td_reply.specs.Linking.{AddLinkComes}
+use Rattle.td_reply.specs.Looking.{LookComes}
+use Rattle.td_reply.specs.declared.entry.Entry.{Entry}
+use Rattle.td_reply.specs.declared.entry.Entry.TheVariants.{Plain}
+use Rattle.td_reply.specs.declared.judging.Judged.{Judged}
+use Rattle.td_reply.specs.declared.judging.Judged.TheVariants.{Call, Refused}
+use Rattle.td_reply.specs.declared.objects.Object.{Object}
+use Rattle.td_serve.specs.ReplyBytes.{BeginsReply, reply_for}
+use Rattle.td_trader.specs.Worlds.{name_at}
+use Rattle.td_value.specs.declared.key.Kind.{Kind}
+use Rattle.td_value.specs.declared.key.Kind.TheVariants as kind
+use Rattle.td_walk.specs.declared.trace.Address.{Address}
+
+-- the number of an iterator, which are counted from 1
+abbrev pub number_in : Kind → ℕ
+number_in (kind.Iterator n) = n
+number_in other = 0
+
+module _ (others : List Accepted → Type 0) (later : Marks → Marks → Type 0) (home : Address) where
+  -- A call of an object. What it doesn't name stays as it was.
+  abbrev pub CallComes : Object → Asked → (draft : Draft) → Scene → Outcome → Entry → Scene → Type 0
+  CallComes x (call.Change c) draft s o e t =
+      ChangeComes others later s.world x.trader c o e t.world × (t ≡ record s { world = t.world })
+  CallComes x (call.Look l) draft s o e t =
+      LookComes others later home s.world s.desk x.trader l draft o e t.world t.desk × (t.peers ≡ s.peers)
+      × (t.words ≡ s.words)
+  CallComes x (call.AddLink l) draft s o e t =
+      AddLinkComes others later home s.world x.trader l s.peers t.peers o e t.world × (t.desk ≡ s.desk)
+      × (t.words ≡ s.words)
+  CallComes x (call.Iter i) draft s o e t =
+      IteratorComes (name_at s.world x.trader) (number_in x.kind) i s.desk draft o e t.desk
+      × (t ≡ record s { desk = t.desk })
+  CallComes x (call.IsA id) draft s o e t = (o ≡ Done (Truth (is_a x.interface id))) × (e ≡ Plain) × (t ≡ s)
+  CallComes x call.NonExistent draft s o e t = (o ≡ Done (Truth false)) × (e ≡ Plain) × (t ≡ s)
+  CallComes x (call.Query q) draft s o e t = QueryComes others later home s x.trader q draft o e t
+  CallComes x (call.Resolve names) draft s o e t = NameComes others later home s x.trader names o e t
+
+  -- a Request that spells no call is refused, and that is all
+  abbrev pub Comes : Judged → (draft : Draft) → Scene → Outcome → Entry → Scene → Type 0
+  Comes (Refused r) draft s o e t = (o ≡ r) × (e ≡ Plain) × (t ≡ s)
+  Comes (Call x c) draft s o e t = CallComes x c draft s o e t
+
+  -- that, or memory was wanted
+  abbrev pub Answers : Judged → (draft : Draft) → Scene → Outcome → Entry → Scene → Type 0
+  Answers j draft s o e t = Comes j draft s o e t ⊎ Unserved others later j s o e t
+
+  -- The Request was answered so, and these are the bytes of its Reply: none where it expects none.
+  pub record Served (order : Order) (id : ℕ) (answered : Bool) (j : Judged) (s : Scene) (o : Outcome) (e : Entry)
+      (bytes : List ℕ) (t : Scene) : Type 0 where
+    pub draft : Draft
+    pub begun : BeginsReply order id draft
+    pub answers : Answers j draft s o e t
+    pub reply : bytes ≡ reply_for answered order id o

@@ -1,0 +1,86 @@
+-- How an answer becomes a reply.
+use Rattle.std.specs.Prelude.{◌≡◌, ◌⊎◌, ℕ, ◌<◌, ◌≤◌, ◌++◌, Bool, true, false, List, [], length, Result, Ok, Err}
+use Rattle.td_cdr.specs.Marks.{Marks}
+use Rattle.td_cdr.specs.Writing.{Draft}
+use Rattle.td_cdr.specs.declared.memory.Memory.{Memory as Wanting}
+use Rattle.td_cdr.specs.declared.order.Order.{Order}
+use Rattle.td_giop.specs.Written.{sealed}
+use Rattle.td_lookup.specs.Scenes.{Scene}
+use Rattle.td_lookup.specs.Telling.{in_vain}
+use Rattle.td_lookup.specs.Unserved.{Unserved, wanting}
+use Rattle.td_ops.specs.Outcomes.{is_short, outcome_piece, outcome_status}
+use Rattle.td_ops.specs.declared.outcome.Outcome.{Outcome}
+use Rattle.td_register.specs.declared.history.Accepted.{Accepted}
+use Rattle.td_reply.specs.Answers.{IfLong, no_memory, plain}
+use Rattle.td_reply.specs.declared.answer.Answer.{Answer}
+use Rattle.td_reply.specs.declared.answer.ReplyBody.{ReplyBody}
+use Rattle.td_reply.specs.declared.answer.ReplyBody.TheVariants as reply_body
+use Rattle.td_reply.specs.declared.entry.Entry.{Entry}
+use Rattle.td_reply.specs.declared.judging.Judged.{Judged}
+use Rattle.td_serve.specs.ReplyBytes.{BeginsReply, outcome_reply}
+use Rattle.td_serve.specs.Requests.{Answers}
+use Rattle.td_trader.specs.Worlds.{View}
+use Rattle.td_walk.specs.declared.trace.Address.{Address}
+
+-- ---- answers
+
+-- where memory is wanted before a peer has answered, nothing is noted
+abbrev pub OrNoMemory : Result Answer Wanting → Answer → Type 0
+OrNoMemory (Ok a) told = told ≡ a
+OrNoMemory (Err m) told = told ≡ plain no_memory
+
+-- The body is that of this outcome: it is still to be written; or the outcome is a result, and stands in the writer
+-- behind the draft.
+abbrev pub IsBodyOf : Outcome → ReplyBody → (draft written : Draft) → Type 0
+IsBodyOf o (reply_body.Outcome told) draft written = told ≡ o
+IsBodyOf o reply_body.Written draft written =
+    (outcome_status o ≡ 0) × (written.bytes ≡ draft.bytes ++ outcome_piece o draft.order (length draft.bytes))
+    × (written.order ≡ draft.order)
+
+module _ (others : List Accepted → Type 0) (later : Marks → Marks → Type 0) where
+  -- NO_MEMORY can be answered in place of an answer with this entry.
+  pub record MayBeRefused (j : Judged) (k : ℕ) (s : Scene) (e : Entry) (t : Scene) : Type 0 where
+    pub within : k < length t.world
+    pub unserved : Unserved others later j s (wanting (in_vain t.world k e)) (in_vain t.world k e) t
+
+  -- What a call comes to at trader k, with a writer that held the draft. A body for which memory may be wanted can be
+  -- taken back.
+  pub record Performs (home : Address) (j : Judged) (k : ℕ) (draft : Draft) (s : Scene) (b : ReplyBody) (e : Entry)
+      (written : Draft) (t : Scene) : Type 0 where
+    pub outcome : Outcome
+    pub answers : Answers others later home j draft s outcome e t
+    pub body : IsBodyOf outcome b draft written
+    pub taken_back : IfLong b (MayBeRefused j k s e t)
+
+  -- the same, with a writer that was begun for the Reply
+  pub record Performed (home : Address) (order : Order) (id : ℕ) (j : Judged) (k : ℕ) (s : Scene) (b : ReplyBody)
+      (e : Entry) (written : Draft) (t : Scene) : Type 0 where
+    pub draft : Draft
+    pub begun : BeginsReply order id draft
+    pub performs : Performs home j k draft s b e written t
+
+-- ---- replies
+
+-- a written body has a head in front of it
+abbrev pub HasHead : ReplyBody → (written : Draft) → Type 0
+HasHead (reply_body.Outcome o) written = Unit {0}
+HasHead reply_body.Written written = 12 ≤ length written.bytes
+
+module _ (w : List View) (k : ℕ) (order : Order) (id : ℕ) where
+  -- The outcome was told, or memory was wanted for a long one.
+  abbrev pub SettlesOutcome : Outcome → Entry → (settled : Entry) → (bytes : List ℕ) → Type 0
+  SettlesOutcome o e settled bytes =
+      ((settled ≡ e) × (bytes ≡ outcome_reply order id o))
+      ⊎ ((is_short o ≡ false) × (settled ≡ in_vain w k e) × (bytes ≡ outcome_reply order id (wanting settled)))
+
+  abbrev pub SettlesBody : ReplyBody → Entry → (written : Draft) → (settled : Entry) → (bytes : List ℕ) → Type 0
+  SettlesBody (reply_body.Outcome o) e written settled bytes = SettlesOutcome o e settled bytes
+  SettlesBody reply_body.Written e written settled bytes =
+      (settled ≡ e) × (bytes ≡ sealed written.order written.bytes)
+
+  -- The body was sent, or what stands in its place; a Request that expects no reply gets no bytes.
+  abbrev pub Settles : (answered : Bool) → ReplyBody → Entry → (written : Draft) → (settled : Entry) → (bytes : List ℕ)
+      → Type 0
+  Settles answered b e written settled bytes =
+      ((answered ≡ true) × SettlesBody b e written settled bytes)
+      ⊎ ((answered ≡ false) × (settled ≡ e) × (bytes ≡ []))

@@ -1,0 +1,15 @@
+//! One Request of a session: what it comes to, the bytes of its reply, and what the journal notes of it.
+#![tactic(auto)]
+
+mod arms;
+mod laws;
+mod refusing;
+mod replies;
+mod serving;
+mod settling;
+mod writing;
+
+pub use laws::worked_replies;
+pub use refusing::refuse_memory;
+pub use replies::Replies;
+pub use serving::serve_request;

@@ -1,0 +1,91 @@
+//! Where the replies of a session are written.
+
+ghost use Rattle.std.specs.Prelude.{◌≡◌, [], IsTrue, IfOk, OnOk};
+ghost use Rattle.td_ops.specs.Outcomes.{is_short};
+ghost use Rattle.td_serve.specs.ReplyBytes.{locate_reply, outcome_reply};
+
+use crate::writing::{write_location, write_short};
+use std::alloc::Global;
+use std::marker::Model;
+use td_cdr::{Memory, Order, Writer};
+use td_ops::Outcome;
+
+/// How many bytes are reserved for a short reply. NO_MEMORY and the reply of each change that is accepted fit in them.
+const RESERVED: usize = 512;
+
+/// Where a session writes the reply to the message in front: 512 bytes are reserved for short ones. Contracts see the
+/// bytes of the reply.
+#[derive(Drop)]
+pub struct Replies {
+    /// A short reply.
+    pub(crate) short: Writer,
+    /// Any other reply.
+    pub(crate) long: Writer,
+    /// Whether the reply to the message in front is the long one.
+    pub(crate) is_long: bool,
+}
+
+impl Model for Replies {
+    ghost use Rattle.std.specs.Prelude.{ℕ, ◌≤◌, List, if◌then◌else◌};
+
+    ghost Value = { List ℕ };
+
+    ghost view = { λ r. if r.is_long then r.long.bytes else r.short.bytes };
+
+    ghost invariant = { λ r. 512 ≤ r.short.room };
+}
+
+impl Replies {
+    /// A place for replies, which holds none.
+    ///
+    /// # Errors
+    ///
+    /// `Memory` for want of memory alone.
+    pub fn new(alloc: Global) -> Result<Replies, Memory>
+        ensures { IfOk result (λ r. r ≡ []) }
+    {
+        let mut short = Writer::new(alloc, Order::Big);
+        short.reserve(RESERVED)?;
+        Ok(Replies {
+            short,
+            long: Writer::new(alloc, Order::Big),
+            is_long: false,
+        })
+    }
+
+    /// The bytes of the reply; none where the message gets no reply.
+    pub fn bytes(&self) -> &[u8]
+        ensures { result.now ≡ self.now }
+    {
+        if self.is_long {
+            self.long.bytes()
+        } else {
+            self.short.bytes()
+        }
+    }
+
+    /// Leaves no reply.
+    pub fn clear(&mut self)
+        ensures { self.new ≡ [] }
+    {
+        self.is_long = false;
+        self.short.clear();
+    }
+
+    /// Leaves the LocateReply for a key, for which there is always room.
+    pub fn locate(&mut self, order: Order, id: u32, live: bool)
+        ensures { self.new ≡ locate_reply order id live }
+    {
+        self.is_long = false;
+        write_location(&mut self.short, order, id, live);
+    }
+
+    /// Leaves the Reply for a short outcome, for which there is always room.
+    pub(crate) fn tell_short(&mut self, alloc: Global, order: Order, id: u32, outcome: &Outcome)
+        requires { IsTrue (is_short outcome.now) }
+        ensures { self.new ≡ outcome_reply order id outcome.now }
+    {
+        self.is_long = false;
+        write_short(alloc, &mut self.short, order, id, outcome);
+    }
+}

@@ -1,0 +1,189 @@
+//! From an answer to the bytes of its reply.
+
+ghost use Rattle.std.specs.Prelude.{◌≡◌, ◌≤◌, ◌<◌, false, [], length, IfOk, OnErr};
+ghost use Rattle.td_lookup.specs.Telling.{in_vain};
+ghost use Rattle.td_lookup.specs.Unserved.{wanting};
+ghost use Rattle.td_ops.specs.Outcomes.{is_short};
+ghost use Rattle.td_reply.specs.Answers.{IfLong};
+ghost use Rattle.td_serve.specs.ReplyBytes.{chosen, outcome_reply};
+ghost use Rattle.td_serve.specs.Serving.{HasHead, Settles, SettlesBody, SettlesOutcome};
+
+use crate::writing::{is_short, write_reply, write_short};
+use std::alloc::Global;
+use td_cdr::{Memory, Order, Writer};
+use td_giop::seal;
+use td_lookup::{entry_in_vain, wanting};
+use td_ops::Outcome;
+use td_reply::{Answer, Entry, ReplyBody};
+use td_trader::Traders;
+
+/// What is noted of a Request in the end, and whether the long writer has its reply.
+#[derive(Drop)]
+pub(crate) struct Settled {
+    pub entry: Entry,
+    pub is_long: bool,
+}
+
+/// Leaves the reply to a Request in one of the writers, or NO_MEMORY where memory is wanted for it; no bytes where none
+/// is expected.
+pub(crate) fn settle<T: Traders>(
+    alloc: Global,
+    traders: &T,
+    trader: usize,
+    short: &mut Writer,
+    long: &mut Writer,
+    order: Order,
+    id: u32,
+    answered: bool,
+    answer: Answer,
+) -> Settled
+    requires reserved { 512 ≤ short.old.room }
+    requires head { HasHead answer.body long.old }
+    requires within { IfLong answer.body (trader < length (T.world traders.now)) }
+    ensures settles { Settles (T.world traders.now) trader order id answered answer.body answer.entry long.old
+        result.entry (chosen result.is_long short.new long.new) }
+    ensures reserved { 512 ≤ short.new.room }
+{
+    if answered {
+        settle_body(
+            alloc,
+            traders,
+            trader,
+            short,
+            long,
+            order,
+            id,
+            answer.body,
+            answer.entry,
+        )
+    } else {
+        leave_none(short, answer.body, answer.entry)
+    }
+}
+
+/// No bytes.
+fn leave_none(short: &mut Writer, body: ReplyBody, entry: Entry) -> Settled
+    ensures entry { result.entry ≡ entry }
+    ensures short { result.is_long ≡ false }
+    ensures empty { short.new ≡ record short.old { bytes = [] } }
+{
+    drop(body);
+    short.clear();
+    Settled {
+        entry,
+        is_long: false,
+    }
+}
+
+/// The reply that is expected.
+fn settle_body<T: Traders>(
+    alloc: Global,
+    traders: &T,
+    trader: usize,
+    short: &mut Writer,
+    long: &mut Writer,
+    order: Order,
+    id: u32,
+    body: ReplyBody,
+    entry: Entry,
+) -> Settled
+    requires reserved { 512 ≤ short.old.room }
+    requires head { HasHead body long.old }
+    requires within { IfLong body (trader < length (T.world traders.now)) }
+    ensures settles { SettlesBody (T.world traders.now) trader order id body entry long.old result.entry
+        (chosen result.is_long short.new long.new) }
+    ensures reserved { 512 ≤ short.new.room }
+{
+    match body {
+        ReplyBody::Outcome(outcome) => settle_outcome(
+            alloc, traders, trader, short, long, order, id, outcome, entry,
+        ),
+        ReplyBody::Written => {
+            seal(long);
+            Settled {
+                entry,
+                is_long: true,
+            }
+        }
+    }
+}
+
+/// The reply for an outcome that is still to be written.
+fn settle_outcome<T: Traders>(
+    alloc: Global,
+    traders: &T,
+    trader: usize,
+    short: &mut Writer,
+    long: &mut Writer,
+    order: Order,
+    id: u32,
+    outcome: Outcome,
+    entry: Entry,
+) -> Settled
+    requires reserved { 512 ≤ short.old.room }
+    requires within { is_short outcome ≡ false → trader < length (T.world traders.now) }
+    ensures settles { SettlesOutcome (T.world traders.now) trader order id outcome entry result.entry
+        (chosen result.is_long short.new long.new) }
+    ensures reserved { 512 ≤ short.new.room }
+{
+    let told = tell_outcome(alloc, short, long, order, id, &outcome);
+    drop(outcome);
+    match told {
+        Ok(is_long) => Settled { entry, is_long },
+        Err(_) => settle_in_vain(alloc, traders, trader, short, order, id, entry),
+    }
+}
+
+/// Writes the reply for an outcome, a short one into the reserved bytes. Answers whether the long writer has it.
+///
+/// # Errors
+///
+/// `Memory` for want of memory alone; there is none for a short outcome.
+pub(crate) fn tell_outcome(
+    alloc: Global,
+    short: &mut Writer,
+    long: &mut Writer,
+    order: Order,
+    id: u32,
+    outcome: &Outcome,
+) -> Result<bool, Memory>
+    requires { 512 ≤ short.old.room }
+    ensures ok { IfOk result (λ is_long. chosen is_long short.new long.new ≡ outcome_reply order id outcome.now) }
+    ensures err { OnErr result (is_short outcome.now ≡ false) }
+    ensures reserved { 512 ≤ short.new.room }
+{
+    if is_short(outcome) {
+        write_short(alloc, short, order, id, outcome);
+        Ok(false)
+    } else {
+        write_reply(alloc, long, order, id, outcome)?;
+        Ok(true)
+    }
+}
+
+/// NO_MEMORY, and what is noted then.
+fn settle_in_vain<T: Traders>(
+    alloc: Global,
+    traders: &T,
+    trader: usize,
+    short: &mut Writer,
+    order: Order,
+    id: u32,
+    entry: Entry,
+) -> Settled
+    requires reserved { 512 ≤ short.old.room }
+    requires within { trader < length (T.world traders.now) }
+    ensures entry { result.entry ≡ in_vain (T.world traders.now) trader entry }
+    ensures short { result.is_long ≡ false }
+    ensures bytes { short.new.bytes ≡ outcome_reply order id (wanting result.entry) }
+    ensures reserved { 512 ≤ short.new.room }
+{
+    let entry = entry_in_vain(traders, trader, entry);
+    let outcome = wanting(&entry);
+    write_short(alloc, short, order, id, &outcome);
+    drop(outcome);
+    Settled {
+        entry,
+        is_long: false,
+    }
+}
