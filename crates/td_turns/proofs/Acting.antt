@@ -1,0 +1,375 @@
+-- What one Request leaves, by what it asks for: what is seen grows, by the places, the marks and the points that are
+-- noted; the peers gave what is noted; and the words that were drawn are the next ones.
+use Rattle.std.proofs.Common.{◌≡◌, inl, inr, ℕ, Bool, true, false, cond, nat_eq, List, [], ◌∷◌, ◌++◌}
+use Rattle.std.proofs.Common.{length, Option, None, Some, Result, Ok, Err, IfErr, refl, sym, ap, subst, ◌∙◌, append-nil}
+use Rattle.std.proofs.Common.{true≢false}
+use Rattle.td_cdr.specs.Marks.{Marks}
+use Rattle.td_cdr.specs.Writing.{Draft}
+use Rattle.td_changes.specs.Histories.{is_done}
+use Rattle.td_codes.specs.declared.reference.Ior.{Ior}
+use Rattle.td_fed.proofs.Moving.{draws-none}
+use Rattle.td_fed.specs.Trails.{DrawsOn, marks_of, own_at}
+use Rattle.td_fed.specs.Visiting.{course}
+use Rattle.td_lookup.specs.Naming.{NameComes, name_entry}
+use Rattle.td_lookup.specs.Querying.{QueryComes}
+use Rattle.td_lookup.specs.Scenes.{Scene}
+use Rattle.td_lookup.specs.Telling.{wants_memory}
+use Rattle.td_lookup.specs.Unserved.{Gives, Unserved, WantingEntry, gave_in, link, name, nothing, trace}
+use Rattle.td_ops.specs.declared.call.AddLink.{AddLink}
+use Rattle.td_ops.specs.declared.call.Call.TheVariants as call
+use Rattle.td_ops.specs.declared.call.Call.{Call as Asking}
+use Rattle.td_ops.specs.declared.call.Change.{Change}
+use Rattle.td_ops.specs.declared.call.Look.{Look}
+use Rattle.td_ops.specs.declared.call.Query.{Query}
+use Rattle.td_ops.specs.declared.outcome.Outcome.{Outcome}
+use Rattle.td_register.specs.declared.history.Accepted.{Accepted}
+use Rattle.td_reply.specs.Changing.{ChangeComes}
+use Rattle.td_reply.specs.Linking.{AddLinkBy, Gave, PeersSeen, RegisterAsked, link_change}
+use Rattle.td_reply.specs.Linking.{register_given}
+use Rattle.td_reply.specs.Looking.{LookComes}
+use Rattle.td_reply.specs.Targets.{target_of}
+use Rattle.td_reply.specs.declared.entry.Entry.TheVariants.{Plain, Point, Asked}
+use Rattle.td_reply.specs.declared.entry.Entry.{Entry}
+use Rattle.td_reply.specs.declared.judging.Judged.TheVariants.{Call, Refused}
+use Rattle.td_reply.specs.declared.judging.Judged.{Judged}
+use Rattle.td_reply.specs.declared.objects.Object.{Object}
+use Rattle.td_reply.specs.declared.target.Target.TheVariants.{Inside, Outside, Unreachable}
+use Rattle.td_reply.specs.declared.target.Target.{Target}
+use Rattle.td_serve.specs.Requests.{Answers, CallComes, Comes}
+use Rattle.td_trader.specs.Worlds.{View, history_at}
+use Rattle.td_turns.proofs.Growing.{grow-length}
+use Rattle.td_turns.proofs.Moving.{Moves, changes-move, moves-as, moves-none, moves-quiet, no-more, none}
+use Rattle.td_turns.proofs.Moving.{seen-length, seen-moves}
+use Rattle.td_turns.proofs.Resting.{answered_by, end-rise, goes-rests, resolves-leads}
+use Rattle.td_turns.proofs.Travelling.{Adds, walks-travel}
+use Rattle.td_turns.specs.Journals.{Rises, marks_in, only_of, places_in, points_of, served_at}
+use Rattle.td_turns.specs.Seen.{AllGrow}
+use Rattle.td_turns.specs.Turns.{Noted}
+use Rattle.td_walk.specs.Peering.{Failed as Missed}
+use Rattle.td_walk.specs.Peering.{Given, IsNoted, Referred, RegisterOf, is_memory}
+use Rattle.td_walk.specs.declared.fault.PeerFault.TheVariants as fault
+use Rattle.td_walk.specs.declared.fault.PeerFault.{PeerFault}
+use Rattle.td_walk.specs.declared.trace.Address.{Address}
+
+abbrev pub note : Judged → Outcome → Entry → Noted
+note j o e = record { judged = j; outcome = o; entry = e }
+
+pub record Does (j : Judged) (o : Outcome) (e : Entry) (s t : Scene) : Type 0 where
+  pub moves : Moves s.world t.world (λ k. places_in k (note j o e)) (λ k. marks_in k e) (λ k. served_at k (note j o e))
+  pub gives : Gives s.peers (gave_in e) t.peers
+  pub draws : DrawsOn s.words t.words
+
+-- ---- peers and words
+
+gives-as : (a b : PeersSeen) (g : List Given) → Adds a.calls g b.calls → Gives a g b
+gives-as a b g h = record { made = h.made; calls = h.calls; given = h.given }
+
+gives-none : (a b : PeersSeen) → b ≡ a → Gives a [] b
+gives-none a b same = record {
+  made = [];
+  calls = ap (λ (p : PeersSeen). p.calls) same ∙ sym (append-nil a.calls);
+  given = refl;
+}
+
+draws-same : (a b : ℕ → ℕ) → b ≡ a → DrawsOn a b
+draws-same a b same = subst (λ (x : ℕ → ℕ). DrawsOn a x) (sym same) (draws-none a)
+
+-- ---- no trader is called
+
+plain-does : (j : Judged) (o : Outcome) (s t : Scene) → t.world ≡ s.world → t.peers ≡ s.peers → t.words ≡ s.words
+    → Does j o Plain s t
+plain-does j o s t world peers words = record {
+  moves =
+      subst (λ (w : List View). Moves s.world w (λ k. places_in k (note j o Plain)) (λ k. marks_in k Plain)
+      (λ k. served_at k (note j o Plain))) (sym world)
+      (moves-as s.world s.world none none none (λ k. places_in k (note j o Plain)) none
+      (λ k. served_at k (note j o Plain)) (moves-none s.world) (λ k. sym (no-more _)) (λ k. refl)
+      (λ k. sym (no-more _)));
+  gives = gives-none s.peers t.peers peers;
+  draws = draws-same s.words t.words words;
+}
+
+same-does : (j : Judged) (o : Outcome) (e : Entry) (s t : Scene) → e ≡ Plain → t ≡ s → Does j o e s t
+same-does j o e s t plain same =
+    subst (λ (x : Entry). Does j o x s t) (sym plain)
+    (plain-does j o s t (ap (λ (x : Scene). x.world) same) (ap (λ (x : Scene). x.peers) same)
+    (ap (λ (x : Scene). x.words) same))
+
+-- ---- a change
+
+placed-as : (b : Bool) (trader point k : ℕ)
+    → only_of trader (cond b (point ∷ []) []) k ≡ cond b (only_of trader (point ∷ []) k) []
+placed-as true trader point k = refl
+placed-as false trader point k = no-more (nat_eq trader k)
+
+module _ (x : Object) (o : Outcome) (s t : Scene) (point : ℕ)
+    (m : Moves s.world t.world (only_of x.trader (cond (is_done o) (point ∷ []) [])) none
+    (only_of x.trader (point ∷ [])))
+  where
+    change-moves : (c : Change)
+        → Moves s.world t.world (λ k. places_in k (note (Call x (call.Change c)) o (Point x.trader point))) none
+        (λ k. served_at k (note (Call x (call.Change c)) o (Point x.trader point)))
+    change-moves c =
+        moves-as s.world t.world (only_of x.trader (cond (is_done o) (point ∷ []) [])) none
+        (only_of x.trader (point ∷ []))
+        (λ k. places_in k (note (Call x (call.Change c)) o (Point x.trader point))) none
+        (λ k. served_at k (note (Call x (call.Change c)) o (Point x.trader point))) m
+        (λ k. placed-as (is_done o) x.trader point k) (λ k. refl) (λ k. refl)
+
+    link-moves : (l : AddLink)
+        → Moves s.world t.world (λ k. places_in k (note (Call x (call.AddLink l)) o (Point x.trader point))) none
+        (λ k. served_at k (note (Call x (call.AddLink l)) o (Point x.trader point)))
+    link-moves l =
+        moves-as s.world t.world (only_of x.trader (cond (is_done o) (point ∷ []) [])) none
+        (only_of x.trader (point ∷ []))
+        (λ k. places_in k (note (Call x (call.AddLink l)) o (Point x.trader point))) none
+        (λ k. served_at k (note (Call x (call.AddLink l)) o (Point x.trader point))) m
+        (λ k. placed-as (is_done o) x.trader point k) (λ k. refl) (λ k. refl)
+
+    asked-moves : (l : AddLink) (gave : Gave)
+        → Moves s.world t.world (λ k. places_in k (note (Call x (call.AddLink l)) o (Asked x.trader point gave))) none
+        (λ k. served_at k (note (Call x (call.AddLink l)) o (Asked x.trader point gave)))
+    asked-moves l gave =
+        moves-as s.world t.world (only_of x.trader (cond (is_done o) (point ∷ []) [])) none
+        (only_of x.trader (point ∷ []))
+        (λ k. places_in k (note (Call x (call.AddLink l)) o (Asked x.trader point gave))) none
+        (λ k. served_at k (note (Call x (call.AddLink l)) o (Asked x.trader point gave))) m
+        (λ k. placed-as (is_done o) x.trader point k) (λ k. refl) (λ k. refl)
+
+-- what a peer gave, as the entry shows it
+abbrev shown_gave : Gave → List Given
+shown_gave (Ok r) = Referred r ∷ []
+shown_gave (Err f) = Missed f ∷ []
+
+gave-asked : (trader point : ℕ) (gave : Gave) → gave_in (Asked trader point gave) ≡ shown_gave gave
+gave-asked trader point (Ok r) = refl
+gave-asked trader point (Err f) = refl
+
+noted-adds : (target : Ior) (before after : PeersSeen) (gave : Gave)
+    → IsNoted (λ r. Referred r) (RegisterOf target) before.calls after.calls before.faults after.faults gave
+    → IfErr gave (λ f. is_memory f ≡ false) → Gives before (shown_gave gave) after
+noted-adds target before after (Ok r) h answered = record {
+  made = record { call = RegisterOf target; gave = Referred r } ∷ [];
+  calls = h.calls;
+  given = refl;
+}
+noted-adds target before after (Err fault.Memory) h answered = absurd (true≢false answered)
+noted-adds target before after (Err fault.Wire) h answered = record {
+  made = record { call = RegisterOf target; gave = Missed fault.Wire } ∷ [];
+  calls = h.calls;
+  given = refl;
+}
+noted-adds target before after (Err fault.Grammar) h answered = record {
+  made = record { call = RegisterOf target; gave = Missed fault.Grammar } ∷ [];
+  calls = h.calls;
+  given = refl;
+}
+noted-adds target before after (Err fault.Exception) h answered = record {
+  made = record { call = RegisterOf target; gave = Missed fault.Exception } ∷ [];
+  calls = h.calls;
+  given = refl;
+}
+
+module _ (others : List Accepted → Type 0) (later : Marks → Marks → Type 0) (home : Address) (x : Object) where
+  change-does : (c : Change) (s t : Scene) (o : Outcome) (e : Entry)
+      → ChangeComes others later s.world x.trader c o e t.world → t.peers ≡ s.peers → t.words ≡ s.words
+      → Does (Call x (call.Change c)) o e s t
+  change-does c s t o e h peers words =
+      let point = length h.changes.seen.history in
+      subst (λ (y : Entry). Does (Call x (call.Change c)) o y s t) (sym h.noted)
+      (record {
+        moves =
+            change-moves x o s t point (changes-move others later s.world x.trader c o t.world h.changes) c;
+        gives = gives-none s.peers t.peers peers;
+        draws = draws-same s.words t.words words;
+      })
+
+  link-does : (l : AddLink) (register : Option Ior) (s t : Scene) (o : Outcome) (e : Entry)
+      → ChangeComes others later s.world x.trader (link_change l register) o e t.world → t.peers ≡ s.peers
+      → t.words ≡ s.words → Does (Call x (call.AddLink l)) o e s t
+  link-does l register s t o e h peers words =
+      let point = length h.changes.seen.history in
+      subst (λ (y : Entry). Does (Call x (call.AddLink l)) o y s t) (sym h.noted)
+      (record {
+        moves =
+            link-moves x o s t point
+            (changes-move others later s.world x.trader (link_change l register) o t.world h.changes) l;
+        gives = gives-none s.peers t.peers peers;
+        draws = draws-same s.words t.words words;
+      })
+
+  asked-does : (l : AddLink) (s t : Scene) (o : Outcome) (e : Entry)
+      → RegisterAsked others later s.world x.trader l s.peers t.peers o e t.world → t.words ≡ s.words
+      → Does (Call x (call.AddLink l)) o e s t
+  asked-does l s t o e h words =
+      let changes = h.linked.changes in
+      let point = length changes.seen.history in
+      subst (λ (y : Entry). Does (Call x (call.AddLink l)) o y s t) (sym h.linked.noted)
+      (record {
+        moves =
+            asked-moves x o s t point
+            (changes-move others later s.world x.trader (link_change l (register_given h.gave)) o t.world changes) l
+            h.gave;
+        gives =
+            subst (λ (g : List Given). Gives s.peers g t.peers) (sym (gave-asked x.trader point h.gave))
+            (noted-adds l.target s.peers t.peers h.gave h.asked h.answered);
+        draws = draws-same s.words t.words words;
+      })
+
+  add-link-does : (l : AddLink) (s t : Scene) (o : Outcome) (e : Entry) (where_to : Target)
+      → AddLinkBy others later where_to home s.world x.trader l s.peers t.peers o e t.world → t.words ≡ s.words
+      → Does (Call x (call.AddLink l)) o e s t
+  add-link-does l s t o e (Inside j) h words = link-does l _ s t o e h.0 h.1 words
+  add-link-does l s t o e Unreachable h words = link-does l None s t o e h.0 h.1 words
+  add-link-does l s t o e Outside h words = asked-does l s t o e h words
+
+  -- ---- a look
+
+  look-does : (l : Look) (draft : Draft) (s t : Scene) (o : Outcome) (e : Entry)
+      → LookComes others later home s.world s.desk x.trader l draft o e t.world t.desk → t.peers ≡ s.peers
+      → t.words ≡ s.words → Does (Call x (call.Look l)) o e s t
+  look-does l draft s t o e h peers words =
+      let looks = h.looks in
+      let point = seen-length others later s.world x.trader looks.seen looks.seen looks.meanwhile t.world looks.world in
+      subst (λ (y : Entry). Does (Call x (call.Look l)) o y s t)
+      (ap (λ (n : ℕ). Point x.trader n) point ∙ sym h.noted)
+      (record {
+        moves = seen-moves others later s.world x.trader t.world looks.seen looks.meanwhile looks.world;
+        gives = gives-none s.peers t.peers peers;
+        draws = draws-same s.words t.words words;
+      })
+
+  -- ---- names
+
+  name-points : (o : Outcome) (names : List (List ℕ)) (trader point : ℕ) (asked : Option (Result Ior PeerFault)) (k : ℕ)
+      → only_of trader (point ∷ []) k
+      ≡ served_at k (note (Call x (call.Resolve names)) o (name_entry trader point asked))
+  name-points o names trader point None k = refl
+  name-points o names trader point (Some gave) k = refl
+
+  name-marks : (trader point : ℕ) (asked : Option (Result Ior PeerFault)) (k : ℕ)
+      → [] ≡ marks_in k (name_entry trader point asked)
+  name-marks trader point None k = refl
+  name-marks trader point (Some gave) k = refl
+
+  name-gave : (trader point : ℕ) (asked : Option (Result Ior PeerFault))
+      → answered_by asked ≡ gave_in (name_entry trader point asked)
+  name-gave trader point None = refl
+  name-gave trader point (Some (Ok r)) = refl
+  name-gave trader point (Some (Err f)) = refl
+
+  name-does : (names : List (List ℕ)) (s t : Scene) (o : Outcome) (e : Entry)
+      → NameComes others later home s x.trader names o e t → Does (Call x (call.Resolve names)) o e s t
+  name-does names s t o e h =
+      let a = h.answer in
+      let leads =
+      resolves-leads others later home s.world s.peers.calls x.trader names a t.world t.peers.calls h.resolves in
+      let y = name_entry x.trader a.point a.asked in
+      subst (λ (z : Entry). Does (Call x (call.Resolve names)) o z s t) (sym h.noted)
+      (record {
+        moves =
+            moves-as s.world t.world none none (only_of x.trader (a.point ∷ []))
+            (λ k. places_in k (note (Call x (call.Resolve names)) o y)) (λ k. marks_in k y)
+            (λ k. served_at k (note (Call x (call.Resolve names)) o y)) leads.moves (λ k. refl)
+            (λ k. name-marks x.trader a.point a.asked k)
+            (λ k. name-points o names x.trader a.point a.asked k);
+        gives =
+            gives-as s.peers t.peers (gave_in y)
+            (subst (λ (g : List Given). Adds s.peers.calls g t.peers.calls) (name-gave x.trader a.point a.asked)
+            leads.adds);
+        draws = draws-same s.words t.words h.words;
+      })
+
+  -- ---- a query
+
+  unless-wanting : (w u : List View) (marks points : ℕ → List ℕ) (b : Bool) → Moves w u none marks points
+      → Moves w u none marks (λ k. cond b [] (points k))
+  unless-wanting w u marks points true m = moves-quiet w u none marks points m
+  unless-wanting w u marks points false m = m
+
+  query-does : (q : Query) (draft : Draft) (s t : Scene) (o : Outcome) (e : Entry)
+      → QueryComes others later home s x.trader q draft o e t → Does (Call x (call.Query q)) o e s t
+  query-does q draft s t o e h =
+      let travels =
+      walks-travel others later home (course s.world s.words s.peers.calls) x.trader q h.items h.visit
+      (course t.world t.words t.peers.calls) h.walk in
+      subst (λ (y : Entry). Does (Call x (call.Query q)) o y s t) (sym h.noted)
+      (record {
+        moves =
+            unless-wanting s.world t.world (λ k. marks_of k h.items) (λ k. points_of k h.items) (wants_memory o)
+            travels.moves;
+        gives = gives-as s.peers t.peers _ travels.adds;
+        draws = travels.draws;
+      })
+
+-- ---- memory was wanted
+
+unplaced : (w : List View) (j : Judged) (o : Outcome) (e : Entry) → is_done o ≡ false → WantingEntry w j e → (k : ℕ)
+    → [] ≡ places_in k (note j o e)
+unplaced w j o e other nothing k = sym (no-more _)
+unplaced w j o e other (trace t) k = refl
+unplaced w j o e other (link {x = x} gave) k =
+    ap (λ (b : Bool). cond b (only_of x.trader (length (history_at w x.trader) ∷ []) k) []) (sym other)
+unplaced w j o e other (name gave) k = refl
+
+unserved-rise : (w u : List View) (j : Judged) (o : Outcome) (e : Entry) → wants_memory o ≡ true
+    → WantingEntry u j e → AllGrow w u → (k : ℕ)
+    → Rises (length (history_at w k)) (served_at k (note j o e)) (length (history_at u k))
+unserved-rise w u j o e wants nothing g k =
+    subst (λ (ns : List ℕ). Rises (length (history_at w k)) ns (length (history_at u k))) (sym (no-more _))
+    (grow-length w u g k)
+unserved-rise w u j o e wants (trace t) g k =
+    subst (λ (b : Bool). Rises (length (history_at w k)) (cond b [] (points_of k t.items)) (length (history_at u k)))
+    (sym wants) (grow-length w u g k)
+unserved-rise w u j o e wants (link {x = x} gave) g k = end-rise w u g x.trader k
+unserved-rise w u j o e wants (name {x = x} gave) g k = end-rise w u g x.trader k
+
+module _ (others : List Accepted → Type 0) (later : Marks → Marks → Type 0) where
+  pub unserved-does : (j : Judged) (s : Scene) (o : Outcome) (e : Entry) (t : Scene)
+      → Unserved others later j s o e t → Does j o e s t
+  unserved-does j s o e t h =
+      let rests = goes-rests others later h.goes in
+      let other : is_done o ≡ false = ap is_done h.outcome in
+      let wants : wants_memory o ≡ true = ap wants_memory h.outcome in
+      record {
+        moves = record {
+          grow = rests.grow;
+          own = λ k.
+              rests.own k
+              ∙ (sym (append-nil (own_at s.world k))
+              ∙ ap (λ (y : List ℕ). own_at s.world k ++ y) (unplaced t.world j o e other h.entry k));
+          own_marks = h.marks;
+          rise = λ k. unserved-rise s.world t.world j o e wants h.entry rests.grow k;
+        };
+        gives = h.peers;
+        draws = h.draws;
+      }
+
+-- ---- whatever it asks for
+
+module _ (others : List Accepted → Type 0) (later : Marks → Marks → Type 0) (home : Address) where
+  call-does : (x : Object) (c : Asking) (draft : Draft) (s t : Scene) (o : Outcome) (e : Entry)
+      → CallComes others later home x c draft s o e t → Does (Call x c) o e s t
+  call-does x (call.Change c) draft s t o e h =
+      change-does others later home x c s t o e h.0 (ap (λ (y : Scene). y.peers) h.1) (ap (λ (y : Scene). y.words) h.1)
+  call-does x (call.Look l) draft s t o e h = look-does others later home x l draft s t o e h.0 h.1 h.2
+  call-does x (call.AddLink l) draft s t o e h =
+      add-link-does others later home x l s t o e (target_of home s.world l.target) h.0 h.2
+  call-does x (call.Iter i) draft s t o e h =
+      subst (λ (y : Entry). Does (Call x (call.Iter i)) o y s t) (sym h.0.noted)
+      (plain-does (Call x (call.Iter i)) o s t (ap (λ (y : Scene). y.world) h.1) (ap (λ (y : Scene). y.peers) h.1)
+      (ap (λ (y : Scene). y.words) h.1))
+  call-does x (call.IsA id) draft s t o e h = same-does (Call x (call.IsA id)) o e s t h.1 h.2
+  call-does x call.NonExistent draft s t o e h = same-does (Call x call.NonExistent) o e s t h.1 h.2
+  call-does x (call.Query q) draft s t o e h = query-does others later home x q draft s t o e h
+  call-does x (call.Resolve names) draft s t o e h = name-does others later home x names s t o e h
+
+  comes-does : (j : Judged) (draft : Draft) (s t : Scene) (o : Outcome) (e : Entry)
+      → Comes others later home j draft s o e t → Does j o e s t
+  comes-does (Refused r) draft s t o e h = same-does (Refused r) o e s t h.1 h.2
+  comes-does (Call x c) draft s t o e h = call-does x c draft s t o e h
+
+  pub answers-do : (j : Judged) (draft : Draft) (s t : Scene) (o : Outcome) (e : Entry)
+      → Answers others later home j draft s o e t → Does j o e s t
+  answers-do j draft s t o e (inl h) = comes-does j draft s t o e h
+  answers-do j draft s t o e (inr h) = unserved-does others later j s o e t h

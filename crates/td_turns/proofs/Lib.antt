@@ -1,0 +1,11 @@
+mod Acting
+mod Growing
+mod Moving
+mod Owning
+mod Refusing
+mod Resting
+mod Rising
+pub mod Running
+mod Standing
+mod Travelling
+mod Worked

@@ -1,0 +1,311 @@
+-- What one call leaves of a group of traders: what is seen grows, with so many places and marks more that are one's
+-- own, and the call came at these points.
+use Rattle.std.proofs.Common.{◌≡◌, ℕ, ◌+◌, ◌≤◌, Bool, true, false, cond, nat_eq, List, [], ◌∷◌, ◌++◌, length}
+use Rattle.std.proofs.Common.{Option, Some, None, slice_get, slice_set, append_assoc, append-nil, eqb-true, le_refl}
+use Rattle.std.proofs.Common.{refl, sym, ap, subst, ◌∙◌}
+use Rattle.std.proofs.lemmas.Bool.{eqb-false}
+use Rattle.td_cdr.specs.Marks.{Marks}
+use Rattle.td_changes.proofs.Extending.{stands-last}
+use Rattle.td_changes.specs.Histories.{StandsAt, is_done}
+use Rattle.td_changes.specs.declared.bounds.Bounds.{Bounds}
+use Rattle.td_fed.proofs.Entered.{shown-begun}
+use Rattle.td_fed.specs.Entering.{begin_item}
+use Rattle.td_fed.specs.Trails.{marks_of, own_at, own_in, own_marks_at, own_marks_in}
+use Rattle.td_ops.specs.declared.call.Change.{Change}
+use Rattle.td_ops.specs.declared.call.Query.{Query}
+use Rattle.td_ops.specs.declared.outcome.Outcome.TheVariants.{Done, User, System}
+use Rattle.td_ops.specs.declared.outcome.Outcome.{Outcome}
+use Rattle.td_ops.specs.declared.outcome.Reply.{Reply}
+use Rattle.td_register.specs.Causes.{Cause}
+use Rattle.td_register.specs.Entries.{entry}
+use Rattle.td_register.specs.Stores.{Store}
+use Rattle.td_register.specs.declared.history.Accepted.{Accepted}
+use Rattle.td_store.specs.declared.record.LinkRecord.{LinkRecord}
+use Rattle.td_trader.proofs.Begun.{are_passed_on, are_served}
+use Rattle.td_trader.specs.Beginning.{after_begin, begin_along, begin_here, begin_of, begin_unless, repeated_in}
+use Rattle.td_trader.specs.Beginning.{searched_under}
+use Rattle.td_trader.specs.Queries.{parts_of, path_link, refusal}
+use Rattle.td_trader.specs.Worlds.{Begun, Changes, Meanwhile, View, after_begin as seen_after}
+use Rattle.td_trader.specs.Worlds.{after_own, history_at, history_in, store_seen, with_view}
+use Rattle.td_trader.specs.declared.begin.Begin.TheVariants as begin
+use Rattle.td_trader.specs.declared.begin.Begin.{Begin}
+use Rattle.td_turns.proofs.Growing.{get-set_other, get-set_same, grow-length, grow-none, grow-on, grows-as}
+use Rattle.td_turns.proofs.Growing.{grows-length}
+use Rattle.td_turns.proofs.Growing.{grows-on, grows-others, grows-own, put-grow}
+use Rattle.td_turns.proofs.Rising.{rises-on}
+use Rattle.td_turns.specs.Journals.{Rises, only_of, points_of}
+use Rattle.td_turns.specs.Seen.{AllGrow, Grows}
+use Rattle.td_walk.specs.declared.trace.TraceItem.{TraceItem}
+
+-- at each trader: one's own places and marks that came, and the points of the calls
+pub record Moves (w u : List View) (places marks points : ℕ → List ℕ) : Type 0 where
+  pub grow : AllGrow w u
+  pub own : (k : ℕ) → own_at u k ≡ own_at w k ++ places k
+  pub own_marks : (k : ℕ) → own_marks_at u k ≡ own_marks_at w k ++ marks k
+  pub rise : (k : ℕ) → Rises (length (history_at w k)) (points k) (length (history_at u k))
+
+abbrev pub none : ℕ → List ℕ
+none k = []
+
+pub moves-none : (w : List View) → Moves w w none none none
+moves-none w = record {
+  grow = grow-none w;
+  own = λ k. sym (append-nil (own_at w k));
+  own_marks = λ k. sym (append-nil (own_marks_at w k));
+  rise = λ k. le_refl (length (history_at w k));
+}
+
+-- one after the other
+pub moves-on : (w x u : List View) (a b c p q r : ℕ → List ℕ) → Moves w x a b c → Moves x u p q r
+    → Moves w u (λ k. a k ++ p k) (λ k. b k ++ q k) (λ k. c k ++ r k)
+moves-on w x u a b c p q r m n = record {
+  grow = grow-on w x u m.grow n.grow;
+  own = λ k.
+      n.own k ∙ (ap (λ (t : List ℕ). t ++ p k) (m.own k) ∙ append_assoc (own_at w k) (a k) (p k));
+  own_marks = λ k.
+      n.own_marks k
+      ∙ (ap (λ (t : List ℕ). t ++ q k) (m.own_marks k) ∙ append_assoc (own_marks_at w k) (b k) (q k));
+  rise = λ k.
+      rises-on (length (history_at w k)) (c k) (length (history_at x k)) (r k) (length (history_at u k)) (m.rise k)
+      (n.rise k);
+}
+
+-- the same, told otherwise
+pub moves-as : (w u : List View) (a b c p q r : ℕ → List ℕ) → Moves w u a b c → ((k : ℕ) → a k ≡ p k)
+    → ((k : ℕ) → b k ≡ q k) → ((k : ℕ) → c k ≡ r k) → Moves w u p q r
+moves-as w u a b c p q r m own marks points = record {
+  grow = m.grow;
+  own = λ k. m.own k ∙ ap (λ (t : List ℕ). own_at w k ++ t) (own k);
+  own_marks = λ k. m.own_marks k ∙ ap (λ (t : List ℕ). own_marks_at w k ++ t) (marks k);
+  rise = λ k.
+      subst (λ (t : List ℕ). Rises (length (history_at w k)) t (length (history_at u k))) (points k) (m.rise k);
+}
+
+-- without the points
+pub moves-quiet : (w u : List View) (a b c : ℕ → List ℕ) → Moves w u a b c → Moves w u a b none
+moves-quiet w u a b c m = record {
+  grow = m.grow;
+  own = m.own;
+  own_marks = m.own_marks;
+  rise = λ k. grow-length w u m.grow k;
+}
+
+-- ---- one trader is seen otherwise
+
+pub no-more : (b : Bool) → ◌≡◌ {A = List ℕ} (cond b [] []) []
+no-more true = refl
+no-more false = refl
+
+put-list : (f : Option View → List ℕ) (w : List View) (k : ℕ) (v x : View) (more : List ℕ) → slice_get w k ≡ Some v
+    → f (Some x) ≡ f (Some v) ++ more → (j : ℕ)
+    → f (slice_get (slice_set w k x) j) ≡ f (slice_get w j) ++ only_of k more j
+put-list f w k v x more is e j = by-trader (nat_eq k j) refl
+  where
+    by-trader : (b : Bool) → nat_eq k j ≡ b
+        → f (slice_get (slice_set w k x) j) ≡ f (slice_get w j) ++ cond (nat_eq k j) more []
+    by-trader true at_k =
+        let one : k ≡ j = eqb-true k j at_k in
+        let there : slice_get (slice_set w k x) j ≡ Some x =
+        subst (λ (n : ℕ). slice_get (slice_set w k x) n ≡ Some x) one (get-set_same w k v x is) in
+        let before : slice_get w j ≡ Some v = subst (λ (n : ℕ). slice_get w n ≡ Some v) one is in
+        ap f there
+        ∙ (e ∙ (ap (λ (o : Option View). f o ++ more) (sym before)
+        ∙ ap (λ (b : Bool). f (slice_get w j) ++ cond b more []) (sym at_k)))
+    by-trader false other =
+        ap f (get-set_other w k j x (eqb-false k j other))
+        ∙ (sym (append-nil (f (slice_get w j)))
+        ∙ ap (λ (b : Bool). f (slice_get w j) ++ cond b more []) (sym other))
+
+put-rise : (w : List View) (k : ℕ) (v x : View) (points : List ℕ) → slice_get w k ≡ Some v
+    → Rises (length v.history) points (length x.history) → (j : ℕ)
+    → Rises (length (history_at w j)) (only_of k points j) (length (history_at (slice_set w k x) j))
+put-rise w k v x points is rise j = by-trader (nat_eq k j) refl
+  where
+    by-trader : (b : Bool) → nat_eq k j ≡ b
+        → Rises (length (history_at w j)) (cond (nat_eq k j) points []) (length (history_at (slice_set w k x) j))
+    by-trader true at_k =
+        let one : k ≡ j = eqb-true k j at_k in
+        let there : slice_get (slice_set w k x) j ≡ Some x =
+        subst (λ (n : ℕ). slice_get (slice_set w k x) n ≡ Some x) one (get-set_same w k v x is) in
+        let before : slice_get w j ≡ Some v = subst (λ (n : ℕ). slice_get w n ≡ Some v) one is in
+        subst (λ (b : Bool). Rises (length (history_at w j)) (cond b points [])
+        (length (history_at (slice_set w k x) j))) (sym at_k)
+        (subst (λ (o : Option View). Rises (length (history_in o)) points
+        (length (history_at (slice_set w k x) j))) (sym before)
+        (subst (λ (o : Option View). Rises (length v.history) points (length (history_in o))) (sym there) rise))
+    by-trader false other =
+        let same : slice_get (slice_set w k x) j ≡ slice_get w j = get-set_other w k j x (eqb-false k j other) in
+        subst (λ (b : Bool). Rises (length (history_at w j)) (cond b points [])
+        (length (history_at (slice_set w k x) j))) (sym other)
+        (subst (λ (o : Option View). length (history_at w j) ≤ length (history_in o)) (sym same)
+        (le_refl (length (history_at w j))))
+
+pub put-moves : (w : List View) (k : ℕ) (v x : View) (places marks points : List ℕ) → slice_get w k ≡ Some v
+    → Grows v x → x.own ≡ v.own ++ places → x.own_marks ≡ v.own_marks ++ marks
+    → Rises (length v.history) points (length x.history)
+    → Moves w (slice_set w k x) (only_of k places) (only_of k marks) (only_of k points)
+put-moves w k v x places marks points is g own own_marks rise = record {
+  grow = put-grow w k v x is g;
+  own = put-list own_in w k v x places is own;
+  own_marks = put-list own_marks_in w k v x marks is own_marks;
+  rise = put-rise w k v x points is rise;
+}
+
+-- ---- the calls of a group
+
+module _ (others : List Accepted → Type 0) (later : Marks → Marks → Type 0) (w : List View) (k : ℕ) where
+  meanwhile-grows : (seen : View) → (m : Meanwhile others later w k seen) → Grows m.view seen
+  meanwhile-grows seen m =
+      subst (Grows m.view) (sym m.seen_is) (grows-others m.view m.between m.marks m.legal)
+
+  -- one's own of it stays
+  meanwhile-own : (seen : View) → (m : Meanwhile others later w k seen) → seen.own ≡ m.view.own ++ []
+  meanwhile-own seen m = ap (λ (v : View). v.own) m.seen_is ∙ sym (append-nil m.view.own)
+
+  meanwhile-marks : (seen : View) → (m : Meanwhile others later w k seen) → seen.own_marks ≡ m.view.own_marks ++ []
+  meanwhile-marks seen m = ap (λ (v : View). v.own_marks) m.seen_is ∙ sym (append-nil m.view.own_marks)
+
+  -- what is seen of it then stands there
+  pub seen-length : (seen x : View) → (m : Meanwhile others later w k seen) → (u : List View) → u ≡ with_view w k x
+      → length (history_at u k) ≡ length x.history
+  seen-length seen x m u is =
+      ap (λ (y : List View). length (history_at y k)) is
+      ∙ ap (λ (o : Option View). length (history_in o)) (get-set_same w k m.view x m.is)
+
+  -- nothing was done but by others
+  pub seen-moves : (u : List View) (seen : View) → Meanwhile others later w k seen → u ≡ with_view w k seen
+      → Moves w u none none (only_of k (length (history_at u k) ∷ []))
+  seen-moves u seen m is =
+      let point : length (history_at u k) ≡ length seen.history = seen-length seen seen m u is in
+      let grows = meanwhile-grows seen m in
+      let moves : Moves w (slice_set w k seen) (only_of k []) (only_of k []) (only_of k (length seen.history ∷ [])) =
+      put-moves w k m.view seen [] [] (length seen.history ∷ []) m.is grows (meanwhile-own seen m)
+      (meanwhile-marks seen m) (grows-length m.view seen grows, le_refl (length seen.history)) in
+      subst (λ (y : List View). Moves w y none none (only_of k (length (history_at u k) ∷ []))) (sym is)
+      (moves-as w (slice_set w k seen) (only_of k []) (only_of k []) (only_of k (length seen.history ∷ [])) none none
+      (only_of k (length (history_at u k) ∷ [])) moves (λ j. no-more (nat_eq k j)) (λ j. no-more (nat_eq k j))
+      (λ j. ap (λ (n : ℕ). only_of k (n ∷ []) j) (sym point)))
+
+  -- ---- a change
+
+  -- its place, where it was accepted
+  abbrev pub placed : Outcome → (point : ℕ) → List ℕ
+  placed o point = cond (is_done o) (point ∷ []) []
+
+  own-after : (v : View) (c : Change) (o : Outcome) → (after_own v c o).own ≡ v.own ++ placed o (length v.history)
+  own-after v c (Done told) = refl
+  own-after v c (User e) = sym (append-nil v.own)
+  own-after v c (System kind minor completion) = sym (append-nil v.own)
+
+  marks-after : (v : View) (c : Change) (o : Outcome) → (after_own v c o).own_marks ≡ v.own_marks ++ []
+  marks-after v c (Done told) = sym (append-nil v.own_marks)
+  marks-after v c (User e) = sym (append-nil v.own_marks)
+  marks-after v c (System kind minor completion) = sym (append-nil v.own_marks)
+
+  pub changes-move : (c : Change) (o : Outcome) (u : List View) → (h : Changes others later w k c o u)
+      → Moves w u (only_of k (placed o (length h.seen.history))) none (only_of k (length h.seen.history ∷ []))
+  changes-move c o u h =
+      let m = h.meanwhile in
+      let seen = h.seen in
+      let x = after_own seen c o in
+      let before = meanwhile-grows seen m in
+      let own = grows-own seen c o h.outcome in
+      let point = length seen.history in
+      let moves : Moves w (slice_set w k x) (only_of k (placed o point)) (only_of k []) (only_of k (point ∷ [])) =
+      put-moves w k m.view x (placed o point) [] (point ∷ []) m.is (grows-on m.view seen x before own)
+      (own-after seen c o ∙ ap (λ (v : View). v.own ++ placed o point) m.seen_is)
+      (marks-after seen c o ∙ ap (λ (v : View). v.own_marks ++ []) m.seen_is)
+      (grows-length m.view seen before, grows-length seen x own) in
+      subst (λ (y : List View). Moves w y (only_of k (placed o point)) none (only_of k (point ∷ []))) (sym h.world)
+      (moves-as w (slice_set w k x) (only_of k (placed o point)) (only_of k []) (only_of k (point ∷ []))
+      (only_of k (placed o point)) none (only_of k (point ∷ [])) moves (λ j. refl) (λ j. no-more (nat_eq k j))
+      (λ j. refl))
+
+  stands-after : (v : View) (c : Change) (o : Outcome) (told : Reply) → o ≡ Done told
+      → StandsAt (after_own v c o).history (length v.history) c told
+  stands-after v c (Done reply) told e =
+      let same : reply ≡ told = cc in
+      stands-last v.history (entry c reply) ∙ ap (λ (t : Reply). Some (entry c t)) same
+  stands-after v c (User x) told e = absurd (let bad : ⊥ = cc in bad)
+  stands-after v c (System kind minor completion) told e = absurd (let bad : ⊥ = cc in bad)
+
+  -- an accepted one stands at its point
+  pub changes-stand : (c : Change) (o : Outcome) (u : List View) → (h : Changes others later w k c o u)
+      → (told : Reply) → o ≡ Done told → StandsAt (history_at u k) (length h.seen.history) c told
+  changes-stand c o u h told e =
+      let x = after_own h.seen c o in
+      let there : history_at u k ≡ x.history =
+      ap (λ (y : List View). history_at y k) h.world
+      ∙ ap history_in (get-set_same w k h.meanwhile.view x h.meanwhile.is) in
+      subst (λ (y : List Accepted). StandsAt y (length h.seen.history) c told) (sym there)
+      (stands-after h.seen c o told e)
+
+-- ---- a query that begins
+
+-- the point that it began with is this one
+abbrev IsAt : (point : ℕ) → Begin → Type 0
+IsAt point (begin.Refused o) = Unit {0}
+IsAt point (begin.Repeat number) = Unit {0}
+IsAt point (begin.Search l) = l.point ≡ point
+IsAt point (begin.Path l) = l.point ≡ point
+
+module _ (bounds : Bounds) (s : Store) (point : ℕ) (m : Marks) (q : Query) where
+  here-at : (found : Option ℕ) → IsAt point (begin_here s point m q found)
+  here-at (Some number) = tt
+  here-at None =
+      (are_served s point (m.count + 1) (searched_under s m q).identifier q).served.point_is
+
+  along-at : (found : Option LinkRecord) → IsAt point (begin_along s point m q found)
+  along-at (Some link) = (are_passed_on s point link q).served.point_is
+  along-at None = here-at (repeated_in m (parts_of q).stated)
+
+  unless-at : (cause : Cause) → IsAt point (begin_unless cause s point m q)
+  unless-at (Some f) = tt
+  unless-at None = along-at (path_link s.links (parts_of q).stated)
+
+  begins-at : (b : Begin) → b ≡ begin_of bounds s point m q → IsAt point b
+  unfolding begin_of
+  begins-at b e = subst (IsAt point) (sym e) (unless-at (refusal bounds m.count s q))
+
+item-points : (k point : ℕ) (b : Begin) → IsAt point b → (j : ℕ)
+    → only_of k (point ∷ []) j ≡ points_of j (begin_item k point b ∷ [])
+item-points k point (begin.Refused o) at_point j = sym (append-nil (only_of k (point ∷ []) j))
+item-points k point (begin.Repeat number) at_point j = sym (append-nil (only_of k (point ∷ []) j))
+item-points k point (begin.Search l) at_point j =
+    ap (λ (n : ℕ). only_of k (n ∷ []) j) (sym at_point) ∙ sym (append-nil (only_of k (l.point ∷ []) j))
+item-points k point (begin.Path l) at_point j =
+    ap (λ (n : ℕ). only_of k (n ∷ []) j) (sym at_point) ∙ sym (append-nil (only_of k (l.point ∷ []) j))
+
+module _ (others : List Accepted → Type 0) (later : Marks → Marks → Type 0) (w : List View) (k : ℕ) where
+  pub begun-moves : (q : Query) (b : Begin) (u : List View) → Begun others later w k q b u → (point : ℕ)
+      → point ≡ length (history_at u k)
+      → Moves w u none (λ j. marks_of j (begin_item k point b ∷ [])) (λ j. points_of j (begin_item k point b ∷ []))
+  begun-moves q b u h point at_point =
+      let m = h.meanwhile in
+      let seen = h.seen in
+      let x = seen_after seen (after_begin (store_seen seen) seen.marks q b) in
+      let i = begin_item k point b in
+      let here : point ≡ length seen.history = at_point ∙ seen-length others later w k seen x m u h.world in
+      let began : IsAt point b =
+      subst (λ (n : ℕ). IsAt n b) (sym here)
+      (begins-at seen.bounds (store_seen seen) (length seen.history) seen.marks q b h.begin) in
+      let before : Grows m.view x =
+      grows-as m.view seen x (meanwhile-grows others later w k seen m) refl refl refl refl in
+      let shown = shown-begun others later w u k point q b [] [] (i ∷ []) h refl refl in
+      record {
+        grow = subst (AllGrow w) (sym h.world) (put-grow w k m.view x m.is before);
+        own = λ j.
+            ap (λ (y : List View). own_at y j) h.world
+            ∙ (put-list own_in w k m.view x [] m.is (meanwhile-own others later w k seen m) j
+            ∙ ap (λ (t : List ℕ). own_at w j ++ t) (no-more (nat_eq k j)));
+        own_marks = λ j.
+            shown.marks j ∙ ap (λ (t : List TraceItem). own_marks_at w j ++ marks_of j t) (sym shown.notes);
+        rise = λ j.
+            subst (λ (y : List View). Rises (length (history_at w j)) (points_of j (i ∷ []))
+            (length (history_at y j))) (sym h.world)
+            (subst (λ (t : List ℕ). Rises (length (history_at w j)) t
+            (length (history_at (slice_set w k x) j))) (item-points k point b began j)
+            (put-rise w k m.view x (point ∷ []) m.is
+            (subst (λ (n : ℕ). Rises (length m.view.history) (n ∷ []) (length seen.history)) (sym here)
+            (grows-length m.view seen (meanwhile-grows others later w k seen m), le_refl (length seen.history))) j));
+      }

@@ -1,0 +1,271 @@
+-- What a run of turns leaves, turn by turn.
+use Rattle.std.proofs.Common.{◌≡◌, ℕ, zero, suc, ◌<◌, true, List, [], ◌∷◌, ◌++◌, length, Option, None, Some}
+use Rattle.std.proofs.Common.{append-nil, slice_get, sym, ap, subst, ◌∙◌, arith}
+use Rattle.std.proofs.Common.{false, inl, inr, true≢false}
+use Rattle.td_cdr.specs.Marks.{Marks}
+use Rattle.td_cdr.specs.Writing.{Draft}
+use Rattle.td_fed.proofs.Moving.{draws-after, draws-none}
+use Rattle.td_fed.specs.Trails.{DrawsOn}
+use Rattle.td_lookup.specs.Querying.{QueryComes}
+use Rattle.td_lookup.specs.Scenes.{Scene}
+use Rattle.td_lookup.specs.Telling.{wants_memory}
+use Rattle.td_lookup.specs.Unserved.{gave_in}
+use Rattle.td_ops.specs.declared.call.Call.TheVariants as call
+use Rattle.td_ops.specs.declared.call.Query.{Query}
+use Rattle.td_ops.specs.declared.outcome.Outcome.{Outcome}
+use Rattle.td_register.specs.Entries.{entry}
+use Rattle.td_register.specs.declared.history.Accepted.{Accepted}
+use Rattle.td_reply.specs.declared.entry.Entry.{Entry}
+use Rattle.td_reply.specs.declared.judging.Judged.TheVariants.{Call}
+use Rattle.td_reply.specs.declared.judging.Judged.{Judged}
+use Rattle.td_reply.specs.declared.objects.Object.{Object}
+use Rattle.td_serve.specs.Requests.{Answers}
+use Rattle.td_trader.specs.Worlds.{history_at}
+use Rattle.td_turns.proofs.Acting.{Does, answers-do}
+use Rattle.td_turns.proofs.Growing.{grow-legal, grow-stands}
+use Rattle.td_turns.proofs.Moving.{Moves, moves-as, moves-none, moves-on}
+use Rattle.td_turns.proofs.Refusing.{refused-keeps, wanting-keeps}
+use Rattle.td_turns.proofs.Rising.{flat-append, rises-above}
+use Rattle.td_turns.proofs.Standing.{StandsHere, answer-stands}
+use Rattle.td_turns.proofs.Travelling.{Adds, adds-none, adds-on}
+use Rattle.td_turns.specs.Journals.{all_gave, all_marks_in, all_places_in, all_served_at, is_accepted, is_refusal}
+use Rattle.td_turns.specs.Journals.{marks_in, places_in, served_at}
+use Rattle.td_turns.specs.Laws.{AcceptedStand, Keeps, KeepsAll, NoneIsInvented, OwnMarksAreSearches}
+use Rattle.td_turns.specs.Laws.{OwnPlacesAreAccepted, PointsRise, RefusedChangeNothing, SeenStaysLegal, Stands}
+use Rattle.td_turns.specs.Laws.{QueriesAreWalks, WantingChangeNothing, WordsAreDrawn}
+use Rattle.td_turns.specs.Turns.{IsTurn, Noted, Run, ServesRequest, Turn, cancel, locate, noted_in, noted_of, request}
+use Rattle.td_walk.specs.Peering.{Given}
+use Rattle.td_walk.specs.declared.trace.Address.{Address}
+
+-- what stands at a place lies within the list
+stands-within : (h : List Accepted) (p : ℕ) (e : Accepted) → slice_get h p ≡ Some e → p < length h
+stands-within [] p e is = absurd (let bad : ⊥ = cc in bad)
+stands-within (x ∷ h) zero e is = omega arith
+stands-within (x ∷ h) (suc p) e is = let rest = stands-within h p e is in omega (arith, rest)
+
+pub record Effect (s : Scene) (ns : List Noted) (t : Scene) : Type 0 where
+  pub moves : Moves s.world t.world (λ k. all_places_in k ns) (λ k. all_marks_in k ns) (λ k. all_served_at k ns)
+  pub adds : Adds s.peers.calls (all_gave ns) t.peers.calls
+  pub draws : DrawsOn s.words t.words
+
+effect-none : (s : Scene) → Effect s [] s
+effect-none s = record {
+  moves = moves-none s.world;
+  adds = adds-none s.peers.calls;
+  draws = draws-none s.words;
+}
+
+effect-same : (s t : Scene) → t ≡ s → Effect s [] t
+effect-same s t same = subst (λ (x : Scene). Effect s [] x) (sym same) (effect-none s)
+
+effect-on : (s m u : Scene) (ns ms : List Noted) → Effect s ns m → Effect m ms u → Effect s (ns ++ ms) u
+effect-on s m u ns ms p q = record {
+  moves =
+      moves-as s.world u.world (λ k. all_places_in k ns ++ all_places_in k ms)
+      (λ k. all_marks_in k ns ++ all_marks_in k ms) (λ k. all_served_at k ns ++ all_served_at k ms)
+      (λ k. all_places_in k (ns ++ ms)) (λ k. all_marks_in k (ns ++ ms)) (λ k. all_served_at k (ns ++ ms))
+      (moves-on s.world m.world u.world (λ k. all_places_in k ns) (λ k. all_marks_in k ns)
+      (λ k. all_served_at k ns) (λ k. all_places_in k ms) (λ k. all_marks_in k ms) (λ k. all_served_at k ms) p.moves
+      q.moves) (λ k. sym (flat-append (places_in k) ns ms))
+      (λ k. sym (flat-append (λ (n : Noted). marks_in k n.entry) ns ms))
+      (λ k. sym (flat-append (served_at k) ns ms));
+  adds =
+      subst (λ (g : List Given). Adds s.peers.calls g u.peers.calls)
+      (sym (flat-append (λ (n : Noted). gave_in n.entry) ns ms))
+      (adds-on s.peers.calls m.peers.calls u.peers.calls (all_gave ns) (all_gave ms) p.adds q.adds);
+  draws = draws-after s.words m.words u.words p.draws q.draws;
+}
+
+-- of one Request
+does-effect : (s t : Scene) (n : Noted) → Does n.judged n.outcome n.entry s t → Effect s (n ∷ []) t
+does-effect s t n d = record {
+  moves =
+      moves-as s.world t.world (λ k. places_in k n) (λ k. marks_in k n.entry) (λ k. served_at k n)
+      (λ k. all_places_in k (n ∷ [])) (λ k. all_marks_in k (n ∷ [])) (λ k. all_served_at k (n ∷ [])) d.moves
+      (λ k. sym (append-nil (places_in k n))) (λ k. sym (append-nil (marks_in k n.entry)))
+      (λ k. sym (append-nil (served_at k n)));
+  adds = record {
+    made = d.gives.made;
+    calls = d.gives.calls;
+    given = d.gives.given ∙ sym (append-nil (gave_in n.entry));
+  };
+  draws = d.draws;
+}
+
+module _ (others : List Accepted → Type 0) (later : Marks → Marks → Type 0) (home : Address) where
+  request-does : (s : Scene) (t : Turn) → (h : ServesRequest others later home s t)
+      → Does h.noted.judged h.noted.outcome h.noted.entry s t.after
+  request-does s t h =
+      answers-do others later home h.noted.judged h.served.draft s t.after h.noted.outcome h.noted.entry
+      h.served.answers
+
+  turn-effect : (s : Scene) (t : Turn) → IsTurn others later home s t → Effect s (noted_in t.request) t.after
+  turn-effect s t (request h) =
+      subst (λ (o : Option Noted). Effect s (noted_in o) t.after) (sym h.request)
+      (does-effect s t.after h.noted (request-does s t h))
+  turn-effect s t (locate h) =
+      subst (λ (o : Option Noted). Effect s (noted_in o) t.after) (sym h.request) (effect-same s t.after h.kept)
+  turn-effect s t (cancel h) =
+      subst (λ (o : Option Noted). Effect s (noted_in o) t.after) (sym h.request) (effect-same s t.after h.kept)
+
+  run-effect : (s : Scene) (ts : List Turn) (u : Scene) → Run others later home s ts u → Effect s (noted_of ts) u
+  run-effect s [] u h = effect-same s u h
+  run-effect s (t ∷ ts) u h =
+      effect-on s t.after u (noted_in t.request) (noted_of ts) (turn-effect s t h.0) (run-effect t.after ts u h.1)
+
+  -- ---- one of a run
+
+  -- the Request of a turn
+  record IsServed (s : Scene) (n : Noted) (t : Scene) : Type 0 where
+    served : Does n.judged n.outcome n.entry s t
+    stands : is_accepted n ≡ true → StandsHere t.world n.judged n.outcome n.entry
+    refused : is_refusal n.outcome ≡ true → KeepsAll others later s t
+    wanting : wants_memory n.outcome ≡ true → Keeps others later s (λ k. marks_in k n.entry) t
+
+  same-noted : (o : Option Noted) (n m : Noted) → o ≡ Some n → o ≡ Some m → n ≡ m
+  same-noted o n m a b = let same : Some n ≡ Some m = sym a ∙ b in cc
+
+  request-served : (s : Scene) (t : Turn) → (h : ServesRequest others later home s t)
+      → IsServed s h.noted t.after
+  request-served s t h =
+      let n = h.noted in
+      let does = request-does s t h in
+      record {
+        served = does;
+        stands = λ is.
+            answer-stands others later home n.judged h.served.draft s t.after n.outcome n.entry h.served.answers is;
+        refused = λ is.
+            refused-keeps others later home n.judged h.served.draft s t.after n.outcome n.entry does h.served.answers
+            is;
+        wanting = λ is.
+            wanting-keeps others later home n.judged h.served.draft s t.after n.outcome n.entry does h.served.answers
+            is;
+      }
+
+  turn-served : (s : Scene) (t : Turn) (n : Noted) → IsTurn others later home s t → t.request ≡ Some n
+      → IsServed s n t.after
+  turn-served s t n (request h) is =
+      subst (λ (m : Noted). IsServed s m t.after) (same-noted t.request h.noted n h.request is)
+      (request-served s t h)
+  turn-served s t n (locate h) is = absurd (let bad : ◌≡◌ {A = Option Noted} None (Some n) = sym h.request ∙ is in cc)
+  turn-served s t n (cancel h) is = absurd (let bad : ◌≡◌ {A = Option Noted} None (Some n) = sym h.request ∙ is in cc)
+
+  -- ---- a query
+
+  -- it was answered so
+  abbrev Walked : Scene → (trader : ℕ) → Query → Outcome → Entry → Scene → Type 0
+  Walked s trader q o e t = (draft : Draft) × QueryComes others later home s trader q draft o e t
+
+  query-walks : (j : Judged) (draft : Draft) (s t : Scene) (o : Outcome) (e : Entry)
+      → Answers others later home j draft s o e t → (x : Object) (q : Query) → j ≡ Call x (call.Query q)
+      → wants_memory o ≡ false → Walked s x.trader q o e t
+  query-walks j draft s t o e h x q is told =
+      by-answer (subst (λ (y : Judged). Answers others later home y draft s o e t) is h)
+    where
+      by-answer : Answers others later home (Call x (call.Query q)) draft s o e t → Walked s x.trader q o e t
+      by-answer (inl a) = (draft, a)
+      by-answer (inr a) = absurd (true≢false (sym (ap wants_memory a.outcome) ∙ told))
+
+  turn-walks : (s : Scene) (t : Turn) (n : Noted) (x : Object) (q : Query) → IsTurn others later home s t
+      → t.request ≡ Some n → n.judged ≡ Call x (call.Query q) → wants_memory n.outcome ≡ false
+      → Walked s x.trader q n.outcome n.entry t.after
+  turn-walks s t n x q (request h) is asks told =
+      let same : h.noted ≡ n = same-noted t.request h.noted n h.request is in
+      subst (λ (m : Noted). Walked s x.trader q m.outcome m.entry t.after) same
+      (query-walks h.noted.judged h.served.draft s t.after h.noted.outcome h.noted.entry h.served.answers x q
+      (ap (λ (m : Noted). m.judged) same ∙ asks) (ap (λ (m : Noted). wants_memory m.outcome) same ∙ told))
+  turn-walks s t n x q (locate h) is asks told =
+      absurd (let bad : ◌≡◌ {A = Option Noted} None (Some n) = sym h.request ∙ is in cc)
+  turn-walks s t n x q (cancel h) is asks told =
+      absurd (let bad : ◌≡◌ {A = Option Noted} None (Some n) = sym h.request ∙ is in cc)
+
+  -- ---- an accepted change, and what comes behind it
+
+  stands-behind : (m u : Scene) (n : Noted) (rest : List Noted) → StandsHere m.world n.judged n.outcome n.entry
+      → Effect m rest u → Stands u.world n rest
+  stands-behind m u n rest h effect =
+      let less = stands-within (history_at m.world h.trader) h.point (entry h.change h.told) h.stands in
+      record {
+        trader = h.trader;
+        point = h.point;
+        change = h.change;
+        made = h.made;
+        told = h.told;
+        outcome = h.outcome;
+        stands = grow-stands m.world u.world effect.moves.grow h.trader h.point h.change h.told h.stands;
+        later =
+            rises-above h.point (length (history_at m.world h.trader)) (all_served_at h.trader rest)
+            (length (history_at u.world h.trader)) less (effect.moves.rise h.trader);
+      }
+
+  -- a list that begins with what one turn notes has this Request in front of the rest
+  data Parts (o : Option Noted) (ns : List Noted) : List Noted → Noted → List Noted → Type 0 where
+    here : {n : Noted} {rest : List Noted} → o ≡ Some n → ns ≡ rest → Parts o ns [] n rest
+    further : {before rest : List Noted} {n : Noted} (more : List Noted) → ns ≡ more ++ n ∷ rest
+        → Parts o ns before n rest
+
+  parts : (o : Option Noted) (ns before rest : List Noted) (n : Noted) → noted_in o ++ ns ≡ before ++ n ∷ rest
+      → Parts o ns before n rest
+  parts None ns before rest n e = further before e
+  parts (Some m) ns [] rest n e =
+      let first : m ≡ n = cc in
+      let behind : ns ≡ rest = cc in
+      here (ap (λ (x : Noted). Some x) first) behind
+  parts (Some m) ns (b ∷ before) rest n e =
+      let behind : ns ≡ before ++ n ∷ rest = cc in
+      further before behind
+
+  by-parts : (s : Scene) (t : Turn) (ts : List Turn) (u : Scene) → Run others later home s (t ∷ ts) u
+      → (before rest : List Noted) (n : Noted) → is_accepted n ≡ true
+      → ((more : List Noted) → noted_of ts ≡ more ++ n ∷ rest → Stands u.world n rest)
+      → Parts t.request (noted_of ts) before n rest → Stands u.world n rest
+  by-parts s t ts u h before rest n is below (here first behind) =
+      stands-behind t.after u n rest ((turn-served s t n h.0 first).stands is)
+      (subst (λ (ns : List Noted). Effect t.after ns u) behind (run-effect t.after ts u h.1))
+  by-parts s t ts u h before rest n is below (further more behind) = below more behind
+
+  run-stands : (s : Scene) (ts : List Turn) (u : Scene) → Run others later home s ts u → (before rest : List Noted)
+      (n : Noted) → noted_of ts ≡ before ++ n ∷ rest → is_accepted n ≡ true → Stands u.world n rest
+  run-stands s [] u h [] rest n e is = absurd (let bad : ⊥ = cc in bad)
+  run-stands s [] u h (b ∷ before) rest n e is = absurd (let bad : ⊥ = cc in bad)
+  run-stands s (t ∷ ts) u h before rest n e is =
+      by-parts s t ts u h before rest n is
+      (λ more behind. run-stands t.after ts u h.1 more rest n behind is)
+      (parts t.request (noted_of ts) before rest n e)
+
+-- ---- the laws
+
+module _ (others : List Accepted → Type 0) (later : Marks → Marks → Type 0) where
+  pub points-rise : PointsRise others later
+  points-rise home s u ts h k = (run-effect others later home s ts u h).moves.rise k
+
+  pub own-accepted : OwnPlacesAreAccepted others later
+  own-accepted home s u ts h k = (run-effect others later home s ts u h).moves.own k
+
+  pub accepted-stand : AcceptedStand others later
+  accepted-stand home s u ts h before rest n e is = run-stands others later home s ts u h before rest n e is
+
+  pub own-searches : OwnMarksAreSearches others later
+  own-searches home s u ts h k = (run-effect others later home s ts u h).moves.own_marks k
+
+  pub seen-legal : SeenStaysLegal others later
+  seen-legal home s u ts h =
+      let grow = (run-effect others later home s ts u h).moves.grow in
+      record { grow = grow; legal = λ k legal. grow-legal s.world u.world grow k legal }
+
+  pub none-invented : NoneIsInvented others later
+  none-invented home s u ts h =
+      let adds = (run-effect others later home s ts u h).adds in
+      record { made = adds.made; calls = adds.calls; given = adds.given }
+
+  pub words-drawn : WordsAreDrawn others later
+  words-drawn home s u ts h = (run-effect others later home s ts u h).draws
+
+  pub refused-nothing : RefusedChangeNothing others later
+  refused-nothing home s t n h is refusal = (turn-served others later home s t n h is).refused refusal
+
+  pub wanting-nothing : WantingChangeNothing others later
+  wanting-nothing home s t n h is wants = (turn-served others later home s t n h is).wanting wants
+
+  pub queries-walk : QueriesAreWalks others later
+  queries-walk home s t n x q h is asks told = turn-walks others later home s t n x q h is asks told
