@@ -1,0 +1,5 @@
+pub mod Bodies
+pub mod Concluding
+pub mod Holding
+pub mod Judging
+pub mod Requesting

@@ -1,0 +1,18 @@
+use Rattle.td_call.specs.Readings.{evaluation_told}
+use Rattle.td_call.proofs.Concluding.{called_then, unconnected}
+use Rattle.td_call.proofs.calling.ask_at.Goals as goal
+
+pub returns-in-Err-clause-called : goal.returns-in-Err-clause-called
+returns-in-Err-clause-called g c =
+    unconnected (evaluation_told c.args.returned.now) c.args.request.now c.args.profile.now
+    (g.L.Wire.told c.args.wire.now) (g.L.Wire.told c.connect.new.wire) (g.L.Wire.faults c.args.wire.now)
+    (g.L.Wire.faults c.connect.new.wire)
+    c.in-Err.fault c.in-Err.ensures.connected
+
+pub returns-in-Ok-clause-called : goal.returns-in-Ok-clause-called
+returns-in-Ok-clause-called g c =
+    called_then (evaluation_told c.args.returned.now) c.args.request.now c.args.profile.now c.in-Ok.framer
+    (g.L.Wire.told c.args.wire.now) (g.L.Wire.told c.connect.new.wire) (g.L.Wire.told c.exchange_evaluation.new.wire)
+    c.exchange_evaluation.new.framer.rest (g.L.Wire.faults c.args.wire.now) (g.L.Wire.faults c.connect.new.wire)
+    (g.L.Wire.faults c.exchange_evaluation.new.wire) c.exchange_evaluation.result c.in-Ok.ensures.connected
+    c.in-Ok.ensures.later c.exchange_evaluation.ensures.exchanges

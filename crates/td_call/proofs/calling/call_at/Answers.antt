@@ -1,0 +1,21 @@
+use Rattle.td_call.specs.Calling.{first_id}
+use Rattle.td_call.specs.Readings.{outcome_told}
+use Rattle.td_call.specs.Requests.{request_of}
+use Rattle.td_call.proofs.Concluding.{called_then, unconnected}
+use Rattle.td_call.proofs.calling.call_at.Goals as goal
+
+pub returns-in-Err-clause-called : goal.returns-in-Err-clause-called
+returns-in-Err-clause-called g c =
+    unconnected (outcome_told c.args.call.now) (request_of first_id c.args.profile.now.key c.args.call.now)
+    c.args.profile.now (g.L.Wire.told c.args.wire.now) (g.L.Wire.told c.connect.new.wire)
+    (g.L.Wire.faults c.args.wire.now)
+    (g.L.Wire.faults c.connect.new.wire) c.in-Err.fault c.in-Err.ensures.connected
+
+pub returns-in-Ok-clause-called : goal.returns-in-Ok-clause-called
+returns-in-Ok-clause-called g c =
+    called_then (outcome_told c.args.call.now) (request_of first_id c.args.profile.now.key c.args.call.now)
+    c.args.profile.now c.in-Ok.framer (g.L.Wire.told c.args.wire.now) (g.L.Wire.told c.connect.new.wire)
+    (g.L.Wire.told c.exchange_call.new.wire) c.exchange_call.new.framer.rest (g.L.Wire.faults c.args.wire.now)
+    (g.L.Wire.faults c.connect.new.wire) (g.L.Wire.faults c.exchange_call.new.wire) c.exchange_call.result
+    c.in-Ok.ensures.connected c.in-Ok.ensures.later
+    (rw c.as_slice-key.ensures at c.exchange_call.ensures.exchanges)

@@ -1,0 +1,65 @@
+-- One call of an object over a connection of its own (CORBA, chapter on General Inter-ORB Protocol, "Internet Inter-ORB
+-- Protocol").
+use Rattle.std.specs.Prelude.{◌≡◌, ◌⊎◌, ℕ, List, [], Option, Some, None, IfSome, option_map, Result, Ok, Err, ⊤}
+use Rattle.td_codes.specs.declared.reference.Ior.{Ior}
+use Rattle.td_giop.specs.Stream.{Stream}
+use Rattle.td_ior.specs.declared.profile.Iiop.{Iiop}
+use Rattle.td_ior.specs.Profiles.{iiop_of}
+use Rattle.td_out.specs.Causes.{Rose}
+use Rattle.td_walk.specs.declared.fault.PeerFault.{PeerFault}
+use Rattle.td_walk.specs.declared.fault.PeerFault.TheVariants as fault
+use Rattle.td_wire.specs.Connections.{Traffic, first_or_none, opened, with_left, wrote}
+use Rattle.td_call.specs.Replies.{Reading, told, strange, short, replied, reply_limit}
+
+-- the id of the first request over a connection
+abbrev pub first_id : ℕ
+first_id = 1
+
+-- what the next connection gives
+abbrev pub next_given : Traffic → List ℕ
+next_given t = first_or_none t.answers
+
+-- a stream of which nothing came yet
+abbrev pub fresh_stream : Stream
+fresh_stream = record { start = 0; rest = []; limit = reply_limit }
+
+-- a connection to where a profile says
+abbrev pub Connected : Iiop → (before after : Option Traffic) → (f0 f1 : ℕ) → Result Stream PeerFault → Type 0
+Connected p before after f0 f1 (Ok s) = (s ≡ fresh_stream) × (after ≡ option_map (opened p.host p.port) before)
+Connected p before after f0 f1 (Err fault.Wire) = Rose f0 f1
+Connected p before after f0 f1 (Err fault.Grammar) = ⊥
+Connected p before after f0 f1 (Err fault.Exception) = ⊥
+Connected p before after f0 f1 (Err fault.Memory) = ⊤
+
+-- The reply is what the bytes come to that the new connection gives, and over it the request was written and no more.
+pub record Answers {A : Type 0} (reads : Reading A) (request : List ℕ) (p : Iiop) (t : Traffic) (after : Option Traffic)
+    (a : A) : Type 0 where
+  pub size : ℕ
+  pub rest : List ℕ
+  pub is : replied reads first_id (next_given t) ≡ told a size
+  pub wire : after ≡ Some (with_left rest (wrote request (opened p.host p.port t)))
+
+-- What a call over a connection to there answers: what the reply tells; that the bytes are outside the grammar; that
+-- they ended before a message was whole, or the wire failed; or want of memory.
+abbrev pub CalledAt : {A : Type 0} → Reading A → (request : List ℕ) → Iiop → (before after : Option Traffic)
+    → (f0 f1 : ℕ) → Result A PeerFault → Type 0
+CalledAt reads request p before after f0 f1 (Ok a) = IfSome before (λ t. Answers reads request p t after a)
+CalledAt reads request p before after f0 f1 (Err fault.Wire) =
+    Rose f0 f1 ⊎ IfSome before (λ t. replied reads first_id (next_given t) ≡ short)
+CalledAt reads request p before after f0 f1 (Err fault.Grammar) =
+    IfSome before (λ t. replied reads first_id (next_given t) ≡ strange)
+CalledAt reads request p before after f0 f1 (Err fault.Exception) = ⊥
+CalledAt reads request p before after f0 f1 (Err fault.Memory) = ⊤
+
+-- What a call of an object answers, by what the wire tells and by its count of faults. An object without an IIOP
+-- profile is outside the grammar, and isn't called.
+abbrev pub Called : {A : Type 0} → Reading A → (request : (key : List ℕ) → List ℕ) → (target : Ior)
+    → (before after : Option Traffic) → (f0 f1 : ℕ) → Result A PeerFault → Type 0
+Called reads request target before after f0 f1 (Ok a) =
+    (p : Iiop) × (iiop_of target ≡ Some p) × IfSome before (λ t. Answers reads (request p.key) p t after a)
+Called reads request target before after f0 f1 (Err fault.Wire) =
+    Rose f0 f1 ⊎ IfSome before (λ t. replied reads first_id (next_given t) ≡ short)
+Called reads request target before after f0 f1 (Err fault.Grammar) =
+    (iiop_of target ≡ None) ⊎ IfSome before (λ t. replied reads first_id (next_given t) ≡ strange)
+Called reads request target before after f0 f1 (Err fault.Exception) = ⊥
+Called reads request target before after f0 f1 (Err fault.Memory) = ⊤

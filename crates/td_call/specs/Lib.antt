@@ -1,0 +1,5 @@
+pub mod Requests
+pub mod Replies
+pub mod Readings
+pub mod Fetching
+pub mod Calling

@@ -1,0 +1,52 @@
+-- What the body of a reply tells, by its status (CORBA, chapter on General Inter-ORB Protocol, "Reply Body"; OMG's
+-- Trading Object Service, interface DynamicPropEval).
+use Rattle.std.specs.Prelude.{Bool, ◌&&◌, nat_eq, nat_le, if◌then◌else◌, length, Option, Some, None}
+use Rattle.std.specs.Prelude.{Result, Ok, Err}
+use Rattle.td_cdr.specs.declared.order.Order.TheVariants.{Big}
+use Rattle.td_cdr.specs.declared.value_fault.ValueFault.{ValueFault}
+use Rattle.td_cdr.specs.Format.{Read}
+use Rattle.td_cdr.specs.Place.{At}
+use Rattle.td_codes.specs.Same.{same}
+use Rattle.td_codes.specs.Values.{any_value}
+use Rattle.td_codes.specs.declared.code.Any.{Any}
+use Rattle.td_codes.specs.declared.code.TypeCode.{TypeCode}
+use Rattle.td_ops.specs.declared.call.Call.{Call}
+use Rattle.td_ops.specs.declared.call.Call.TheVariants.{NonExistent}
+use Rattle.td_ops.specs.declared.outcome.Answered.{Answered}
+use Rattle.td_ops.specs.Answers.{outcome_read}
+use Rattle.td_walk.specs.Resolving.{longest_value}
+use Rattle.td_call.specs.Replies.{Reading}
+
+abbrev pub without_fault : {A F : Type 0} → Result (A × At) F → Option A
+without_fault (Ok x) = Some x.0
+without_fault (Err e) = None
+
+-- what a reply to a call tells: a result, or an exception
+abbrev pub outcome_told : Call → Reading Answered
+outcome_told c status a = without_fault (outcome_read c status a)
+
+-- ---- what an evaluator gives
+
+-- of the returned type, and of at most 16 KiB from place 0 on
+unfoldable pub may_stand : (returned : TypeCode) → Any → Bool
+may_stand returned value =
+    same value.code returned && nat_le (length (any_value.format.writes value Big 0)) longest_value
+
+-- a value; none stands for an exception
+abbrev pub standing : (returned : TypeCode) → Any → Option (Option Any)
+standing returned value = if may_stand returned value then Some (Some value) else None
+
+abbrev pub value_given : (returned : TypeCode) → Read ValueFault Any → Option (Option Any)
+value_given returned (Ok x) = standing returned x.0
+value_given returned (Err e) = None
+
+-- an exception's members stay unread
+abbrev pub exception_given : Option Answered → Option (Option Any)
+exception_given (Some answer) = Some None
+exception_given None = None
+
+-- what a reply to evalDP tells
+abbrev pub evaluation_told : (returned : TypeCode) → Reading (Option Any)
+evaluation_told returned status a =
+    if nat_eq status 0 then value_given returned (any_value.format.reads a)
+    else exception_given (outcome_told NonExistent status a)

@@ -1,0 +1,173 @@
+//! One call of an object over a connection of its own.
+
+ghost use Rattle.std.specs.Prelude.{◌≡◌, ◌≤◌};
+ghost use Rattle.td_ior.specs.Profiles.{iiop_of};
+ghost use Rattle.td_call.specs.Calling.{Called, CalledAt, Connected, first_id};
+ghost use Rattle.td_call.specs.Fetching.{IsRead};
+ghost use Rattle.td_call.specs.Readings.{outcome_told, evaluation_told};
+ghost use Rattle.td_call.specs.Requests.{request_of, evaluation_of};
+
+use crate::exchange::{exchange_call, exchange_evaluation};
+use crate::request::evaluation_request;
+use std::alloc::Global;
+use td_cdr::{Boxed, Text};
+use td_giop::{CLIENT_LIMIT, Framer};
+use td_ior::{Iiop, IorFault, iiop_of};
+use td_ops::{Answered, Call};
+use td_value::{Any, Ior, TypeCode};
+use td_walk::PeerFault;
+use td_wire::Wire;
+
+/// The id of the first request over a connection.
+const FIRST_ID: u32 = 1;
+
+/// Where an object is reached.
+///
+/// # Errors
+///
+/// `Grammar` where the reference has no IIOP profile, and `Memory`.
+pub fn profile_of(alloc: Global, target: &Ior) -> Result<Iiop, PeerFault>
+    ensures { IsRead (iiop_of target.now) result }
+{
+    match iiop_of(alloc, target) {
+        Ok(profile) => Ok(profile),
+        Err(IorFault::NoIiop) => Err(PeerFault::Grammar),
+        Err(_) => Err(PeerFault::Memory),
+    }
+}
+
+/// Makes a connection to where a profile says, over which nothing came yet.
+///
+/// # Errors
+///
+/// `Wire` where the wire failed, and `Memory`.
+pub fn connect<L: Wire>(alloc: Global, wire: &mut L, profile: &Iiop) -> Result<Framer, PeerFault>
+    ensures same { L.same wire.old wire.new }
+    ensures connected { Connected profile.now (L.told wire.old) (L.told wire.new) (L.faults wire.old)
+        (L.faults wire.new) result }
+    ensures later { L.faults wire.old ≤ L.faults wire.new }
+{
+    match wire.connect(profile.host.as_slice(), profile.port) {
+        Err(_) => Err(PeerFault::Wire),
+        Ok(()) => match Framer::new(alloc, CLIENT_LIMIT) {
+            Ok(framer) => Ok(framer),
+            Err(_) => Err(PeerFault::Memory),
+        },
+    }
+}
+
+/// Calls an object over a connection of its own: writes one Request, and reads its reply.
+///
+/// # Errors
+///
+/// - `Wire` where the wire's count of faults rose, or its bytes ended before a message was whole.
+/// - `Grammar` where the object has no IIOP profile, or the bytes are no reply to the request.
+/// - `Memory` for want of memory.
+pub fn call_over<L: Wire>(
+    alloc: Global,
+    wire: &mut L,
+    target: &Ior,
+    call: &Call,
+) -> Result<Answered, PeerFault>
+    ensures same { L.same wire.old wire.new }
+    ensures called { Called (outcome_told call.now) (λ key. request_of first_id key call.now) target.now
+        (L.told wire.old) (L.told wire.new) (L.faults wire.old) (L.faults wire.new) result }
+    ensures later { L.faults wire.old ≤ L.faults wire.new }
+{
+    match profile_of(alloc, target) {
+        Err(fault) => Err(fault),
+        Ok(profile) => call_at(alloc, wire, &profile, call),
+    }
+}
+
+/// Calls an object that is reached there.
+fn call_at<L: Wire>(
+    alloc: Global,
+    wire: &mut L,
+    profile: &Iiop,
+    call: &Call,
+) -> Result<Answered, PeerFault>
+    ensures same { L.same wire.old wire.new }
+    ensures called { CalledAt (outcome_told call.now) (request_of first_id profile.now.key call.now) profile.now
+        (L.told wire.old) (L.told wire.new) (L.faults wire.old) (L.faults wire.new) result }
+    ensures later { L.faults wire.old ≤ L.faults wire.new }
+{
+    match connect(alloc, wire, profile) {
+        Err(fault) => Err(fault),
+        Ok(framer) => {
+            let mut framer = framer;
+            let key = profile.key.as_slice();
+            exchange_call(alloc, wire, &mut framer, FIRST_ID, key, call)
+        }
+    }
+}
+
+/// Has a dynamic property evaluated, over a connection of its own: one Request for evalDP is written, and its reply
+/// read. None is answered where the evaluator raised an exception.
+///
+/// # Errors
+///
+/// As `call_over`. A value of another type than `returned`, and one of more than 16 KiB, is `Grammar`.
+pub fn evaluate_over<L: Wire>(
+    alloc: Global,
+    wire: &mut L,
+    evaluator: &Ior,
+    name: &Text,
+    returned: &TypeCode,
+    extra: &Any,
+) -> Result<Option<Boxed<Any>>, PeerFault>
+    ensures same { L.same wire.old wire.new }
+    ensures called { Called (evaluation_told returned.now)
+        (λ key. evaluation_of first_id key name.now returned.now extra.now) evaluator.now
+        (L.told wire.old) (L.told wire.new) (L.faults wire.old) (L.faults wire.new) result }
+    ensures later { L.faults wire.old ≤ L.faults wire.new }
+{
+    match profile_of(alloc, evaluator) {
+        Err(fault) => Err(fault),
+        Ok(profile) => evaluate_at(alloc, wire, &profile, name, returned, extra),
+    }
+}
+
+/// Has a dynamic property evaluated by an object that is reached there.
+fn evaluate_at<L: Wire>(
+    alloc: Global,
+    wire: &mut L,
+    profile: &Iiop,
+    name: &Text,
+    returned: &TypeCode,
+    extra: &Any,
+) -> Result<Option<Boxed<Any>>, PeerFault>
+    ensures same { L.same wire.old wire.new }
+    ensures called { CalledAt (evaluation_told returned.now)
+        (evaluation_of first_id profile.now.key name.now returned.now extra.now) profile.now
+        (L.told wire.old) (L.told wire.new) (L.faults wire.old) (L.faults wire.new) result }
+    ensures later { L.faults wire.old ≤ L.faults wire.new }
+{
+    let key = profile.key.as_slice();
+    match evaluation_request(alloc, FIRST_ID, key, name, returned, extra) {
+        Err(_) => Err(PeerFault::Memory),
+        Ok(request) => ask_at(alloc, wire, profile, request.bytes(), returned),
+    }
+}
+
+/// Sends a request for evalDP over a connection to there, and reads its reply.
+fn ask_at<L: Wire>(
+    alloc: Global,
+    wire: &mut L,
+    profile: &Iiop,
+    request: &[u8],
+    returned: &TypeCode,
+) -> Result<Option<Boxed<Any>>, PeerFault>
+    ensures same { L.same wire.old wire.new }
+    ensures called { CalledAt (evaluation_told returned.now) request.now profile.now
+        (L.told wire.old) (L.told wire.new) (L.faults wire.old) (L.faults wire.new) result }
+    ensures later { L.faults wire.old ≤ L.faults wire.new }
+{
+    match connect(alloc, wire, profile) {
+        Err(fault) => Err(fault),
+        Ok(framer) => {
+            let mut framer = framer;
+            exchange_evaluation(alloc, wire, &mut framer, FIRST_ID, request, returned)
+        }
+    }
+}

@@ -1,0 +1,136 @@
+//! One request over a connection that stands, and its reply.
+
+ghost use Rattle.std.specs.Prelude.{◌≡◌, ◌+◌, ◌<◌, ◌≤◌, ◌^◌, length, option_map};
+ghost use Rattle.td_call.specs.Fetching.{Exchanges, Fetches};
+ghost use Rattle.td_call.specs.Readings.{outcome_told, evaluation_told};
+ghost use Rattle.td_call.specs.Replies.{reply_limit};
+ghost use Rattle.td_call.specs.Requests.{request_of};
+ghost use Rattle.td_wire.specs.Connections.{wrote};
+
+use crate::fetching::fetch;
+use crate::front::{front_evaluation, front_outcome};
+use crate::request::call_request;
+use crate::sending::write_all;
+use std::alloc::Global;
+use td_cdr::Boxed;
+use td_giop::Framer;
+use td_ops::{Answered, Call};
+use td_value::{Any, TypeCode};
+use td_walk::PeerFault;
+use td_wire::Wire;
+
+/// Writes a request, and reads until a whole message stands in front of what came.
+///
+/// # Errors
+///
+/// As `fetch`.
+fn send<L: Wire>(wire: &mut L, framer: &mut Framer, request: &[u8]) -> Result<(), PeerFault>
+    requires limit { framer.old.limit ≡ reply_limit }
+    requires room { framer.old.start + length framer.old.rest + 2 ^ 27 < 2 ^ 64 }
+    ensures same { L.same wire.old wire.new }
+    ensures fetches { Fetches framer.old framer.new (option_map (wrote request.now) (L.told wire.old)) (L.told wire.new)
+        (L.faults wire.old) (L.faults wire.new) result }
+    ensures later { L.faults wire.old ≤ L.faults wire.new }
+    ensures grows { framer.new.start + length framer.new.rest
+        ≤ framer.old.start + length framer.old.rest + 2 ^ 27 }
+    ensures kept { framer.new.limit ≡ framer.old.limit }
+{
+    match write_all(wire, request) {
+        Err(_) => Err(PeerFault::Wire),
+        Ok(()) => fetch(wire, framer),
+    }
+}
+
+/// Writes a request, and reads its reply, which is that to a call.
+///
+/// # Errors
+///
+/// `Wire`, `Grammar` and `Memory`.
+fn exchange_outcome<L: Wire>(
+    alloc: Global,
+    wire: &mut L,
+    framer: &mut Framer,
+    id: u32,
+    request: &[u8],
+    call: &Call,
+) -> Result<Answered, PeerFault>
+    requires limit { framer.old.limit ≡ reply_limit }
+    requires room { framer.old.start + length framer.old.rest + 2 ^ 27 < 2 ^ 64 }
+    ensures same { L.same wire.old wire.new }
+    ensures exchanges { Exchanges (outcome_told call.now) id request.now framer.old.rest framer.new.rest
+        (L.told wire.old) (L.told wire.new) (L.faults wire.old) (L.faults wire.new) result }
+    ensures later { L.faults wire.old ≤ L.faults wire.new }
+    ensures grows { framer.new.start + length framer.new.rest
+        ≤ framer.old.start + length framer.old.rest + 2 ^ 27 }
+    ensures kept { framer.new.limit ≡ framer.old.limit }
+{
+    match send(wire, framer, request) {
+        Err(fault) => Err(fault),
+        Ok(()) => {
+            let answer = front_outcome(alloc, framer, id, call);
+            framer.drop_message();
+            answer
+        }
+    }
+}
+
+/// Writes the Request for a call of the object with this key, and reads its reply. What came behind the reply stays
+/// in the framer.
+///
+/// # Errors
+///
+/// `Wire` where the wire failed, or its bytes ended before a message was whole; `Grammar` where they are another
+/// message or one that can't be read; and `Memory`.
+pub fn exchange_call<L: Wire>(
+    alloc: Global,
+    wire: &mut L,
+    framer: &mut Framer,
+    id: u32,
+    key: &[u8],
+    call: &Call,
+) -> Result<Answered, PeerFault>
+    requires limit { framer.old.limit ≡ reply_limit }
+    requires room { framer.old.start + length framer.old.rest + 2 ^ 27 < 2 ^ 64 }
+    ensures same { L.same wire.old wire.new }
+    ensures exchanges { Exchanges (outcome_told call.now) id (request_of id key.now call.now) framer.old.rest
+        framer.new.rest (L.told wire.old) (L.told wire.new) (L.faults wire.old) (L.faults wire.new) result }
+    ensures later { L.faults wire.old ≤ L.faults wire.new }
+    ensures grows { framer.new.start + length framer.new.rest
+        ≤ framer.old.start + length framer.old.rest + 2 ^ 27 }
+    ensures kept { framer.new.limit ≡ framer.old.limit }
+{
+    match call_request(alloc, id, key, call) {
+        Err(_) => Err(PeerFault::Memory),
+        Ok(request) => exchange_outcome(alloc, wire, framer, id, request.bytes(), call),
+    }
+}
+
+/// Writes a request, and reads its reply, which is that to evalDP.
+///
+/// # Errors
+///
+/// As `exchange_call`.
+pub(crate) fn exchange_evaluation<L: Wire>(
+    alloc: Global,
+    wire: &mut L,
+    framer: &mut Framer,
+    id: u32,
+    request: &[u8],
+    returned: &TypeCode,
+) -> Result<Option<Boxed<Any>>, PeerFault>
+    requires limit { framer.old.limit ≡ reply_limit }
+    requires room { framer.old.start + length framer.old.rest + 2 ^ 27 < 2 ^ 64 }
+    ensures same { L.same wire.old wire.new }
+    ensures exchanges { Exchanges (evaluation_told returned.now) id request.now framer.old.rest framer.new.rest
+        (L.told wire.old) (L.told wire.new) (L.faults wire.old) (L.faults wire.new) result }
+    ensures later { L.faults wire.old ≤ L.faults wire.new }
+{
+    match send(wire, framer, request) {
+        Err(fault) => Err(fault),
+        Ok(()) => {
+            let answer = front_evaluation(alloc, framer, id, returned);
+            framer.drop_message();
+            answer
+        }
+    }
+}

@@ -1,0 +1,153 @@
+//! What the body of a reply tells.
+
+ghost use Rattle.std.specs.Prelude.{◌≡◌, if◌then◌else◌, IfOk};
+ghost use Rattle.td_cdr.specs.Format.{Gives};
+ghost use Rattle.td_cdr.specs.ValueFaults.{is_memory};
+ghost use Rattle.td_codes.specs.Values.{any_value};
+ghost use Rattle.td_ops.specs.declared.call.Call.TheVariants.{NonExistent};
+ghost use Rattle.td_walk.specs.declared.fault.PeerFault.TheVariants as peer;
+ghost use Rattle.td_call.specs.Fetching.{IsRead};
+ghost use Rattle.td_call.specs.Readings.{outcome_told, may_stand, standing, value_given};
+ghost use Rattle.td_call.specs.Readings.{exception_given, evaluation_told};
+
+use std::alloc::Global;
+use td_cdr::{Boxed, Memory, Reader, ValueFault};
+use td_ops::{Answered, Call, OpsFault, read_outcome};
+use td_value::{Any, TypeCode, any_size, read_any, same_type};
+use td_walk::PeerFault;
+
+/// The most bytes of a value that an evaluator may give.
+const LONGEST_VALUE: usize = 16_384;
+
+/// What a reply of this status to a call tells.
+///
+/// # Errors
+///
+/// `Grammar` where the body can't be read, and `Memory`.
+pub(crate) fn outcome_told(
+    alloc: Global,
+    call: &Call,
+    status: u32,
+    body: &mut Reader,
+) -> Result<Answered, PeerFault>
+    ensures { IsRead (outcome_told call.now status body.old) result }
+{
+    match read_outcome(alloc, call, status, body) {
+        Ok(answer) => Ok(answer),
+        Err(OpsFault::Memory) => Err(PeerFault::Memory),
+        Err(OpsFault::BadOperation) => Err(PeerFault::Grammar),
+        Err(OpsFault::Marshal(_)) => Err(PeerFault::Grammar),
+        Err(OpsFault::NoImplement) => Err(PeerFault::Grammar),
+    }
+}
+
+/// What a reply of this status to evalDP tells: a value, or none for an exception.
+///
+/// # Errors
+///
+/// `Grammar` where the body can't be read, for a value of another type and for one of more than 16 KiB; and `Memory`.
+pub(crate) fn evaluation_told(
+    alloc: Global,
+    returned: &TypeCode,
+    status: u32,
+    body: &mut Reader,
+) -> Result<Option<Boxed<Any>>, PeerFault>
+    ensures { IsRead (evaluation_told returned.now status body.old) result }
+{
+    if status == 0 {
+        value_given(alloc, returned, body)
+    } else {
+        exception_given(alloc, status, body)
+    }
+}
+
+/// The value that an evaluator gives.
+#[tactic(auto, using(crate::proofs::Bodies::value_refused, crate::proofs::Bodies::value_told))]
+fn value_given(
+    alloc: Global,
+    returned: &TypeCode,
+    body: &mut Reader,
+) -> Result<Option<Boxed<Any>>, PeerFault>
+    ensures { IsRead (value_given returned.now (any_value.format.reads body.old)) result }
+{
+    match read_boxed(alloc, body) {
+        Err(fault) => Err(peer_fault(fault)),
+        Ok(value) => standing(alloc, returned, value),
+    }
+}
+
+/// The any that comes next, in a block of its own.
+fn read_boxed(alloc: Global, body: &mut Reader) -> Result<Boxed<Any>, ValueFault>
+    ensures { Gives is_memory body.new result (any_value.format.reads body.old) }
+{
+    let value = read_any(alloc, body)?;
+    Ok(Boxed::new(alloc, value)?)
+}
+
+/// The value, where it may stand.
+#[tactic(auto, using(crate::proofs::Bodies::stands, crate::proofs::Bodies::stands_not))]
+fn standing(
+    alloc: Global,
+    returned: &TypeCode,
+    value: Boxed<Any>,
+) -> Result<Option<Boxed<Any>>, PeerFault>
+    ensures { IsRead (standing returned.now value) result }
+{
+    match may_stand(alloc, returned, value.get()) {
+        Ok(true) => Ok(Some(value)),
+        Ok(false) => {
+            drop(value);
+            Err(PeerFault::Grammar)
+        }
+        Err(_) => {
+            drop(value);
+            Err(PeerFault::Memory)
+        }
+    }
+}
+
+/// Whether a value is of this type and short enough.
+#[tactic(auto, unfolding(crate::specs::Readings::may_stand))]
+fn may_stand(alloc: Global, returned: &TypeCode, value: &Any) -> Result<bool, Memory>
+    ensures { IfOk result (λ may. may ≡ may_stand returned.now value.now) }
+{
+    if !same_type(&value.code, returned) {
+        return Ok(false);
+    }
+    let size = any_size(alloc, value)?;
+    Ok(size <= LONGEST_VALUE)
+}
+
+/// None, where the body is an exception.
+#[tactic(auto, using(crate::proofs::Bodies::exception_told, crate::proofs::Bodies::exception_refused))]
+fn exception_given(
+    alloc: Global,
+    status: u32,
+    body: &mut Reader,
+) -> Result<Option<Boxed<Any>>, PeerFault>
+    ensures { IsRead (exception_given (outcome_told NonExistent status body.old)) result }
+{
+    let answer = outcome_told(alloc, &Call::NonExistent, status, body);
+    match answer {
+        Ok(answer) => {
+            drop(answer);
+            Ok(None)
+        }
+        Err(fault) => Err(fault),
+    }
+}
+
+/// The fault of a body that holds a value.
+fn peer_fault(fault: ValueFault) -> PeerFault
+    ensures { result ≡ (if is_memory fault then peer.Memory else peer.Grammar) }
+{
+    match fault {
+        ValueFault::Memory => PeerFault::Memory,
+        ValueFault::Cdr(_) => PeerFault::Grammar,
+        ValueFault::BadKind(_) => PeerFault::Grammar,
+        ValueFault::BadValue(_) => PeerFault::Grammar,
+        ValueFault::Unsupported(_) => PeerFault::Grammar,
+        ValueFault::Depth(_) => PeerFault::Grammar,
+        ValueFault::Indirection(_) => PeerFault::Grammar,
+    }
+}

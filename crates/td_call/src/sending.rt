@@ -1,0 +1,28 @@
+//! Writing all of a piece.
+
+ghost use Rattle.std.specs.Prelude.{◌≡◌, ◌≤◌, option_map, OnOk, OnErr};
+ghost use Rattle.td_out.specs.Causes.{Rose};
+ghost use Rattle.td_wire.specs.Connections.{wrote};
+
+use td_out::Failed;
+use td_wire::Wire;
+
+/// Writes all of a piece.
+///
+/// # Errors
+///
+/// The wire's fault.
+pub(crate) fn write_all<L: Wire>(wire: &mut L, piece: &[u8]) -> Result<(), Failed>
+    ensures same { L.same wire.old wire.new }
+    ensures bytes { OnOk result (L.told wire.new ≡ option_map (wrote piece.now) (L.told wire.old)) }
+    ensures later { L.faults wire.old ≤ L.faults wire.new }
+    ensures failed { OnErr result (Rose (L.faults wire.old) (L.faults wire.new)) }
+{
+    let mut rest = piece;
+    while !rest.is_empty() {
+        let size = wire.write(rest)?;
+        let (_written, left) = rest.split_at(size);
+        rest = left;
+    }
+    Ok(())
+}
