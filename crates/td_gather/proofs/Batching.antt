@@ -1,0 +1,192 @@
+-- One batch of an iterator.
+use Rattle.std.proofs.Common.{◌≡◌, ◌∙◌, ◌⊎◌, inl, inr, ℕ, zero, suc, ◌+◌, ◌<◌, ◌≤◌, Bool, true, false, cond, ◌&&◌}
+use Rattle.std.proofs.Common.{List, [], ◌∷◌, ◌++◌, length, drop, Option, Some, None, IfSome, Result, Ok, Err, refl, sym}
+use Rattle.std.proofs.Common.{ap, subst, arith, leb-true, length-append, nat_le}
+use Rattle.td_giop.proofs.Cond.{both_true}
+use Rattle.std.specs.List.{list_all}
+use Rattle.std.specs.Prelude.{◌↔◌, IsTrue}
+use Rattle.td_ops.specs.declared.outcome.Answered.{Answered}
+use Rattle.td_ops.specs.declared.outcome.Answered.TheVariants.{Done}
+use Rattle.td_ops.specs.declared.outcome.Reply.TheVariants.{Batch}
+use Rattle.td_out.specs.Causes.{Rose}
+use Rattle.td_value.specs.declared.structures.Offer.{Offer}
+use Rattle.td_walk.specs.declared.fault.PeerFault.{PeerFault}
+use Rattle.td_walk.specs.declared.fault.PeerFault.TheVariants as fault
+use Rattle.td_wire.specs.Connections.{Traffic, left_of, with_left, wrote}
+use Rattle.td_call.specs.Fetching.{Exchanges}
+use Rattle.td_call.specs.Readings.{outcome_told}
+use Rattle.td_call.specs.Replies.{Comes, told, strange, short, replied}
+use Rattle.td_call.specs.Requests.{request_of}
+use Rattle.td_gather.specs.Draining.{Ended, gave, raised, unclear, cut, behind, behind_batch, batch_ends, answer_ends}
+use Rattle.td_gather.specs.Draining.{after_batch, after_destroy, batch_length, destroy, destroy_ends, drained}
+use Rattle.td_gather.specs.Draining.{is_small, may_join, most_offers, next_batch}
+use Rattle.td_gather.specs.Turns.{Destroyed, Destroys, Finishes, GoesOn, Grew, Joins, Takes, Turns}
+use Rattle.td_gather.specs.declared.draining.Turn.{Turn}
+use Rattle.td_gather.specs.declared.draining.Turn.TheVariants.{More, Last, Refused}
+
+-- ---- offers that join
+
+pub few_join : (count : ℕ) (offers : List Offer) → may_join count offers ≡ true → count + length offers ≤ most_offers
+unfolding may_join
+few_join count offers e =
+    leb-true (count + length offers) most_offers
+    (both_true (nat_le (count + length offers) most_offers) (list_all is_small offers) e).0
+
+choice : (b : Bool) (x : Ended (List Offer)) → b ≡ true → cond b x unclear ≡ x
+choice b x e = ap (λ (v : Bool). cond v x unclear) e
+
+pub refused_batch : (count : ℕ) (more : Bool) (offers : List Offer) (last next : Ended (List Offer))
+    → may_join count offers ≡ false → batch_ends count more offers last next ≡ unclear
+refused_batch count more offers last next e =
+    ap (λ (v : Bool). cond v (behind offers (behind_batch more offers last next)) unclear) e
+
+pub last_batch : (count : ℕ) (offers : List Offer) (last next : Ended (List Offer)) → may_join count offers ≡ true
+    → batch_ends count false offers last next ≡ behind offers last
+last_batch count offers last next e = choice (may_join count offers) (behind offers last) e
+
+pub empty_batch : (count : ℕ) (offers : List Offer) (last next : Ended (List Offer)) → may_join count offers ≡ true
+    → offers ≡ [] → batch_ends count true offers last next ≡ unclear
+empty_batch count offers last next e none =
+    choice (may_join count offers) (behind offers (behind_batch true offers last next)) e
+    ∙ ap (λ (os : List Offer). behind os (behind_batch true os last next)) none
+
+pub next_batch_joins : (count : ℕ) (offers : List Offer) (last next : Ended (List Offer)) → may_join count offers ≡ true
+    → (offers ≡ [] → ⊥) → batch_ends count true offers last next ≡ behind offers next
+next_batch_joins count [] last next e some = absurd (some refl)
+next_batch_joins count (o ∷ offers) last next e some =
+    choice (may_join count (o ∷ offers)) (behind (o ∷ offers) next) e
+
+some_offers : (offers : List Offer) → (offers ≡ [] → ⊥) → 0 < length offers
+some_offers [] some = absurd (some refl)
+some_offers (o ∷ offers) some = omega arith
+
+pub grew : (old new offers : List Offer) → may_join (length old) offers ≡ true → (offers ≡ [] → ⊥)
+    → new ≡ old ++ offers → Grew old new offers
+grew old new offers e some is =
+    let size : length new ≡ length old + length offers = ap (length {A = Offer}) is ∙ length-append old offers in
+    let one = some_offers offers some in
+    let few = few_join (length old) offers e in
+    record { is = is; some = omega (arith, size, one); most = omega (arith, size, few) }
+
+pub none_there : (b : Bool) (offers : List Offer) → (IsTrue b ↔ (offers ≡ [])) → b ≡ true → offers ≡ []
+none_there true offers h e = h.0 refl
+none_there false offers h e = absurd cc
+
+pub some_there : (b : Bool) (offers : List Offer) → (IsTrue b ↔ (offers ≡ [])) → b ≡ false → offers ≡ [] → ⊥
+some_there true offers h e none = cc
+some_there false offers h e none = let t : false ≡ true = h.1 none in cc
+
+-- what was tried of a list that is the same
+pub may_as : (b may : Bool) (n m : ℕ) (xs ys : List Offer) → m ≡ n → ys ≡ xs → may ≡ may_join m ys → may ≡ b
+    → may_join n xs ≡ b
+may_as b may n m xs ys same offers is e = (λ i. may_join (sym same i) (sym offers i)) ∙ sym is ∙ e
+
+pub takes_batch : (more : Bool) (offers old new : List Offer) (r : Result Turn PeerFault)
+    → Joins more offers old new r → Takes (Done (Batch more offers)) old new r
+takes_batch more offers old new (Ok More) j = (offers, j.1, refl, j.0)
+takes_batch more offers old new (Ok Last) j = (offers, j.1, j.0)
+takes_batch more offers old new (Ok (Refused answer)) j = absurd j
+takes_batch more offers old new (Err fault.Wire) j = absurd j
+takes_batch more offers old new (Err fault.Grammar) j = j
+takes_batch more offers old new (Err fault.Exception) j = absurd j
+takes_batch more offers old new (Err fault.Memory) j = tt
+
+-- ---- an exchange with the iterator
+
+pub turned : (key : List ℕ) (id : ℕ) (held held_after : List ℕ) (before after : Option Traffic) (f0 f1 : ℕ)
+    (old new : List Offer) (answer : Answered) (r : Result Turn PeerFault)
+    → Exchanges (outcome_told next_batch) id (request_of id key next_batch) held held_after before after f0 f1
+    (Ok answer)
+    → Takes answer old new r → Turns key id held held_after before after f0 f1 old new r
+unfolding drained
+turned key id held held_after None after f0 f1 old new answer (Ok More) x taken = (taken.0, taken.1, tt)
+turned key id held held_after (Some t) after f0 f1 old new answer (Ok More) x taken =
+    let grows : length new ≡ length old + batch_length answer =
+    ap (length {A = Offer}) taken.1.is ∙ length-append old taken.0
+    ∙ ap (λ (n : ℕ). length old + n) (sym taken.2) in (
+      taken.0,
+      taken.1,
+      record {
+        rest = x.rest;
+        wire = x.wire;
+        left = x.left;
+        is = λ batches.
+            ap (after_batch (drained batches (id + 1)) id (length old) (held ++ left_of t)) x.is
+            ∙ taken.3 _ _
+            ∙ (λ i. behind taken.0 (drained batches (id + 1) (sym grows i) (sym x.behind i)));
+      },
+    )
+turned key id held held_after None after f0 f1 old new answer (Ok Last) x taken = (taken.0, taken.1, tt)
+turned key id held held_after (Some t) after f0 f1 old new answer (Ok Last) x taken = (
+  taken.0,
+  taken.1,
+  record {
+    rest = x.rest;
+    wire = x.wire;
+    left = x.left;
+    is = λ batches.
+        ap (after_batch (drained batches (id + 1)) id (length old) (held ++ left_of t)) x.is
+        ∙ taken.2 _ _
+        ∙ ap (λ (left : List ℕ). behind taken.0 (after_destroy (replied (outcome_told destroy) (id + 1) left)))
+        (sym x.behind);
+  },
+)
+turned key id held held_after None after f0 f1 old new answer (Ok (Refused other)) x taken = tt
+turned key id held held_after (Some t) after f0 f1 old new answer (Ok (Refused other)) x taken =
+    λ batches. ap (after_batch (drained batches (id + 1)) id (length old) (held ++ left_of t)) x.is ∙ taken _ _
+turned key id held held_after before after f0 f1 old new answer (Err fault.Wire) x taken = absurd taken
+turned key id held held_after None after f0 f1 old new answer (Err fault.Grammar) x taken = tt
+turned key id held held_after (Some t) after f0 f1 old new answer (Err fault.Grammar) x taken =
+    λ batches. ap (after_batch (drained batches (id + 1)) id (length old) (held ++ left_of t)) x.is ∙ taken _ _
+turned key id held held_after before after f0 f1 old new answer (Err fault.Exception) x taken = absurd taken
+turned key id held held_after before after f0 f1 old new answer (Err fault.Memory) x taken = tt
+
+pub unturned : (key : List ℕ) (id : ℕ) (held held_after : List ℕ) (before after : Option Traffic) (f0 f1 : ℕ)
+    (old new : List Offer) (e : PeerFault)
+    → Exchanges (outcome_told next_batch) id (request_of id key next_batch) held held_after before after f0 f1
+    (Err e)
+    → Turns key id held held_after before after f0 f1 old new (Err e)
+unfolding drained
+unturned key id held held_after None after f0 f1 old new fault.Wire x =
+    elim x [ inl rose ↦ inl rose | inr ended ↦ inr tt ]
+unturned key id held held_after (Some t) after f0 f1 old new fault.Wire x =
+    elim x [
+      | inl rose ↦ inl rose
+      | inr ended ↦ inr (λ batches.
+          ap (after_batch (drained batches (id + 1)) id (length old) (held ++ left_of t)) ended)
+    ]
+unturned key id held held_after None after f0 f1 old new fault.Grammar x = tt
+unturned key id held held_after (Some t) after f0 f1 old new fault.Grammar x =
+    λ batches. ap (after_batch (drained batches (id + 1)) id (length old) (held ++ left_of t)) x
+unturned key id held held_after before after f0 f1 old new fault.Exception x = absurd x
+unturned key id held held_after before after f0 f1 old new fault.Memory x = tt
+
+-- ---- the iterator is destroyed
+
+pub destroyed_so : (key : List ℕ) (id : ℕ) (held held_after : List ℕ) (before after : Option Traffic) (f0 f1 : ℕ)
+    (answer : Answered) (r : Result (Option Answered) PeerFault)
+    → Exchanges (outcome_told destroy) id (request_of id key destroy) held held_after before after f0 f1 (Ok answer)
+    → Destroyed (destroy_ends answer) r → Destroys key id held before after f0 f1 r
+destroyed_so key id held held_after None after f0 f1 answer (Ok None) x d = tt
+destroyed_so key id held held_after (Some t) after f0 f1 answer (Ok None) x d =
+    (x.rest, x.wire, ap after_destroy x.is ∙ d)
+destroyed_so key id held held_after None after f0 f1 answer (Ok (Some other)) x d = tt
+destroyed_so key id held held_after (Some t) after f0 f1 answer (Ok (Some other)) x d = ap after_destroy x.is ∙ d
+destroyed_so key id held held_after before after f0 f1 answer (Err fault.Wire) x d = absurd d
+destroyed_so key id held held_after None after f0 f1 answer (Err fault.Grammar) x d = tt
+destroyed_so key id held held_after (Some t) after f0 f1 answer (Err fault.Grammar) x d = ap after_destroy x.is ∙ d
+destroyed_so key id held held_after before after f0 f1 answer (Err fault.Exception) x d = absurd d
+destroyed_so key id held held_after before after f0 f1 answer (Err fault.Memory) x d = absurd d
+
+pub undestroyed : (key : List ℕ) (id : ℕ) (held held_after : List ℕ) (before after : Option Traffic) (f0 f1 : ℕ)
+    (e : PeerFault)
+    → Exchanges (outcome_told destroy) id (request_of id key destroy) held held_after before after f0 f1 (Err e)
+    → Destroys key id held before after f0 f1 (Err e)
+undestroyed key id held held_after None after f0 f1 fault.Wire x =
+    elim x [ inl rose ↦ inl rose | inr ended ↦ inr tt ]
+undestroyed key id held held_after (Some t) after f0 f1 fault.Wire x =
+    elim x [ inl rose ↦ inl rose | inr ended ↦ inr (ap after_destroy ended) ]
+undestroyed key id held held_after None after f0 f1 fault.Grammar x = tt
+undestroyed key id held held_after (Some t) after f0 f1 fault.Grammar x = ap after_destroy x
+undestroyed key id held held_after before after f0 f1 fault.Exception x = absurd x
+undestroyed key id held held_after before after f0 f1 fault.Memory x = tt

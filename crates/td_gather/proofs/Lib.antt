@@ -1,0 +1,5 @@
+pub mod Answering
+pub mod Batching
+pub mod Gathering
+pub mod Leftover
+pub mod Smallness

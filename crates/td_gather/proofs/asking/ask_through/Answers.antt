@@ -1,0 +1,64 @@
+use Rattle.std.proofs.Common.{◌∙◌, ap, arith, length, refl, Ok, Err}
+use Rattle.td_giop.specs.Stream.{Stream}
+use Rattle.td_ops.specs.declared.outcome.Answered.TheVariants.{Done, User, System}
+use Rattle.td_gather.proofs.Answering.{from_fresh, through_done, through_fault, through_refused}
+use Rattle.td_gather.proofs.asking.ask_through.Goals as goal
+
+pub exchange_call-requires-clause-limit : goal.exchange_call-requires-clause-limit
+exchange_call-requires-clause-limit g c = ap (λ (s : Stream). s.limit) c.requires
+
+pub exchange_call-requires-clause-room : goal.exchange_call-requires-clause-room
+exchange_call-requires-clause-room g c =
+    let place = ap (λ (s : Stream). s.start) c.requires in
+    let rest = ap (λ (s : Stream). length s.rest) c.requires in omega (arith, place, rest)
+
+pub gather-requires-clause-limit : goal.gather-requires-clause-limit
+gather-requires-clause-limit g c = c.exchange_call.ensures.kept ∙ ap (λ (s : Stream). s.limit) c.requires
+
+pub gather-requires-clause-room : goal.gather-requires-clause-room
+gather-requires-clause-room g c =
+    let grows = c.exchange_call.ensures.grows in
+    let place = ap (λ (s : Stream). s.start) c.requires in
+    let rest = ap (λ (s : Stream). length s.rest) c.requires in omega (arith, grows, place, rest)
+
+pub returns-in-Err-clause-asks : goal.returns-in-Err-clause-asks
+returns-in-Err-clause-asks g c =
+    through_fault c.args.key.now c.args.call.now c.exchange_call.new.framer.rest (g.L.Wire.told c.args.wire.now)
+    (g.L.Wire.told c.exchange_call.new.wire) (g.L.Wire.faults c.args.wire.now)
+    (g.L.Wire.faults c.exchange_call.new.wire)
+    c.in-Err.fault
+    (from_fresh c.args.key.now c.args.call.now c.args.framer.now c.exchange_call.new.framer.rest
+    (g.L.Wire.told c.args.wire.now) (g.L.Wire.told c.exchange_call.new.wire) (g.L.Wire.faults c.args.wire.now)
+    (g.L.Wire.faults c.exchange_call.new.wire) (Err c.in-Err.fault) c.requires c.in-Err.ensures.exchanges)
+
+pub returns-in-Ok-Done-clause-asks : goal.returns-in-Ok-Done-clause-asks
+returns-in-Ok-Done-clause-asks g c =
+    through_done c.args.key.now c.args.call.now c.exchange_call.new.framer.rest (g.L.Wire.told c.args.wire.now)
+    (g.L.Wire.told c.exchange_call.new.wire) _ (g.L.Wire.faults c.args.wire.now)
+    (g.L.Wire.faults c.exchange_call.new.wire) _ c.in-Ok-Done.reply c.gather.result c.exchange_call.ensures.later
+    (from_fresh c.args.key.now c.args.call.now c.args.framer.now c.exchange_call.new.framer.rest
+    (g.L.Wire.told c.args.wire.now) (g.L.Wire.told c.exchange_call.new.wire) (g.L.Wire.faults c.args.wire.now)
+    (g.L.Wire.faults c.exchange_call.new.wire) (Ok (Done c.in-Ok-Done.reply)) c.requires
+    (rw c.in-Ok-Done.field-0-is at c.in-Ok-Done.ensures.exchanges))
+    c.gather.ensures.ends
+
+pub returns-in-Ok-User-clause-asks : goal.returns-in-Ok-User-clause-asks
+returns-in-Ok-User-clause-asks g c =
+    through_refused c.args.key.now c.args.call.now c.exchange_call.new.framer.rest (g.L.Wire.told c.args.wire.now)
+    (g.L.Wire.told c.exchange_call.new.wire) (g.L.Wire.faults c.args.wire.now)
+    (g.L.Wire.faults c.exchange_call.new.wire) (User c.in-Ok-User.id) (λ left. refl)
+    (from_fresh c.args.key.now c.args.call.now c.args.framer.now c.exchange_call.new.framer.rest
+    (g.L.Wire.told c.args.wire.now) (g.L.Wire.told c.exchange_call.new.wire) (g.L.Wire.faults c.args.wire.now)
+    (g.L.Wire.faults c.exchange_call.new.wire) (Ok (User c.in-Ok-User.id)) c.requires
+    (rw c.in-Ok-User.field-0-is at c.in-Ok-User.ensures.exchanges))
+
+pub returns-in-Ok-System-clause-asks : goal.returns-in-Ok-System-clause-asks
+returns-in-Ok-System-clause-asks g c =
+    let answer = System c.in-Ok-System.id c.in-Ok-System.minor c.in-Ok-System.completion in
+    through_refused c.args.key.now c.args.call.now c.exchange_call.new.framer.rest (g.L.Wire.told c.args.wire.now)
+    (g.L.Wire.told c.exchange_call.new.wire) (g.L.Wire.faults c.args.wire.now)
+    (g.L.Wire.faults c.exchange_call.new.wire) answer (λ left. refl)
+    (from_fresh c.args.key.now c.args.call.now c.args.framer.now c.exchange_call.new.framer.rest
+    (g.L.Wire.told c.args.wire.now) (g.L.Wire.told c.exchange_call.new.wire) (g.L.Wire.faults c.args.wire.now)
+    (g.L.Wire.faults c.exchange_call.new.wire) (Ok answer) c.requires
+    (rw c.in-Ok-System.field-0-is at c.in-Ok-System.ensures.exchanges))

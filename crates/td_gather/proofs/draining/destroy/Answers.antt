@@ -1,0 +1,12 @@
+use Rattle.td_gather.proofs.Batching.{destroyed_so, undestroyed}
+use Rattle.td_gather.proofs.draining.destroy.Goals as goal
+
+pub returns-in-Err-clause-destroys : goal.returns-in-Err-clause-destroys
+returns-in-Err-clause-destroys g c =
+    undestroyed c.args.key.now c.args.id c.args.framer.now.rest c.call_iterator.new.framer.rest
+    (g.L.Wire.told c.args.wire.now) (g.L.Wire.told c.call_iterator.new.wire) (g.L.Wire.faults c.args.wire.now)
+    (g.L.Wire.faults c.call_iterator.new.wire) c.in-Err.fault c.in-Err.ensures.exchanges
+
+pub returns-in-Ok-clause-destroys : goal.returns-in-Ok-clause-destroys
+returns-in-Ok-clause-destroys g c =
+    destroyed_so _ _ _ _ _ _ _ _ c.in-Ok.answer c.destroyed.result c.in-Ok.ensures.exchanges c.destroyed.ensures

@@ -1,0 +1,60 @@
+use Rattle.std.proofs.Common.{◌∙◌, arith}
+use Rattle.td_gather.proofs.Gathering.{came_more, came_none, ends_fault, ends_last, ends_refused}
+use Rattle.td_gather.proofs.draining.drain.Goals as goal
+
+pub batches-init : goal.batches-init
+batches-init g c = record {
+  same = g.met.L.Wire.same_self _;
+  limit = c.requires.limit;
+  room = c.requires.room;
+  small = c.requires.small;
+  came = came_none _ _ _ _ _ c.requires.few;
+}
+
+pub take_batch-requires-clause-few : goal.take_batch-requires-clause-few
+take_batch-requires-clause-few g c =
+    let few = c.batches.invariant.came.few in
+    let most = c.batches.invariant.came.most in omega (arith, few, most)
+
+pub destroy-requires-clause-few : goal.destroy-requires-clause-few
+destroy-requires-clause-few g c =
+    let few = c.batches.invariant.came.few in
+    let most = c.batches.invariant.came.most in omega (arith, few, most)
+
+pub returns-in-Err-clause-drains : goal.returns-in-Err-clause-drains
+returns-in-Err-clause-drains g c =
+    ends_fault c.args.key.now c.args.framer.now.rest c.batches.framer.rest c.take_batch.new.framer.rest
+    (g.L.Wire.told c.args.wire.now) (g.L.Wire.told c.batches.wire) (g.L.Wire.told c.take_batch.new.wire)
+    (g.L.Wire.faults c.args.wire.now) (g.L.Wire.faults c.batches.wire) (g.L.Wire.faults c.take_batch.new.wire)
+    c.args.gathered.now.items c.batches.gathered.items c.take_batch.new.gathered.items c.batches.id c.in-Err.fault
+    c.batches.invariant.came c.in-Err.ensures.turns
+
+pub returns-in-Ok-Refused-clause-drains : goal.returns-in-Ok-Refused-clause-drains
+returns-in-Ok-Refused-clause-drains g c =
+    ends_refused _ _ _ c.take_batch.new.framer.rest _ _ (g.L.Wire.told c.take_batch.new.wire) _ _
+    (g.L.Wire.faults c.take_batch.new.wire) _ _ c.take_batch.new.gathered.items _ c.in-Ok-Refused.answer
+    c.batches.invariant.came (rw c.in-Ok-Refused.field-0-is at c.in-Ok-Refused.ensures.turns)
+
+pub returns-in-Ok-Last-clause-drains : goal.returns-in-Ok-Last-clause-drains
+returns-in-Ok-Last-clause-drains g c =
+    ends_last _ _ _ c.take_batch.new.framer.rest _ _ (g.L.Wire.told c.take_batch.new.wire) _ _ _
+    (g.L.Wire.faults c.take_batch.new.wire) _ _ _ c.take_batch.new.gathered.items _ c.destroy.result
+    c.batches.invariant.came c.take_batch.ensures.later
+    (rw c.in-Ok-Last.field-0-is at c.in-Ok-Last.ensures.turns) c.destroy.ensures.destroys
+
+pub batches-smaller : goal.batches-smaller
+batches-smaller g c =
+    let turned = rw c.in-Ok-More.field-0-is at c.in-Ok-More.ensures.turns in
+    let some = turned.1.some in let most = turned.1.most in omega (arith, some, most)
+
+pub batches-preserved : goal.batches-preserved
+batches-preserved g c = record {
+  same = g.met.L.Wire.same_on _ _ _ c.batches.invariant.same c.take_batch.ensures.same;
+  limit = c.take_batch.ensures.kept ∙ c.batches.invariant.limit;
+  room = c.take_batch.ensures.grows;
+  small = c.in-Ok-More.ensures.small;
+  came =
+      came_more _ _ _ c.take_batch.new.framer.rest _ _ _ _ _ _ _ _ c.take_batch.new.gathered.items _
+      c.batches.invariant.came c.take_batch.ensures.later
+      (rw c.in-Ok-More.field-0-is at c.in-Ok-More.ensures.turns);
+}

@@ -1,0 +1,288 @@
+//! An iterator is asked for batches until one comes with FALSE, and is then destroyed.
+
+ghost use Rattle.std.specs.Prelude.{◌≡◌, ◌+◌, ◌<◌, ◌≤◌, ◌^◌, true, false, length, OnOk};
+ghost use Rattle.td_call.specs.Fetching.{Exchanges};
+ghost use Rattle.td_call.specs.Readings.{outcome_told};
+ghost use Rattle.td_call.specs.Replies.{reply_limit};
+ghost use Rattle.td_call.specs.Requests.{request_of};
+ghost use Rattle.td_gather.specs.Asking.{most_batches, second_id};
+ghost use Rattle.td_gather.specs.Draining.{AreSmall, destroy_ends, may_join, most_offers};
+ghost use Rattle.td_ops.specs.declared.call.Call.TheVariants.{Iter};
+ghost use Rattle.td_gather.specs.Turns.{Destroyed, Destroys, Drains, Joins, Takes, Turns, bytes_limit};
+
+use crate::joining::{join, may_join};
+use std::alloc::Global;
+use td_call::exchange_call;
+use td_cdr::List;
+use td_giop::Framer;
+use td_ops::{Answered, Call, IterCall, Reply};
+use td_value::Offer;
+use td_walk::PeerFault;
+use td_wire::Wire;
+
+/// How many offers a batch is asked for.
+const BATCH_SIZE: u32 = 1000;
+
+/// What a call of an iterator came to.
+#[derive(Drop)]
+pub(crate) enum Turn {
+    /// Another batch is to be asked for.
+    More,
+    /// The batch was the last one.
+    Last,
+    /// The call was answered by an exception.
+    Refused(Answered),
+}
+
+/// Joins the last batch.
+///
+/// # Errors
+///
+/// `Memory` for want of memory alone.
+#[tactic(auto, using(crate::proofs::Smallness::joined_small))]
+fn join_last(gathered: &mut Vec<Offer>, offers: List<Offer>) -> Result<Turn, PeerFault>
+    requires joined { may_join (length gathered.old.items) offers ≡ true }
+    requires small { AreSmall gathered.old.items }
+    ensures joins { Joins false offers gathered.old.items gathered.new.items result }
+    ensures small { OnOk result (AreSmall gathered.new.items) }
+{
+    match join(gathered, offers) {
+        Err(_) => Err(PeerFault::Memory),
+        Ok(()) => Ok(Turn::Last),
+    }
+}
+
+/// Joins a batch that another one follows.
+///
+/// # Errors
+///
+/// `Grammar` for an empty one, and `Memory`.
+#[tactic(auto, using(crate::proofs::Smallness::joined_small))]
+fn join_next(gathered: &mut Vec<Offer>, offers: List<Offer>) -> Result<Turn, PeerFault>
+    requires joined { may_join (length gathered.old.items) offers ≡ true }
+    requires small { AreSmall gathered.old.items }
+    ensures joins { Joins true offers gathered.old.items gathered.new.items result }
+    ensures small { OnOk result (AreSmall gathered.new.items) }
+{
+    if offers.is_empty() {
+        return Err(PeerFault::Grammar);
+    }
+    match join(gathered, offers) {
+        Err(_) => Err(PeerFault::Memory),
+        Ok(()) => Ok(Turn::More),
+    }
+}
+
+/// Joins a batch to the offers that were gathered, and tells whether another one follows.
+///
+/// # Errors
+///
+/// `Grammar` for more offers than may be, for one that is too large, and for an empty batch with TRUE; `Memory`.
+fn join_batch(
+    alloc: Global,
+    gathered: &mut Vec<Offer>,
+    more: bool,
+    offers: List<Offer>,
+) -> Result<Turn, PeerFault>
+    requires { AreSmall gathered.old.items }
+    ensures joins { Joins more offers gathered.old.items gathered.new.items result }
+    ensures small { OnOk result (AreSmall gathered.new.items) }
+{
+    match may_join(alloc, gathered.len(), offers.as_slice()) {
+        Err(_) => Err(PeerFault::Memory),
+        Ok(false) => Err(PeerFault::Grammar),
+        Ok(true) => {
+            if more {
+                join_next(gathered, offers)
+            } else {
+                join_last(gathered, offers)
+            }
+        }
+    }
+}
+
+/// Joins what a call of next_n was answered with.
+///
+/// # Errors
+///
+/// As `join_batch`.
+#[tactic(auto, using(crate::proofs::Batching::takes_batch))]
+fn join_answer(
+    alloc: Global,
+    gathered: &mut Vec<Offer>,
+    answer: Answered,
+) -> Result<Turn, PeerFault>
+    requires { AreSmall gathered.old.items }
+    ensures takes { Takes answer gathered.old.items gathered.new.items result }
+    ensures small { OnOk result (AreSmall gathered.new.items) }
+{
+    match answer {
+        Answered::Done(reply) => match reply {
+            Reply::Batch { more, offers } => join_batch(alloc, gathered, more, offers),
+            other => {
+                drop(other);
+                Err(PeerFault::Grammar)
+            }
+        },
+        Answered::User(id) => Ok(Turn::Refused(Answered::User(id))),
+        Answered::System {
+            id,
+            minor,
+            completion,
+        } => Ok(Turn::Refused(Answered::System {
+            id,
+            minor,
+            completion,
+        })),
+    }
+}
+
+/// Calls the iterator with this key, and reads the reply.
+///
+/// # Errors
+///
+/// As `exchange_call`.
+fn call_iterator<L: Wire>(
+    alloc: Global,
+    wire: &mut L,
+    framer: &mut Framer,
+    id: u32,
+    key: &[u8],
+    call: IterCall,
+) -> Result<Answered, PeerFault>
+    requires limit { framer.old.limit ≡ reply_limit }
+    requires room { framer.old.start + length framer.old.rest + 2 ^ 27 < 2 ^ 64 }
+    ensures same { L.same wire.old wire.new }
+    ensures exchanges { Exchanges (outcome_told (Iter call)) id (request_of id key.now (Iter call)) framer.old.rest
+        framer.new.rest (L.told wire.old) (L.told wire.new) (L.faults wire.old) (L.faults wire.new) result }
+    ensures later { L.faults wire.old ≤ L.faults wire.new }
+    ensures grows { framer.new.start + length framer.new.rest
+        ≤ framer.old.start + length framer.old.rest + 2 ^ 27 }
+    ensures kept { framer.new.limit ≡ framer.old.limit }
+{
+    let call = Call::Iter(call);
+    let answer = exchange_call(alloc, wire, framer, id, key, &call);
+    drop(call);
+    answer
+}
+
+/// Asks for a batch, and joins it to the offers that were gathered.
+///
+/// # Errors
+///
+/// `Wire`, `Grammar` and `Memory`.
+fn take_batch<L: Wire>(
+    alloc: Global,
+    wire: &mut L,
+    framer: &mut Framer,
+    id: u32,
+    key: &[u8],
+    gathered: &mut Vec<Offer>,
+) -> Result<Turn, PeerFault>
+    requires limit { framer.old.limit ≡ reply_limit }
+    requires room { framer.old.start + length framer.old.rest ≤ bytes_limit id }
+    requires few { id ≤ most_batches + 1 }
+    requires small { AreSmall gathered.old.items }
+    ensures same { L.same wire.old wire.new }
+    ensures turns { Turns key.now id framer.old.rest framer.new.rest (L.told wire.old) (L.told wire.new)
+        (L.faults wire.old) (L.faults wire.new) gathered.old.items gathered.new.items result }
+    ensures later { L.faults wire.old ≤ L.faults wire.new }
+    ensures grows { framer.new.start + length framer.new.rest ≤ bytes_limit (id + 1) }
+    ensures kept { framer.new.limit ≡ framer.old.limit }
+    ensures small { OnOk result (AreSmall gathered.new.items) }
+{
+    let next = IterCall::NextN { n: BATCH_SIZE };
+    match call_iterator(alloc, wire, framer, id, key, next) {
+        Err(fault) => Err(fault),
+        Ok(answer) => join_answer(alloc, gathered, answer),
+    }
+}
+
+/// Destroys the iterator. An exception is answered.
+///
+/// # Errors
+///
+/// `Wire`, `Grammar` and `Memory`.
+fn destroy<L: Wire>(
+    alloc: Global,
+    wire: &mut L,
+    framer: &mut Framer,
+    id: u32,
+    key: &[u8],
+) -> Result<Option<Answered>, PeerFault>
+    requires limit { framer.old.limit ≡ reply_limit }
+    requires room { framer.old.start + length framer.old.rest ≤ bytes_limit id }
+    requires few { id ≤ most_batches + 2 }
+    ensures same { L.same wire.old wire.new }
+    ensures destroys { Destroys key.now id framer.old.rest (L.told wire.old) (L.told wire.new) (L.faults wire.old)
+        (L.faults wire.new) result }
+    ensures later { L.faults wire.old ≤ L.faults wire.new }
+{
+    match call_iterator(alloc, wire, framer, id, key, IterCall::Destroy) {
+        Err(fault) => Err(fault),
+        Ok(answer) => destroyed(answer),
+    }
+}
+
+/// What the call that destroys an iterator was answered with, where it is an exception.
+///
+/// # Errors
+///
+/// `Grammar` for a result that isn't one of destroy.
+fn destroyed(answer: Answered) -> Result<Option<Answered>, PeerFault>
+    ensures { Destroyed (destroy_ends answer) result }
+{
+    match answer {
+        Answered::Done(reply) => match reply {
+            Reply::Nothing => Ok(None),
+            other => {
+                drop(other);
+                Err(PeerFault::Grammar)
+            }
+        },
+        Answered::User(id) => Ok(Some(Answered::User(id))),
+        Answered::System {
+            id,
+            minor,
+            completion,
+        } => Ok(Some(Answered::System {
+            id,
+            minor,
+            completion,
+        })),
+    }
+}
+
+/// Drains the iterator with this key over the connection, with requests from this id on, and destroys it. Its offers
+/// join those that were gathered. An exception that a call was answered with ends it, and is answered.
+///
+/// # Errors
+///
+/// `Wire`, `Grammar` and `Memory`.
+pub(crate) fn drain<L: Wire>(
+    alloc: Global,
+    wire: &mut L,
+    framer: &mut Framer,
+    key: &[u8],
+    gathered: &mut Vec<Offer>,
+) -> Result<Option<Answered>, PeerFault>
+    requires limit { framer.old.limit ≡ reply_limit }
+    requires room { framer.old.start + length framer.old.rest ≤ bytes_limit second_id }
+    requires few { length gathered.old.items ≤ most_offers }
+    requires small { AreSmall gathered.old.items }
+    ensures same { L.same wire.old wire.new }
+    ensures drains { Drains key.now second_id most_batches framer.old.rest (L.told wire.old) (L.told wire.new)
+        (L.faults wire.old) (L.faults wire.new) gathered.old.items gathered.new.items result }
+    ensures later { L.faults wire.old ≤ L.faults wire.new }
+    ensures small { OnOk result (AreSmall gathered.new.items) }
+{
+    let mut id: u32 = 2;
+    'batches: loop {
+        match take_batch(alloc, wire, framer, id, key, gathered) {
+            Err(fault) => return Err(fault),
+            Ok(Turn::Refused(answer)) => return Ok(Some(answer)),
+            Ok(Turn::Last) => return destroy(alloc, wire, framer, id + 1, key),
+            Ok(Turn::More) => id += 1,
+        }
+    }
+}

@@ -1,0 +1,13 @@
+//! What a query of another trader gives.
+
+use td_ops::Answered;
+use td_walk::SubAnswer;
+
+/// What a query of another trader gives.
+#[derive(Drop)]
+pub enum Gathered {
+    /// The offers of the query's reply and of its iterator, in order, and the reply's limits.
+    Offers(SubAnswer),
+    /// The exception that the query or a call of its iterator was answered with.
+    Refused(Answered),
+}

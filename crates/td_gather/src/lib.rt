@@ -1,0 +1,11 @@
+//! A query of another trader, with what its iterator gives over the same connection (OMG's Trading Object Service,
+//! interfaces Lookup and OfferIterator).
+#![tactic(auto)]
+
+mod asking;
+mod draining;
+mod gathered;
+mod joining;
+
+pub use asking::ask_over;
+pub use gathered::Gathered;
