@@ -1,0 +1,45 @@
+-- The calls of a caller, as they are noted.
+use Rattle.std.specs.Prelude.{◌≡◌, ℕ, List, [], ◌∷◌, map, Result, Ok, Err}
+use Rattle.td_out.specs.Causes.{raised}
+use Rattle.td_walk.specs.Peering.{PeerCall, Querying, Evaluating, RegisterOf, Resolving, Exchange, Given}
+use Rattle.td_walk.specs.Peering.{Answered, Evaluated, Referred, Failed}
+use Rattle.td_walk.specs.declared.fault.PeerFault.{PeerFault}
+use Rattle.td_walk.specs.declared.fault.PeerFault.TheVariants as fault
+use Rattle.td_client.specs.declared.note.CallNote.{CallNote}
+use Rattle.td_client.specs.declared.note.CallNote.TheVariants as call
+use Rattle.td_client.specs.declared.note.GaveNote.{GaveNote}
+use Rattle.td_client.specs.declared.note.GaveNote.TheVariants as gave
+use Rattle.td_client.specs.declared.note.Note.{Note}
+
+abbrev pub call_of : CallNote → PeerCall
+call_of (call.Query t q) = Querying t.value q.value
+call_of (call.Evaluation t n c x) = Evaluating t.value n.value c.value x.value
+call_of (call.Register t) = RegisterOf t.value
+call_of (call.Resolution t n) = Resolving t.value n.value
+
+abbrev pub given_of : GaveNote → Given
+given_of (gave.Offers a) = Answered a.value
+given_of (gave.Value v) = Evaluated v.value
+given_of (gave.Reference r) = Referred r.value
+given_of (gave.Failed f) = Failed f
+
+abbrev pub exchange_of : Note → Exchange
+exchange_of n = record { call = call_of n.call; gave = given_of n.gave }
+
+abbrev pub exchanges : List Note → List Exchange
+exchanges notes = map exchange_of notes
+
+-- what a call that failed adds: one that wanted memory isn't noted
+abbrev pub failed : PeerCall → PeerFault → List Exchange
+failed c fault.Memory = []
+failed c fault.Wire = record { call = c; gave = Failed fault.Wire } ∷ []
+failed c fault.Grammar = record { call = c; gave = Failed fault.Grammar } ∷ []
+failed c fault.Exception = record { call = c; gave = Failed fault.Exception } ∷ []
+
+-- the caller's own count goes up by a fault other than want of memory
+abbrev pub count_after : {A : Type 0} → (count : ℕ) → Result A PeerFault → ℕ
+count_after count (Ok a) = count
+count_after count (Err fault.Memory) = count
+count_after count (Err fault.Wire) = raised count
+count_after count (Err fault.Grammar) = raised count
+count_after count (Err fault.Exception) = raised count

@@ -1,0 +1,108 @@
+//! A caller of peers over a wire.
+
+ghost use Rattle.std.specs.Prelude.{◌≡◌, ◌≤◌, [], IfOk};
+ghost use Rattle.td_call.specs.Calling.{Called, first_id};
+ghost use Rattle.td_call.specs.Readings.{outcome_told};
+ghost use Rattle.td_call.specs.Requests.{request_of};
+ghost use Rattle.td_client.specs.Noted.{count_after};
+ghost use Rattle.td_gather.specs.Asking.{Asks, GivesSmallOffers};
+
+use crate::note::Note;
+use std::alloc::Global;
+use td_call::call_over;
+use td_gather::{Gathered, ask_over};
+use td_ops::{Answered, Call, Query};
+use td_value::Ior;
+use td_walk::PeerFault;
+use td_wire::Wire;
+
+/// A caller of peers over a wire.
+#[derive(Drop)]
+pub struct Caller<L> {
+    pub(crate) wire: L,
+    /// The calls that a visit made, in order.
+    pub(crate) notes: Vec<Note>,
+    pub(crate) faults: u64,
+}
+
+impl<L: Wire> Caller<L> {
+    /// A caller over this wire. It made no call and counted no fault yet.
+    pub fn new(alloc: Global, wire: L) -> Caller<L>
+        ensures wire { result.wire ≡ wire }
+        ensures notes { result.notes.items ≡ [] }
+        ensures faults { result.faults ≡ 0 }
+    {
+        Caller {
+            wire,
+            notes: Vec::new(alloc),
+            faults: 0,
+        }
+    }
+
+    /// Calls an object: connects, writes one Request, and reads its reply.
+    ///
+    /// # Errors
+    ///
+    /// - `Wire` where the wire's count of faults rose, or its bytes ended before a message was whole.
+    /// - `Grammar` where the object has no IIOP profile, or the bytes are no reply to the request.
+    /// - `Memory` for want of memory.
+    ///
+    /// Each but `Memory` raises the caller's own count.
+    pub fn call(&mut self, alloc: Global, target: &Ior, call: &Call) -> Result<Answered, PeerFault>
+        ensures same { L.same self.old.wire self.new.wire }
+        ensures called { Called (outcome_told call.now) (λ key. request_of first_id key call.now) target.now
+            (L.told self.old.wire) (L.told self.new.wire) (L.faults self.old.wire) (L.faults self.new.wire) result }
+        ensures notes { self.new.notes ≡ self.old.notes }
+        ensures count { self.new.faults ≡ count_after self.old.faults result }
+    {
+        let answer = call_over(alloc, &mut self.wire, target, call);
+        self.faults = count_call(self.faults, &answer);
+        answer
+    }
+
+    /// Asks another trader: writes the query, and reads its reply. An iterator is drained over the same connection by
+    /// `next_n(1000)`, with request ids 2, 3 and so on, and then destroyed.
+    ///
+    /// # Errors
+    ///
+    /// As `call`. More than 1,000,000 offers, an offer of more than 6 MiB, an empty batch with TRUE and an iterator
+    /// without an IIOP profile are `Grammar`.
+    pub fn ask(&mut self, alloc: Global, target: &Ior, q: &Query) -> Result<Gathered, PeerFault>
+        ensures same { L.same self.old.wire self.new.wire }
+        ensures asks { Asks target.now q.now (L.told self.old.wire) (L.told self.new.wire) (L.faults self.old.wire)
+            (L.faults self.new.wire) result }
+        ensures small { IfOk result (λ g. GivesSmallOffers g) }
+        ensures notes { self.new.notes ≡ self.old.notes }
+        ensures count { self.new.faults ≡ count_after self.old.faults result }
+    {
+        let answer = ask_over(alloc, &mut self.wire, target, q);
+        self.faults = count_ask(self.faults, &answer);
+        answer
+    }
+}
+
+/// The count after a call.
+fn count_call(faults: u64, answer: &Result<Answered, PeerFault>) -> u64
+    ensures { result ≡ count_after faults answer.now }
+{
+    match answer {
+        Ok(_) => faults,
+        Err(PeerFault::Memory) => faults,
+        Err(PeerFault::Wire) => faults.saturating_add(1),
+        Err(PeerFault::Grammar) => faults.saturating_add(1),
+        Err(PeerFault::Exception) => faults.saturating_add(1),
+    }
+}
+
+/// The count after a query.
+fn count_ask(faults: u64, answer: &Result<Gathered, PeerFault>) -> u64
+    ensures { result ≡ count_after faults answer.now }
+{
+    match answer {
+        Ok(_) => faults,
+        Err(PeerFault::Memory) => faults,
+        Err(PeerFault::Wire) => faults.saturating_add(1),
+        Err(PeerFault::Grammar) => faults.saturating_add(1),
+        Err(PeerFault::Exception) => faults.saturating_add(1),
+    }
+}

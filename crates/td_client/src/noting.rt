@@ -1,0 +1,107 @@
+//! Calls are noted with what they gave, in room that was taken before.
+
+ghost use Rattle.std.specs.Prelude.{◌≡◌, ◌<◌, ◌≤◌, ◌++◌, ◌∷◌, [], vec_len, vec_capacity};
+ghost use Rattle.td_cdr.specs.Format.{Unless};
+ghost use Rattle.td_out.specs.Causes.{raised, Rose};
+ghost use Rattle.td_walk.specs.Peering.{IsNoted, Answered, Evaluated, Referred, is_memory};
+ghost use Rattle.td_client.specs.Noted.{call_of, exchanges, failed};
+ghost use Rattle.td_client.specs.declared.note.GaveNote.TheVariants.{Failed as failed_note};
+
+use crate::note::{CallNote, GaveNote, Note};
+use std::snapshot::Snapshot;
+use td_cdr::Boxed;
+use td_value::{Any, Ior};
+use td_walk::{PeerFault, SubAnswer};
+
+/// Notes a call with its fault, and counts the fault.
+fn keep_fault(notes: &mut Vec<Note>, faults: &mut u64, call: CallNote, fault: PeerFault)
+    requires { vec_len notes.old < vec_capacity notes.old }
+    ensures noted { notes.new.items ≡ notes.old.items ++ record { call = call; gave = failed_note fault } ∷ [] }
+    ensures counted { faults.new ≡ raised faults.old }
+    ensures later { faults.old ≤ faults.new }
+{
+    notes.push_reserved(Note {
+        call,
+        gave: GaveNote::Failed(fault),
+    });
+    *faults = faults.saturating_add(1);
+}
+
+/// Notes a call that failed; one that wanted memory isn't noted.
+#[tactic(auto, using(crate::proofs::Marking::one_more))]
+fn note_fault(notes: &mut Vec<Note>, faults: &mut u64, call: CallNote, fault: PeerFault)
+    requires { vec_len notes.old < vec_capacity notes.old }
+    ensures noted { exchanges notes.new.items ≡ exchanges notes.old.items ++ failed (call_of call) fault }
+    ensures later { faults.old ≤ faults.new }
+    ensures cause { Unless (is_memory fault) (Rose faults.old faults.new) }
+{
+    match fault {
+        PeerFault::Memory => drop(call),
+        PeerFault::Wire => keep_fault(notes, faults, call, PeerFault::Wire),
+        PeerFault::Grammar => keep_fault(notes, faults, call, PeerFault::Grammar),
+        PeerFault::Exception => keep_fault(notes, faults, call, PeerFault::Exception),
+    }
+}
+
+/// Notes a query.
+#[tactic(auto, using(crate::proofs::Marking::noted_answer, crate::proofs::Marking::noted_fault))]
+pub(crate) fn note_offers(
+    notes: &mut Vec<Note>,
+    faults: &mut u64,
+    call: CallNote,
+    answer: &Result<SubAnswer, PeerFault>,
+)
+    requires { vec_len notes.old < vec_capacity notes.old }
+    ensures { IsNoted (λ a. Answered a) (call_of call) (exchanges notes.old.items) (exchanges notes.new.items)
+        faults.old faults.new answer.now }
+{
+    match answer {
+        Ok(offers) => notes.push_reserved(Note {
+            call,
+            gave: GaveNote::Offers(Snapshot::of(offers)),
+        }),
+        Err(fault) => note_fault(notes, faults, call, *fault),
+    }
+}
+
+/// Notes an evaluation.
+#[tactic(auto, using(crate::proofs::Marking::noted_answer, crate::proofs::Marking::noted_fault))]
+pub(crate) fn note_value(
+    notes: &mut Vec<Note>,
+    faults: &mut u64,
+    call: CallNote,
+    answer: &Result<Boxed<Any>, PeerFault>,
+)
+    requires { vec_len notes.old < vec_capacity notes.old }
+    ensures { IsNoted (λ v. Evaluated v) (call_of call) (exchanges notes.old.items) (exchanges notes.new.items)
+        faults.old faults.new answer.now }
+{
+    match answer {
+        Ok(value) => notes.push_reserved(Note {
+            call,
+            gave: GaveNote::Value(Snapshot::of(value.get())),
+        }),
+        Err(fault) => note_fault(notes, faults, call, *fault),
+    }
+}
+
+/// Notes a call that gives a reference.
+#[tactic(auto, using(crate::proofs::Marking::noted_answer, crate::proofs::Marking::noted_fault))]
+pub(crate) fn note_reference(
+    notes: &mut Vec<Note>,
+    faults: &mut u64,
+    call: CallNote,
+    answer: &Result<Ior, PeerFault>,
+)
+    requires { vec_len notes.old < vec_capacity notes.old }
+    ensures { IsNoted (λ r. Referred r) (call_of call) (exchanges notes.old.items) (exchanges notes.new.items)
+        faults.old faults.new answer.now }
+{
+    match answer {
+        Ok(reference) => notes.push_reserved(Note {
+            call,
+            gave: GaveNote::Reference(Snapshot::of(reference)),
+        }),
+        Err(fault) => note_fault(notes, faults, call, *fault),
+    }
+}

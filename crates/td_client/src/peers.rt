@@ -1,0 +1,154 @@
+//! A caller as the peers of a visit.
+
+ghost use Rattle.std.specs.Prelude.{◌≡◌, ℕ, List, Option, Result, IfOk};
+ghost use Rattle.td_call.specs.Calling.{Called, first_id};
+ghost use Rattle.td_call.specs.Readings.{outcome_told, evaluation_told};
+ghost use Rattle.td_call.specs.Requests.{request_of, evaluation_of};
+ghost use Rattle.td_client.specs.Meanings.{offers_meant, reference_meant, register_call, resolve_call, value_meant};
+ghost use Rattle.td_client.specs.Meanings.{with_meaning};
+ghost use Rattle.td_client.specs.Noted.{exchanges};
+ghost use Rattle.td_codes.specs.declared.code.Any.{Any};
+ghost use Rattle.td_gather.specs.Asking.{Asks};
+ghost use Rattle.td_gather.specs.declared.gathered.Gathered.{Gathered as Given};
+ghost use Rattle.td_ops.specs.declared.outcome.Answered.{Answered as Told};
+ghost use Rattle.td_walk.specs.declared.fault.PeerFault.{PeerFault};
+ghost use Rattle.td_walk.specs.Peering.{IsNoted, HasSmallOffers, Querying, Evaluating, RegisterOf, Resolving};
+ghost use Rattle.td_walk.specs.Peering.{Answered, Evaluated, Referred};
+
+use crate::caller::Caller;
+use crate::meaning::{offers_meant, reference_meant, value_meant};
+use crate::note::CallNote;
+use crate::noting::{note_offers, note_reference, note_value};
+use crate::references::{ask_register, ask_to_resolve};
+use std::alloc::Global;
+use std::snapshot::Snapshot;
+use td_call::evaluate_over;
+use td_cdr::{Boxed, List, Text};
+use td_gather::ask_over;
+use td_ops::Query;
+use td_value::{Any, Ior, TypeCode};
+use td_walk::{PeerFault, Peers, SubAnswer};
+use td_wire::Wire;
+
+impl<L: Wire> Peers for Caller<L> {
+    ghost calls = { λ c. exchanges c.notes.items };
+
+    ghost faults = { λ c. c.faults };
+
+    ghost same = { λ a b. L.same a.wire b.wire };
+
+    ghost same_self = { λ a. L.same_self a.wire };
+
+    ghost same_on = { λ a b c p q. L.same_on a.wire b.wire c.wire p q };
+
+    /// What the reply says, and what the iterator gives over the same connection; an exception is a fault.
+    fn query(&mut self, alloc: Global, target: &Ior, q: &Query) -> Result<SubAnswer, PeerFault>
+        ensures same { L.same self.old.wire self.new.wire }
+        ensures noted { IsNoted (λ a. Answered a) (Querying target.now q.now) (exchanges self.old.notes.items)
+            (exchanges self.new.notes.items) self.old.faults self.new.faults result }
+        ensures small { IfOk result (λ a. HasSmallOffers a) }
+        ensures exact { (r : Result Given PeerFault) × Asks target.now q.now (L.told self.old.wire)
+            (L.told self.new.wire) (L.faults self.old.wire) (L.faults self.new.wire) r
+            × (result ≡ with_meaning offers_meant r) }
+    {
+        match self.notes.reserve(1) {
+            Err(_) => return Err(PeerFault::Memory),
+            Ok(()) => {}
+        }
+        let answer = offers_meant(ask_over(alloc, &mut self.wire, target, q));
+        let call = CallNote::Query {
+            target: Snapshot::of(target),
+            query: Snapshot::of(q),
+        };
+        note_offers(&mut self.notes, &mut self.faults, call, &answer);
+        answer
+    }
+
+    /// One Request for `evalDP` is written, and its reply read; an exception is a fault.
+    fn eval_dp(
+        &mut self,
+        alloc: Global,
+        evaluator: &Ior,
+        name: &Text,
+        returned: &TypeCode,
+        extra: &Any,
+    ) -> Result<Boxed<Any>, PeerFault>
+        ensures same { L.same self.old.wire self.new.wire }
+        ensures noted { IsNoted (λ v. Evaluated v) (Evaluating evaluator.now name.now returned.now extra.now)
+            (exchanges self.old.notes.items) (exchanges self.new.notes.items) self.old.faults self.new.faults result }
+        ensures exact { (r : Result (Option Any) PeerFault) × Called (evaluation_told returned.now)
+            (λ key. evaluation_of first_id key name.now returned.now extra.now) evaluator.now (L.told self.old.wire)
+            (L.told self.new.wire) (L.faults self.old.wire) (L.faults self.new.wire) r
+            × (result ≡ with_meaning value_meant r) }
+    {
+        match self.notes.reserve(1) {
+            Err(_) => return Err(PeerFault::Memory),
+            Ok(()) => {}
+        }
+        let answer = value_meant(evaluate_over(
+            alloc,
+            &mut self.wire,
+            evaluator,
+            name,
+            returned,
+            extra,
+        ));
+        let call = CallNote::Evaluation {
+            evaluator: Snapshot::of(evaluator),
+            name: Snapshot::of(name),
+            returned: Snapshot::of(returned),
+            extra: Snapshot::of(extra),
+        };
+        note_value(&mut self.notes, &mut self.faults, call, &answer);
+        answer
+    }
+
+    /// One Request for the attribute `register_if` is written, and its reply read; an exception is a fault.
+    fn register_of(&mut self, alloc: Global, lookup: &Ior) -> Result<Ior, PeerFault>
+        ensures same { L.same self.old.wire self.new.wire }
+        ensures noted { IsNoted (λ r. Referred r) (RegisterOf lookup.now) (exchanges self.old.notes.items)
+            (exchanges self.new.notes.items) self.old.faults self.new.faults result }
+        ensures exact { (r : Result Told PeerFault) × Called (outcome_told register_call)
+            (λ key. request_of first_id key register_call) lookup.now (L.told self.old.wire) (L.told self.new.wire)
+            (L.faults self.old.wire) (L.faults self.new.wire) r × (result ≡ with_meaning reference_meant r) }
+    {
+        match self.notes.reserve(1) {
+            Err(_) => return Err(PeerFault::Memory),
+            Ok(()) => {}
+        }
+        let answer = reference_meant(ask_register(alloc, &mut self.wire, lookup));
+        let call = CallNote::Register {
+            lookup: Snapshot::of(lookup),
+        };
+        note_reference(&mut self.notes, &mut self.faults, call, &answer);
+        answer
+    }
+
+    /// One Request for `resolve` is written, and its reply read; an exception is a fault.
+    fn resolve(
+        &mut self,
+        alloc: Global,
+        register: &Ior,
+        name: &List<Text>,
+    ) -> Result<Ior, PeerFault>
+        ensures same { L.same self.old.wire self.new.wire }
+        ensures noted { IsNoted (λ r. Referred r) (Resolving register.now name.now) (exchanges self.old.notes.items)
+            (exchanges self.new.notes.items) self.old.faults self.new.faults result }
+        ensures exact { (r : Result Told PeerFault) × Called (outcome_told (resolve_call name.now))
+            (λ key. request_of first_id key (resolve_call name.now)) register.now (L.told self.old.wire)
+            (L.told self.new.wire) (L.faults self.old.wire) (L.faults self.new.wire) r
+            × (result ≡ with_meaning reference_meant r) }
+    {
+        match self.notes.reserve(1) {
+            Err(_) => return Err(PeerFault::Memory),
+            Ok(()) => {}
+        }
+        let answer = reference_meant(ask_to_resolve(alloc, &mut self.wire, register, name));
+        let call = CallNote::Resolution {
+            register: Snapshot::of(register),
+            name: Snapshot::of(name),
+        };
+        note_reference(&mut self.notes, &mut self.faults, call, &answer);
+        answer
+    }
+}
