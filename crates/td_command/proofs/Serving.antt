@@ -1,17 +1,52 @@
--- A session with the offers of a file's text.
-use Rattle.std.proofs.Common.{◌≡◌, ℕ, List, Ok}
-use Rattle.td_session.specs.declared.store.FirstStore.{FirstStore}
+-- A session with the traders that a file's text opens.
+use Rattle.std.proofs.Common.{◌≡◌, ℕ, List, [], map, Ok, ap, subst, ◌∙◌}
+use Rattle.std.proofs.Math.Path.{fun_ext}
+use Rattle.td_file.specs.Files.{Opening, opening_of}
+use Rattle.td_iter.specs.Desks.{Live}
+use Rattle.td_lookup.specs.Scenes.{Scene, scene}
+use Rattle.td_reply.specs.Linking.{PeersSeen, peers_seen}
+use Rattle.td_reply.specs.declared.entry.Entry.{Entry}
+use Rattle.td_session.specs.declared.end.End.{End}
 use Rattle.td_session.specs.Outside.{Outside}
-use Rattle.td_first.specs.Whole.{file_of}
+use Rattle.td_session.specs.Sessions.{Serves}
+use Rattle.td_trader.specs.Solos.{nothing, solo_view, unchanged}
+use Rattle.td_trader.specs.Worlds.{View}
+use Rattle.td_walk.specs.declared.trace.Address.{Address}
 use Rattle.td_command.specs.declared.ended.Ended.{Ended}
 use Rattle.td_command.specs.declared.ended.Ended.TheVariants.{Usage, Missing, TooLong, Refused, Memory, Served}
-use Rattle.td_command.specs.Runs.{ServesStore, ServesText}
+use Rattle.td_command.specs.Runs.{Seeded, ServesOpened, ServesOpening, ServesText, beginning, seeding_of}
 
-pub text-serves : (text : List ℕ) (store : FirstStore) (ended : Ended) (before after : Outside)
-    → file_of text ≡ Ok store → ServesStore store ended before after → ServesText text ended before after
-text-serves text store (Served end) before after e h = (store, h.0, e, h.1)
-text-serves text store Memory before after e h = h
-text-serves text store Usage before after e h = absurd h
-text-serves text store Missing before after e h = absurd h
-text-serves text store TooLong before after e h = absurd h
-text-serves text store (Refused number) before after e h = absurd h
+pub text-serves : (text : List ℕ) (o : Opening) (seeded : Seeded) (ended : Ended) (before after : Outside)
+    → opening_of text ≡ Ok o → ServesOpened o seeded ended before after → ServesText text seeded ended before after
+text-serves text o seeded (Served end) before after e h = (o, e, h)
+text-serves text o seeded Memory before after e h = h
+text-serves text o seeded Usage before after e h = absurd h
+text-serves text o seeded Missing before after e h = absurd h
+text-serves text o seeded TooLong before after e h = absurd h
+text-serves text o seeded (Refused number cause) before after e h = absurd h
+
+same-scene : (w : List View) (d0 d1 : Live) (p0 p1 : PeersSeen) (f0 f1 : ℕ → ℕ) → d0 ≡ d1 → p0 ≡ p1
+    → ((k : ℕ) → f0 k ≡ f1 k) → scene w d0 p0 f0 ≡ scene w d1 p1 f1
+same-scene w d0 d1 p0 p1 f0 f1 d p f =
+    ap (λ (x : Live). scene w x p0 f0) d ∙ ap (λ (x : PeersSeen). scene w d1 x f0) p
+    ∙ ap (λ (x : ℕ → ℕ). scene w d1 p1 x) (fun_ext f)
+
+-- a session in a new room, whose words are those that come after the seeding
+pub begun : (o : Opening) (seeded : Seeded) (home : Address) (desk : Live) (peers : PeersSeen) (words : ℕ → ℕ)
+    (later : Scene) (journal : List Entry) (end : End) (before after : Outside)
+    → home ≡ o.home → desk ≡ ([], 1) → peers ≡ peers_seen [] 0
+    → ((k : ℕ) → words k ≡ seeded (seeding_of o) k)
+    → Serves nothing unchanged home (scene (map solo_view o.traders) desk peers words) later journal end before after
+    → ServesOpening o seeded end before after
+begun o seeded home desk peers words later journal end before after h d p f serves =
+    let same : scene (map solo_view o.traders) desk peers words ≡ beginning o seeded =
+    same-scene (map solo_view o.traders) desk ([], 1) peers (peers_seen [] 0) words (seeded (seeding_of o)) d p f in
+    let here : Serves nothing unchanged home (beginning o seeded) later journal end before after =
+    subst (λ (s : Scene). Serves nothing unchanged home s later journal end before after) same serves in
+    record {
+      later = later;
+      journal = journal;
+      serves =
+          subst (λ (x : Address). Serves nothing unchanged x (beginning o seeded) later journal end before after) h
+          here;
+    }

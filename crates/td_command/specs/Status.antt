@@ -19,6 +19,6 @@ abbrev pub status_of : Ended → ℕ
 status_of Usage = 2
 status_of Missing = 10
 status_of TooLong = 3
-status_of (Refused number) = 3
+status_of (Refused number cause) = 3
 status_of Memory = 9
 status_of (Served end) = end_status end

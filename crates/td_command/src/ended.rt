@@ -3,6 +3,7 @@
 ghost use Rattle.std.specs.Prelude.{◌≡◌};
 ghost use Rattle.td_command.specs.Status.{status_of};
 
+use td_file::LineCause;
 use td_session::End;
 
 /// How a command ended.
@@ -14,8 +15,8 @@ pub enum Ended {
     Missing,
     /// The file has more than 64 MiB.
     TooLong,
-    /// The file is refused at the line of this number, counted from 1.
-    Refused(u32),
+    /// The file is refused at the line of this number, counted from 1, and why.
+    Refused(u32, LineCause),
     /// Want of memory, before the session began.
     Memory,
     /// The session ended so.
@@ -31,7 +32,7 @@ impl Ended {
             Ended::Usage => 2,
             Ended::Missing => 10,
             Ended::TooLong => 3,
-            Ended::Refused(_) => 3,
+            Ended::Refused(_, _) => 3,
             Ended::Memory => 9,
             Ended::Served(End::Closed) => 0,
             Ended::Served(End::Broken(_, _)) => 4,

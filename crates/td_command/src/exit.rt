@@ -14,35 +14,39 @@ use crate::report::report;
 use std::alloc::Global;
 use std::env;
 use std::io::{self, ErrorKind, Read, Write};
+use std::net::Net;
 use std::process::ExitCode;
 use std::rt::{Env, Files};
-use td_out::{FileTexts, Sink, Source, StdSink, StdSource, Texts};
+use td_out::{ChaChaWords, FileTexts, Sink, Source, StdSink, StdSource, Texts, Words};
+use td_wire::{TcpWire, Wire};
 
-/// Does what the words say, as `run` does, and gives the process its status.
-pub fn run_program<F: Texts, S: Source, K: Sink, E: Sink>(
+/// Does what the arguments say, as `run` does, and gives the process its status.
+pub fn run_program<F: Texts, S: Source, K: Sink, E: Sink, L: Wire, W: Words>(
     alloc: Global,
     args: &[String],
     files: &mut F,
     source: &mut S,
     sink: &mut K,
     faults: &mut E,
+    wire: &mut L,
+    words: &mut W,
 ) -> ExitCode
     ensures runs { Runs (map string_bytes args.now)
-        (shelves (F.told files.old) (F.faults files.old) (F.faults files.new))
+        (shelves (F.told files.old) (F.faults files.old) (F.faults files.new)) (W.word_after words.old)
         (outside (S.left source.old) (S.faults source.old) (K.written sink.old) (K.faults sink.old))
         (outside (S.left source.new) (S.faults source.new) (K.written sink.new) (K.faults sink.new))
         (E.written faults.old) (E.written faults.new) (E.faults faults.old) (E.faults faults.new) (exit_status result) }
     ensures complete { Completes (map string_bytes args.now)
-        (shelves (F.told files.old) (F.faults files.old) (F.faults files.new))
+        (shelves (F.told files.old) (F.faults files.old) (F.faults files.new)) (W.word_after words.old)
         (outside (S.left source.old) (S.faults source.old) (K.written sink.old) (K.faults sink.old))
         (outside (S.left source.new) (S.faults source.new) (K.written sink.new) (K.faults sink.new))
         (exit_status result) }
 {
-    ExitCode::from(run(alloc, args, files, source, sink, faults))
+    ExitCode::from(run(alloc, args, files, source, sink, faults, wire, words))
 }
 
-/// What the program does whose words can't be had: the line and the status for it.
-pub fn refuse_words<E: Sink>(faults: &mut E, ended: Ended) -> ExitCode
+/// What the program does whose arguments can't be had: the line and the status for it.
+pub fn refuse_arguments<E: Sink>(faults: &mut E, ended: Ended) -> ExitCode
     ensures reported { Tells (line_of ended) (E.written faults.old) (E.written faults.new) (E.faults faults.old)
         (E.faults faults.new) }
     ensures status { exit_status result ≡ status_of ended }
@@ -51,43 +55,48 @@ pub fn refuse_words<E: Sink>(faults: &mut E, ended: Ended) -> ExitCode
     ExitCode::from(ended.status())
 }
 
-/// The program over the words and the files of this runtime, and these streams.
-pub fn start<R: Env + Files + AllocGlobal, I: Read + Drop, O: Write + Drop, E: Write + Drop>(
+/// The program over the arguments, the files and the network of this runtime, and these streams, with the random
+/// words of ChaCha20.
+pub fn start<R: Env + Files + Net + AllocGlobal, I: Read + Drop, O: Write + Drop, E: Write + Drop>(
     rt: &R,
     input: I,
     output: O,
     errors: E,
 ) -> ExitCode {
     let mut faults = StdSink::new(errors);
-    let words = match words(rt) {
-        Ok(words) => words,
-        Err(e) => return refuse_words(&mut faults, without_words(&e)),
+    let args = match arguments(rt) {
+        Ok(args) => args,
+        Err(e) => return refuse_arguments(&mut faults, without_arguments(&e)),
     };
     let mut files = FileTexts::new(rt);
     let mut source = StdSource::new(input);
     let mut sink = StdSink::new(output);
+    let mut wire = TcpWire::new(rt);
+    let mut words = ChaChaWords::new();
     run_program(
         rt.alloc(),
-        words.as_slice(),
+        args.as_slice(),
         &mut files,
         &mut source,
         &mut sink,
         &mut faults,
+        &mut wire,
+        &mut words,
     )
 }
 
 /// The words behind the program's name.
-fn words<R: Env + AllocGlobal>(rt: &R) -> io::Result<Vec<String>> {
-    let mut words = Vec::new(rt.alloc());
+fn arguments<R: Env + AllocGlobal>(rt: &R) -> io::Result<Vec<String>> {
+    let mut args = Vec::new(rt.alloc());
     for word in env::args(rt)?.skip(1) {
-        words.push(word)?;
+        args.push(word)?;
     }
-    Ok(words)
+    Ok(args)
 }
 
-/// How the program ends that can't have its words: for want of memory, or since one isn't text, so that they
+/// How the program ends that can't have its arguments: for want of memory, or since one isn't text, so that they
 /// are no command.
-fn without_words(e: &io::Error) -> Ended {
+fn without_arguments(e: &io::Error) -> Ended {
     if e.kind() == ErrorKind::OutOfMemory {
         Ended::Memory
     } else {

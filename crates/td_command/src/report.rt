@@ -3,10 +3,11 @@
 ghost use Rattle.std.specs.Prelude.{◌≡◌, OnErr, OnOk};
 ghost use Rattle.std.specs.Io.KnownBytes.{Appends};
 ghost use Rattle.td_out.specs.Causes.{Rose};
-ghost use Rattle.td_command.specs.Reports.{Tells, line_of, status_line, numbered};
+ghost use Rattle.td_command.specs.Reports.{Tells, cause_end, line_of, status_line, numbered};
 
 use crate::ended::Ended;
 use itoa::Buffer;
+use td_file::LineCause;
 use td_out::{Failed, Sink};
 use td_session::End;
 
@@ -18,10 +19,28 @@ pub fn report<E: Sink>(faults: &mut E, ended: Ended)
     let _ = match ended {
         Ended::Usage => write_all(faults, b"usage\n"),
         Ended::TooLong => write_all(faults, b"too long\n"),
-        Ended::Refused(number) => write_numbered(faults, b"line ", number, b": words\n"),
+        Ended::Refused(number, cause) => {
+            write_numbered(faults, b"line ", number, cause_end(cause))
+        }
         Ended::Served(End::Closed) => Ok(()),
         other => write_numbered(faults, b"status ", u32::from(other.status()), b"\n"),
     };
+}
+
+/// What follows the number of a refused line.
+fn cause_end(cause: LineCause) -> &'static [u8]
+    ensures { result.now ≡ cause_end cause }
+{
+    match cause {
+        LineCause::Words => b": words\n",
+        LineCause::Name => b": name\n",
+        LineCause::Number => b": number\n",
+        LineCause::Place => b": place\n",
+        LineCause::Twice => b": twice\n",
+        LineCause::Value => b": value\n",
+        LineCause::Reference => b": reference\n",
+        LineCause::Rejected => b": rejected\n",
+    }
 }
 
 /// Writes a number in decimal between two texts.

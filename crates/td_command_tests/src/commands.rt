@@ -5,7 +5,8 @@ use std::process::{Abort, ExitCode};
 use std::test::Fail;
 use td_cdr::{List, Memory, Octets, Text};
 use td_command::{run, run_program};
-use td_out::{MemSink, MemSource, MemTexts};
+use td_out::{MemSink, MemSource, MemTexts, MemWords};
+use td_wire::MemWire;
 
 /// The file of the worked queries.
 const PRINTERS: &[u8] = b"address h 9\ntrader A\ntype Printer IDL:Printer:1.0\n\
@@ -18,8 +19,26 @@ const NO_OFFERS: &[u8] = b"address h 9\ntrader A\ntype Printer IDL:Printer:1.0\n
 /// A file whose third line doesn't fit.
 const BROKEN: &[u8] = b"address h 9\ntrader A\ntype Printer\n";
 
+/// Files that are refused for each cause, with the line for it.
+const REFUSED: [(&[u8], &[u8]); 8] = [
+    (BROKEN, b"line 3: words\n"),
+    (b"address h 9\ntrader A!\n", b"line 2: name\n"),
+    (b"address h x\n", b"line 1: number\n"),
+    (b"# a trader\ntrader A\n", b"line 2: place\n"),
+    (b"address h 9\naddress h 9\n", b"line 2: twice\n"),
+    (b"address h 9\nseed 00\n", b"line 2: value\n"),
+    (
+        b"address h 9\ntrader A\ntype P -\noffer P x\n",
+        b"line 4: reference\n",
+    ),
+    (
+        b"address h 9\ntrader A\ntype P -\ntype P -\n",
+        b"line 4: rejected\n",
+    ),
+];
+
 /// A query for the printers, of at most ten.
-const QUERY: &[u8] = b"GIOP\x01\0\0\0\0\0\0\x4c\
+pub const QUERY: &[u8] = b"GIOP\x01\0\0\0\0\0\0\x4c\
     \0\0\0\0\0\0\0\x01\
     \x01\0\0\0\0\0\0\x03\
     A/L\0\0\0\0\x06\
@@ -70,6 +89,8 @@ const SHORT_REQUEST: &[u8] = b"GIOP\x01\0\0\0\0\0\0\x18\
 struct Command<'a> {
     words: &'a [&'a str],
     input: &'a [u8],
+    /// What comes behind it.
+    more: &'a [u8],
     reads_failing: &'a [u64],
     writes_failing: &'a [u64],
 }
@@ -79,6 +100,7 @@ const fn piped<'a>(words: &'a [&'a str], input: &'a [u8]) -> Command<'a> {
     Command {
         words,
         input,
+        more: b"",
         reads_failing: &[],
         writes_failing: &[],
     }
@@ -89,6 +111,8 @@ const fn piped<'a>(words: &'a [&'a str], input: &'a [u8]) -> Command<'a> {
 struct Expected<'a> {
     status: u8,
     written: &'a [u8],
+    /// What is written behind it.
+    then: &'a [u8],
     line: &'a [u8],
 }
 
@@ -96,6 +120,7 @@ const fn ending<'a>(status: u8, written: &'a [u8], line: &'a [u8]) -> Expected<'
     Expected {
         status,
         written,
+        then: b"",
         line,
     }
 }
@@ -113,7 +138,7 @@ fn texts(alloc: Global) -> Result<MemTexts, Memory> {
     Ok(MemTexts::new(files, List::new(alloc)))
 }
 
-fn words(alloc: Global, words: &[&str]) -> Result<Vec<String>, Fail> {
+pub fn words(alloc: Global, words: &[&str]) -> Result<Vec<String>, Fail> {
     let mut all = Vec::new(alloc);
     for word in words {
         all.push(String::from_str(alloc, word)?)?;
@@ -122,31 +147,46 @@ fn words(alloc: Global, words: &[&str]) -> Result<Vec<String>, Fail> {
 }
 
 fn source(alloc: Global, command: &Command) -> Result<MemSource, Memory> {
-    let input = Octets::from_slice(alloc, command.input)?;
     let failing = List::from_slice(alloc, command.reads_failing)?;
-    Ok(MemSource::new(input, List::new(alloc), failing))
+    let mut input = Vec::from_slice(alloc, command.input)?;
+    input.extend_from_slice(command.more)?;
+    Ok(MemSource::new(Octets::from_vec(input), List::new(alloc), failing))
+}
+
+/// Whether a command over these texts does as said.
+fn does_with(
+    alloc: Global,
+    files: &mut MemTexts,
+    command: &Command,
+    expected: &Expected,
+) -> Result<bool, Fail> {
+    let args = words(alloc, command.words)?;
+    let mut source = source(alloc, command)?;
+    let mut sink = MemSink::new(alloc, List::from_slice(alloc, command.writes_failing)?);
+    let mut faults = MemSink::new(alloc, List::new(alloc));
+    let mut wire = MemWire::new(alloc, List::new(alloc), List::new(alloc));
+    let mut words = MemWords::new(List::new(alloc));
+    let status = run(
+        alloc,
+        args.as_slice(),
+        files,
+        &mut source,
+        &mut sink,
+        &mut faults,
+        &mut wire,
+        &mut words,
+    );
+    Ok(
+        status == expected.status
+            && sink.written().strip_prefix(expected.written) == Some(expected.then)
+            && faults.written() == expected.line,
+    )
 }
 
 /// Whether a command does as said.
 fn does(alloc: Global, command: &Command, expected: &Expected) -> Result<bool, Fail> {
-    let words = words(alloc, command.words)?;
     let mut files = texts(alloc)?;
-    let mut source = source(alloc, command)?;
-    let mut sink = MemSink::new(alloc, List::from_slice(alloc, command.writes_failing)?);
-    let mut faults = MemSink::new(alloc, List::new(alloc));
-    let status = run(
-        alloc,
-        words.as_slice(),
-        &mut files,
-        &mut source,
-        &mut sink,
-        &mut faults,
-    );
-    Ok(
-        status == expected.status
-            && sink.written() == expected.written
-            && faults.written() == expected.line,
-    )
+    does_with(alloc, &mut files, command, expected)
 }
 
 fn try_commands(rt: &impl Abort, alloc: Global, cases: &[(Command, Expected)]) -> Result<(), Fail> {
@@ -184,7 +224,7 @@ fn words_and_files(rt: HostRuntime) -> Result<(), Fail> {
 }
 
 /// The words for a session with the printers.
-const PIPE: &[&str] = &["pipe", "printers"];
+pub const PIPE: &[&str] = &["pipe", "printers"];
 
 #[test]
 fn sessions(rt: HostRuntime) -> Result<(), Fail> {
@@ -196,7 +236,16 @@ fn sessions(rt: HostRuntime) -> Result<(), Fail> {
         writes_failing: &[1],
         ..piped(PIPE, QUERY)
     };
+    let breaks_off = Command {
+        more: b"GET / HTTP/1.0\r\n\r\n",
+        ..piped(PIPE, QUERY)
+    };
+    let broken = Expected {
+        then: ERROR,
+        ..ending(4, FOUND, b"status 4\n")
+    };
     let cases = [
+        (breaks_off, broken),
         (piped(PIPE, CLOSE_CONNECTION), ending(0, b"", b"")),
         (piped(PIPE, LOCATE_REPLY), ending(4, ERROR, b"status 4\n")),
         (piped(PIPE, &QUERY[..87]), ending(5, b"", b"status 5\n")),
@@ -224,23 +273,51 @@ fn a_long_session(rt: HostRuntime) -> Result<(), Fail> {
     Ok(())
 }
 
+/// Texts of which the one for `printers` is this.
+pub fn named_printers(alloc: Global, text: Octets) -> Result<MemTexts, Memory> {
+    let mut named = List::new(alloc);
+    named.push((Text::from_slice(alloc, b"printers")?, text))?;
+    Ok(MemTexts::new(named, List::new(alloc)))
+}
+
+/// Whether a file is refused with this line.
+fn is_refused(alloc: Global, text: &[u8], line: &[u8]) -> Result<bool, Fail> {
+    let mut files = named_printers(alloc, Octets::from_slice(alloc, text)?)?;
+    does_with(
+        alloc,
+        &mut files,
+        &piped(PIPE, QUERY),
+        &ending(3, b"", line),
+    )
+}
+
+#[test]
+fn refused_files(rt: HostRuntime) -> Result<(), Fail> {
+    for (text, line) in REFUSED {
+        assert!(rt; is_refused(rt.alloc(), text, line)?);
+    }
+    Ok(())
+}
+
 /// A file of more than 64 MiB.
 fn is_too_long(alloc: Global) -> Result<bool, Fail> {
     let text = Octets::from_vec(vec![in alloc; b'#'; 67108865]?);
-    let mut named = List::new(alloc);
-    named.push((Text::from_slice(alloc, b"printers")?, text))?;
-    let mut files = MemTexts::new(named, List::new(alloc));
-    let words = words(alloc, PIPE)?;
+    let mut files = named_printers(alloc, text)?;
+    let args = words(alloc, PIPE)?;
     let mut source = source(alloc, &piped(PIPE, QUERY))?;
     let mut sink = MemSink::new(alloc, List::new(alloc));
     let mut faults = MemSink::new(alloc, List::new(alloc));
+    let mut wire = MemWire::new(alloc, List::new(alloc), List::new(alloc));
+    let mut words = MemWords::new(List::new(alloc));
     let status = run_program(
         alloc,
-        words.as_slice(),
+        args.as_slice(),
         &mut files,
         &mut source,
         &mut sink,
         &mut faults,
+        &mut wire,
+        &mut words,
     );
     Ok(status == ExitCode::from(3) && faults.written() == b"too long\n".as_slice())
 }

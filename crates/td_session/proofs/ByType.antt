@@ -2,71 +2,68 @@
 use Rattle.std.proofs.Common.{◌≡◌, ◌≢◌, ◌⊎◌, ℕ, ◌<◌, ◌≤◌, Bool, true, false, eqb, List, Result, Ok, Err, IsOk, inl, inr}
 use Rattle.std.proofs.Common.{refl, arith}
 use Rattle.std.proofs.lemmas.Bool.{eqb-true, eqb-false, ne_eqb}
-use Rattle.td_cdr.specs.declared.order.Order.{Order}
+use Rattle.td_cdr.specs.Marks.{Marks}
 use Rattle.td_cdr.specs.declared.fault.CdrFault.{CdrFault}
 use Rattle.td_cdr.specs.Place.{At}
 use Rattle.td_giop.specs.Heads.{Request, request_at, locate_at, cancel_at}
 use Rattle.td_giop.proofs.Cond.{cond_case}
+use Rattle.td_lookup.specs.Scenes.{Scene}
+use Rattle.td_register.specs.declared.history.Accepted.{Accepted}
+use Rattle.td_turns.specs.Messages.{IsForServer, behind, is_closing, is_request, kind_of}
+use Rattle.td_turns.specs.Turns.{IsTurn, Turn, request, locate, cancel}
+use Rattle.td_walk.specs.declared.trace.Address.{Address}
 use Rattle.td_session.specs.declared.end.Cause.{Cause}
 use Rattle.td_session.specs.declared.end.Cause.TheVariants.{NotForServer}
-use Rattle.td_session.specs.declared.store.FirstStore.{FirstStore}
-use Rattle.td_session.specs.Steps.{Step, answers, closes, breaks, step_of, request_step, cancel_step, locate_step}
-use Rattle.td_session.specs.Steps.{kind_of, order_of, behind, Turn, IsTurn}
-use Rattle.td_session.specs.Completeness.{IsForServer, is_closing}
+use Rattle.td_session.specs.Steps.{Step, closes, breaks, step_of, request_step, cancel_step, locate_step}
 
 -- what holds of the steps of each type of message holds of the step
-by_type : (P : Step → Type 0) (store : FirstStore) (m : List ℕ)
-    → (kind_of m ≡ 0 → P (request_step store (order_of m) (request_at (behind m))))
-    → (kind_of m ≡ 2 → P (cancel_step store (cancel_at (behind m))))
-    → (kind_of m ≡ 3 → P (locate_step store (order_of m) (locate_at (behind m))))
+by_type : (P : Step → Type 0) (m : List ℕ) → (kind_of m ≡ 0 → P (request_step (request_at (behind m))))
+    → (kind_of m ≡ 2 → P (cancel_step (cancel_at (behind m))))
+    → (kind_of m ≡ 3 → P (locate_step (locate_at (behind m))))
     → (kind_of m ≡ 1 → P (breaks NotForServer)) → (kind_of m ≡ 4 → P (breaks NotForServer))
-    → (kind_of m ≢ 0 → kind_of m ≢ 1 → kind_of m ≢ 2 → kind_of m ≢ 3 → kind_of m ≢ 4 → P closes) → P (step_of store m)
+    → (kind_of m ≢ 0 → kind_of m ≢ 1 → kind_of m ≢ 2 → kind_of m ≢ 3 → kind_of m ≢ 4 → P closes) → P (step_of m)
 unfolding step_of
-by_type P store m request cancel locate reply located other =
-    cond_case P (eqb (kind_of m) 0) _ _ (λ e. request (eqb-true _ _ e)) (λ n0.
-    cond_case P (eqb (kind_of m) 2) _ _ (λ e. cancel (eqb-true _ _ e)) (λ n2.
-    cond_case P (eqb (kind_of m) 3) _ _ (λ e. locate (eqb-true _ _ e)) (λ n3.
-    cond_case P (eqb (kind_of m) 1) _ _ (λ e. reply (eqb-true _ _ e)) (λ n1.
+by_type P m asks cancels locates replies located other =
+    cond_case P (eqb (kind_of m) 0) _ _ (λ e. asks (eqb-true _ _ e)) (λ n0.
+    cond_case P (eqb (kind_of m) 2) _ _ (λ e. cancels (eqb-true _ _ e)) (λ n2.
+    cond_case P (eqb (kind_of m) 3) _ _ (λ e. locates (eqb-true _ _ e)) (λ n3.
+    cond_case P (eqb (kind_of m) 1) _ _ (λ e. replies (eqb-true _ _ e)) (λ n1.
     cond_case P (eqb (kind_of m) 4) _ _ (λ e. located (eqb-true _ _ e)) (λ n4.
     other (eqb-false _ _ n0) (eqb-false _ _ n1) (eqb-false _ _ n2) (eqb-false _ _ n3) (eqb-false _ _ n4))))))
 
 abbrev NeverBreaks : Step → Type 0
 NeverBreaks step = (cause : Cause) → step ≡ breaks cause → ⊥
 
-request_good : (store : FirstStore) (order : Order) (r : Result (Request × At) CdrFault) → IsOk r
-    → NeverBreaks (request_step store order r)
-request_good store order (Ok head) ok cause e = cc
-request_good store order (Err fault) ok cause e = cc ok
+request_good : (r : Result (Request × At) CdrFault) → IsOk r → NeverBreaks (request_step r)
+request_good (Ok head) ok cause e = cc
+request_good (Err fault) ok cause e = cc ok
 
-cancel_good : (store : FirstStore) (r : Result ℕ CdrFault) → IsOk r → NeverBreaks (cancel_step store r)
-cancel_good store (Ok id) ok cause e = cc
-cancel_good store (Err fault) ok cause e = cc ok
+cancel_good : (r : Result ℕ CdrFault) → IsOk r → NeverBreaks (cancel_step r)
+cancel_good (Ok id) ok cause e = cc
+cancel_good (Err fault) ok cause e = cc ok
 
-locate_good : (store : FirstStore) (order : Order) (r : Result (ℕ × List ℕ) CdrFault) → IsOk r
-    → NeverBreaks (locate_step store order r)
-locate_good store order (Ok head) ok cause e = cc
-locate_good store order (Err fault) ok cause e = cc ok
+locate_good : (r : Result (ℕ × List ℕ) CdrFault) → IsOk r → NeverBreaks (locate_step r)
+locate_good (Ok head) ok cause e = cc
+locate_good (Err fault) ok cause e = cc ok
 
 -- it never breaks the session off
-pub never_breaks : (store : FirstStore) (m : List ℕ) → IsForServer m → NeverBreaks (step_of store m)
-never_breaks store m fit =
-    by_type NeverBreaks store m (λ e. request_good _ _ _ (fit.request e)) (λ e. cancel_good _ _ (fit.cancel e))
-    (λ e. locate_good _ _ _ (fit.locate e)) (λ e. absurd (fit.no_reply e)) (λ e. absurd (fit.no_locate_reply e))
+pub never_breaks : (m : List ℕ) → IsForServer m → NeverBreaks (step_of m)
+never_breaks m fit =
+    by_type NeverBreaks m (λ e. request_good _ (fit.request e)) (λ e. cancel_good _ (fit.cancel e))
+    (λ e. locate_good _ (fit.locate e)) (λ e. absurd (fit.no_reply e)) (λ e. absurd (fit.no_locate_reply e))
     (λ _ _ _ _ _ cause e. cc)
 
-request_open : (store : FirstStore) (order : Order) (r : Result (Request × At) CdrFault)
-    → request_step store order r ≡ closes → ⊥
-request_open store order (Ok head) e = cc
-request_open store order (Err fault) e = cc
+request_open : (r : Result (Request × At) CdrFault) → request_step r ≡ closes → ⊥
+request_open (Ok head) e = cc
+request_open (Err fault) e = cc
 
-cancel_open : (store : FirstStore) (r : Result ℕ CdrFault) → cancel_step store r ≡ closes → ⊥
-cancel_open store (Ok id) e = cc
-cancel_open store (Err fault) e = cc
+cancel_open : (r : Result ℕ CdrFault) → cancel_step r ≡ closes → ⊥
+cancel_open (Ok id) e = cc
+cancel_open (Err fault) e = cc
 
-locate_open : (store : FirstStore) (order : Order) (r : Result (ℕ × List ℕ) CdrFault)
-    → locate_step store order r ≡ closes → ⊥
-locate_open store order (Ok head) e = cc
-locate_open store order (Err fault) e = cc
+locate_open : (r : Result (ℕ × List ℕ) CdrFault) → locate_step r ≡ closes → ⊥
+locate_open (Ok head) e = cc
+locate_open (Err fault) e = cc
 
 break_open : (cause : Cause) → breaks cause ≡ closes → ⊥
 break_open cause e = cc
@@ -84,11 +81,11 @@ closing_types m (inl e) = rw e refl
 closing_types m (inr e) = rw e refl
 
 -- where it closes the session, it is a CloseConnection or a MessageError
-pub closes_only : (store : FirstStore) (m : List ℕ) → IsForServer m → step_of store m ≡ closes → is_closing m ≡ true
-closes_only store m fit =
+pub closes_only : (m : List ℕ) → IsForServer m → step_of m ≡ closes → is_closing m ≡ true
+closes_only m fit =
     let good = fit.whole.good in
-    by_type (λ step. step ≡ closes → is_closing m ≡ true) store m
-    (λ _ e. absurd (request_open _ _ _ e)) (λ _ e. absurd (cancel_open _ _ e)) (λ _ e. absurd (locate_open _ _ _ e))
+    by_type (λ step. step ≡ closes → is_closing m ≡ true) m
+    (λ _ e. absurd (request_open _ e)) (λ _ e. absurd (cancel_open _ e)) (λ _ e. absurd (locate_open _ e))
     (λ _ e. absurd (break_open _ e)) (λ _ e. absurd (break_open _ e))
     (λ n0 n1 n2 n3 n4 _. closing_types m
     (last_types _ (let t = good.type_octet in omega (arith, t.0, t.1)) n0 n1 n2 n3 n4))
@@ -96,14 +93,13 @@ closes_only store m fit =
 of_type : (m : List ℕ) (k : ℕ) → kind_of m ≡ k → k < 5 → is_closing m ≡ false
 of_type m k e few = rw (e, ne_eqb k 5 (omega (arith, few)), ne_eqb k 6 (omega (arith, few))) refl
 
--- what is answered is none
-answered_open : (store after : FirstStore) (m reply : List ℕ) → step_of store m ≡ answers reply after
-    → is_closing m ≡ false
-answered_open store after m reply =
-    by_type (λ step. step ≡ answers reply after → is_closing m ≡ false) store m
-    (λ k _. of_type m 0 k (omega arith)) (λ k _. of_type m 2 k (omega arith)) (λ k _. of_type m 3 k (omega arith))
-    (λ k _. of_type m 1 k (omega arith)) (λ k _. of_type m 4 k (omega arith)) (λ _ _ _ _ _ e. absurd cc)
+-- what is served is none
+module _ (others : List Accepted → Type 0) (later : Marks → Marks → Type 0) (home : Address) where
+  pub turn_open : (s : Scene) (t : Turn) → IsTurn others later home s t → is_closing t.message ≡ false
+  turn_open s t (request r) = of_type t.message 0 r.kind (omega arith)
+  turn_open s t (locate l) = of_type t.message 3 l.kind (omega arith)
+  turn_open s t (cancel c) = of_type t.message 2 c.kind (omega arith)
 
-pub turn_open : (store : FirstStore) (t : Turn) → IsTurn store t → is_closing t.message ≡ false
-turn_open store t (inl served) = answered_open store t.after t.message t.reply served
-turn_open store t (inr wants) = of_type t.message 0 wants.asked (omega arith)
+-- it is no Request
+pub not_request : (m : List ℕ) (k : ℕ) → kind_of m ≡ k → 0 < k → is_request m ≡ false
+not_request m k e some = rw (e, ne_eqb k 0 (omega (arith, some))) refl

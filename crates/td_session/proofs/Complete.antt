@@ -7,24 +7,29 @@ use Rattle.std.proofs.lemmas.List.{append-nil}
 use Rattle.std.proofs.lemmas.List.Elements.{All-head, All-tail, All-rest}
 use Rattle.std.proofs.lemmas.List.Sums.{sum_by-cons, sum_by-append}
 use Rattle.std.specs.Io.KnownBytes.{Appends, Consumes, IsAtEnd}
+use Rattle.td_cdr.specs.Marks.{Marks}
 use Rattle.td_giop.specs.declared.fault.FrameFault.{FrameFault}
 use Rattle.td_giop.specs.Stream.{first_at}
-use Rattle.td_giop.specs.Cut.{Front, Fronts, IsMessage}
+use Rattle.td_giop.specs.Cut.{Front, Fronts}
 use Rattle.td_giop.specs.Header.{Judged}
 use Rattle.td_giop.proofs.Judged.{judged}
-use Rattle.td_giop.proofs.Framing.{same_size, bad_header, bad-append}
+use Rattle.td_giop.proofs.Framing.{bad_header, bad-append}
 use Rattle.td_giop.proofs.Cuts.{front_within, fronts_fed, message_front}
 use Rattle.td_giop.proofs.Cuts.{same_front}
+use Rattle.td_lookup.specs.Scenes.{Scene}
+use Rattle.td_register.specs.declared.history.Accepted.{Accepted}
+use Rattle.td_reply.specs.declared.entry.Entry.{Entry}
+use Rattle.td_turns.specs.Messages.{IsForServer, is_closing, is_request, message_limit}
+use Rattle.td_turns.specs.Turns.{Turn, Run, messages_of, output, requests}
+use Rattle.td_walk.specs.declared.trace.Address.{Address}
 use Rattle.td_session.specs.declared.end.Cause.{Cause}
 use Rattle.td_session.specs.declared.end.End.{End}
 use Rattle.td_session.specs.declared.end.End.TheVariants.{Closed, Broken, Truncated, ReadFault, WriteFault, Long}
 use Rattle.td_session.specs.declared.end.End.TheVariants.{Memory}
-use Rattle.td_session.specs.declared.store.FirstStore.{FirstStore}
 use Rattle.td_session.specs.Outside.{Outside}
-use Rattle.td_session.specs.Steps.{Step, closes, breaks, step_of, Turn, Served, message_limit, is_request}
-use Rattle.td_session.specs.Sessions.{output, messages_of, requests, Meets, HasReason, Gives, Serves, bytes_limit}
-use Rattle.td_session.specs.Sessions.{request_limit}
-use Rattle.td_session.specs.Completeness.{IsForServer, is_closing, IsServable, NoneFailed, IsComplete, Completes}
+use Rattle.td_session.specs.Steps.{Step, closes, breaks, step_of}
+use Rattle.td_session.specs.Sessions.{Meets, HasReason, Gives, Serves, bytes_limit, request_limit}
+use Rattle.td_session.specs.Completeness.{NoneFailed, Completes}
 use Rattle.td_session.proofs.ByType.{never_breaks, closes_only, turn_open}
 
 -- ---- messages in front of a stream
@@ -91,31 +96,31 @@ AtClose [] = Unit {0}
 AtClose (m ∷ more) = is_closing m ≡ true
 
 -- the message that stands in front is the first of them
-the_first : (store : FirstStore) (rest later : List ℕ) (step : Step) (more : List (List ℕ)) → Meets store rest step
+the_first : (rest later : List ℕ) (step : Step) (more : List (List ℕ)) → Meets rest step
     → Stands (rest ++ later) more → (P : List (List ℕ) → Type 0)
-    → ((m : List ℕ) (others : List (List ℕ)) → IsForServer m → step_of store m ≡ step → P (m ∷ others)) → P more
-the_first store rest later step [] meets there P f =
+    → ((m : List ℕ) (others : List (List ℕ)) → IsForServer m → step_of m ≡ step → P (m ∷ others)) → P more
+the_first rest later step [] meets there P f =
     let fed =
     fronts_fed message_limit rest later (meets.message ∷ []) (drop (length meets.message) rest)
     (meets.front, refl) in
     absurd (no_front message_limit (rest ++ later) meets.message there fed.0)
-the_first store rest later step (m ∷ more) meets there P f =
+the_first rest later step (m ∷ more) meets there P f =
     let fed =
     fronts_fed message_limit rest later (meets.message ∷ []) (drop (length meets.message) rest)
     (meets.front, refl) in
     let same = same_front message_limit (rest ++ later) meets.message m fed.0 there.0 in
-    f m more there.1 (sym (ap (step_of store) same) ∙ meets.has_step)
+    f m more there.1 (sym (ap step_of same) ∙ meets.has_step)
 
-closes_first : (store : FirstStore) (rest later : List ℕ) (more : List (List ℕ)) → Meets store rest closes
+closes_first : (rest later : List ℕ) (more : List (List ℕ)) → Meets rest closes
     → Stands (rest ++ later) more → AtClose more
-closes_first store rest later more meets there =
-    the_first store rest later closes more meets there AtClose (λ m others fit e. closes_only store m fit e)
+closes_first rest later more meets there =
+    the_first rest later closes more meets there AtClose (λ m others fit e. closes_only m fit e)
 
-breaks_none : (store : FirstStore) (rest later : List ℕ) (cause : Cause) (more : List (List ℕ))
-    → Meets store rest (breaks cause) → Stands (rest ++ later) more → ⊥
-breaks_none store rest later cause more meets there =
-    the_first store rest later (breaks cause) more meets there (λ _. ⊥)
-    (λ m others fit e. never_breaks store m fit cause e)
+breaks_none : (rest later : List ℕ) (cause : Cause) (more : List (List ℕ))
+    → Meets rest (breaks cause) → Stands (rest ++ later) more → ⊥
+breaks_none rest later cause more meets there =
+    the_first rest later (breaks cause) more meets there (λ _. ⊥)
+    (λ m others fit e. never_breaks m fit cause e)
 
 -- there is no bad header
 no_fault : (rest later : List ℕ) (fault : FrameFault) (more : List (List ℕ)) → first_at message_limit rest ≡ Err fault
@@ -180,38 +185,38 @@ requests_are (t ∷ turns) =
 abbrev Ends : End → List (List ℕ) → Type 0
 Ends end more = ((end ≡ Closed) × AtClose more) ⊎ (end ≡ Memory)
 
-ends_so : (store : FirstStore) (end : End) (before after : Outside) (count asked : ℕ) (rest later : List ℕ)
+ends_so : (end : End) (before after : Outside) (count asked : ℕ) (rest later : List ℕ)
     (more : List (List ℕ))
-    → HasReason store end before after count asked rest → after.left ≡ Some later → Stands (rest ++ later) more
+    → HasReason end before after count asked rest → after.left ≡ Some later → Stands (rest ++ later) more
     → asked < request_limit → count < bytes_limit → NoneFailed before after → Ends end more
-ends_so store Closed before after count asked rest later more reason left there few short unhurt =
+ends_so Closed before after count asked rest later more reason left there few short unhurt =
     elim reason.1 [
       | inl ended ↦
           let none : rest ++ later ≡ [] =
           ap (λ (x : List ℕ). rest ++ x) (at_end after.left later left ended.2) ∙ append-nil rest ∙ ended.1 in
           inl (refl, nothing_left (rest ++ later) more there none)
-      | inr meets ↦ inl (refl, closes_first store rest later more meets there)
+      | inr meets ↦ inl (refl, closes_first rest later more meets there)
     ]
-ends_so store (Broken place cause) before after count asked rest later more reason left there few short unhurt =
+ends_so (Broken place cause) before after count asked rest later more reason left there few short unhurt =
     elim reason.2 [
       | inl bad ↦ absurd (no_fault rest later bad.0 more bad.2 there)
-      | inr meets ↦ absurd (breaks_none store rest later cause more meets there)
+      | inr meets ↦ absurd (breaks_none rest later cause more meets there)
     ]
-ends_so store (Truncated place) before after count asked rest later more reason left there few short unhurt =
+ends_so (Truncated place) before after count asked rest later more reason left there few short unhurt =
     let inside = reason.2 in
     let whole : rest ++ later ≡ rest =
     ap (λ (x : List ℕ). rest ++ x) (at_end after.left later left inside.ended) ∙ append-nil rest in
     absurd (no_cut rest more inside.began inside.not_whole (subst (λ (x : List ℕ). Stands x more) whole there))
-ends_so store ReadFault before after count asked rest later more reason left there few short unhurt =
+ends_so ReadFault before after count asked rest later more reason left there few short unhurt =
     absurd (unhurt.reads reason.1.rose)
-ends_so store WriteFault before after count asked rest later more reason left there few short unhurt =
+ends_so WriteFault before after count asked rest later more reason left there few short unhurt =
     absurd (unhurt.writes reason)
-ends_so store Long before after count asked rest later more reason left there few short unhurt =
+ends_so Long before after count asked rest later more reason left there few short unhurt =
     elim reason [
       | inl all ↦ absurd (omega (arith, all, few))
       | inr all ↦ (let taken = all.0 in absurd (omega (arith, taken, short)))
     ]
-ends_so store Memory before after count asked rest later more reason left there few short unhurt = inr refl
+ends_so Memory before after count asked rest later more reason left there few short unhurt = inr refl
 
 -- ---- the messages that were served
 
@@ -227,58 +232,66 @@ closing_later m ms e =
     ap (λ (b : Bool). take (cond (not b) (1 + position_or_len is_closing ms) 0) (m ∷ ms)) e
     ∙ take_first m ms (position_or_len is_closing ms)
 
--- they are those before the first that closes the session
-before_close : (store later : FirstStore) (ts : List Turn) (more : List (List ℕ)) → Served store ts later → AtClose more
-    → before_first is_closing (messages_of ts ++ more) ≡ messages_of ts
-before_close store later [] [] served at = refl
-before_close store later [] (m ∷ more) served at = closing_first m more at
-before_close store later (t ∷ ts) more served at =
-    closing_later t.message (messages_of ts ++ more) (turn_open store t served.0)
-    ∙ ap (λ (x : List (List ℕ)). t.message ∷ x) (before_close t.after later ts more served.1 at)
-
 -- ---- the law
 
 given_all : (before after : Outside) (turns : List Turn) (given : List ℕ) (end : End) → end ≡ Closed
     → Gives end before after turns given → given ≡ output turns
 given_all before after turns given end e gives = subst (λ (x : End). Gives x before after turns given) e gives
 
-pub complete : (store later : FirstStore) (end : End) (before after : Outside) → Serves store later end before after
-    → Completes store later end before after
-complete store later end before after f stream messages left servable unhurt =
-    let runs = f.runs in
-    let source = came before.left after.left stream f.taken left runs.took in
-    let asked = fronts_fed message_limit f.taken source.later (messages_of f.turns) f.rest runs.cut in
-    let served : Fronts message_limit stream (messages_of f.turns) (f.rest ++ source.later) =
-    subst (λ (x : List ℕ). Fronts message_limit x (messages_of f.turns) (f.rest ++ source.later)) (sym source.parts)
-    asked in
-    let all : Fronts message_limit stream messages [] =
-    subst (λ (x : List ℕ). Fronts message_limit x messages []) (sym servable.joined)
-    (fronts_of messages servable.each) in
-    let l = left_of message_limit stream messages (messages_of f.turns) (f.rest ++ source.later) all served in
-    let there =
-    stands (f.rest ++ source.later) l.more l.fronts
-    (all_behind IsForServer messages (messages_of f.turns) l.more l.are servable.each) in
-    let counted : count_by is_request messages
-    ≡ count_by is_request (messages_of f.turns) + count_by is_request l.more =
-    ap (count_by is_request) l.are
-    ∙ sum_by-append (λ (m : List ℕ). cond (is_request m) 1 0) (messages_of f.turns) l.more in
-    let few : 0 + requests f.turns < request_limit = omega (arith, counted, requests_are f.turns, servable.few) in
-    let short : 0 + length f.taken < bytes_limit =
-    omega (arith, ap (length {A = ℕ}) source.parts, length-append f.taken source.later, servable.short) in
-    elim (ends_so later end before after (0 + length f.taken) (0 + requests f.turns) f.rest source.later l.more f.reason
-    source.left_is there few short unhurt) [
-      | inl closed ↦
-          let each : messages_of f.turns ≡ before_first is_closing messages =
-          sym (ap (before_first is_closing) l.are ∙ before_close store later f.turns l.more runs.answered closed.1) in
-          let whole = given_all before after f.turns f.given end closed.0 f.gives in
-          inl (
-            closed.0,
-            record {
-              turns = f.turns;
-              answered = runs.answered;
-              all = each;
-              gave = subst (Appends before.written after.written) whole runs.gave;
-            },
-          )
-      | inr memory ↦ inr memory
-    ]
+module _ (others : List Accepted → Type 0) (later : Marks → Marks → Type 0) (home : Address) where
+  -- they are those before the first that closes the session
+  before_close : (s u : Scene) (ts : List Turn) (more : List (List ℕ)) → Run others later home s ts u → AtClose more
+      → before_first is_closing (messages_of ts ++ more) ≡ messages_of ts
+  before_close s u [] [] run at = refl
+  before_close s u [] (m ∷ more) run at = closing_first m more at
+  before_close s u (t ∷ ts) more run at =
+      closing_later t.message (messages_of ts ++ more) (turn_open others later home s t run.0)
+      ∙ ap (λ (x : List (List ℕ)). t.message ∷ x) (before_close t.after u ts more run.1 at)
+
+  pub complete : (s u : Scene) (journal : List Entry) (end : End) (before after : Outside)
+      → Serves others later home s u journal end before after → Completes others later home s u end before after
+  complete s u journal end before after f stream messages left servable unhurt =
+      let session = f.stream in
+      let runs = session.runs in
+      let source = came before.left after.left stream session.taken left runs.took in
+      let asked = fronts_fed message_limit session.taken source.later (messages_of f.turns) session.rest runs.cut in
+      let served : Fronts message_limit stream (messages_of f.turns) (session.rest ++ source.later) =
+      subst (λ (x : List ℕ). Fronts message_limit x (messages_of f.turns) (session.rest ++ source.later))
+      (sym source.parts) asked in
+      let all : Fronts message_limit stream messages [] =
+      subst (λ (x : List ℕ). Fronts message_limit x messages []) (sym servable.joined)
+      (fronts_of messages servable.each) in
+      let l = left_of message_limit stream messages (messages_of f.turns) (session.rest ++ source.later) all served in
+      let there =
+      stands (session.rest ++ source.later) l.more l.fronts
+      (all_behind IsForServer messages (messages_of f.turns) l.more l.are servable.each) in
+      let counted : count_by is_request messages
+      ≡ count_by is_request (messages_of f.turns) + count_by is_request l.more =
+      ap (count_by is_request) l.are
+      ∙ sum_by-append (λ (m : List ℕ). cond (is_request m) 1 0) (messages_of f.turns) l.more in
+      let few : 0 + requests f.turns < request_limit =
+      omega (arith, counted, requests_are f.turns, servable.few) in
+      let short : 0 + length session.taken < bytes_limit =
+      omega (
+        arith,
+        ap (length {A = ℕ}) source.parts,
+        length-append session.taken source.later,
+        servable.short,
+      ) in
+      elim (ends_so end before after (0 + length session.taken) (0 + requests f.turns) session.rest source.later
+      l.more session.reason source.left_is there few short unhurt) [
+        | inl closed ↦
+            let each : messages_of f.turns ≡ before_first is_closing messages =
+            sym (ap (before_first is_closing) l.are ∙ before_close s u f.turns l.more f.run closed.1) in
+            let whole = given_all before after f.turns session.given end closed.0 session.gives in
+            inl (
+              closed.0,
+              record {
+                turns = f.turns;
+                run = f.run;
+                all = each;
+                gave = subst (Appends before.written after.written) whole runs.gave;
+              },
+            )
+        | inr memory ↦ inr memory
+      ]

@@ -1,9 +1,9 @@
 pub mod ByType
-pub mod Changes
 pub mod Complete
 pub mod Ends
-pub mod Fits
-pub mod FoundRows
 pub mod Fronts
-pub mod Replied
+pub mod Headlined
+pub mod Heads
+pub mod Leading
+pub mod Numbers
 pub mod Runs

@@ -3,20 +3,20 @@ use Rattle.std.proofs.Common.{◌≡◌, ℕ, ◌+◌, ◌≤◌, ◌⊎◌, Lis
 use Rattle.std.proofs.Common.{subst, ◌∙◌, inl, inr, append_assoc, arith, length-append}
 use Rattle.std.proofs.KnownBytes.{Appends-nil, Appends-trans, Consumes-nil, Consumes-trans}
 use Rattle.std.proofs.lemmas.List.{map-append}
-use Rattle.td_giop.proofs.Cuts.{fronts_fed}
 use Rattle.std.proofs.lemmas.List.Concat.{flat_map-append}
 use Rattle.std.proofs.lemmas.List.Sums.{sum_by-append}
+use Rattle.td_giop.proofs.Cuts.{fronts_fed}
 use Rattle.td_out.specs.Causes.{Rose}
 use Rattle.td_out.proofs.Steps.{Rose-later}
 use Rattle.td_giop.specs.Cut.{Fronts}
+use Rattle.td_turns.specs.Messages.{message_error, message_limit}
+use Rattle.td_turns.specs.Turns.{Turn, messages_of, output, requests}
 use Rattle.td_session.specs.declared.end.End.{End}
 use Rattle.td_session.specs.declared.end.End.TheVariants.{Closed, Broken, Truncated, ReadFault, WriteFault, Long}
 use Rattle.td_session.specs.declared.end.End.TheVariants.{Memory}
-use Rattle.td_session.specs.declared.store.FirstStore.{FirstStore}
 use Rattle.td_session.specs.Outside.{Outside, outside}
-use Rattle.td_session.specs.Steps.{Turn, Served, message_limit, message_error}
 use Rattle.td_session.specs.Progress.{Stand, GoesOn}
-use Rattle.td_session.specs.Sessions.{output, messages_of, requests, Runs, HasReason, Gives, Finishes}
+use Rattle.td_session.specs.Sessions.{Runs, HasReason, Gives, Finishes}
 
 -- ---- messages in front of a stream
 
@@ -31,18 +31,9 @@ module _ (limit : ℕ) where
 pub requests-append : (ts us : List Turn) → requests (ts ++ us) ≡ requests ts + requests us
 requests-append ts us = sum_by-append _ ts us
 
--- served, and then served from the store that was left
-pub Served-then : (store mid later : FirstStore) (ts us : List Turn) → Served store ts mid → Served mid us later
-    → Served store (ts ++ us) later
-Served-then store mid later [] us s t = subst (λ (x : FirstStore). Served x us later) s t
-Served-then store mid later (t ∷ ts) us s u = (s.0, Served-then t.after mid later ts us s.1 u)
-
-pub Runs-then : (store between later : FirstStore) (o p q : Outside) (held mid rest : List ℕ) (ts us : List Turn)
-    (xs ys gs hs : List ℕ)
-    → Runs store between o p held ts xs mid gs → Runs between later p q mid us ys rest hs
-    → Runs store later o q held (ts ++ us) (xs ++ ys) rest (gs ++ hs)
-Runs-then store between later o p q held mid rest ts us xs ys gs hs r s = record {
-  answered = Served-then store between later ts us r.answered s.answered;
+pub Runs-then : (ts us : List Turn) (o p q : Outside) (held mid rest : List ℕ) (xs ys gs hs : List ℕ)
+    → Runs ts o p held xs mid gs → Runs us p q mid ys rest hs → Runs (ts ++ us) o q held (xs ++ ys) rest (gs ++ hs)
+Runs-then ts us o p q held mid rest xs ys gs hs r s = record {
   took = Consumes-trans _ _ _ xs ys r.took s.took;
   cut = let messages : messages_of (ts ++ us) ≡ messages_of ts ++ messages_of us = map-append _ ts us in
       rw (messages, ← append_assoc)
@@ -53,17 +44,16 @@ Runs-then store between later o p q held mid rest ts us xs ys gs hs r s = record
 }
 
 -- a reason stands from an earlier beginning
-pub HasReason-before : (store : FirstStore) (end : End) (o p q : Outside) (count asked : ℕ) (rest : List ℕ)
-    → o.reads ≤ p.reads → o.writes ≤ p.writes → HasReason store end p q count asked rest
-    → HasReason store end o q count asked rest
-HasReason-before store Closed o p q count asked rest r w h = h
-HasReason-before store (Broken place cause) o p q count asked rest r w h = h
-HasReason-before store (Truncated place) o p q count asked rest r w h = h
-HasReason-before store ReadFault o p q count asked rest r w h =
+pub HasReason-before : (end : End) (o p q : Outside) (count asked : ℕ) (rest : List ℕ) → o.reads ≤ p.reads
+    → o.writes ≤ p.writes → HasReason end p q count asked rest → HasReason end o q count asked rest
+HasReason-before Closed o p q count asked rest r w h = h
+HasReason-before (Broken place cause) o p q count asked rest r w h = h
+HasReason-before (Truncated place) o p q count asked rest r w h = h
+HasReason-before ReadFault o p q count asked rest r w h =
     (h.0, record { few = h.1.few; not_whole = h.1.not_whole; rose = Rose-later _ _ _ r h.1.rose })
-HasReason-before store WriteFault o p q count asked rest r w h = Rose-later _ _ _ w h
-HasReason-before store Long o p q count asked rest r w h = h
-HasReason-before store Memory o p q count asked rest r w h = tt
+HasReason-before WriteFault o p q count asked rest r w h = Rose-later _ _ _ w h
+HasReason-before Long o p q count asked rest r w h = h
+HasReason-before Memory o p q count asked rest r w h = tt
 
 still_rose : (a b c n : ℕ) → a ≤ b → (n ≡ 12) ⊎ Rose b c → (n ≡ 12) ⊎ Rose a c
 still_rose a b c n le h = elim h [ inl e ↦ inl e | inr rose ↦ inr (Rose-later a b c le rose) ]
@@ -99,46 +89,40 @@ Gives-behind Long o p q ts us given w h = given_behind ts us given h
 Gives-behind Memory o p q ts us given w h = given_behind ts us given h
 
 -- a run, and then a session from where it stands, is a session
-pub finishes : (store between later : FirstStore) (end : End) (o p q : Outside) (held mid : List ℕ) (ts : List Turn)
-    (xs : List ℕ) (count asked : ℕ)
-    → Runs store between o p held ts xs mid (output ts)
-    → Finishes between later end p q mid (count + length xs) (asked + requests ts)
-    → Finishes store later end o q held count asked
-finishes store between later end o p q held mid ts xs count asked r f =
+pub finishes : (ts us : List Turn) (end : End) (o p q : Outside) (held mid : List ℕ) (xs : List ℕ) (count asked : ℕ)
+    → Runs ts o p held xs mid (output ts) → Finishes us end p q mid (count + length xs) (asked + requests ts)
+    → Finishes (ts ++ us) end o q held count asked
+finishes ts us end o p q held mid xs count asked r f =
     let bytes-are : count + length (xs ++ f.taken) ≡ (count + length xs) + length f.taken =
     omega (arith, length-append xs f.taken) in
-    let few-are : asked + requests (ts ++ f.turns) ≡ (asked + requests ts) + requests f.turns =
-    omega (arith, requests-append ts f.turns) in
+    let few-are : asked + requests (ts ++ us) ≡ (asked + requests ts) + requests us =
+    omega (arith, requests-append ts us) in
     record {
-      turns = ts ++ f.turns;
       taken = xs ++ f.taken;
       rest = f.rest;
       given = output ts ++ f.given;
-      runs = Runs-then store between later o p q held mid f.rest ts f.turns xs f.taken (output ts) f.given r f.runs;
+      runs = Runs-then ts us o p q held mid f.rest xs f.taken (output ts) f.given r f.runs;
       bytes = rw bytes-are f.bytes;
       few = rw few-are f.few;
-      reason = rw (bytes-are, few-are) (HasReason-before later end o p q _ _ f.rest r.reads r.writes f.reason);
-      gives = Gives-behind end o p q ts f.turns f.given r.writes f.gives;
+      reason = rw (bytes-are, few-are) (HasReason-before end o p q _ _ f.rest r.reads r.writes f.reason);
+      gives = Gives-behind end o p q ts us f.given r.writes f.gives;
     }
 
 -- ---- from the beginning
 
 -- what was done since the beginning, and where it stands now
-pub record Sofar (store later : FirstStore) (before now : Outside) (s : Stand) : Type 0 where
-  pub turns : List Turn
+pub record Sofar (turns : List Turn) (before now : Outside) (s : Stand) : Type 0 where
   pub taken : List ℕ
-  pub runs : Runs store later before now [] turns taken s.stream.rest (output turns)
+  pub runs : Runs turns before now [] taken s.stream.rest (output turns)
   pub bytes : s.taken ≡ length taken
   pub asked : s.requests ≡ requests turns
 
-pub begins : (store : FirstStore) (l w : Option (List ℕ)) (r f : ℕ) (s : Stand) → s.stream.rest ≡ [] → s.taken ≡ 0
-    → s.requests ≡ 0 → Sofar store store (outside l r w f) (outside l r w f) s
-begins store l w r f s rest-is taken-is asked-is = record {
-  turns = [];
+pub begins : (l w : Option (List ℕ)) (r f : ℕ) (s : Stand) → s.stream.rest ≡ [] → s.taken ≡ 0 → s.requests ≡ 0
+    → Sofar [] (outside l r w f) (outside l r w f) s
+begins l w r f s rest-is taken-is asked-is = record {
   taken = [];
   runs =
       record {
-        answered = refl;
         took = Consumes-nil l;
         cut = sym rest-is;
         gave = Appends-nil w;
@@ -149,38 +133,32 @@ begins store l w r f s rest-is taken-is asked-is = record {
   asked = asked-is;
 }
 
-pub goes_on : (store between later : FirstStore) (before now next : Outside) (old new : Stand)
-    → Sofar store between before now old → GoesOn between later now next old new → Sofar store later before next new
-goes_on store between later before now next old new s g = record {
-  turns = s.turns ++ g.turns;
+pub goes_on : (ts us : List Turn) (before now next : Outside) (old new : Stand) → Sofar ts before now old
+    → GoesOn us now next old new → Sofar (ts ++ us) before next new
+goes_on ts us before now next old new s g = record {
   taken = s.taken ++ g.taken;
   runs =
-      rw flat_map-append (Runs-then store between later before now next [] old.stream.rest new.stream.rest s.turns
-      g.turns s.taken g.taken (output s.turns) (output g.turns) s.runs g.runs);
+      rw flat_map-append (Runs-then ts us before now next [] old.stream.rest new.stream.rest s.taken g.taken
+      (output ts) (output us) s.runs g.runs);
   bytes = omega (arith, s.bytes, g.bytes, length-append s.taken g.taken);
-  asked = omega (arith, s.asked, g.asked, requests-append s.turns g.turns);
+  asked = omega (arith, s.asked, g.asked, requests-append ts us);
 }
 
-pub ends : (store between later : FirstStore) (end : End) (before now next : Outside) (s : Stand)
-    → Sofar store between before now s → Finishes between later end now next s.stream.rest s.taken s.requests
-    → Finishes store later end before next [] 0 0
-ends store between later end before now next s sofar f =
+pub ends : (ts us : List Turn) (end : End) (before now next : Outside) (s : Stand) → Sofar ts before now s
+    → Finishes us end now next s.stream.rest s.taken s.requests → Finishes (ts ++ us) end before next [] 0 0
+ends ts us end before now next s sofar f =
     let bytes-are : 0 + length sofar.taken ≡ s.taken = omega (arith, sofar.bytes) in
-    let asked-are : 0 + requests sofar.turns ≡ s.requests = omega (arith, sofar.asked) in
-    finishes store between later end before now next [] s.stream.rest sofar.turns sofar.taken 0 0 sofar.runs
-    (rw (bytes-are, asked-are) f)
+    let asked-are : 0 + requests ts ≡ s.requests = omega (arith, sofar.asked) in
+    finishes ts us end before now next [] s.stream.rest sofar.taken 0 0 sofar.runs (rw (bytes-are, asked-are) f)
 
 -- a session for which there is no memory
-pub no_session : (store : FirstStore) (l w : Option (List ℕ)) (r f : ℕ)
-    → Finishes store store Memory (outside l r w f) (outside l r w f) [] 0 0
-no_session store l w r f = record {
-  turns = [];
+pub no_session : (l w : Option (List ℕ)) (r f : ℕ) → Finishes [] Memory (outside l r w f) (outside l r w f) [] 0 0
+no_session l w r f = record {
   taken = [];
   rest = [];
   given = [];
   runs =
       record {
-        answered = refl;
         took = Consumes-nil l;
         cut = refl;
         gave = Appends-nil w;

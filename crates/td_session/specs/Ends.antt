@@ -7,7 +7,8 @@ use Rattle.td_giop.specs.Stream.{Stream}
 use Rattle.td_session.specs.declared.end.End.{End}
 use Rattle.td_session.specs.declared.end.End.TheVariants.{Closed, Broken, Truncated, ReadFault, WriteFault, Long}
 use Rattle.td_session.specs.declared.end.End.TheVariants.{Memory}
-use Rattle.td_session.specs.Steps.{cause_of, message_error}
+use Rattle.td_turns.specs.Messages.{message_error}
+use Rattle.td_session.specs.Steps.{cause_of}
 
 -- at the end of the input a stream without a whole message is at the border of a message, or inside one
 abbrev pub EndsInput : Stream → End → Type 0

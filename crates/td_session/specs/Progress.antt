@@ -1,11 +1,14 @@
--- How far one turn brings a session.
+-- How far one turn brings a session: it serves the message in front, or takes a piece, or ends the session.
 use Rattle.std.specs.Prelude.{◌≡◌, ℕ, ◌+◌, ◌-◌, ◌*◌, ◌<◌, List, length, Option, Some, None}
-use Rattle.td_session.specs.declared.end.End.{End}
+use Rattle.td_cdr.specs.Marks.{Marks}
 use Rattle.td_giop.specs.Stream.{Stream}
-use Rattle.td_session.specs.declared.store.FirstStore.{FirstStore}
+use Rattle.td_register.specs.declared.history.Accepted.{Accepted}
+use Rattle.td_turns.specs.Turns.{Turn, output, requests}
+use Rattle.td_walk.specs.declared.trace.Address.{Address}
+use Rattle.td_session.specs.declared.end.End.{End}
 use Rattle.td_session.specs.Outside.{Outside}
-use Rattle.td_session.specs.Steps.{Turn}
-use Rattle.td_session.specs.Sessions.{output, requests, Runs, Finishes, bytes_limit}
+use Rattle.td_session.specs.Sessions.{Runs, Finishes, bytes_limit}
+use Rattle.td_session.specs.Stages.{Stage, Leads}
 
 -- the stream, and how many bytes were taken and Requests served
 pub record Stand : Type 0 where
@@ -21,16 +24,22 @@ abbrev pub work : Stand → ℕ
 work s = 2 * (bytes_limit - s.taken) + length s.stream.rest
 
 -- the session goes on
-pub record GoesOn (store later : FirstStore) (before after : Outside) (old new : Stand) : Type 0 where
-  pub turns : List Turn
+pub record GoesOn (turns : List Turn) (before after : Outside) (old new : Stand) : Type 0 where
   pub taken : List ℕ
-  pub runs : Runs store later before after old.stream.rest turns taken new.stream.rest (output turns)
+  pub runs : Runs turns before after old.stream.rest taken new.stream.rest (output turns)
   pub bytes : new.taken ≡ old.taken + length taken
   pub asked : new.requests ≡ old.requests + requests turns
   pub less : work new < work old
 
 -- the session goes on, or comes to its end
-abbrev pub Turns : FirstStore → FirstStore → Outside → Outside → Stand → Stand → Option End → Type 0
-Turns store later before after old new None = GoesOn store later before after old new
-Turns store later before after old new (Some end) =
-    Finishes store later end before after old.stream.rest old.taken old.requests
+abbrev pub Advances : List Turn → Outside → Outside → Stand → Stand → Option End → Type 0
+Advances turns before after old new None = GoesOn turns before after old new
+Advances turns before after old new (Some end) =
+    Finishes turns end before after old.stream.rest old.taken old.requests
+
+module _ (others : List Accepted → Type 0) (later : Marks → Marks → Type 0) (home : Address) where
+  -- these messages were served meanwhile: one or none
+  pub record Proceeds (s u : Stage) (before after : Outside) (old new : Stand) (result : Option End) : Type 0 where
+    pub turns : List Turn
+    pub leads : Leads others later home turns s u
+    pub advances : Advances turns before after old new result

@@ -1,15 +1,21 @@
-//! What holds of all sessions, as a function that does nothing: its contract is the law.
+//! What holds of all sessions, as functions that do nothing: the contract of each is a law.
 
+ghost use Rattle.std.specs.Prelude.{List};
+ghost use Rattle.td_lookup.specs.Scenes.{Scene};
+ghost use Rattle.td_reply.specs.declared.entry.Entry.{Entry};
+ghost use Rattle.td_walk.specs.declared.trace.Address.{Address};
 ghost use Rattle.td_session.specs.declared.end.End.{End};
-ghost use Rattle.td_session.specs.declared.store.FirstStore.{FirstStore};
 ghost use Rattle.td_session.specs.Outside.{Outside};
 ghost use Rattle.td_session.specs.Sessions.{Serves};
 ghost use Rattle.td_session.specs.Completeness.{Completes};
 
+use td_trader::Traders;
+
 /// Where the source is whole messages that a server can be sent, within a session's limits, and neither it
 /// nor the sink fails, the session serves all before the first that closes it, in order, and is closed, or
 /// it ends for want of memory.
-pub fn all_messages_are_served()
-    ensures { (store later : FirstStore) (end : End) (before after : Outside) →
-        Serves store later end before after → Completes store later end before after }
+pub fn all_messages_are_served<T: Traders>()
+    ensures { (home : Address) (s u : Scene) (journal : List Entry) (end : End) (before after : Outside)
+        → Serves T.others T.later home s u journal end before after
+        → Completes T.others T.later home s u end before after }
 {}

@@ -1,34 +1,32 @@
-//! What a session keeps beside its stores.
+//! What a session keeps.
 
-ghost use Rattle.std.specs.Prelude.{◌≤◌};
+ghost use Rattle.td_reply.specs.References.{IsAddress};
 
-use crate::store::Address;
 use std::alloc::Global;
-use td_cdr::{Memory, Order, Writer};
+use td_cdr::Memory;
+use td_iter::Desk;
+use td_reply::Entry;
+use td_serve::Replies;
+use td_walk::Address;
 
-/// How many bytes are reserved for a short reply. NO_MEMORY and the reply of each change that is
-/// accepted fit in them.
-const RESERVED: usize = 512;
-
-/// What a session keeps: the reply that it writes, with reserved bytes.
+/// What a session keeps beside what it stands on.
 #[derive(Drop)]
 pub struct Room {
     /// Where the group of traders is reached.
-    home: Address,
-    /// A short reply.
-    pub(crate) short: Writer,
-    /// Any other reply.
-    pub(crate) long: Writer,
-    /// The profile of the reference that is written.
-    pub(crate) profile: Writer,
-    /// Whether the reply to the message in front is the long one.
-    pub(crate) is_long: bool,
-    ghost reserved: { 512 ≤ short.room },
+    pub(crate) home: Address,
+    /// The iterators of the connection.
+    pub(crate) desk: Desk,
+    /// What is noted of each Request, in order.
+    pub(crate) journal: Vec<Entry>,
+    /// The reply to the message in front.
+    pub(crate) replies: Replies,
+    ghost reached: { IsAddress home },
 }
 
 impl Room {
     ghost use Rattle.std.specs.Prelude.{◌≡◌, IfOk};
-    ghost use Rattle.td_session.specs.Rooms.{IsNew, reply_in};
+    ghost use Rattle.td_reply.specs.References.{IsAddress};
+    ghost use Rattle.td_session.specs.Rooms.{IsNew};
 
     /// A room for one session with the traders that are reached at this address.
     ///
@@ -36,27 +34,24 @@ impl Room {
     ///
     /// `Memory` for want of memory alone.
     pub fn new(alloc: Global, home: Address) -> Result<Room, Memory>
-        ensures { IfOk result (λ room. IsNew home room) }
+        requires { IsAddress home }
+        ensures new { IfOk result (λ room. IsNew room) }
+        ensures home { IfOk result (λ room. room.home ≡ home) }
     {
-        let mut short = Writer::new(alloc, Order::Big);
-        short.reserve(RESERVED)?;
+        let desk = Desk::new(alloc, 1)?;
+        let replies = Replies::new(alloc)?;
         Ok(Room {
             home,
-            short,
-            long: Writer::new(alloc, Order::Big),
-            profile: Writer::new(alloc, Order::Big),
-            is_long: false,
+            desk,
+            journal: Vec::new(alloc),
+            replies,
         })
     }
 
-    /// The reply to the message in front.
-    pub(crate) fn reply(&self) -> &[u8]
-        ensures { result.now ≡ reply_in self.now }
+    /// What was noted of each Request that was served, in order.
+    pub fn journal(&self) -> &[Entry]
+        ensures { result.now ≡ self.now.journal.items }
     {
-        if self.is_long {
-            self.long.bytes()
-        } else {
-            self.short.bytes()
-        }
+        self.journal.as_slice()
     }
 }

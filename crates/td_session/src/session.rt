@@ -1,21 +1,25 @@
 //! The session: messages are served in order until the stream ends.
 
 ghost use Rattle.std.specs.Prelude.{◌≡◌, ◌+◌, ◌^◌, ◌<◌, ◌≤◌, length};
-ghost use Rattle.td_types.specs.Repository.{IsRepository};
+ghost use Rattle.td_reply.specs.Linking.{peers_seen};
 ghost use Rattle.td_session.specs.Outside.{outside};
 ghost use Rattle.td_session.specs.Completeness.{Completes};
+ghost use Rattle.td_session.specs.Rooms.{IsNew};
 ghost use Rattle.td_session.specs.Sessions.{Serves};
-ghost use Rattle.td_session.specs.Steps.{cause_of, message_limit};
+ghost use Rattle.td_session.specs.Stages.{scene_in};
+ghost use Rattle.td_session.specs.Steps.{cause_of};
+ghost use Rattle.td_turns.specs.Messages.{message_limit};
 
 use crate::end::{Cause, End};
 use crate::front::{Front, serve_front};
 use crate::piece::{Piece, take_piece, write_all};
 use crate::room::Room;
-use crate::store::FirstStore;
 use std::alloc::Global;
 use td_cdr::Memory;
 use td_giop::{FrameFault, Framer, SERVER_LIMIT};
-use td_out::{Sink, Source};
+use td_out::{Sink, Source, Words};
+use td_trader::Traders;
+use td_walk::Peers;
 
 /// How many bytes a session takes at most.
 const BYTES_LIMIT: u64 = 1 << 40;
@@ -42,14 +46,15 @@ struct Session {
 
 impl Session {
     ghost use Rattle.std.specs.Prelude.{◌≡◌, [], IfOk};
+    ghost use Rattle.td_reply.specs.Linking.{peers_seen};
     ghost use Rattle.td_session.specs.Outside.{outside};
-    ghost use Rattle.std.specs.Prelude.{ℕ, ◌<◌, ◌≤◌, List, Option, Ok, None};
+    ghost use Rattle.std.specs.Prelude.{ℕ, ◌+◌, ◌<◌, ◌≤◌, List, Option, Ok, None};
     ghost use Rattle.std.specs.Io.KnownBytes.{Appends};
     ghost use Rattle.td_giop.specs.Stream.{first_at};
-    ghost use Rattle.td_session.specs.declared.store.FirstStore.{FirstStore};
     ghost use Rattle.td_session.specs.Ends.{EndsInput, EndsAtBad, Breaks};
-    ghost use Rattle.td_session.specs.Progress.{Turns, stand};
-    ghost use Rattle.td_session.specs.Steps.{message_limit};
+    ghost use Rattle.td_session.specs.Progress.{Advances, Proceeds, stand};
+    ghost use Rattle.td_session.specs.Stages.{stage_in};
+    ghost use Rattle.td_turns.specs.Messages.{message_limit};
 
     /// A session that has taken nothing.
     fn new(alloc: Global) -> Result<Session, Memory>
@@ -63,15 +68,26 @@ impl Session {
     }
 
     /// Serves the message in front, or takes a piece, or says how the session ends.
-    fn turn<S: Source, K: Sink>(
+    fn turn<T: Traders, S: Source, K: Sink, P: Peers, W: Words>(
         &mut self,
         alloc: Global,
-        store: &mut FirstStore,
+        traders: &mut T,
         room: &mut Room,
         source: &mut S,
         sink: &mut K,
+        peers: &mut P,
+        words: &mut W,
     ) -> Option<End>
-        ensures { Turns store.old store.new
+        requires { room.old.desk.1 ≤ 1 + self.old.requests }
+        ensures same { T.same traders.old traders.new }
+        ensures same_peers { P.same peers.old peers.new }
+        ensures same_words { W.same words.old words.new }
+        ensures home { room.new.home ≡ room.old.home }
+        ensures proceeds { Proceeds T.others T.later room.old.home
+            (stage_in (T.world traders.old) room.old (peers_seen (P.calls peers.old) (P.faults peers.old))
+            (W.word words.old))
+            (stage_in (T.world traders.new) room.new (peers_seen (P.calls peers.new) (P.faults peers.new))
+            (W.word words.new))
             (outside (S.left source.old) (S.faults source.old) (K.written sink.old) (K.faults sink.old))
             (outside (S.left source.new) (S.faults source.new) (K.written sink.new) (K.faults sink.new))
             (stand self.old.framer self.old.taken self.old.requests)
@@ -80,12 +96,13 @@ impl Session {
         if self.requests == REQUEST_LIMIT {
             return Some(End::Long);
         }
-        match serve_front(alloc, store, room, &mut self.framer, sink) {
+        match serve_front(alloc, traders, room, &mut self.framer, sink, peers, words) {
             Front::Nothing => self.take(source),
             Front::Bad(fault) => Some(self.end_at_bad_header(sink, fault)),
             Front::Closes => Some(End::Closed),
             Front::Breaks(cause) => Some(self.break_off(sink, cause)),
             Front::Unsent => Some(End::WriteFault),
+            Front::Full => Some(End::Memory),
             Front::Answered { request } => {
                 self.framer.drop_message();
                 self.requests += u64::from(request);
@@ -98,8 +115,8 @@ impl Session {
     fn take<S: Source>(&mut self, source: &mut S) -> Option<End>
         requires served { first_at message_limit self.old.framer.rest ≡ Ok None }
         requires open { self.old.requests < 1000000 }
-        ensures { (store : FirstStore) (w0 w1 : Option (List ℕ)) (f0 f1 : ℕ) → Appends w0 w1 [] → f0 ≤ f1
-            → Turns store store (outside (S.left source.old) (S.faults source.old) w0 f0)
+        ensures { (w0 w1 : Option (List ℕ)) (f0 f1 : ℕ) → Appends w0 w1 [] → f0 ≤ f1
+            → Advances [] (outside (S.left source.old) (S.faults source.old) w0 f0)
             (outside (S.left source.new) (S.faults source.new) w1 f1)
             (stand self.old.framer self.old.taken self.old.requests)
             (stand self.new.framer self.new.taken self.new.requests) result }
@@ -165,38 +182,60 @@ fn cause_of(fault: FrameFault) -> Cause
 /// Serves the messages of a source in order, and writes their replies to a sink, until the stream ends.
 ///
 /// Where the source is whole messages that a server can be sent, within a session's limits, and none of the
-/// outside fails, those before the first CloseConnection or MessageError are all served, or memory is wanted. The
-/// type repository that is left keeps its invariant.
-pub fn serve_connection<S: Source, K: Sink>(
+/// outside fails, those before the first CloseConnection or MessageError are all served, or memory is wanted.
+pub fn serve_connection<T: Traders, S: Source, K: Sink, P: Peers, W: Words>(
     alloc: Global,
-    store: &mut FirstStore,
+    traders: &mut T,
     room: &mut Room,
     source: &mut S,
     sink: &mut K,
+    peers: &mut P,
+    words: &mut W,
 ) -> End
-    ensures serves { Serves store.old store.new result
+    requires { IsNew room.old }
+    ensures same { T.same traders.old traders.new }
+    ensures same_peers { P.same peers.old peers.new }
+    ensures same_words { W.same words.old words.new }
+    ensures serves { Serves T.others T.later room.old.home
+        (scene_in (T.world traders.old) room.old (peers_seen (P.calls peers.old) (P.faults peers.old))
+        (W.word words.old))
+        (scene_in (T.world traders.new) room.new (peers_seen (P.calls peers.new) (P.faults peers.new))
+        (W.word words.new))
+        room.new.journal.items result
         (outside (S.left source.old) (S.faults source.old) (K.written sink.old) (K.faults sink.old))
         (outside (S.left source.new) (S.faults source.new) (K.written sink.new) (K.faults sink.new)) }
-    ensures complete { Completes store.old store.new result
+    ensures complete { Completes T.others T.later room.old.home
+        (scene_in (T.world traders.old) room.old (peers_seen (P.calls peers.old) (P.faults peers.old))
+        (W.word words.old))
+        (scene_in (T.world traders.new) room.new (peers_seen (P.calls peers.new) (P.faults peers.new))
+        (W.word words.new))
+        result
         (outside (S.left source.old) (S.faults source.old) (K.written sink.old) (K.faults sink.old))
         (outside (S.left source.new) (S.faults source.new) (K.written sink.new) (K.faults sink.new)) }
-    ensures valid { IsRepository store.new.types }
 {
-    let end = serve_session(alloc, store, room, source, sink);
-    // (what this call tells is what the repository keeps to)
-    let _ = store.types.incarnation();
-    end
+    serve_session(alloc, traders, room, source, sink, peers, words)
 }
 
 /// Serves a session, turn by turn.
-fn serve_session<S: Source, K: Sink>(
+fn serve_session<T: Traders, S: Source, K: Sink, P: Peers, W: Words>(
     alloc: Global,
-    store: &mut FirstStore,
+    traders: &mut T,
     room: &mut Room,
     source: &mut S,
     sink: &mut K,
+    peers: &mut P,
+    words: &mut W,
 ) -> End
-    ensures { Serves store.old store.new result
+    requires { IsNew room.old }
+    ensures same { T.same traders.old traders.new }
+    ensures same_peers { P.same peers.old peers.new }
+    ensures same_words { W.same words.old words.new }
+    ensures serves { Serves T.others T.later room.old.home
+        (scene_in (T.world traders.old) room.old (peers_seen (P.calls peers.old) (P.faults peers.old))
+        (W.word words.old))
+        (scene_in (T.world traders.new) room.new (peers_seen (P.calls peers.new) (P.faults peers.new))
+        (W.word words.new))
+        room.new.journal.items result
         (outside (S.left source.old) (S.faults source.old) (K.written sink.old) (K.faults sink.old))
         (outside (S.left source.new) (S.faults source.new) (K.written sink.new) (K.faults sink.new)) }
 {
@@ -204,7 +243,7 @@ fn serve_session<S: Source, K: Sink>(
         return End::Memory;
     };
     loop {
-        match session.turn(alloc, store, room, source, sink) {
+        match session.turn(alloc, traders, room, source, sink, peers, words) {
             Some(end) => return end,
             None => {}
         }

@@ -1,11 +1,33 @@
-//! Tests of sessions, whose bytes come from the standard's rules.
+//! Tests of sessions, from the bytes of a client to the bytes of the replies. The bytes come from the standards' rules.
 #![tactic(auto)]
 
 #[cfg(test)]
-mod messages;
+mod administration;
+#[cfg(test)]
+mod answering;
+#[cfg(test)]
+mod broken;
+#[cfg(test)]
+mod cities;
+#[cfg(test)]
+mod cities_file;
+#[cfg(test)]
+mod cut_tests;
+#[cfg(test)]
+mod journal;
+#[cfg(test)]
+mod linking;
+#[cfg(test)]
+mod offering;
+#[cfg(test)]
+mod opening;
+#[cfg(test)]
+mod plain;
 #[cfg(test)]
 mod repository;
 #[cfg(test)]
-mod served;
+mod serving;
 #[cfg(test)]
-mod sessions;
+mod session_tests;
+#[cfg(test)]
+mod story;

@@ -1,6 +1,8 @@
+use Rattle.td_file.specs.Files.{seen}
 use Rattle.td_command.proofs.Serving.{text-serves}
 use Rattle.td_command.proofs.serve.serve_text.Goals as goal
 
 pub returns-in-Ok : goal.returns-in-Ok
 returns-in-Ok g c =
-    text-serves c.args.text.now c.in-Ok.store c.serve_store.result _ _ c.in-Ok.ensures.gives c.serve_store.ensures
+    text-serves c.args.text.now (seen c.in-Ok.opened) (g.W.Words.word_after c.args.words.now) c.serve_opened.result _ _
+    c.in-Ok.ensures.answers c.serve_opened.ensures

@@ -1,0 +1,17 @@
+use Rattle.std.proofs.Common.{ℕ, List, [], ap, ◌∙◌}
+use Rattle.td_client.specs.declared.note.Note.{Note}
+use Rattle.td_client.specs.Noted.{exchanges}
+use Rattle.td_file.specs.Files.{seen}
+use Rattle.td_reply.specs.Linking.{peers_seen}
+use Rattle.td_command.proofs.Serving.{begun}
+use Rattle.td_command.proofs.serve.serve_opened.Goals as goal
+
+pub returns : goal.returns
+returns g c =
+    let seeded = g.W.Words.word_after c.args.words.now in
+    begun (seen c.args.opened) seeded c.in-Ok.room.home c.in-Ok.room.desk _ _ _ _ _ _ _ c.in-Ok.ensures.home
+    c.in-Ok.ensures.new.desk
+    (ap (λ (n : List Note). peers_seen (exchanges n) c.new-peers.result.faults) c.new-peers.ensures.notes
+    ∙ ap (λ (k : ℕ). peers_seen [] k) c.new-peers.ensures.faults)
+    (λ k. c.seed-2.ensures.words k ∙ ap (λ (s : List ℕ). seeded (record { key = s; stream = 0 }) k) c.as_slice.ensures)
+    c.serve_connection-end.ensures.serves

@@ -1,5 +1,0 @@
-//! Tests of the server's file in its first form.
-#![tactic(auto)]
-
-#[cfg(test)]
-mod tests;

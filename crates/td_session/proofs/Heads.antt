@@ -1,0 +1,51 @@
+-- A Request that was judged is served as it asks.
+use Rattle.std.proofs.Common.{◌≡◌, ℕ, List, refl, sym, subst}
+use Rattle.td_cdr.specs.Marks.{Marks}
+use Rattle.td_cdr.specs.Place.{At}
+use Rattle.td_cdr.specs.declared.order.Order.{Order}
+use Rattle.td_giop.specs.Heads.{Request}
+use Rattle.td_iter.specs.Desks.{Live}
+use Rattle.td_lookup.specs.Scenes.{Scene, scene}
+use Rattle.td_ops.specs.declared.outcome.Outcome.{Outcome}
+use Rattle.td_register.specs.declared.history.Accepted.{Accepted}
+use Rattle.td_reply.specs.Answers.{no_memory}
+use Rattle.td_reply.specs.Judging.{judged}
+use Rattle.td_reply.specs.Linking.{PeersSeen}
+use Rattle.td_reply.specs.declared.entry.Entry.{Entry}
+use Rattle.td_reply.specs.declared.judging.Judged.{Judged}
+use Rattle.td_serve.specs.Requests.{Served}
+use Rattle.td_trader.specs.Worlds.{View}
+use Rattle.td_walk.specs.declared.trace.Address.{Address}
+use Rattle.td_session.specs.Prepared.{ServesHead}
+
+module _ (others : List Accepted → Type 0) (later : Marks → Marks → Type 0) (home : Address) where
+  -- judging has left the kept iterators as they were
+  pub served_head : (order : Order) (head : Request) (body : At) (w : List View) (d m : Live) (peers : PeersSeen)
+      (words : ℕ → ℕ) (j : Judged) (o : Outcome) (e : Entry) (reply : List ℕ) (u : Scene) → m ≡ d
+      → j ≡ judged w d head.key head.operation body
+      → Served others later home order head.id head.answered j (scene w m peers words) o e reply u
+      → ServesHead others later home order head body (scene w d peers words) e reply u
+  served_head order head body w d m peers words j o e reply u same asks h = record {
+    noted = record { judged = j; outcome = o; entry = e };
+    asks = asks;
+    served =
+        subst (λ (x : Live). Served others later home order head.id head.answered j (scene w x peers words) o e reply u)
+        same h;
+    entry = refl;
+  }
+
+  -- memory was wanted to read the call
+  pub refused_head : (order : Order) (head : Request) (body : At) (w : List View) (d m : Live) (peers : PeersSeen)
+      (words : ℕ → ℕ) (e : Entry) (reply : List ℕ) → m ≡ d
+      → ((j : Judged) (s : Scene) → Served others later home order head.id head.answered j s no_memory e reply s)
+      → ServesHead others later home order head body (scene w d peers words) e reply (scene w m peers words)
+  refused_head order head body w d m peers words e reply same h =
+      let s = scene w d peers words in
+      let j = judged w d head.key head.operation body in
+      subst (λ (x : Live). ServesHead others later home order head body s e reply (scene w x peers words)) (sym same)
+      (record {
+        noted = record { judged = j; outcome = no_memory; entry = e };
+        asks = refl;
+        served = h j s;
+        entry = refl;
+      })

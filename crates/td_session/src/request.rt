@@ -1,0 +1,106 @@
+//! A Request: it is served, and what came of it is noted.
+
+ghost use Rattle.std.specs.Prelude.{◌≡◌, ◌<◌, ◌^◌, OnOk, OnErr};
+ghost use Rattle.td_lookup.specs.Scenes.{scene};
+ghost use Rattle.td_reply.specs.Linking.{peers_seen};
+ghost use Rattle.td_reply.specs.References.{IsAddress};
+ghost use Rattle.td_session.specs.Prepared.{NotesHead, ServesHead, asked_of};
+ghost use Rattle.td_session.specs.Stages.{stage_in};
+
+use crate::room::Room;
+use std::alloc::Global;
+use td_cdr::{Memory, Order};
+use td_giop::RequestHead;
+use td_iter::Desk;
+use td_out::Words;
+use td_reply::{Entry, judge};
+use td_serve::{Replies, refuse_memory, serve_request};
+use td_trader::Traders;
+use td_walk::{Address, Peers};
+
+/// Serves a Request, and notes what came of it, in room that is taken before. Its reply stands in the room then.
+///
+/// # Errors
+///
+/// `Memory` where there is no room to note it; nothing was done then.
+pub(crate) fn answer_request<T: Traders, P: Peers, W: Words>(
+    alloc: Global,
+    traders: &mut T,
+    room: &mut Room,
+    peers: &mut P,
+    words: &mut W,
+    order: Order,
+    head: &RequestHead,
+) -> Result<(), Memory>
+    requires { room.old.desk.1 < 2 ^ 63 }
+    ensures same { T.same traders.old traders.new }
+    ensures same_peers { P.same peers.old peers.new }
+    ensures same_words { W.same words.old words.new }
+    ensures home { room.new.home ≡ room.old.home }
+    ensures ok { OnOk result (NotesHead T.others T.later room.old.home order (asked_of head.now) head.now.body
+        (stage_in (T.world traders.old) room.old (peers_seen (P.calls peers.old) (P.faults peers.old))
+        (W.word words.old)) room.new.replies
+        (stage_in (T.world traders.new) room.new (peers_seen (P.calls peers.new) (P.faults peers.new))
+        (W.word words.new))) }
+    ensures err { OnErr result
+        (stage_in (T.world traders.new) room.new (peers_seen (P.calls peers.new) (P.faults peers.new))
+        (W.word words.new)
+        ≡ stage_in (T.world traders.old) room.old (peers_seen (P.calls peers.old) (P.faults peers.old))
+        (W.word words.old)) }
+{
+    room.journal.reserve(1)?;
+    let entry = serve_head(
+        alloc,
+        traders,
+        &room.home,
+        &mut room.desk,
+        peers,
+        words,
+        &mut room.replies,
+        order,
+        head,
+    );
+    room.journal.push_reserved(entry);
+    Ok(())
+}
+
+/// Serves a Request, and tells what is noted of it.
+fn serve_head<T: Traders, P: Peers, W: Words>(
+    alloc: Global,
+    traders: &mut T,
+    home: &Address,
+    desk: &mut Desk,
+    peers: &mut P,
+    words: &mut W,
+    replies: &mut Replies,
+    order: Order,
+    head: &RequestHead,
+) -> Entry
+    requires home { IsAddress home.now }
+    requires numbers { desk.old.1 < 2 ^ 63 }
+    ensures same { T.same traders.old traders.new }
+    ensures same_peers { P.same peers.old peers.new }
+    ensures same_words { W.same words.old words.new }
+    ensures serves { ServesHead T.others T.later home.now order (asked_of head.now) head.now.body
+        (scene (T.world traders.old) desk.old (peers_seen (P.calls peers.old) (P.faults peers.old))
+        (W.word words.old)) result replies.new
+        (scene (T.world traders.new) desk.new (peers_seen (P.calls peers.new) (P.faults peers.new))
+        (W.word words.new)) }
+{
+    match judge(alloc, traders, desk, head.key, head.operation, &head.body) {
+        Ok(judged) => serve_request(
+            alloc,
+            traders,
+            home,
+            desk,
+            peers,
+            words,
+            replies,
+            order,
+            head.id,
+            head.answered,
+            judged,
+        ),
+        Err(_) => refuse_memory::<T>(alloc, replies, order, head.id, head.answered),
+    }
+}

@@ -1,0 +1,85 @@
+//! Peers outside, by a script of a few words.
+
+ghost use Rattle.std.specs.Prelude.{IfOk, OnOk};
+ghost use Rattle.td_peers.specs.Scripts.{AreSmall, IsSmall};
+ghost use Rattle.td_walk.specs.Peering.{HasSmallOffers};
+
+use std::alloc::Global;
+use td_cdr::{Boxed, List, Memory, Octets, Text};
+use td_ior::read_text;
+use td_peers::{MemPeers, Scripted};
+use td_value::{Any, Ior, TypeCode, Value};
+use td_walk::SubAnswer;
+
+fn two(alloc: Global) -> Result<Boxed<Any>, Memory> {
+    Boxed::new(
+        alloc,
+        Any {
+            code: TypeCode::ULong,
+            value: Value::ULong(2),
+        },
+    )
+}
+
+/// No offers, and the limit on hops.
+fn limited(alloc: Global) -> Result<SubAnswer, Memory>
+    ensures { IfOk result HasSmallOffers }
+{
+    let mut limits = List::new(alloc);
+    limits.push(Text::from_slice(alloc, b"hop_count")?)?;
+    Ok(SubAnswer {
+        offers: List::new(alloc),
+        limits,
+    })
+}
+
+fn reference(alloc: Global, text: &[u8]) -> Result<Ior, Memory> {
+    match read_text(alloc, text) {
+        Ok(reference) => Ok(reference),
+        Err(_) => Err(Memory),
+    }
+}
+
+/// `two`, which is a value, `limited`, an answer without offers, or the text of a reference.
+fn scripted(alloc: Global, word: &str) -> Result<Scripted, Memory>
+    ensures { IfOk result IsSmall }
+{
+    match word {
+        "two" => Ok(Scripted::Evaluated(two(alloc)?)),
+        "limited" => Ok(Scripted::Offers(limited(alloc)?)),
+        text => Ok(Scripted::Reference(reference(alloc, text.as_bytes())?)),
+    }
+}
+
+/// One entry more, as `KEY:ENTRY`.
+#[tactic(auto, using(td_peers::proofs::Smallness::small_next))]
+fn add(alloc: Global, script: &mut List<(Octets, Scripted)>, word: &str) -> Result<(), Memory>
+    requires { AreSmall script.old }
+    ensures { OnOk result (AreSmall script.new) }
+{
+    let (key, entry) = word.split_once(':').unwrap_or((word, ""));
+    let key = Octets::from_slice(alloc, key.as_bytes())?;
+    script.push((key, scripted(alloc, entry)?))?;
+    Ok(())
+}
+
+/// Peers that can't be reached.
+pub fn nobody(alloc: Global) -> MemPeers {
+    MemPeers::new(alloc, List::new(alloc), List::new(alloc))
+}
+
+/// The evaluator of the key `q`, which answers 2.
+pub fn evaluator(alloc: Global) -> Result<MemPeers, Memory> {
+    let mut script = List::new(alloc);
+    add(alloc, &mut script, "q:two")?;
+    Ok(MemPeers::new(alloc, script, List::new(alloc)))
+}
+
+/// A trader Z: its Lookup names the Register, and answers a query; the Register resolves a name.
+pub fn trader_outside(alloc: Global) -> Result<MemPeers, Memory> {
+    let mut script = List::new(alloc);
+    add(alloc, &mut script, "Z/L:ref:IDL:R:1.0,x,9,Z/R")?;
+    add(alloc, &mut script, "Z/R:ref:IDL:R:1.0,x,9,Y/R")?;
+    add(alloc, &mut script, "Z/L:limited")?;
+    Ok(MemPeers::new(alloc, script, List::new(alloc)))
+}
