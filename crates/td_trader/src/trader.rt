@@ -112,6 +112,13 @@ impl Trader {
         &self.name
     }
 
+    /// The store as it is now. Takes no memory.
+    pub fn store(&self) -> &Store
+        ensures { result.now ≡ store_of self.now }
+    {
+        &self.store
+    }
+
     /// The changes that were accepted, with their replies. Takes no memory.
     pub fn history(&self) -> &[Accepted]
         ensures entries { result.now ≡ self.now.history }
