@@ -58,13 +58,13 @@ shown-fault given w call fault.Memory calls now faults later before middle after
     shown-same w calls now before after (noted.calls ∙ append-nil calls) (n.1 ∙ kept)
 shown-fault given w call fault.Wire calls now faults later before middle after r noted kept n =
     shown-call w calls now (record { call = call; gave = Missed fault.Wire }) before middle after
-    (item.Failed fault.Wire) noted.calls kept n.1 (λ k. refl) refl
+    (item.Failed fault.Wire) noted.calls kept n.1 (λ k. refl) (λ k. refl) refl
 shown-fault given w call fault.Grammar calls now faults later before middle after r noted kept n =
     shown-call w calls now (record { call = call; gave = Missed fault.Grammar }) before middle after
-    (item.Failed fault.Grammar) noted.calls kept n.1 (λ k. refl) refl
+    (item.Failed fault.Grammar) noted.calls kept n.1 (λ k. refl) (λ k. refl) refl
 shown-fault given w call fault.Exception calls now faults later before middle after r noted kept n =
     shown-call w calls now (record { call = call; gave = Missed fault.Exception }) before middle after
-    (item.Failed fault.Exception) noted.calls kept n.1 (λ k. refl) refl
+    (item.Failed fault.Exception) noted.calls kept n.1 (λ k. refl) (λ k. refl) refl
 
 -- ---- an evaluation
 

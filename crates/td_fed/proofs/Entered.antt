@@ -6,6 +6,7 @@ use Rattle.std.proofs.lemmas.Bool.{eqb-true, eq-eqb}
 use Rattle.td_cdr.specs.Marks.{Marks}
 use Rattle.td_cdr.specs.declared.memory.Memory.{Memory as Wanting}
 use Rattle.td_codes.specs.declared.reference.Ior.{Ior}
+use Rattle.td_fed.proofs.Points.{begun-rise, watched-length}
 use Rattle.td_fed.specs.Entering.{Asks, Enters, IsAsked, IsEntered, asking_of, begin_item, entry_of}
 use Rattle.td_fed.specs.Entering.{answered as has-answer, begun as has-begun, opens, refused, repeated}
 use Rattle.td_fed.specs.Targets.{inside_group}
@@ -123,8 +124,9 @@ module _ (others : List Accepted → Type 0) (later : Marks → Marks → Type 0
 
   -- a query that begins
   pub shown-begun : (w u : List View) (k point : ℕ) (q : Query) (b : Begin) (x z y : List TraceItem)
-      → Begun others later w k q b u → z ≡ x → y ≡ z ++ begin_item k point b ∷ [] → IsShown w [] x y u []
-  shown-begun w u k point q b x z y h kept noted =
+      → Begun others later w k q b u → point ≡ length (history_at u k) → z ≡ x
+      → y ≡ z ++ begin_item k point b ∷ [] → IsShown w [] x y u []
+  shown-begun w u k point q b x z y h seen_at kept noted =
       let m = h.meanwhile in
       let after = seen_after h.seen (after_begin (store_seen h.seen) h.seen.marks q b) in
       let made = makes h.seen.bounds (store_seen h.seen) (length h.seen.history) h.seen.marks q b h.begin in
@@ -138,6 +140,7 @@ module _ (others : List Accepted → Type 0) (later : Marks → Marks → Type 0
             ap (λ (t : List View). own_marks_at t j) h.world
             ∙ (own-at w k m.view after (new_mark b) m.is own j
             ∙ ap (λ (t : List ℕ). own_marks_at w j ++ t) (sym (item-marks k point b j)));
+        points = begun-rise others later w k q b u h point seen_at;
         made = [];
         calls_are = refl;
         asked = sym (no-calls k point b);
@@ -157,6 +160,7 @@ module _ (others : List Accepted → Type 0) (later : Marks → Marks → Type 0
             ap (λ (t : List View). own_marks_at t j) h.world
             ∙ (own-at w k m.view h.seen [] m.is own j
             ∙ ap (λ (t : List ℕ). own_marks_at w j ++ t) (same-cond (nat_eq k j)));
+        points = watched-length others later w k u h;
         made = [];
         calls_are = refl;
         asked = refl;

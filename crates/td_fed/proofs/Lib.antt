@@ -6,8 +6,10 @@ pub mod Moving
 pub mod Opening
 pub mod Pending
 pub mod Places
+pub mod Points
 pub mod Quiet
 pub mod Resolved
+pub mod Rising
 pub mod Showing
 pub mod Stacked
 pub mod Staying

@@ -1,8 +1,10 @@
 -- What a trace shows, step after step.
-use Rattle.std.proofs.Common.{◌≡◌, ℕ, List, [], ◌∷◌, ◌++◌, append_assoc, append-nil, refl, sym, ap, ◌∙◌, subst}
+use Rattle.std.proofs.Common.{◌≡◌, ℕ, List, [], ◌∷◌, ◌++◌, length, append_assoc, append-nil, le_refl, refl, sym, ap}
+use Rattle.std.proofs.Common.{◌∙◌, subst}
 use Rattle.std.specs.Prelude.{cond, nat_eq}
-use Rattle.td_fed.specs.Trails.{IsShown, mark_of, marks_of, own_marks_at}
-use Rattle.td_trader.specs.Worlds.{View}
+use Rattle.td_fed.proofs.Rising.{flat-append, rises-on}
+use Rattle.td_fed.specs.Trails.{IsShown, Rises, mark_of, marks_of, own_marks_at, point_of, points_of}
+use Rattle.td_trader.specs.Worlds.{View, history_at}
 use Rattle.td_walk.specs.Peering.{Exchange, Given}
 use Rattle.td_walk_laws.specs.Walks.{Asked, given_in, shown, shown_by}
 use Rattle.td_walk.specs.declared.trace.TraceItem.{TraceItem}
@@ -27,6 +29,7 @@ shown-none w calls items = record {
   items = [];
   notes = sym (append-nil items);
   marks = λ k. sym (append-nil (own_marks_at w k));
+  points = λ k. le_refl (length (history_at w k));
   made = [];
   calls_are = sym (append-nil calls);
   asked = refl;
@@ -42,6 +45,11 @@ shown-on w v u a b c x y z p q = record {
       q.marks k ∙ (ap (λ t. t ++ marks_of k q.items) (p.marks k)
       ∙ (append_assoc (own_marks_at w k) (marks_of k p.items) (marks_of k q.items)
       ∙ ap (λ t. own_marks_at w k ++ t) (sym (marks-append k p.items q.items))));
+  points = λ k.
+      subst (λ (t : List ℕ). Rises (length (history_at w k)) t (length (history_at u k)))
+      (sym (flat-append (point_of k) p.items q.items))
+      (rises-on (length (history_at w k)) (points_of k p.items) (length (history_at v k)) (points_of k q.items)
+      (length (history_at u k)) (p.points k) (q.points k));
   made = p.made ++ q.made;
   calls_are = q.calls_are ∙ (ap (λ t. t ++ q.made) p.calls_are ∙ append_assoc a p.made q.made);
   asked = given-append p.made q.made
@@ -56,6 +64,7 @@ shown-later w u made calls x y p = record {
   items = p.items;
   notes = p.notes;
   marks = p.marks;
+  points = p.points;
   made = made;
   calls_are = refl;
   asked = ap given_in p.calls_are ∙ p.asked;
@@ -74,33 +83,41 @@ shown-same w calls now x y same kept = record {
   items = [];
   notes = kept ∙ sym (append-nil x);
   marks = λ k. sym (append-nil (own_marks_at w k));
+  points = λ k. le_refl (length (history_at w k));
   made = [];
   calls_are = same ∙ sym (append-nil calls);
   asked = refl;
 }
 
--- an item that shows no mark and no call
+-- an item that shows no mark, no point and no call
 pub shown-item : (w : List View) (calls now : List Exchange) (x z y : List TraceItem) (i : TraceItem) → now ≡ calls
-    → z ≡ x → y ≡ z ++ i ∷ [] → ((k : ℕ) → mark_of k i ≡ []) → shown_by i ≡ [] → IsShown w calls x y w now
-shown-item w calls now x z y i same kept noted unmarked unseen = record {
+    → z ≡ x → y ≡ z ++ i ∷ [] → ((k : ℕ) → mark_of k i ≡ []) → ((k : ℕ) → point_of k i ≡ []) → shown_by i ≡ []
+    → IsShown w calls x y w now
+shown-item w calls now x z y i same kept noted unmarked unplaced unseen = record {
   items = i ∷ [];
   notes = noted ∙ ap (λ t. t ++ i ∷ []) kept;
   marks = λ k.
       sym (append-nil (own_marks_at w k)) ∙ ap (λ (t : List ℕ). own_marks_at w k ++ (t ++ [])) (sym (unmarked k));
+  points = λ k.
+      subst (λ (t : List ℕ). Rises (length (history_at w k)) (t ++ []) (length (history_at w k))) (sym (unplaced k))
+      (le_refl (length (history_at w k)));
   made = [];
   calls_are = same ∙ sym (append-nil calls);
   asked = ap (λ (t : List Given). t ++ []) (sym unseen);
 }
 
--- an item that shows one call
+-- an item that shows one call, and no mark and no point
 pub shown-call : (w : List View) (calls now : List Exchange) (e : Exchange) (x z y : List TraceItem) (i : TraceItem)
-    → now ≡ calls ++ e ∷ [] → z ≡ x → y ≡ z ++ i ∷ [] → ((k : ℕ) → mark_of k i ≡ []) → shown_by i ≡ e.gave ∷ []
-    → IsShown w calls x y w now
-shown-call w calls now e x z y i called kept noted unmarked seen = record {
+    → now ≡ calls ++ e ∷ [] → z ≡ x → y ≡ z ++ i ∷ [] → ((k : ℕ) → mark_of k i ≡ [])
+    → ((k : ℕ) → point_of k i ≡ []) → shown_by i ≡ e.gave ∷ [] → IsShown w calls x y w now
+shown-call w calls now e x z y i called kept noted unmarked unplaced seen = record {
   items = i ∷ [];
   notes = noted ∙ ap (λ t. t ++ i ∷ []) kept;
   marks = λ k.
       sym (append-nil (own_marks_at w k)) ∙ ap (λ (t : List ℕ). own_marks_at w k ++ (t ++ [])) (sym (unmarked k));
+  points = λ k.
+      subst (λ (t : List ℕ). Rises (length (history_at w k)) (t ++ []) (length (history_at w k))) (sym (unplaced k))
+      (le_refl (length (history_at w k)));
   made = e ∷ [];
   calls_are = called;
   asked = ap (λ (t : List Given). t ++ []) (sym seen);

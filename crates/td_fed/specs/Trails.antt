@@ -1,10 +1,12 @@
--- What a trace shows at any moment, also where a visit ended for want of memory: the marks that were made and what
--- peers gave; and what became of the traders and of the random words meanwhile.
-use Rattle.std.specs.Prelude.{◌≡◌, ℕ, ◌+◌, nat_eq, cond, List, [], ◌∷◌, ◌++◌, Option, None, Some, slice_get}
+-- What a trace shows at any moment, also where a visit ended for want of memory: the marks that were made, the points
+-- of the traders and what peers gave; and what became of the traders and of the random words meanwhile.
+use Rattle.std.specs.Prelude.{◌≡◌, ℕ, ◌+◌, ◌≤◌, nat_eq, cond, List, [], ◌∷◌, ◌++◌, length, Option, None, Some}
+use Rattle.std.specs.Prelude.{slice_get}
+use Rattle.std.specs.List.{flat_map}
 use Rattle.td_cdr.specs.Marks.{Marks}
 use Rattle.td_ops.specs.declared.call.Query.{Query}
 use Rattle.td_register.specs.declared.history.Accepted.{Accepted}
-use Rattle.td_trader.specs.Worlds.{Begun, View, Watches}
+use Rattle.td_trader.specs.Worlds.{Begun, View, Watches, history_at}
 use Rattle.td_trader.specs.declared.begin.Begin.{Begin}
 use Rattle.td_walk.specs.Peering.{Exchange}
 use Rattle.td_walk_laws.specs.Walks.{Asked}
@@ -39,13 +41,35 @@ abbrev pub marks_of : (trader : ℕ) → List TraceItem → List ℕ
 marks_of k [] = []
 marks_of k (i ∷ is) = mark_of k i ++ marks_of k is
 
+-- from the low number on to the high one the numbers never fall
+abbrev pub Rises : (low : ℕ) → List ℕ → (high : ℕ) → Type 0
+Rises low [] high = low ≤ high
+Rises low (n ∷ ns) high = (low ≤ n) × Rises n ns high
+
+-- these of this trader, and none of any other
+abbrev pub only_of : (trader : ℕ) → List ℕ → (k : ℕ) → List ℕ
+only_of trader ns k = cond (nat_eq trader k) ns []
+
+-- the points of a trader that an item shows: a query began there then
+abbrev pub point_of : (k : ℕ) → TraceItem → List ℕ
+point_of k (item.Search trader point mark) = only_of trader (point ∷ []) k
+point_of k (item.Repeat trader point mark) = only_of trader (point ∷ []) k
+point_of k (item.Refused trader point) = only_of trader (point ∷ []) k
+point_of k (item.Path trader point) = only_of trader (point ∷ []) k
+point_of k other = []
+
+abbrev pub points_of : (k : ℕ) → List TraceItem → List ℕ
+points_of k items = flat_map (point_of k) items
+
 -- Between these two moments the items came behind the old ones. They show each mark that was made at each trader, in
--- order, and what each call of a peer gave.
+-- order, and what each call of a peer gave. The points at one trader never fall, from how many of its changes were seen
+-- before to how many are seen behind it.
 pub record IsShown (w : List View) (calls : List Exchange) (before after : List TraceItem) (u : List View)
     (now : List Exchange) : Type 0 where
   pub items : List TraceItem
   pub notes : after ≡ before ++ items
   pub marks : (k : ℕ) → own_marks_at u k ≡ own_marks_at w k ++ marks_of k items
+  pub points : (k : ℕ) → Rises (length (history_at w k)) (points_of k items) (length (history_at u k))
   pub made : List Exchange
   pub calls_are : now ≡ calls ++ made
   pub asked : Asked items made

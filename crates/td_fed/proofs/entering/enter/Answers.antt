@@ -26,7 +26,7 @@ returns-clause-shown g c =
     shown-begun g.T.Traders.others g.T.Traders.later (g.T.Traders.world c.args.traders.now)
     (g.T.Traders.world c.begin.new.self) c.args.trader c.point-point.result c.args.q.now c.in_ok-begin.begin
     c.args.notes.now.items c.reserve.new.self.items c.note_begin.new.notes.items c.in_ok-begin.ensures.ok
-    c.reserve.ensures.items c.note_begin.ensures.noted
+    c.point-point.ensures.point c.reserve.ensures.items c.note_begin.ensures.noted
 
 pub returns-in_err-reserve-clause-goes : goal.returns-in_err-reserve-clause-goes
 returns-in_err-reserve-clause-goes g c =
