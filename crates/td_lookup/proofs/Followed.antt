@@ -4,10 +4,11 @@ use Rattle.std.proofs.Common.{Option, None, Some, Result, Ok, Err, refl, sym, ap
 use Rattle.std.proofs.Common.{append-nil}
 use Rattle.td_cdr.specs.Marks.{Marks}
 use Rattle.td_codes.specs.declared.reference.Ior.{Ior}
+use Rattle.td_fed.proofs.Points.{goes-length}
 use Rattle.td_fed.specs.Resolving.{Follows, IsAskedFor, Resolves, followed, given, illegal, inside, named, outside}
 use Rattle.td_fed.specs.Resolving.{ungiven, unknown}
 use Rattle.td_fed.specs.Resolving.{wanting as given_in_vain}
-use Rattle.td_fed.specs.Trails.{DrawsOn, Goes, IsQuiet, marks_of, own_marks_at}
+use Rattle.td_fed.specs.Trails.{DrawsOn, Goes, IsQuiet, Rises, marks_of, own_marks_at, points_of}
 use Rattle.td_fed.specs.declared.resolving.NameAnswer.{NameAnswer}
 use Rattle.td_lookup.specs.Naming.{name_entry}
 use Rattle.td_lookup.specs.Scenes.{Scene}
@@ -26,6 +27,7 @@ use Rattle.td_trader.specs.Worlds.{View, history_at}
 use Rattle.td_walk.specs.Peering.{Exchange, Failed, Given, Referred}
 use Rattle.td_walk.specs.declared.fault.PeerFault.{PeerFault}
 use Rattle.td_walk.specs.declared.trace.Address.{Address}
+use Rattle.td_walk.specs.declared.trace.TraceItem.{TraceItem}
 use Rattle.td_walk_laws.specs.Walks.{given_in}
 
 -- ---- what a register outside gave
@@ -109,6 +111,9 @@ module _ (others : List Accepted → Type 0) (later : Marks → Marks → Type 0
     marks = λ j.
         quiet.own_marks j ∙ (sym (append-nil (own_marks_at s.world j))
         ∙ ap (λ is. own_marks_at s.world j ++ marks_of j is) (sym (no_items t.world k point asked)));
+    points = λ j.
+        subst (λ (is : List TraceItem). Rises (length (history_at s.world j)) (points_of j is)
+        (length (history_at t.world j))) (sym (no_items t.world k point asked)) (goes-length others later goes j);
     peers = record {
       made = g.made;
       calls = g.is;

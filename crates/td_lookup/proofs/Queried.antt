@@ -1,10 +1,10 @@
 -- What a query is answered with.
-use Rattle.std.proofs.Common.{◌≡◌, inl, inr, ℕ, false, true, List, [], ◌++◌, map, min, Result, Ok, Err, IfOk, OnOk}
-use Rattle.std.proofs.Common.{OnErr, refl, sym, ap, subst, ◌∙◌}
+use Rattle.std.proofs.Common.{◌≡◌, inl, inr, ℕ, false, true, List, [], ◌++◌, length, map, min, Result, Ok, Err, IfOk}
+use Rattle.std.proofs.Common.{OnOk, OnErr, refl, sym, ap, subst, ◌∙◌}
 use Rattle.td_cdr.specs.Marks.{Marks}
 use Rattle.td_cdr.specs.Writing.{Draft}
 use Rattle.td_cdr.specs.declared.memory.Memory.{Memory as Wanting}
-use Rattle.td_fed.specs.Trails.{DrawsOn, Goes, IsShown, marks_of, own_marks_at}
+use Rattle.td_fed.specs.Trails.{DrawsOn, Goes, IsShown, Rises, marks_of, own_marks_at, points_of}
 use Rattle.td_fed.specs.Visiting.{Visited, course}
 use Rattle.td_iter.specs.Desks.{Live}
 use Rattle.td_lookup.specs.Choosing.{chosen}
@@ -24,7 +24,7 @@ use Rattle.td_reply.specs.declared.answer.ReplyBody.TheVariants as reply_body
 use Rattle.td_reply.specs.declared.entry.Entry.TheVariants.{Walk}
 use Rattle.td_reply.specs.declared.judging.Judged.TheVariants.{Call}
 use Rattle.td_reply.specs.declared.objects.Object.{Object}
-use Rattle.td_trader.specs.Worlds.{name_at}
+use Rattle.td_trader.specs.Worlds.{history_at, name_at}
 use Rattle.td_walk.specs.declared.answer.SubAnswer.{SubAnswer}
 use Rattle.td_walk.specs.declared.trace.Address.{Address}
 use Rattle.td_walk.specs.declared.trace.Trace.{Trace}
@@ -83,6 +83,9 @@ module _ (others : List Accepted → Type 0) (later : Marks → Marks → Type 0
     marks = λ j.
         subst (λ (is : List TraceItem). own_marks_at t.world j ≡ own_marks_at s.world j ++ marks_of j is)
         (sym r.seen.notes) (r.seen.marks j);
+    points = λ j.
+        subst (λ (is : List TraceItem). Rises (length (history_at s.world j)) (points_of j is)
+        (length (history_at t.world j))) (sym r.seen.notes) (r.seen.points j);
     peers = record {
       made = r.seen.made;
       calls = r.seen.calls_are;

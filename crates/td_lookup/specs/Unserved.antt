@@ -3,7 +3,7 @@ use Rattle.std.specs.Prelude.{◌≡◌, ℕ, Bool, true, false, if◌then◌els
 use Rattle.std.specs.List.{list_any}
 use Rattle.td_cdr.specs.Marks.{Marks}
 use Rattle.td_codes.specs.declared.reference.Ior.{Ior}
-use Rattle.td_fed.specs.Trails.{DrawsOn, Goes, marks_of, own_marks_at}
+use Rattle.td_fed.specs.Trails.{DrawsOn, Goes, Rises, marks_of, own_marks_at, points_of}
 use Rattle.td_lookup.specs.Scenes.{Scene}
 use Rattle.td_ops.specs.declared.call.AddLink.{AddLink}
 use Rattle.td_ops.specs.declared.call.Call.TheVariants as call
@@ -71,14 +71,16 @@ is_query (Call x (call.Query q)) = true
 is_query other = false
 
 module _ (others : List Accepted → Type 0) (later : Marks → Marks → Type 0) where
-  -- The desk is as it was, and so are the stores but for what others did. The entry shows each mark that was made and
-  -- what each peer gave. Only a query may have drawn words.
+  -- The desk is as it was, and so are the stores but for what others did. The entry shows each mark that was made, the
+  -- points at which queries began and what each peer gave. Only a query may have drawn words.
   pub record Unserved (j : Judged) (s : Scene) (o : Outcome) (e : Entry) (t : Scene) : Type 0 where
     pub entry : WantingEntry t.world j e
     pub outcome : o ≡ wanting e
     pub desk : t.desk ≡ s.desk
     pub goes : Goes others later s.world t.world
     pub marks : (k : ℕ) → own_marks_at t.world k ≡ own_marks_at s.world k ++ marks_of k (items_of e)
+    pub points : (k : ℕ)
+        → Rises (length (history_at s.world k)) (points_of k (items_of e)) (length (history_at t.world k))
     pub peers : Gives s.peers (gave_in e) t.peers
     pub draws : DrawsOn s.words t.words
     pub words : is_query j ≡ false → t.words ≡ s.words

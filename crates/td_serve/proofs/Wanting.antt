@@ -3,6 +3,7 @@ use Rattle.std.proofs.Common.{◌≡◌, inl, inr, ℕ, false, true, List, [], �
 use Rattle.std.proofs.Common.{append-nil, refl, sym, ap, subst, ◌∙◌}
 use Rattle.td_cdr.specs.Marks.{Marks}
 use Rattle.td_fed.proofs.Moving.{draws-none}
+use Rattle.td_fed.proofs.Points.{goes-length}
 use Rattle.td_fed.proofs.Quiet.{quiet-watched}
 use Rattle.td_fed.specs.Trails.{Goes, own_marks_at, stays, watched}
 use Rattle.td_iter.specs.Desks.{Live}
@@ -77,6 +78,7 @@ module _ (others : List Accepted → Type 0) (later : Marks → Marks → Type 0
     desk = same;
     goes = rests_goes w u k rests;
     marks = rests_marks w u k rests;
+    points = goes-length others later (rests_goes w u k rests);
     peers = none_given before after unasked;
     draws = draws-none words;
     words = λ q. refl;
@@ -96,6 +98,7 @@ module _ (others : List Accepted → Type 0) (later : Marks → Marks → Type 0
     desk = refl;
     goes = rests_goes w u x.trader rests;
     marks = rests_marks w u x.trader rests;
+    points = goes-length others later (rests_goes w u x.trader rests);
     peers = one_given x.trader (length (history_at u x.trader)) c before after gave asked answered;
     draws = draws-none words;
     words = λ q. refl;

@@ -2,7 +2,7 @@
 use Rattle.std.specs.Prelude.{◌≡◌, ℕ, true, false, List, [], ◌∷◌, ◌++◌, length, Some}
 use Rattle.td_cdr.specs.Marks.{Marks}
 use Rattle.td_cdr.specs.Writing.{Draft}
-use Rattle.td_fed.specs.Trails.{DrawsOn, own_at, own_marks_at}
+use Rattle.td_fed.specs.Trails.{DrawsOn, Rises, own_at, own_marks_at}
 use Rattle.td_lookup.specs.Querying.{QueryComes}
 use Rattle.td_lookup.specs.Scenes.{Scene}
 use Rattle.td_lookup.specs.Telling.{wants_memory}
@@ -13,7 +13,7 @@ use Rattle.td_register.specs.declared.history.Accepted.{Accepted}
 use Rattle.td_reply.specs.declared.judging.Judged.TheVariants.{Call}
 use Rattle.td_reply.specs.declared.objects.Object.{Object}
 use Rattle.td_trader.specs.Worlds.{history_at}
-use Rattle.td_turns.specs.Journals.{Rises, all_gave, all_marks_in, all_places_in, all_served_at, is_accepted}
+use Rattle.td_turns.specs.Journals.{all_gave, all_marks_in, all_places_in, all_served_at, is_accepted}
 use Rattle.td_turns.specs.Journals.{is_refusal, marks_in}
 use Rattle.td_turns.specs.Laws.{Keeps, KeepsAll, Stands, StaysLegal}
 use Rattle.td_turns.specs.Turns.{Noted, Turn, noted_of}

@@ -8,13 +8,12 @@ use Rattle.td_cdr.specs.Writing.{Draft}
 use Rattle.td_changes.specs.Histories.{is_done}
 use Rattle.td_codes.specs.declared.reference.Ior.{Ior}
 use Rattle.td_fed.proofs.Moving.{draws-none}
-use Rattle.td_fed.specs.Trails.{DrawsOn, marks_of, own_at}
+use Rattle.td_fed.specs.Trails.{DrawsOn, Rises, only_of, own_at, points_of}
 use Rattle.td_fed.specs.Visiting.{course}
 use Rattle.td_lookup.specs.Naming.{NameComes, name_entry}
 use Rattle.td_lookup.specs.Querying.{QueryComes}
 use Rattle.td_lookup.specs.Scenes.{Scene}
-use Rattle.td_lookup.specs.Telling.{wants_memory}
-use Rattle.td_lookup.specs.Unserved.{Gives, Unserved, WantingEntry, gave_in, link, name, nothing, trace}
+use Rattle.td_lookup.specs.Unserved.{Gives, Unserved, WantingEntry, gave_in, items_of, link, name, nothing, trace}
 use Rattle.td_ops.specs.declared.call.AddLink.{AddLink}
 use Rattle.td_ops.specs.declared.call.Call.TheVariants as call
 use Rattle.td_ops.specs.declared.call.Call.{Call as Asking}
@@ -37,12 +36,11 @@ use Rattle.td_reply.specs.declared.target.Target.TheVariants.{Inside, Outside, U
 use Rattle.td_reply.specs.declared.target.Target.{Target}
 use Rattle.td_serve.specs.Requests.{Answers, CallComes, Comes}
 use Rattle.td_trader.specs.Worlds.{View, history_at}
-use Rattle.td_turns.proofs.Growing.{grow-length}
-use Rattle.td_turns.proofs.Moving.{Moves, changes-move, moves-as, moves-none, moves-quiet, no-more, none}
+use Rattle.td_turns.proofs.Moving.{Moves, changes-move, moves-as, moves-none, no-more, none}
 use Rattle.td_turns.proofs.Moving.{seen-length, seen-moves}
 use Rattle.td_turns.proofs.Resting.{answered_by, end-rise, goes-rests, resolves-leads}
 use Rattle.td_turns.proofs.Travelling.{Adds, walks-travel}
-use Rattle.td_turns.specs.Journals.{Rises, marks_in, only_of, places_in, points_of, served_at}
+use Rattle.td_turns.specs.Journals.{marks_in, places_in, served_at}
 use Rattle.td_turns.specs.Seen.{AllGrow}
 use Rattle.td_turns.specs.Turns.{Noted}
 use Rattle.td_walk.specs.Peering.{Failed as Missed}
@@ -83,8 +81,7 @@ plain-does j o s t world peers words = record {
       subst (λ (w : List View). Moves s.world w (λ k. places_in k (note j o Plain)) (λ k. marks_in k Plain)
       (λ k. served_at k (note j o Plain))) (sym world)
       (moves-as s.world s.world none none none (λ k. places_in k (note j o Plain)) none
-      (λ k. served_at k (note j o Plain)) (moves-none s.world) (λ k. sym (no-more _)) (λ k. refl)
-      (λ k. sym (no-more _)));
+      (λ k. served_at k (note j o Plain)) (moves-none s.world) (λ k. sym (no-more _)) (λ k. refl) (λ k. refl));
   gives = gives-none s.peers t.peers peers;
   draws = draws-same s.words t.words words;
 }
@@ -282,11 +279,6 @@ module _ (others : List Accepted → Type 0) (later : Marks → Marks → Type 0
 
   -- ---- a query
 
-  unless-wanting : (w u : List View) (marks points : ℕ → List ℕ) (b : Bool) → Moves w u none marks points
-      → Moves w u none marks (λ k. cond b [] (points k))
-  unless-wanting w u marks points true m = moves-quiet w u none marks points m
-  unless-wanting w u marks points false m = m
-
   query-does : (q : Query) (draft : Draft) (s t : Scene) (o : Outcome) (e : Entry)
       → QueryComes others later home s x.trader q draft o e t → Does (Call x (call.Query q)) o e s t
   query-does q draft s t o e h =
@@ -295,9 +287,7 @@ module _ (others : List Accepted → Type 0) (later : Marks → Marks → Type 0
       (course t.world t.words t.peers.calls) h.walk in
       subst (λ (y : Entry). Does (Call x (call.Query q)) o y s t) (sym h.noted)
       (record {
-        moves =
-            unless-wanting s.world t.world (λ k. marks_of k h.items) (λ k. points_of k h.items) (wants_memory o)
-            travels.moves;
+        moves = travels.moves;
         gives = gives-as s.peers t.peers _ travels.adds;
         draws = travels.draws;
       })
@@ -312,17 +302,13 @@ unplaced w j o e other (link {x = x} gave) k =
     ap (λ (b : Bool). cond b (only_of x.trader (length (history_at w x.trader) ∷ []) k) []) (sym other)
 unplaced w j o e other (name gave) k = refl
 
-unserved-rise : (w u : List View) (j : Judged) (o : Outcome) (e : Entry) → wants_memory o ≡ true
-    → WantingEntry u j e → AllGrow w u → (k : ℕ)
+unserved-rise : (w u : List View) (j : Judged) (o : Outcome) (e : Entry) → WantingEntry u j e → AllGrow w u → (k : ℕ)
+    → Rises (length (history_at w k)) (points_of k (items_of e)) (length (history_at u k))
     → Rises (length (history_at w k)) (served_at k (note j o e)) (length (history_at u k))
-unserved-rise w u j o e wants nothing g k =
-    subst (λ (ns : List ℕ). Rises (length (history_at w k)) ns (length (history_at u k))) (sym (no-more _))
-    (grow-length w u g k)
-unserved-rise w u j o e wants (trace t) g k =
-    subst (λ (b : Bool). Rises (length (history_at w k)) (cond b [] (points_of k t.items)) (length (history_at u k)))
-    (sym wants) (grow-length w u g k)
-unserved-rise w u j o e wants (link {x = x} gave) g k = end-rise w u g x.trader k
-unserved-rise w u j o e wants (name {x = x} gave) g k = end-rise w u g x.trader k
+unserved-rise w u j o e nothing g k items = items
+unserved-rise w u j o e (trace t) g k items = items
+unserved-rise w u j o e (link {x = x} gave) g k items = end-rise w u g x.trader k
+unserved-rise w u j o e (name {x = x} gave) g k items = end-rise w u g x.trader k
 
 module _ (others : List Accepted → Type 0) (later : Marks → Marks → Type 0) where
   pub unserved-does : (j : Judged) (s : Scene) (o : Outcome) (e : Entry) (t : Scene)
@@ -330,7 +316,6 @@ module _ (others : List Accepted → Type 0) (later : Marks → Marks → Type 0
   unserved-does j s o e t h =
       let rests = goes-rests others later h.goes in
       let other : is_done o ≡ false = ap is_done h.outcome in
-      let wants : wants_memory o ≡ true = ap wants_memory h.outcome in
       record {
         moves = record {
           grow = rests.grow;
@@ -339,7 +324,7 @@ module _ (others : List Accepted → Type 0) (later : Marks → Marks → Type 0
               ∙ (sym (append-nil (own_at s.world k))
               ∙ ap (λ (y : List ℕ). own_at s.world k ++ y) (unplaced t.world j o e other h.entry k));
           own_marks = h.marks;
-          rise = λ k. unserved-rise s.world t.world j o e wants h.entry rests.grow k;
+          rise = λ k. unserved-rise s.world t.world j o e h.entry rests.grow k (h.points k);
         };
         gives = h.peers;
         draws = h.draws;

@@ -8,6 +8,7 @@ use Rattle.td_changes.specs.Applying.{apply_counted}
 use Rattle.td_changes.specs.Histories.{Legal, LegalFrom, StandsAt, after_all}
 use Rattle.td_changes.specs.Laws.{applied_after}
 use Rattle.td_changes.specs.declared.bounds.Bounds.{Bounds}
+use Rattle.td_fed.proofs.Points.{get-set_other, get-set_same}
 use Rattle.td_ops.specs.declared.call.Change.{Change}
 use Rattle.td_ops.specs.declared.outcome.Outcome.TheVariants.{Done, User, System}
 use Rattle.td_ops.specs.declared.outcome.Outcome.{Outcome}
@@ -20,20 +21,6 @@ use Rattle.td_trader.specs.Worlds.{LegalAt, LegalIn, View, after_others, after_o
 use Rattle.td_turns.specs.Seen.{AllGrow, Grows, IsLater}
 
 -- ---- one of a list
-
-pub get-set_same : {A : Type 0} (xs : List A) (k : ℕ) (x y : A) → slice_get xs k ≡ Some x
-    → slice_get (slice_set xs k y) k ≡ Some y
-get-set_same [] k x y e = absurd (let bad : ⊥ = cc in bad)
-get-set_same (z ∷ xs) zero x y e = refl
-get-set_same (z ∷ xs) (suc k) x y e = get-set_same xs k x y e
-
-pub get-set_other : {A : Type 0} (xs : List A) (k j : ℕ) (y : A) → (k ≡ j → ⊥)
-    → slice_get (slice_set xs k y) j ≡ slice_get xs j
-get-set_other [] k j y h = refl
-get-set_other (x ∷ xs) zero zero y h = absurd (h refl)
-get-set_other (x ∷ xs) zero (suc j) y h = refl
-get-set_other (x ∷ xs) (suc k) zero y h = refl
-get-set_other (x ∷ xs) (suc k) (suc j) y h = get-set_other xs k j y (λ e. h (ap suc e))
 
 pub same-view : (o : Option View) (v x : View) → o ≡ Some v → o ≡ Some x → v ≡ x
 same-view o v x a b = let same : Some v ≡ Some x = sym a ∙ b in cc

@@ -1,39 +1,30 @@
 -- What one call leaves of a group of traders: what is seen grows, with so many places and marks more that are one's
 -- own, and the call came at these points.
-use Rattle.std.proofs.Common.{◌≡◌, ℕ, ◌+◌, ◌≤◌, Bool, true, false, cond, nat_eq, List, [], ◌∷◌, ◌++◌, length}
-use Rattle.std.proofs.Common.{Option, Some, None, slice_get, slice_set, append_assoc, append-nil, eqb-true, le_refl}
+use Rattle.std.proofs.Common.{◌≡◌, ℕ, Bool, true, false, cond, nat_eq, List, [], ◌∷◌, ◌++◌, length}
+use Rattle.std.proofs.Common.{Option, Some, slice_get, slice_set, append_assoc, append-nil, eqb-true, le_refl}
 use Rattle.std.proofs.Common.{refl, sym, ap, subst, ◌∙◌}
 use Rattle.std.proofs.lemmas.Bool.{eqb-false}
 use Rattle.td_cdr.specs.Marks.{Marks}
 use Rattle.td_changes.proofs.Extending.{stands-last}
 use Rattle.td_changes.specs.Histories.{StandsAt, is_done}
-use Rattle.td_changes.specs.declared.bounds.Bounds.{Bounds}
 use Rattle.td_fed.proofs.Entered.{shown-begun}
+use Rattle.td_fed.proofs.Points.{begun-rise, get-set_other, get-set_same, put-rise}
+use Rattle.td_fed.proofs.Rising.{rises-on}
 use Rattle.td_fed.specs.Entering.{begin_item}
-use Rattle.td_fed.specs.Trails.{marks_of, own_at, own_in, own_marks_at, own_marks_in}
+use Rattle.td_fed.specs.Trails.{Rises, marks_of, only_of, own_at, own_in, own_marks_at, own_marks_in, points_of}
 use Rattle.td_ops.specs.declared.call.Change.{Change}
 use Rattle.td_ops.specs.declared.call.Query.{Query}
 use Rattle.td_ops.specs.declared.outcome.Outcome.TheVariants.{Done, User, System}
 use Rattle.td_ops.specs.declared.outcome.Outcome.{Outcome}
 use Rattle.td_ops.specs.declared.outcome.Reply.{Reply}
-use Rattle.td_register.specs.Causes.{Cause}
 use Rattle.td_register.specs.Entries.{entry}
-use Rattle.td_register.specs.Stores.{Store}
 use Rattle.td_register.specs.declared.history.Accepted.{Accepted}
-use Rattle.td_store.specs.declared.record.LinkRecord.{LinkRecord}
-use Rattle.td_trader.proofs.Begun.{are_passed_on, are_served}
-use Rattle.td_trader.specs.Beginning.{after_begin, begin_along, begin_here, begin_of, begin_unless, repeated_in}
-use Rattle.td_trader.specs.Beginning.{searched_under}
-use Rattle.td_trader.specs.Queries.{parts_of, path_link, refusal}
+use Rattle.td_trader.specs.Beginning.{after_begin}
 use Rattle.td_trader.specs.Worlds.{Begun, Changes, Meanwhile, View, after_begin as seen_after}
 use Rattle.td_trader.specs.Worlds.{after_own, history_at, history_in, store_seen, with_view}
-use Rattle.td_trader.specs.declared.begin.Begin.TheVariants as begin
 use Rattle.td_trader.specs.declared.begin.Begin.{Begin}
-use Rattle.td_turns.proofs.Growing.{get-set_other, get-set_same, grow-length, grow-none, grow-on, grows-as}
-use Rattle.td_turns.proofs.Growing.{grows-length}
+use Rattle.td_turns.proofs.Growing.{grow-length, grow-none, grow-on, grows-as, grows-length}
 use Rattle.td_turns.proofs.Growing.{grows-on, grows-others, grows-own, put-grow}
-use Rattle.td_turns.proofs.Rising.{rises-on}
-use Rattle.td_turns.specs.Journals.{Rises, only_of, points_of}
 use Rattle.td_turns.specs.Seen.{AllGrow, Grows}
 use Rattle.td_walk.specs.declared.trace.TraceItem.{TraceItem}
 
@@ -115,30 +106,6 @@ put-list f w k v x more is e j = by-trader (nat_eq k j) refl
         ap f (get-set_other w k j x (eqb-false k j other))
         ∙ (sym (append-nil (f (slice_get w j)))
         ∙ ap (λ (b : Bool). f (slice_get w j) ++ cond b more []) (sym other))
-
-put-rise : (w : List View) (k : ℕ) (v x : View) (points : List ℕ) → slice_get w k ≡ Some v
-    → Rises (length v.history) points (length x.history) → (j : ℕ)
-    → Rises (length (history_at w j)) (only_of k points j) (length (history_at (slice_set w k x) j))
-put-rise w k v x points is rise j = by-trader (nat_eq k j) refl
-  where
-    by-trader : (b : Bool) → nat_eq k j ≡ b
-        → Rises (length (history_at w j)) (cond (nat_eq k j) points []) (length (history_at (slice_set w k x) j))
-    by-trader true at_k =
-        let one : k ≡ j = eqb-true k j at_k in
-        let there : slice_get (slice_set w k x) j ≡ Some x =
-        subst (λ (n : ℕ). slice_get (slice_set w k x) n ≡ Some x) one (get-set_same w k v x is) in
-        let before : slice_get w j ≡ Some v = subst (λ (n : ℕ). slice_get w n ≡ Some v) one is in
-        subst (λ (b : Bool). Rises (length (history_at w j)) (cond b points [])
-        (length (history_at (slice_set w k x) j))) (sym at_k)
-        (subst (λ (o : Option View). Rises (length (history_in o)) points
-        (length (history_at (slice_set w k x) j))) (sym before)
-        (subst (λ (o : Option View). Rises (length v.history) points (length (history_in o))) (sym there) rise))
-    by-trader false other =
-        let same : slice_get (slice_set w k x) j ≡ slice_get w j = get-set_other w k j x (eqb-false k j other) in
-        subst (λ (b : Bool). Rises (length (history_at w j)) (cond b points [])
-        (length (history_at (slice_set w k x) j))) (sym other)
-        (subst (λ (o : Option View). length (history_at w j) ≤ length (history_in o)) (sym same)
-        (le_refl (length (history_at w j))))
 
 pub put-moves : (w : List View) (k : ℕ) (v x : View) (places marks points : List ℕ) → slice_get w k ≡ Some v
     → Grows v x → x.own ≡ v.own ++ places → x.own_marks ≡ v.own_marks ++ marks
@@ -242,40 +209,6 @@ module _ (others : List Accepted → Type 0) (later : Marks → Marks → Type 0
 
 -- ---- a query that begins
 
--- the point that it began with is this one
-abbrev IsAt : (point : ℕ) → Begin → Type 0
-IsAt point (begin.Refused o) = Unit {0}
-IsAt point (begin.Repeat number) = Unit {0}
-IsAt point (begin.Search l) = l.point ≡ point
-IsAt point (begin.Path l) = l.point ≡ point
-
-module _ (bounds : Bounds) (s : Store) (point : ℕ) (m : Marks) (q : Query) where
-  here-at : (found : Option ℕ) → IsAt point (begin_here s point m q found)
-  here-at (Some number) = tt
-  here-at None =
-      (are_served s point (m.count + 1) (searched_under s m q).identifier q).served.point_is
-
-  along-at : (found : Option LinkRecord) → IsAt point (begin_along s point m q found)
-  along-at (Some link) = (are_passed_on s point link q).served.point_is
-  along-at None = here-at (repeated_in m (parts_of q).stated)
-
-  unless-at : (cause : Cause) → IsAt point (begin_unless cause s point m q)
-  unless-at (Some f) = tt
-  unless-at None = along-at (path_link s.links (parts_of q).stated)
-
-  begins-at : (b : Begin) → b ≡ begin_of bounds s point m q → IsAt point b
-  unfolding begin_of
-  begins-at b e = subst (IsAt point) (sym e) (unless-at (refusal bounds m.count s q))
-
-item-points : (k point : ℕ) (b : Begin) → IsAt point b → (j : ℕ)
-    → only_of k (point ∷ []) j ≡ points_of j (begin_item k point b ∷ [])
-item-points k point (begin.Refused o) at_point j = sym (append-nil (only_of k (point ∷ []) j))
-item-points k point (begin.Repeat number) at_point j = sym (append-nil (only_of k (point ∷ []) j))
-item-points k point (begin.Search l) at_point j =
-    ap (λ (n : ℕ). only_of k (n ∷ []) j) (sym at_point) ∙ sym (append-nil (only_of k (l.point ∷ []) j))
-item-points k point (begin.Path l) at_point j =
-    ap (λ (n : ℕ). only_of k (n ∷ []) j) (sym at_point) ∙ sym (append-nil (only_of k (l.point ∷ []) j))
-
 module _ (others : List Accepted → Type 0) (later : Marks → Marks → Type 0) (w : List View) (k : ℕ) where
   pub begun-moves : (q : Query) (b : Begin) (u : List View) → Begun others later w k q b u → (point : ℕ)
       → point ≡ length (history_at u k)
@@ -285,13 +218,9 @@ module _ (others : List Accepted → Type 0) (later : Marks → Marks → Type 0
       let seen = h.seen in
       let x = seen_after seen (after_begin (store_seen seen) seen.marks q b) in
       let i = begin_item k point b in
-      let here : point ≡ length seen.history = at_point ∙ seen-length others later w k seen x m u h.world in
-      let began : IsAt point b =
-      subst (λ (n : ℕ). IsAt n b) (sym here)
-      (begins-at seen.bounds (store_seen seen) (length seen.history) seen.marks q b h.begin) in
       let before : Grows m.view x =
       grows-as m.view seen x (meanwhile-grows others later w k seen m) refl refl refl refl in
-      let shown = shown-begun others later w u k point q b [] [] (i ∷ []) h refl refl in
+      let shown = shown-begun others later w u k point q b [] [] (i ∷ []) h at_point refl refl in
       record {
         grow = subst (AllGrow w) (sym h.world) (put-grow w k m.view x m.is before);
         own = λ j.
@@ -300,12 +229,5 @@ module _ (others : List Accepted → Type 0) (later : Marks → Marks → Type 0
             ∙ ap (λ (t : List ℕ). own_at w j ++ t) (no-more (nat_eq k j)));
         own_marks = λ j.
             shown.marks j ∙ ap (λ (t : List TraceItem). own_marks_at w j ++ marks_of j t) (sym shown.notes);
-        rise = λ j.
-            subst (λ (y : List View). Rises (length (history_at w j)) (points_of j (i ∷ []))
-            (length (history_at y j))) (sym h.world)
-            (subst (λ (t : List ℕ). Rises (length (history_at w j)) t
-            (length (history_at (slice_set w k x) j))) (item-points k point b began j)
-            (put-rise w k m.view x (point ∷ []) m.is
-            (subst (λ (n : ℕ). Rises (length m.view.history) (n ∷ []) (length seen.history)) (sym here)
-            (grows-length m.view seen (meanwhile-grows others later w k seen m), le_refl (length seen.history))) j));
+        rise = begun-rise others later w k q b u h point at_point;
       }

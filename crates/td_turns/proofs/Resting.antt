@@ -5,14 +5,13 @@ use Rattle.td_cdr.specs.Marks.{Marks}
 use Rattle.td_codes.specs.declared.reference.Ior.{Ior}
 use Rattle.td_fed.specs.Resolving.{Follows, IsAskedFor, LooksUp, Resolves, followed, given, illegal, inside, named}
 use Rattle.td_fed.specs.Resolving.{outside, ungiven, unknown, wanting}
-use Rattle.td_fed.specs.Trails.{Goes, began, own_at, own_marks_at, stays, watched}
+use Rattle.td_fed.specs.Trails.{Goes, Rises, began, only_of, own_at, own_marks_at, stays, watched}
 use Rattle.td_fed.specs.declared.resolving.NameAnswer.{NameAnswer}
 use Rattle.td_register.specs.declared.history.Accepted.{Accepted}
 use Rattle.td_trader.specs.Worlds.{View, history_at}
 use Rattle.td_turns.proofs.Growing.{grow-length, grow-none, grow-on}
 use Rattle.td_turns.proofs.Moving.{Moves, begun-moves, moves-as, moves-on, moves-quiet, none, seen-moves}
 use Rattle.td_turns.proofs.Travelling.{Adds, adds-none, adds-one}
-use Rattle.td_turns.specs.Journals.{Rises, only_of}
 use Rattle.td_turns.specs.Seen.{AllGrow}
 use Rattle.td_walk.specs.Peering.{Exchange, Given, Resolving}
 use Rattle.td_walk.specs.Peering.{Failed as Missed, Referred}

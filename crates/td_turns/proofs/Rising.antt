@@ -1,24 +1,7 @@
--- Numbers that never fall, and lists that are made item by item.
-use Rattle.std.proofs.Common.{◌≡◌, ℕ, ◌<◌, ◌≤◌, List, [], ◌∷◌, ◌++◌, append_assoc, refl, sym, ap, ◌∙◌, arith}
-use Rattle.std.specs.List.{AllByRecursion, flat_map}
-use Rattle.td_turns.specs.Journals.{Rises}
-
-pub rises-most : (low : ℕ) (ns : List ℕ) (high : ℕ) → Rises low ns high → low ≤ high
-rises-most low [] high h = h
-rises-most low (n ∷ ns) high h =
-    let first = h.0 in
-    let rest = rises-most n ns high h.1 in
-    omega (arith, first, rest)
-
-pub rises-from : (less low : ℕ) (ns : List ℕ) (high : ℕ) → less ≤ low → Rises low ns high → Rises less ns high
-rises-from less low [] high le h = omega (arith, le, h)
-rises-from less low (n ∷ ns) high le h = let first = h.0 in (omega (arith, le, first), h.1)
-
--- one after the other
-pub rises-on : (low : ℕ) (ns : List ℕ) (middle : ℕ) (ms : List ℕ) (high : ℕ) → Rises low ns middle
-    → Rises middle ms high → Rises low (ns ++ ms) high
-rises-on low [] middle ms high a b = rises-from low middle ms high a b
-rises-on low (n ∷ ns) middle ms high a b = (a.0, rises-on n ns middle ms high a.1 b)
+-- Numbers that never fall.
+use Rattle.std.proofs.Common.{ℕ, ◌<◌, List, [], ◌∷◌, arith}
+use Rattle.std.specs.List.{AllByRecursion}
+use Rattle.td_fed.specs.Trails.{Rises}
 
 -- all lie above what lies below the first
 pub rises-above : (bound low : ℕ) (ns : List ℕ) (high : ℕ) → bound < low → Rises low ns high
@@ -28,9 +11,3 @@ rises-above bound low (n ∷ ns) high less h =
     let first = h.0 in
     let here : bound < n = omega (arith, less, first) in
     (here, rises-above bound n ns high here h.1)
-
-pub flat-append : {A B : Type 0} (f : A → List B) (xs ys : List A)
-    → flat_map f (xs ++ ys) ≡ flat_map f xs ++ flat_map f ys
-flat-append f [] ys = refl
-flat-append f (x ∷ xs) ys =
-    ap (λ t. f x ++ t) (flat-append f xs ys) ∙ sym (append_assoc (f x) (flat_map f xs) (flat_map f ys))

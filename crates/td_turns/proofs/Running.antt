@@ -5,6 +5,7 @@ use Rattle.std.proofs.Common.{false, inl, inr, true≢false}
 use Rattle.td_cdr.specs.Marks.{Marks}
 use Rattle.td_cdr.specs.Writing.{Draft}
 use Rattle.td_fed.proofs.Moving.{draws-after, draws-none}
+use Rattle.td_fed.proofs.Rising.{flat-append}
 use Rattle.td_fed.specs.Trails.{DrawsOn}
 use Rattle.td_lookup.specs.Querying.{QueryComes}
 use Rattle.td_lookup.specs.Scenes.{Scene}
@@ -25,7 +26,7 @@ use Rattle.td_turns.proofs.Acting.{Does, answers-do}
 use Rattle.td_turns.proofs.Growing.{grow-legal, grow-stands}
 use Rattle.td_turns.proofs.Moving.{Moves, moves-as, moves-none, moves-on}
 use Rattle.td_turns.proofs.Refusing.{refused-keeps, wanting-keeps}
-use Rattle.td_turns.proofs.Rising.{flat-append, rises-above}
+use Rattle.td_turns.proofs.Rising.{rises-above}
 use Rattle.td_turns.proofs.Standing.{StandsHere, answer-stands}
 use Rattle.td_turns.proofs.Travelling.{Adds, adds-none, adds-on}
 use Rattle.td_turns.specs.Journals.{all_gave, all_marks_in, all_places_in, all_served_at, is_accepted, is_refusal}

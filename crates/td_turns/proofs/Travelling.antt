@@ -5,10 +5,11 @@ use Rattle.std.proofs.Common.{◌∙◌, length, Option}
 use Rattle.td_cdr.specs.Marks.{Marks}
 use Rattle.td_codes.specs.declared.reference.Ior.{Ior}
 use Rattle.td_fed.proofs.Moving.{draws-after, draws-none, has-drawn}
+use Rattle.td_fed.proofs.Rising.{flat-append}
 use Rattle.td_fed.proofs.Showing.{given-append, marks-append, shown-append}
 use Rattle.td_fed.specs.Entering.{begin_item}
 use Rattle.td_fed.specs.Targets.{inside_group}
-use Rattle.td_fed.specs.Trails.{DrawsOn, marks_of}
+use Rattle.td_fed.specs.Trails.{DrawsOn, marks_of, point_of, points_of}
 use Rattle.td_fed.specs.Visiting.{Begins, Walks, start_of}
 use Rattle.td_ops.specs.declared.call.Query.{Query}
 use Rattle.td_register.specs.declared.history.Accepted.{Accepted}
@@ -17,8 +18,6 @@ use Rattle.td_trader.specs.Worlds.{View, history_at}
 use Rattle.td_trader.specs.declared.begin.Begin.TheVariants as begin
 use Rattle.td_trader.specs.declared.begin.Begin.{Begin}
 use Rattle.td_turns.proofs.Moving.{Moves, begun-moves, moves-as, moves-none, moves-on, none}
-use Rattle.td_turns.proofs.Rising.{flat-append}
-use Rattle.td_turns.specs.Journals.{point_of, points_of}
 use Rattle.td_walk.specs.Peering.{Answered as Replied, Evaluated as Valued, Failed as Missed}
 use Rattle.td_walk.specs.Peering.{Exchange, Given, PeerCall, Querying, Evaluating}
 use Rattle.td_walk.specs.declared.answer.Next.{Next}

@@ -21,6 +21,7 @@ pub journal : (q : Query) → WorkedJournal q
 journal q = record {
   first_points = refl;
   second_points = refl;
+  wanting_points = refl;
   places = refl;
   marks = refl;
   rise = (omega arith, (omega arith, (omega arith, (omega arith, omega arith))));

@@ -1,20 +1,21 @@
--- Worked examples: what a journal shows of an accepted change, of a refused one and of a query, and a run of two
+-- Worked examples: what a journal shows of an accepted change, of a refused one and of queries, and a run of two
 -- messages.
 use Rattle.std.specs.Prelude.{◌≡◌, ℕ, List, [], ◌∷◌, codes, None}
 use Rattle.td_cdr.specs.Marks.{Marks}
+use Rattle.td_fed.specs.Trails.{Rises}
 use Rattle.td_lookup.specs.Scenes.{Scene}
 use Rattle.td_ops.specs.declared.call.Call.TheVariants as call
 use Rattle.td_ops.specs.declared.call.Change.TheVariants as change
 use Rattle.td_ops.specs.declared.call.Query.{Query}
 use Rattle.td_ops.specs.declared.outcome.Outcome.TheVariants.{Done, System}
 use Rattle.td_ops.specs.declared.outcome.Reply.TheVariants.{Nothing}
-use Rattle.td_ops.specs.declared.outcome.SystemKind.TheVariants.{ImpLimit}
+use Rattle.td_ops.specs.declared.outcome.SystemKind.TheVariants.{ImpLimit, NoMemory}
 use Rattle.td_register.specs.declared.history.Accepted.{Accepted}
 use Rattle.td_reply.specs.declared.entry.Entry.TheVariants.{Point, Walk}
 use Rattle.td_reply.specs.declared.interface.Interface.TheVariants as interface
 use Rattle.td_reply.specs.declared.judging.Judged.TheVariants.{Call}
 use Rattle.td_reply.specs.declared.objects.Object.{Object}
-use Rattle.td_turns.specs.Journals.{Rises, all_marks_in, all_places_in, all_served_at}
+use Rattle.td_turns.specs.Journals.{all_marks_in, all_places_in, all_served_at}
 use Rattle.td_turns.specs.Turns.{Noted, Run, Turn, output}
 use Rattle.td_value.specs.declared.key.Kind.TheVariants as kind
 use Rattle.td_walk.specs.declared.trace.Address.{Address}
@@ -55,9 +56,18 @@ asked q = record {
   });
 }
 
+-- memory is wanted behind the first search
+abbrev pub unanswered : Query → Noted
+unanswered q = record {
+  judged = Call lookup (call.Query q);
+  outcome = System NoMemory 0 2;
+  entry = Walk (record { items = item.Search 0 4 9 ∷ [] });
+}
+
 pub record WorkedJournal (q : Query) : Type 0 where
   pub first_points : all_served_at 0 (accepted ∷ refused ∷ asked q ∷ []) ≡ 3 ∷ 4 ∷ 4 ∷ 4 ∷ []
   pub second_points : all_served_at 1 (accepted ∷ refused ∷ asked q ∷ []) ≡ 9 ∷ []
+  pub wanting_points : all_served_at 0 (accepted ∷ unanswered q ∷ []) ≡ 3 ∷ 4 ∷ []
   pub places : all_places_in 0 (accepted ∷ refused ∷ asked q ∷ []) ≡ 3 ∷ []
   pub marks : all_marks_in 0 (accepted ∷ refused ∷ asked q ∷ []) ≡ 7 ∷ 8 ∷ []
   pub rise : Rises 3 (3 ∷ 4 ∷ 4 ∷ 4 ∷ []) 4

@@ -1,12 +1,12 @@
 -- What a journal shows of a session: at which points of a trader its Requests were served, which changes were accepted,
 -- which marks were made, and what peers gave.
-use Rattle.std.specs.Prelude.{ℕ, ◌≤◌, nat_eq, cond, not, Bool, true, false, ◌&&◌, List, [], ◌∷◌, Option}
+use Rattle.std.specs.Prelude.{ℕ, cond, not, Bool, true, false, ◌&&◌, List, [], ◌∷◌, Option}
 use Rattle.std.specs.List.{flat_map}
 use Rattle.td_changes.specs.Histories.{is_done}
 use Rattle.td_codes.specs.declared.reference.Ior.{Ior}
-use Rattle.td_fed.specs.Trails.{marks_of}
+use Rattle.td_fed.specs.Trails.{marks_of, only_of, points_of}
 use Rattle.td_lookup.specs.Telling.{wants_memory}
-use Rattle.td_lookup.specs.Unserved.{gave_in, is_query, items_of}
+use Rattle.td_lookup.specs.Unserved.{gave_in, items_of}
 use Rattle.td_ops.specs.declared.call.AddLink.{AddLink}
 use Rattle.td_ops.specs.declared.call.Call.TheVariants as call
 use Rattle.td_ops.specs.declared.call.Call.{Call as Asking}
@@ -20,32 +20,10 @@ use Rattle.td_reply.specs.declared.judging.Judged.{Judged}
 use Rattle.td_reply.specs.declared.objects.Object.{Object}
 use Rattle.td_turns.specs.Turns.{Noted}
 use Rattle.td_walk.specs.Peering.{Given}
-use Rattle.td_walk.specs.declared.trace.TraceItem.TheVariants as item
-use Rattle.td_walk.specs.declared.trace.TraceItem.{TraceItem}
 
 -- ---- points
 
--- from the low number on to the high one the numbers never fall
-abbrev pub Rises : (low : ℕ) → List ℕ → (high : ℕ) → Type 0
-Rises low [] high = low ≤ high
-Rises low (n ∷ ns) high = (low ≤ n) × Rises n ns high
-
--- these of this trader, and none of any other
-abbrev pub only_of : (trader : ℕ) → List ℕ → (k : ℕ) → List ℕ
-only_of trader ns k = cond (nat_eq trader k) ns []
-
--- the points of a trader that an item shows: a query began there then
-abbrev pub point_of : (k : ℕ) → TraceItem → List ℕ
-point_of k (item.Search trader point mark) = only_of trader (point ∷ []) k
-point_of k (item.Repeat trader point mark) = only_of trader (point ∷ []) k
-point_of k (item.Refused trader point) = only_of trader (point ∷ []) k
-point_of k (item.Path trader point) = only_of trader (point ∷ []) k
-point_of k other = []
-
-abbrev pub points_of : (k : ℕ) → List TraceItem → List ℕ
-points_of k items = flat_map (point_of k) items
-
--- those that an entry shows
+-- the points of a trader that an entry shows
 abbrev pub points_in : (k : ℕ) → Entry → List ℕ
 points_in k Plain = []
 points_in k (Point trader point) = only_of trader (point ∷ []) k
@@ -60,10 +38,9 @@ is_refusal o = not (is_done o) && not (wants_memory o)
 
 -- ---- points of Requests
 
--- The points of a trader at which a Request was served. Those of a query that is answered with NO_MEMORY aren't
--- counted: of its trace only the marks and what peers gave are told.
+-- the points of a trader at which a Request was served, whatever it was answered with
 abbrev pub served_at : (k : ℕ) → Noted → List ℕ
-served_at k n = cond (is_query n.judged && wants_memory n.outcome) [] (points_in k n.entry)
+served_at k n = points_in k n.entry
 
 -- ---- accepted changes
 

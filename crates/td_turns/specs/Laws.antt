@@ -4,7 +4,7 @@ use Rattle.std.specs.List.{AllByRecursion}
 use Rattle.td_cdr.specs.Marks.{Marks}
 use Rattle.td_cdr.specs.Writing.{Draft}
 use Rattle.td_changes.specs.Histories.{StandsAt}
-use Rattle.td_fed.specs.Trails.{DrawsOn, Goes, own_at, own_marks_at}
+use Rattle.td_fed.specs.Trails.{DrawsOn, Goes, Rises, own_at, own_marks_at}
 use Rattle.td_lookup.specs.Querying.{QueryComes}
 use Rattle.td_lookup.specs.Scenes.{Scene}
 use Rattle.td_lookup.specs.Telling.{wants_memory}
@@ -20,7 +20,7 @@ use Rattle.td_reply.specs.declared.objects.Object.{Object}
 use Rattle.td_trader.specs.PlainTraders.{PlainTrader}
 use Rattle.td_trader.specs.Solos.{nothing, places, solo_view, unchanged}
 use Rattle.td_trader.specs.Worlds.{LegalAt, View, history_at}
-use Rattle.td_turns.specs.Journals.{Makes, Rises, all_gave, all_marks_in, all_places_in, all_served_at, is_accepted}
+use Rattle.td_turns.specs.Journals.{Makes, all_gave, all_marks_in, all_places_in, all_served_at, is_accepted}
 use Rattle.td_turns.specs.Journals.{is_refusal, marks_in}
 use Rattle.td_turns.specs.Seen.{AllGrow}
 use Rattle.td_turns.specs.Turns.{IsTurn, Noted, Run, Turn, noted_of}

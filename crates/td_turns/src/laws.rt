@@ -7,8 +7,9 @@ ghost use Rattle.td_turns.specs.Laws.{WantingChangeNothing, WordsAreDrawn};
 
 use td_trader::Traders;
 
-/// The points of one trader at which Requests are served never fall. None is below how much of its history was seen
-/// before, and none above how much is seen at the end.
+/// The points of one trader at which Requests are served never fall, of a query those of its trace in order, whatever
+/// it was answered with. None is below how much of its history was seen before, and none above how much is seen at the
+/// end.
 pub fn points_rise<T: Traders>()
     ensures { PointsRise T.others T.later }
 {}
