@@ -1,10 +1,10 @@
 //! Queries from a few words, and what their walks show.
 
+use crate::scripts::text;
 use std::alloc::Global;
 use td_cdr::{Boxed, List, Memory, Text};
 use td_ops::{Desired, Query};
 use td_policy::{number_policy, octets_policy, rule_policy, texts_policy};
-use td_samples::text;
 use td_value::{FollowOption, Policy};
 use td_walk::{Trace, TraceItem, Visit};
 

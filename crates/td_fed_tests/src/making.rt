@@ -1,8 +1,9 @@
 //! Four traders, as the lines of a file that a few words stand for.
 
+use crate::files::open;
 use std::alloc::Global;
 use td_cdr::Memory;
-use td_file::{FileFault, Opened, read_file};
+use td_file::{FileFault, Opened};
 use td_trader::Solo;
 use td_walk::Address;
 
@@ -81,13 +82,6 @@ fn file(alloc: Global, words: &str) -> Result<Vec<u8>, Memory> {
         write_trader(&mut text, words, *letter)?;
     }
     Ok(text)
-}
-
-fn open(alloc: Global, text: &[u8]) -> Result<Opened, FileFault> {
-    if text.len() > 100000 {
-        return Err(FileFault::Memory);
-    }
-    read_file(alloc, text)
 }
 
 /// The traders A to D, with what these words give them, and where the server listens.

@@ -2,11 +2,11 @@
 
 use crate::asking::path;
 use crate::making::traders;
-use crate::peering::peers;
+use crate::scripts::{peers, two};
 use std::alloc::Global;
 use std::process::Abort;
 use std::test::Fail;
-use td_cdr::{List, Memory, Text};
+use td_cdr::Memory;
 use td_exceptions::UserException;
 use td_fed::{NameAnswer, resolve};
 use td_ior::iiop_of;
@@ -15,21 +15,21 @@ use td_trader::{Solo, Traders};
 use td_value::Ior;
 use td_walk::{Address, PeerFault};
 
-/// What is resolved from A on comes to: what the traders have, the name, what peers answer, and then what was asked of
-/// them and what came of it.
-#[derive(Clone, Copy)]
-struct Row {
-    has: &'static str,
-    name: &'static str,
-    peers: &'static str,
-    asked: &'static str,
-    comes_to: &'static str,
+/// Checks what names come to that are resolved from A on. Of each line that is what the traders have, the name, what
+/// peers answer; and what was asked of them, and what came of it.
+fn come_to(rt: &impl Abort, alloc: Global, lines: &str) -> Result<(), Fail> {
+    for line in lines.lines() {
+        assert!(rt; comes_to(alloc, line), "{line}");
+    }
+    Ok(())
 }
 
-fn passes(alloc: Global, row: &Row) -> bool {
-    match traders(alloc, row.has) {
+fn comes_to(alloc: Global, line: &str) -> bool {
+    let (name, told) = line.split_once(" => ").unwrap_or((line, ""));
+    let (has, rest) = two(name);
+    match traders(alloc, has) {
         Ok((mut group, home)) => {
-            let passed = resolves(alloc, &mut group, &home, row).unwrap_or(false);
+            let passed = resolves(alloc, &mut group, &home, rest, told).unwrap_or(false);
             drop(group);
             passed
         }
@@ -37,19 +37,27 @@ fn passes(alloc: Global, row: &Row) -> bool {
     }
 }
 
-fn resolves(alloc: Global, group: &mut Solo, home: &Address, row: &Row) -> Result<bool, Memory> {
+fn resolves(
+    alloc: Global,
+    group: &mut Solo,
+    home: &Address,
+    words: &str,
+    told: &str,
+) -> Result<bool, Memory> {
     if group.count() == 0 {
         return Ok(false);
     }
-    let name = path(alloc, row.name)?;
-    let mut peers = peers(alloc, row.peers)?;
+    let (name, script) = two(words);
+    let name = path(alloc, name)?;
+    let mut peers = peers(alloc, script, 0)?;
     let answer = resolve(alloc, group, home, 0, &name, &mut peers);
-    Ok(is_answer(alloc, answer, row))
+    Ok(is_answer(alloc, answer, told))
 }
 
-fn is_answer(alloc: Global, answer: Result<NameAnswer, Memory>, row: &Row) -> bool {
+fn is_answer(alloc: Global, answer: Result<NameAnswer, Memory>, told: &str) -> bool {
+    let (asked_of, outcome) = told.split_once(' ').unwrap_or((told, ""));
     let passed = match &answer {
-        Ok(told) => asked(&told.asked) == row.asked && is_told(alloc, &told.outcome, row.comes_to),
+        Ok(answer) => asked(&answer.asked) == asked_of && is_told(alloc, &answer.outcome, outcome),
         Err(_) => false,
     };
     drop(answer);
@@ -86,64 +94,41 @@ fn has_key(alloc: Global, reference: &Ior, key: &str) -> bool {
     }
 }
 
-/// Names that no peer is asked for.
-const fn inside(has: &'static str, name: &'static str, comes_to: &'static str) -> Row {
-    Row {
-        has,
-        name,
-        peers: "",
-        asked: "none",
-        comes_to,
-    }
-}
+const INSIDE: &str = "A>B B>C;B; => none B/R
+A>B B>C;B,C; => none C/R";
 
 /// One name gives the register of its link, and two that of the link at the trader behind the first.
 #[test]
 fn names_in_the_group(rt: HostRuntime) -> Result<(), Fail> {
-    let alloc = rt.alloc();
-    let has = "A>B B>C";
-    assert!(rt; passes(alloc, &inside(has, "B", "B/R")));
-    assert!(rt; passes(alloc, &inside(has, "B,C", "C/R")));
-    Ok(())
+    come_to(&rt, rt.alloc(), INSIDE)
 }
+
+const UNKNOWN: &str = "A>B B>C;C; => none unknown
+A>B B>C;B,A; => none unknown
+A>B B>C;B,C,A; => none unknown";
 
 /// A name that no link has is unknown, wherever it stands.
 #[test]
 fn unknown_names(rt: HostRuntime) -> Result<(), Fail> {
-    let alloc = rt.alloc();
-    let has = "A>B B>C";
-    assert!(rt; passes(alloc, &inside(has, "C", "unknown")));
-    assert!(rt; passes(alloc, &inside(has, "B,A", "unknown")));
-    assert!(rt; passes(alloc, &inside(has, "B,C,A", "unknown")));
-    Ok(())
+    come_to(&rt, rt.alloc(), UNKNOWN)
 }
+
+const ILLEGAL: &str = "A>B;; => none illegal
+A>B;B,; => none illegal";
 
 /// A part that is no word is illegal, and nothing is looked up.
 #[test]
 fn illegal_names(rt: HostRuntime) -> Result<(), Fail> {
-    let alloc = rt.alloc();
-    assert!(rt; passes(alloc, &inside("A>B", "", "illegal")));
-    assert!(rt; passes(alloc, &inside("A>B", "B,", "illegal")));
-    Ok(())
+    come_to(&rt, rt.alloc(), ILLEGAL)
 }
+
+/// The register that was given has no key.
+const OUTSIDE: &str = "A>X;X; => none X/R
+A>X;X,C;X/R:nobody => given
+A>X;X,C;X/R:failed => failed unknown";
 
 /// A register outside is asked for the names that are left; for its own it isn't.
 #[test]
 fn a_register_outside(rt: HostRuntime) -> Result<(), Fail> {
-    let alloc = rt.alloc();
-    assert!(rt; passes(alloc, &inside("A>X", "X", "X/R")));
-    assert!(rt; passes(alloc, &outside("X/R:nobody", "given", "")));
-    assert!(rt; passes(alloc, &outside("X/R:failed", "failed", "unknown")));
-    Ok(())
-}
-
-/// A is linked to X, and the name is of a link there.
-const fn outside(peers: &'static str, asked: &'static str, comes_to: &'static str) -> Row {
-    Row {
-        has: "A>X",
-        name: "X,C",
-        peers,
-        asked,
-        comes_to,
-    }
+    come_to(&rt, rt.alloc(), OUTSIDE)
 }

@@ -1,7 +1,6 @@
 //! A file of three cities in a ring, the first with two hundred offers.
 
-use crate::counted::is_told;
-use crate::files::open;
+use crate::counted::opens;
 use std::alloc::Global;
 use std::process::Abort;
 use std::test::Fail;
@@ -67,14 +66,12 @@ fn cities(alloc: Global) -> Result<Vec<u8>, Fail> {
 fn three_cities(rt: HostRuntime) -> Result<(), Fail> {
     let alloc = rt.alloc();
     let text = cities(alloc)?;
-    let opened = open(alloc, text.as_slice());
-    let passed = is_told(
-        alloc,
-        &opened,
-        "North 4 200 0 1, South 4 1 0 1, East 4 1 0 1",
+    assert!(rt;
+        opens(
+            alloc,
+            text.as_slice(),
+            "North 4 200 0 1, South 4 1 0 1, East 4 1 0 1"
+        )?
     );
-    drop(opened);
-    let passed = passed?;
-    assert!(rt; passed);
     Ok(())
 }

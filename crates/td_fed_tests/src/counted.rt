@@ -85,25 +85,25 @@ fn are_counted(alloc: Global, traders: &[Trader], told: &str) -> Result<bool, Fa
     Ok(rest.is_empty() || rest == "none")
 }
 
-pub(crate) fn is_told(
-    alloc: Global,
-    opened: &Result<Opened, FileFault>,
-    told: &str,
-) -> Result<bool, Fail> {
+fn is_told(alloc: Global, opened: &Result<Opened, FileFault>, told: &str) -> Result<bool, Fail> {
     match opened {
         Ok(opened) => are_counted(alloc, opened.solo.traders.as_slice(), told),
         Err(_) => Ok(false),
     }
 }
 
+/// Whether a file opens traders with these counts.
+pub(crate) fn opens(alloc: Global, text: &[u8], told: &str) -> Result<bool, Fail> {
+    let opened = open(alloc, text);
+    let passed = is_told(alloc, &opened, told);
+    drop(opened);
+    passed
+}
+
 fn whole_row(rt: &impl Abort, alloc: Global, row: &str) -> Result<(), Fail> {
     let (file, told) = row.split_once(" => ").ok_or("counts")?;
     let text = file_of(alloc, file)?;
-    let opened = open(alloc, text.as_slice());
-    let passed = is_told(alloc, &opened, told);
-    drop(opened);
-    let passed = passed?;
-    assert!(rt; passed, "{file}");
+    assert!(rt; opens(alloc, text.as_slice(), told)?, "{file}");
     Ok(())
 }
 
@@ -121,10 +121,12 @@ fn whole_files(rt: HostRuntime) -> Result<(), Fail> {
 fn group_of_three(rt: HostRuntime) -> Result<(), Fail> {
     let alloc = rt.alloc();
     let text = file_of(alloc, GROUP)?;
-    let opened = open(alloc, text.as_slice());
-    let passed = is_told(alloc, &opened, "A 2 2 1 2, B 2 1 0 1, C 1 0 1000000 2");
-    drop(opened);
-    let passed = passed?;
-    assert!(rt; passed);
+    assert!(rt;
+        opens(
+            alloc,
+            text.as_slice(),
+            "A 2 2 1 2, B 2 1 0 1, C 1 0 1000000 2"
+        )?
+    );
     Ok(())
 }

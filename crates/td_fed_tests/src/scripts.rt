@@ -1,4 +1,4 @@
-//! Scripts and references from a few words.
+//! Peers by a script of a few words.
 
 ghost use Rattle.std.specs.Prelude.{IfOk, OnOk};
 ghost use Rattle.td_peers.specs.Scripts.{IsSmall, AreSmall};
@@ -11,8 +11,18 @@ use td_peers::{MemPeers, Scripted};
 use td_value::{Any, Ior, Offer, TypeCode, Value, offer_size};
 use td_walk::SubAnswer;
 
+/// The text of a `&str`.
+pub(crate) fn text(alloc: Global, text: &str) -> Result<Text, Memory> {
+    Text::from_slice(alloc, text.as_bytes())
+}
+
+/// Two parts with `;` between them, the second empty where there is none.
+pub(crate) fn two(words: &str) -> (&str, &str) {
+    words.split_once(';').unwrap_or((words, ""))
+}
+
 /// A reference without an id and without profiles.
-pub(crate) fn nobody(alloc: Global) -> Ior {
+fn nobody(alloc: Global) -> Ior {
     Ior {
         id: Text::new(alloc),
         profiles: List::new(alloc),
@@ -28,6 +38,7 @@ pub(crate) fn object(alloc: Global, key: &str) -> Result<Boxed<Ior>, Memory> {
     Boxed::new(alloc, object)
 }
 
+/// The number 7.
 pub(crate) fn seven(alloc: Global) -> Result<Boxed<Any>, Memory> {
     Boxed::new(
         alloc,
@@ -72,7 +83,7 @@ fn limited(alloc: Global, limit: &str) -> Result<SubAnswer, Memory>
     ensures { IfOk result HasSmallOffers }
 {
     let mut limits = List::new(alloc);
-    limits.push(Text::from_slice(alloc, limit.as_bytes())?)?;
+    limits.push(text(alloc, limit)?)?;
     Ok(SubAnswer {
         offers: List::new(alloc),
         limits,

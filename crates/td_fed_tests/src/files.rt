@@ -39,15 +39,6 @@ pub(crate) fn open(alloc: Global, text: &[u8]) -> Result<Opened, FileFault> {
     read_file(alloc, text)
 }
 
-/// What the group opens.
-pub(crate) fn group(alloc: Global) -> Result<Opened, Fail> {
-    let text = file_of(alloc, GROUP)?;
-    match open(alloc, text.as_slice()) {
-        Ok(opened) => Ok(opened),
-        Err(_) => Err("the group is refused".into()),
-    }
-}
-
 /// The trader of this number, counted from 0.
 pub(crate) fn trader_at(opened: &Opened, index: usize) -> Option<&Trader> {
     opened.solo.traders.get(index)

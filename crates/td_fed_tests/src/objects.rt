@@ -1,14 +1,48 @@
-//! The references of the group's objects, its links, its address and its seed.
+//! The references of the group's objects, its links, its offers, its address and its seed.
 
-use crate::files::{group, seen, trader_at};
+use crate::files::{GROUP, file_of, open, seen, trader_at};
 use std::alloc::Global;
+use std::process::Abort;
 use std::test::Fail;
 use td_cdr::{Memory, Text};
-use td_file::Opened;
+use td_file::{FileFault, Opened};
 use td_ior::{Iiop, IorFault, iiop_of};
 use td_ops::{Attribute, Look, NumberAttribute, Outcome, ReferenceAttribute, Reply};
 use td_trader::Trader;
-use td_value::{FollowOption, Ior, LinkInfo};
+use td_value::{FollowOption, Ior, LinkInfo, OfferInfo, ProxyInfo, is_dynamic};
+
+/// What is looked at in the group.
+#[derive(Clone, Copy)]
+enum Part {
+    Objects,
+    Links,
+    Settings,
+    Offers,
+}
+
+fn passes(alloc: Global, part: Part) -> Result<bool, Fail> {
+    let text = file_of(alloc, GROUP)?;
+    let opened = open(alloc, text.as_slice());
+    let passed = is_so(alloc, &opened, part);
+    drop(opened);
+    Ok(passed)
+}
+
+fn is_so(alloc: Global, opened: &Result<Opened, FileFault>, part: Part) -> bool {
+    match opened {
+        Ok(opened) => is_part_so(alloc, opened, part),
+        Err(_) => false,
+    }
+}
+
+fn is_part_so(alloc: Global, opened: &Opened, part: Part) -> bool {
+    match part {
+        Part::Objects => second_tells(alloc, opened),
+        Part::Links => first_leads(alloc, opened),
+        Part::Settings => is_set(opened),
+        Part::Offers => has_offers(alloc, opened),
+    }
+}
 
 /// Whether a profile names the host, the port and this key.
 fn is_at(profile: Result<Iiop, IorFault>, host: &[u8], port: u16, key: &[u8]) -> bool {
@@ -94,11 +128,7 @@ fn second_tells(alloc: Global, opened: &Opened) -> bool {
 /// Each trader tells the references of its own objects.
 #[test]
 fn own_objects(rt: HostRuntime) -> Result<(), Fail> {
-    let alloc = rt.alloc();
-    let opened = group(alloc)?;
-    let passed = second_tells(alloc, &opened);
-    drop(opened);
-    assert!(rt; passed);
+    assert!(rt; passes(rt.alloc(), Part::Objects)?);
     Ok(())
 }
 
@@ -162,11 +192,7 @@ fn first_leads(alloc: Global, opened: &Opened) -> bool {
 /// A link to a trader that comes later has its Lookup and its own Register, an outside one those of its line.
 #[test]
 fn links_of_the_first(rt: HostRuntime) -> Result<(), Fail> {
-    let alloc = rt.alloc();
-    let opened = group(alloc)?;
-    let passed = first_leads(alloc, &opened);
-    drop(opened);
-    assert!(rt; passed);
+    assert!(rt; passes(rt.alloc(), Part::Links)?);
     Ok(())
 }
 
@@ -232,10 +258,72 @@ fn is_set(opened: &Opened) -> bool {
 /// What a line sets stands, and all else is as it is where nothing is set.
 #[test]
 fn settings(rt: HostRuntime) -> Result<(), Fail> {
-    let alloc = rt.alloc();
-    let opened = group(alloc)?;
-    let passed = is_set(&opened);
-    drop(opened);
-    assert!(rt; passed);
+    assert!(rt; passes(rt.alloc(), Part::Settings)?);
+    Ok(())
+}
+
+/// The offer of this id.
+fn offer(alloc: Global, trader: &Trader, id: &[u8]) -> Result<Outcome, Memory> {
+    let id = Text::from_slice(alloc, id)?;
+    seen(trader, Look::Describe { id })
+}
+
+/// The proxy offer of this id.
+fn proxy(alloc: Global, trader: &Trader, id: &[u8]) -> Result<Outcome, Memory> {
+    let id = Text::from_slice(alloc, id)?;
+    seen(trader, Look::DescribeProxy { id })
+}
+
+/// Whether it is the device, whose second property is evaluated.
+fn is_device(info: &OfferInfo) -> bool {
+    match info.properties.as_slice() {
+        [cost, queue] => {
+            info.service_type.as_slice() == b"Device".as_slice()
+                && !is_dynamic(&cost.value.code)
+                && is_dynamic(&queue.value.code)
+        }
+        _ => false,
+    }
+}
+
+fn is_proxied(info: &ProxyInfo) -> bool {
+    info.service_type.as_slice() == b"Printer".as_slice()
+        && !info.if_match_all
+        && info.recipe.as_slice() == b"Cost < $(Cost)".as_slice()
+        && info.properties.len() == 1
+        && info.policies_to_pass_on.len() == 0
+}
+
+fn has_device(alloc: Global, trader: &Trader) -> bool {
+    let told = offer(alloc, trader, b"2");
+    let passed = match &told {
+        Ok(Outcome::Done(Reply::Offer(info))) => is_device(info),
+        _ => false,
+    };
+    drop(told);
+    passed
+}
+
+fn has_proxy(alloc: Global, trader: &Trader) -> bool {
+    let told = proxy(alloc, trader, b"3");
+    let passed = match &told {
+        Ok(Outcome::Done(Reply::Proxy(info))) => is_proxied(info),
+        _ => false,
+    };
+    drop(told);
+    passed
+}
+
+fn has_offers(alloc: Global, opened: &Opened) -> bool {
+    match trader_at(opened, 0) {
+        Some(trader) => has_device(alloc, trader) && has_proxy(alloc, trader),
+        None => false,
+    }
+}
+
+/// Numbers go from 1 in the order of the lines.
+#[test]
+fn offers_of_the_first(rt: HostRuntime) -> Result<(), Fail> {
+    assert!(rt; passes(rt.alloc(), Part::Offers)?);
     Ok(())
 }
