@@ -6,12 +6,15 @@ ghost use Rattle.td_file.specs.Files.{IsAddress as IsHome};
 ghost use Rattle.td_reply.specs.References.{IsAddress};
 
 use std::alloc::Global;
-use td_cdr::{Memory, Octets, Text};
+use td_cdr::{List, Memory, Octets, Text};
 use td_changes::Bounds;
 use td_file::{FileFault, Opened, read_file};
 use td_peers::MemPeers;
-use td_samples::{empty_store, text};
+use td_policy::{Attributes, OwnReferences, default_attributes};
+use td_store::{Links, Offers, Store};
 use td_trader::{Solo, Trader};
+use td_types::Types;
+use td_value::Ior;
 use td_walk::Address;
 
 /// Where a server is reached, its traders, and the peers outside.
@@ -91,7 +94,7 @@ fn bounded(alloc: Global, bounds: Bounds) -> Result<Trader, Memory>
 fn names(alloc: Global) -> Result<(Text, Octets), Memory>
     ensures { IfOk result (λ p. p.1 ≡ 65 ∷ []) }
 {
-    let name = text(alloc, "A")?;
+    let name = Text::from_slice(alloc, b"A")?;
     match Octets::from_slice(alloc, b"A") {
         Ok(stem) => Ok((name, stem)),
         Err(memory) => {
@@ -107,4 +110,77 @@ fn alone(alloc: Global, trader: Trader) -> Result<Solo, Memory> {
     let mut traders = Vec::new(alloc);
     traders.push(trader)?;
     Ok(Solo { traders })
+}
+
+/// A store without types, offers and links.
+fn empty_store(alloc: Global) -> Result<Store, Memory>
+    ensures offers { IfOk result (λ s. s.offers ≡ []) }
+    ensures stem { IfOk result (λ s. s.attributes.request_id_stem ≡ 65 ∷ []) }
+{
+    let types = Types::new(alloc, List::new(alloc))?;
+    match parts(alloc) {
+        Ok((offers, (links, attributes))) => Ok(Store {
+            types,
+            offers,
+            links,
+            attributes,
+            last_offer: 0,
+        }),
+        Err(memory) => {
+            drop(types);
+            Err(memory)
+        }
+    }
+}
+
+fn parts(alloc: Global) -> Result<(Offers, (Links, Attributes)), Memory>
+    ensures offers { IfOk result (λ p. p.0 ≡ []) }
+    ensures stem { IfOk result (λ p. p.1.1.request_id_stem ≡ 65 ∷ []) }
+{
+    let offers = Offers::new(alloc)?;
+    match links_and_attributes(alloc) {
+        Ok(others) => Ok((offers, others)),
+        Err(memory) => {
+            drop(offers);
+            Err(memory)
+        }
+    }
+}
+
+fn links_and_attributes(alloc: Global) -> Result<(Links, Attributes), Memory>
+    ensures { IfOk result (λ p. p.1.request_id_stem ≡ 65 ∷ []) }
+{
+    let links = Links::new(alloc)?;
+    match attributes(alloc) {
+        Ok(attributes) => Ok((links, attributes)),
+        Err(memory) => {
+            drop(links);
+            Err(memory)
+        }
+    }
+}
+
+fn attributes(alloc: Global) -> Result<Attributes, Memory>
+    ensures { IfOk result (λ a. a.request_id_stem ≡ 65 ∷ []) }
+{
+    let name = Text::from_slice(alloc, b"A")?;
+    default_attributes(
+        alloc,
+        &name,
+        OwnReferences {
+            lookup: nil(alloc),
+            register: nil(alloc),
+            link: nil(alloc),
+            proxy: nil(alloc),
+            admin: nil(alloc),
+            types: nil(alloc),
+        },
+    )
+}
+
+fn nil(alloc: Global) -> Ior {
+    Ior {
+        id: Text::new(alloc),
+        profiles: List::new(alloc),
+    }
 }

@@ -22,56 +22,49 @@ use td_changes::Bounds;
 use td_file::FileFault;
 use td_peers::MemPeers;
 
+/// Checks sessions, each with the traders of its own file.
+fn come_true(rt: &impl Abort, alloc: Global, stories: &[Story]) -> Result<(), Fail> {
+    for story in stories {
+        assert!(rt; comes_true(alloc, story));
+    }
+    Ok(())
+}
+
 /// Queries of both orders, with and without a reply, and what isn't served.
 #[test]
 fn plain_queries(rt: HostRuntime) -> Result<(), Fail> {
-    assert!(rt; comes_true(rt.alloc(), &PLAIN));
-    assert!(rt; comes_true(rt.alloc(), &NO_OFFERS));
-    assert!(rt; comes_true(rt.alloc(), &VALUES));
-    assert!(rt; comes_true(rt.alloc(), &UNANSWERED));
-    assert!(rt; comes_true(rt.alloc(), &RANDOM));
-    Ok(())
+    let stories = [PLAIN, NO_OFFERS, VALUES, UNANSWERED, RANDOM];
+    come_true(&rt, rt.alloc(), &stories)
 }
 
 /// Types are added, described, masked and removed.
 #[test]
 fn types(rt: HostRuntime) -> Result<(), Fail> {
-    assert!(rt; comes_true(rt.alloc(), &MASKED));
-    assert!(rt; comes_true(rt.alloc(), &TYPES));
-    Ok(())
+    come_true(&rt, rt.alloc(), &[MASKED, TYPES])
 }
 
 /// Offers are exported, modified, listed in batches and withdrawn.
 #[test]
 fn offers(rt: HostRuntime) -> Result<(), Fail> {
-    assert!(rt; comes_true(rt.alloc(), &MODIFIED));
-    assert!(rt; comes_true(rt.alloc(), &BATCHES));
-    assert!(rt; comes_true(rt.alloc(), &PROXIES));
-    Ok(())
+    come_true(&rt, rt.alloc(), &[MODIFIED, BATCHES, PROXIES])
 }
 
 /// Queries go on along links, by hops, rules and marks, and links are added and removed.
 #[test]
 fn linked_traders(rt: HostRuntime) -> Result<(), Fail> {
-    assert!(rt; comes_true(rt.alloc(), &RING));
-    assert!(rt; comes_true(rt.alloc(), &HOPS));
-    assert!(rt; comes_true(rt.alloc(), &RULES));
-    assert!(rt; comes_true(rt.alloc(), &LINKS));
-    Ok(())
+    come_true(&rt, rt.alloc(), &[RING, HOPS, RULES, LINKS])
 }
 
 /// Attributes are read and set.
 #[test]
 fn attributes(rt: HostRuntime) -> Result<(), Fail> {
-    assert!(rt; comes_true(rt.alloc(), &ATTRIBUTES));
-    assert!(rt; comes_true(rt.alloc(), &SETTINGS));
-    Ok(())
+    come_true(&rt, rt.alloc(), &[ATTRIBUTES, SETTINGS])
 }
 
 /// Bytes that are no message to a server.
 #[test]
 fn sessions_break_off(rt: HostRuntime) -> Result<(), Fail> {
-    for story in [
+    let stories = [
         TOO_LARGE,
         BAD_MAGIC,
         BAD_VERSION,
@@ -82,18 +75,14 @@ fn sessions_break_off(rt: HostRuntime) -> Result<(), Fail> {
         BAD_BOOLEAN,
         CUT_KEY,
         CUT_CANCEL,
-    ] {
-        assert!(rt; comes_true(rt.alloc(), &story));
-    }
-    Ok(())
+    ];
+    come_true(&rt, rt.alloc(), &stories)
 }
 
 /// A CloseConnection or a MessageError ends a session.
 #[test]
 fn sessions_are_closed(rt: HostRuntime) -> Result<(), Fail> {
-    assert!(rt; comes_true(rt.alloc(), &CLOSED));
-    assert!(rt; comes_true(rt.alloc(), &ERROR));
-    Ok(())
+    come_true(&rt, rt.alloc(), &[CLOSED, ERROR])
 }
 
 /// Whether a session of a server with these peers is as the story says.
