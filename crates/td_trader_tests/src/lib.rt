@@ -1,15 +1,25 @@
-//! Tests of td_trader.
+//! Tests of td_register, td_changes and td_trader. A trader is asked by lines of words, each with what it answers.
 #![tactic(auto)]
 
 #[cfg(test)]
+mod answers;
+#[cfg(test)]
 mod asking;
 #[cfg(test)]
-mod begins;
+mod changes;
 #[cfg(test)]
-mod histories;
+mod exporting;
 #[cfg(test)]
-mod queries;
+mod lines;
 #[cfg(test)]
-mod served;
+mod modifying;
 #[cfg(test)]
-mod starting;
+mod opening;
+#[cfg(test)]
+mod proxy_exporting;
+#[cfg(test)]
+mod register;
+#[cfg(test)]
+mod trader;
+#[cfg(test)]
+mod values;
