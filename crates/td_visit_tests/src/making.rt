@@ -15,6 +15,11 @@ pub(crate) fn text(alloc: Global, word: &str) -> Result<Text, Memory> {
     Text::from_slice(alloc, word.as_bytes())
 }
 
+/// Two parts with `;` between them, the second empty where there is none.
+pub(crate) fn two(words: &str) -> (&str, &str) {
+    words.split_once(';').unwrap_or((words, ""))
+}
+
 /// A reference without an id and without profiles.
 pub(crate) fn nobody(alloc: Global) -> Ior {
     Ior {

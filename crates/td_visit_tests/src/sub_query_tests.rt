@@ -1,13 +1,14 @@
 //! What goes over a link, along a path and to a proxy offer's trader.
 
-use crate::making::{link, local, policies, stated, text};
+use crate::making::{link, local, policies, rule_of, stated, text, two};
 use std::alloc::Global;
+use std::process::Abort;
 use std::test::Fail;
 use td_cdr::{Boxed, Memory};
 use td_ops::Query;
 use td_policy::Stated;
 use td_store::ProxyPart;
-use td_value::{FollowOption, Policy};
+use td_value::Policy;
 use td_walk::{follows, sub_query_for_link, sub_query_for_path, sub_query_for_proxy};
 
 /// What a query's policies state.
@@ -30,11 +31,19 @@ fn has_names(policies: &[Policy], words: &str) -> bool {
 }
 
 /// Whether the policies state so many hops, this rule and the search's identifier, and no start elsewhere.
-fn states(stated: &Stated, hops: u32, rule: FollowOption) -> bool {
-    stated.hops == Some(hops)
-        && stated.follow == Some(rule)
+fn states(stated: &Stated, told: &str) -> bool {
+    let (hops, rule) = told.split_once(' ').unwrap_or((told, ""));
+    has_hops(stated, hops)
+        && stated.follow == Some(rule_of(rule))
         && stated.start.is_none()
         && has_identifier(stated)
+}
+
+fn has_hops(stated: &Stated, word: &str) -> bool {
+    match stated.hops {
+        Some(hops) => word.parse::<u32>() == Ok(hops),
+        None => false,
+    }
 }
 
 fn has_identifier(stated: &Stated) -> bool {
@@ -44,41 +53,45 @@ fn has_identifier(stated: &Stated) -> bool {
     }
 }
 
-fn over_link(
-    alloc: Global,
-    words: &str,
-    limiting: &str,
-    own: &str,
-) -> Result<Boxed<Query>, Memory> {
+/// What goes over a link, as `POLICIES;LIMITING;OWN` says.
+fn over_link(alloc: Global, words: &str) -> Result<Boxed<Query>, Memory> {
+    let (words, rules) = two(words);
+    let (limiting, own) = two(rules);
     let local = local(alloc, "Cost < 10", "random", words)?;
     let link = link(alloc, limiting, own)?;
     Ok(Boxed::new(alloc, sub_query_for_link(alloc, local.get(), &link)?)?)
 }
 
-/// A link of if_no_local, with always and more hops stated than there may be.
+/// Links with how many hops and which rule go over them: one of if_no_local with always and more hops stated than there
+/// may be, and others with three hops, two and one.
+const OVER: &str =
+    "link_follow_rule=always hop_count=99 starting_trader=x,y;if_no_local;if_no_local => 9 if_no_local
+hop_count=3;always;always => 2 always
+hop_count=2;always;always => 1 always
+hop_count=1;always;always => 0 always";
+
 #[test]
 fn over_a_link(rt: HostRuntime) -> Result<(), Fail> {
     let alloc = rt.alloc();
-    assert!(rt; passes_nine_hops(alloc)?);
+    for line in OVER.lines() {
+        assert!(rt; passes_over(alloc, line)?, "{line}");
+    }
     assert!(rt; passes_in_order(alloc)?);
-    assert!(rt; passes_one_hop_less(alloc)?);
     Ok(())
 }
 
-fn passes_nine_hops(alloc: Global) -> Result<bool, Memory> {
-    let words = "link_follow_rule=always hop_count=99 starting_trader=x,y";
-    let query = over_link(alloc, words, "if_no_local", "if_no_local")?;
+fn passes_over(alloc: Global, line: &str) -> Result<bool, Memory> {
+    let (words, told) = line.split_once(" => ").unwrap_or((line, ""));
+    let query = over_link(alloc, words)?;
     let stated = stated_by(alloc, query.get())?;
-    Ok(states(stated.get(), 9, FollowOption::IfNoLocal))
+    Ok(states(stated.get(), told))
 }
 
 /// What isn't stated is added at the end, a start elsewhere is taken out, and nothing is drawn at random there.
 fn passes_in_order(alloc: Global) -> Result<bool, Memory> {
     let query = over_link(
         alloc,
-        "request_id=p starting_trader=x match_card=3",
-        "always",
-        "if_no_local",
+        "request_id=p starting_trader=x match_card=3;always;if_no_local",
     )?;
     let names = has_names(
         query.get().policies.as_slice(),
@@ -88,20 +101,6 @@ fn passes_in_order(alloc: Global) -> Result<bool, Memory> {
         && query.get().how_many == 1000;
     let same = query.get().constraint.as_slice() == b"Cost < 10".as_slice();
     Ok(names && rest && same)
-}
-
-/// Three hops, two and one; with none no link is followed.
-fn passes_one_hop_less(alloc: Global) -> Result<bool, Memory> {
-    let three = passes_hops(alloc, "hop_count=3", 2)?;
-    let two = passes_hops(alloc, "hop_count=2", 1)?;
-    let one = passes_hops(alloc, "hop_count=1", 0)?;
-    Ok(three && two && one)
-}
-
-fn passes_hops(alloc: Global, words: &str, hops: u32) -> Result<bool, Memory> {
-    let query = over_link(alloc, words, "always", "always")?;
-    let stated = stated_by(alloc, query.get())?;
-    Ok(states(stated.get(), hops, FollowOption::Always))
 }
 
 /// A path of two names, and then of one: each goes on with the names behind, and with the hops as they were stated.
@@ -133,39 +132,39 @@ fn goes_to(stated: &Stated, count: usize) -> bool {
     }
 }
 
+/// The policies of a query and of a proxy offer, and how many hops and matches are stated there.
+const PASSED: &str = "hop_count=3 match_card=9;hop_count=1 request_id=p match_card=4 => 1 4
+hop_count=3 match_card=9;hop_count=7 => 2 9";
+
 /// A proxy offer's policies: fewer hops stand and more don't, an identifier is ignored, and any other policy replaces.
 #[test]
 fn to_a_proxy(rt: HostRuntime) -> Result<(), Fail> {
     let alloc = rt.alloc();
-    assert!(rt;
-        passes_to_proxy(
-            alloc,
-            "hop_count=3 match_card=9",
-            "hop_count=1 request_id=p match_card=4",
-            1,
-            4
-        )?
-    );
-    assert!(rt; passes_to_proxy(alloc, "hop_count=3 match_card=9", "hop_count=7", 2, 9)?);
+    for line in PASSED.lines() {
+        assert!(rt; passes_to_proxy(alloc, line)?, "{line}");
+    }
     Ok(())
 }
 
-fn passes_to_proxy(
-    alloc: Global,
-    words: &str,
-    passed: &str,
-    hops: u32,
-    cards: u32,
-) -> Result<bool, Memory> {
-    let query = to_proxy(alloc, words, passed)?;
+fn passes_to_proxy(alloc: Global, line: &str) -> Result<bool, Memory> {
+    let (words, told) = line.split_once(" => ").unwrap_or((line, ""));
+    let (hops, cards) = told.split_once(' ').unwrap_or((told, ""));
+    let query = to_proxy(alloc, words)?;
     let stated = stated_by(alloc, query.get())?;
     let constraint = query.get().constraint.as_slice() == b"Cost < 10 and Floor == 3".as_slice();
     Ok(
         constraint
-            && stated.get().hops == Some(hops)
-            && stated.get().match_card == Some(cards)
+            && has_hops(stated.get(), hops)
+            && has_matches(stated.get(), cards)
             && has_no_rule(stated.get()),
     )
+}
+
+fn has_matches(stated: &Stated, word: &str) -> bool {
+    match stated.match_card {
+        Some(cards) => word.parse::<u32>() == Ok(cards),
+        None => false,
+    }
 }
 
 /// A rule is passed on only where one is stated.
@@ -173,7 +172,8 @@ fn has_no_rule(stated: &Stated) -> bool {
     stated.follow.is_none() && has_identifier(stated)
 }
 
-fn to_proxy(alloc: Global, words: &str, passed: &str) -> Result<Boxed<Query>, Memory> {
+fn to_proxy(alloc: Global, words: &str) -> Result<Boxed<Query>, Memory> {
+    let (words, passed) = two(words);
     let local = local(alloc, "Cost < 10", "", words)?;
     let part = part(alloc, passed)?;
     let constraint = text(alloc, "Cost < 10 and Floor == 3")?;
@@ -194,35 +194,29 @@ fn part(alloc: Global, passed: &str) -> Result<ProxyPart, Memory> {
 }
 
 /// What is stated, the link's limiting rule, whether an ordinary offer matched, and whether the link is followed.
-const FOLLOWED: [(&str, &str, bool, bool); 7] = [
-    ("hop_count=1", "if_no_local", false, true),
-    ("hop_count=1", "if_no_local", true, false),
-    ("hop_count=1", "always", true, true),
-    ("hop_count=0", "always", false, false),
-    ("hop_count=1", "local_only", false, false),
-    ("link_follow_rule=local_only", "always", false, false),
-    ("link_follow_rule=if_no_local", "always", true, false),
-];
+const FOLLOWED: &str = "hop_count=1;if_no_local;alone => followed
+hop_count=1;if_no_local;matched => not
+hop_count=1;always;matched => followed
+hop_count=0;always;alone => not
+hop_count=1;local_only;alone => not
+link_follow_rule=local_only;always;alone => not
+link_follow_rule=if_no_local;always;matched => not";
 
 /// Links by their rules, the number of hops, and whether an ordinary offer matched.
 #[test]
 fn followed_links(rt: HostRuntime) -> Result<(), Fail> {
     let alloc = rt.alloc();
-    assert!(rt; are_followed(alloc)?);
+    for line in FOLLOWED.lines() {
+        assert!(rt; is_followed(alloc, line)?, "{line}");
+    }
     Ok(())
 }
 
-fn are_followed(alloc: Global) -> Result<bool, Memory> {
-    for (words, limiting, matched, followed) in FOLLOWED {
-        if is_followed(alloc, words, limiting, matched)? != followed {
-            return Ok(false);
-        }
-    }
-    Ok(true)
-}
-
-fn is_followed(alloc: Global, words: &str, limiting: &str, matched: bool) -> Result<bool, Memory> {
+fn is_followed(alloc: Global, line: &str) -> Result<bool, Memory> {
+    let (words, told) = line.split_once(" => ").unwrap_or((line, ""));
+    let (words, rest) = two(words);
+    let (limiting, matched) = two(rest);
     let local = local(alloc, "", "", words)?;
     let link = link(alloc, limiting, "always")?;
-    Ok(follows(local.get(), matched, &link))
+    Ok(follows(local.get(), matched == "matched", &link) == (told == "followed"))
 }
