@@ -1,6 +1,10 @@
-//! Tests of a client over a wire in memory.
+//! Tests of td_call, td_gather and td_client over a wire in memory: single calls, and a client.
 #![tactic(auto)]
 
+#[cfg(test)]
+mod calls;
+#[cfg(test)]
+mod evaluations;
 #[cfg(test)]
 mod messages;
 #[cfg(test)]

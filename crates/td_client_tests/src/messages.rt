@@ -1,4 +1,9 @@
-//! Requests and replies of a client, byte by byte.
+//! Requests and replies, byte by byte.
+
+use std::alloc::Global;
+use std::test::Fail;
+use td_cdr::{List, Octets};
+use td_wire::MemWire;
 
 /// A query of the Lookup A/L for Printer, with ten offers at most and the id 1.
 pub const QUERY: &[u8] =
@@ -100,3 +105,70 @@ pub const EVAL_DP: &[u8] = b"GIOP\x01\0\0\0\0\0\0\x3c\
 /// The reply of id 1: a long of 42.
 pub const VALUE: &[u8] =
     b"GIOP\x01\0\0\x01\0\0\0\x14\0\0\0\0\0\0\0\x01\0\0\0\0\0\0\0\x03\0\0\0\x2a";
+
+/// In little-endian order: it isn't.
+pub const THERE: &[u8] = b"GIOP\x01\0\x01\x01\x0d\0\0\0\
+    \0\0\0\0\x01\0\0\0\0\0\0\0\
+    \0";
+
+/// NO_MEMORY, with the minor code 7; the call wasn't done.
+pub const NO_MEMORY: &[u8] = b"GIOP\x01\0\0\x01\0\0\0\x38\
+    \0\0\0\0\0\0\0\x01\0\0\0\x02\
+    \0\0\0\x20\
+    IDL:omg.org/CORBA/NO_MEMORY:1.0\0\
+    \0\0\0\x07\0\0\0\x01";
+
+/// A reply to the request of id 2.
+pub const OTHER_ID: &[u8] = b"GIOP\x01\0\0\x01\0\0\0\x0d\
+    \0\0\0\0\0\0\0\x02\0\0\0\0\
+    \x01";
+
+/// A reply of status 3, which tells another reference of the object.
+pub const FORWARD: &[u8] = b"GIOP\x01\0\0\x01\0\0\0\x0d\
+    \0\0\0\0\0\0\0\x01\0\0\0\x03\
+    \x01";
+
+/// A boolean of 2.
+pub const BAD_TRUTH: &[u8] = b"GIOP\x01\0\0\x01\0\0\0\x0d\
+    \0\0\0\0\0\0\0\x01\0\0\0\0\
+    \x02";
+
+/// A message that closes the connection.
+pub const CLOSE: &[u8] = b"GIOP\x01\0\0\x05\0\0\0\0";
+
+/// A header of another protocol.
+pub const BAD_MAGIC: &[u8] = b"HTTP/1.1 400";
+
+/// The header of a reply of 64 MiB and a byte.
+pub const TOO_LARGE: &[u8] = b"GIOP\x01\0\0\x01\x04\0\0\x01";
+
+/// A boolean in place of a long.
+pub const OTHER_TYPE: &[u8] = b"GIOP\x01\0\0\x01\0\0\0\x11\
+    \0\0\0\0\0\0\0\x01\0\0\0\0\
+    \0\0\0\x08\x01";
+
+/// A wire whose first connection gives these parts, one after the other; these calls fail.
+pub fn wire_of(alloc: Global, parts: &[&[u8]], failing: &[u64]) -> Result<MemWire, Fail> {
+    let mut bytes = Vec::new(alloc);
+    for part in parts {
+        bytes.extend_from_slice(part)?;
+    }
+    let mut answers = List::new(alloc);
+    answers.push(Octets::from_vec(bytes))?;
+    Ok(MemWire::new(alloc, answers, List::from_slice(alloc, failing)?))
+}
+
+/// Whether these parts were written over the first connection, one after the other, and there was no second one.
+pub fn has_written(wire: &MemWire, parts: &[&[u8]]) -> bool {
+    let Some(written) = wire.written(0) else {
+        return false;
+    };
+    let mut rest = written;
+    for part in parts {
+        if !rest.starts_with(part) {
+            return false;
+        }
+        rest = &rest[part.len()..];
+    }
+    rest.is_empty() && wire.written(1).is_none()
+}

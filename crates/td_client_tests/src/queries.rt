@@ -4,7 +4,7 @@
 use crate::messages::*;
 use std::alloc::Global;
 use std::test::Fail;
-use td_cdr::{List, Octets, Text};
+use td_cdr::{List, Text};
 use td_client::{Caller, Gathered};
 use td_ior::make_ior;
 use td_ops::{Desired, Query};
@@ -62,17 +62,6 @@ pub fn printers(alloc: Global) -> Result<Query, Fail> {
     })
 }
 
-/// A wire whose one connection gives these parts, one after the other.
-pub fn wire_of(alloc: Global, parts: &[&[u8]]) -> Result<MemWire, Fail> {
-    let mut bytes = Vec::new(alloc);
-    for part in parts {
-        bytes.extend_from_slice(part)?;
-    }
-    let mut answers = List::new(alloc);
-    answers.push(Octets::from_vec(bytes))?;
-    Ok(MemWire::new(alloc, answers, List::new(alloc)))
-}
-
 fn ask(alloc: Global, wire: &mut MemWire, target: &Ior, q: &Query) -> Told {
     let mut caller = Caller::new(alloc, wire);
     let answer = caller.ask(alloc, target, q);
@@ -81,26 +70,11 @@ fn ask(alloc: Global, wire: &mut MemWire, target: &Ior, q: &Query) -> Told {
     told
 }
 
-/// Whether these parts were written over the one connection, one after the other.
-pub fn has_written(wire: &MemWire, parts: &[&[u8]]) -> bool {
-    let Some(written) = wire.written(0) else {
-        return false;
-    };
-    let mut rest = written;
-    for part in parts {
-        if !rest.starts_with(part) {
-            return false;
-        }
-        rest = &rest[part.len()..];
-    }
-    rest.is_empty() && wire.written(1).is_none()
-}
-
 /// What the query comes to where its connection gives these parts, and whether these requests were written.
 fn told_over(alloc: Global, given: &[&[u8]], requests: &[&[u8]]) -> Result<(Told, bool), Fail> {
     let q = printers(alloc)?;
     let target = make_ior(alloc, b"IDL:L:1.0", b"h", 9, b"A/L")?;
-    let mut wire = wire_of(alloc, given)?;
+    let mut wire = wire_of(alloc, given, &[])?;
     let told = ask(alloc, &mut wire, &target, &q);
     Ok((told, has_written(&wire, requests)))
 }

@@ -3,27 +3,12 @@
 use crate::messages::*;
 use std::alloc::Global;
 use std::test::Fail;
-use td_cdr::{List, Octets, Text};
+use td_cdr::{List, Text};
 use td_client::Caller;
 use td_ior::make_ior;
 use td_value::Ior;
 use td_walk::{PeerFault, Peers};
 use td_wire::MemWire;
-
-/// A wire whose one connection gives these bytes.
-fn wire_of(alloc: Global, given: &[u8]) -> Result<MemWire, Fail> {
-    let mut answers = List::new(alloc);
-    answers.push(Octets::from_slice(alloc, given)?)?;
-    Ok(MemWire::new(alloc, answers, List::new(alloc)))
-}
-
-/// Whether this was written over the one connection.
-fn has_written(wire: &MemWire, bytes: &[u8]) -> bool {
-    match wire.written(0) {
-        Some(written) => written == bytes && wire.written(1).is_none(),
-        None => false,
-    }
-}
 
 /// Whether the answer is the register, or this fault.
 fn is_answer(answer: &Result<Ior, PeerFault>, fault: Option<PeerFault>) -> bool {
@@ -48,9 +33,9 @@ fn asks_register(
 
 fn register_told(alloc: Global, given: &[u8], fault: Option<PeerFault>) -> Result<bool, Fail> {
     let lookup = make_ior(alloc, b"IDL:L:1.0", b"h", 9, b"A/L")?;
-    let mut wire = wire_of(alloc, given)?;
+    let mut wire = wire_of(alloc, &[given], &[])?;
     let good = asks_register(alloc, &mut wire, &lookup, fault);
-    Ok(good && has_written(&wire, REGISTER_IF))
+    Ok(good && has_written(&wire, &[REGISTER_IF]))
 }
 
 #[test]
@@ -75,9 +60,9 @@ fn name_told(alloc: Global) -> Result<bool, Fail> {
     name.push(Text::from_slice(alloc, b"x")?)?;
     name.push(Text::from_slice(alloc, b"y")?)?;
     let register = make_ior(alloc, b"IDL:R:1.0", b"h", 9, b"A/R")?;
-    let mut wire = wire_of(alloc, REGISTER)?;
+    let mut wire = wire_of(alloc, &[REGISTER], &[])?;
     let good = asks_to_resolve(alloc, &mut wire, &register, &name);
-    Ok(good && has_written(&wire, RESOLVE))
+    Ok(good && has_written(&wire, &[RESOLVE]))
 }
 
 #[test]

@@ -1,7 +1,7 @@
 //! A caller as the peers of a visit: queries and evaluations, whose exceptions are faults; and a plain call.
 
 use crate::messages::*;
-use crate::queries::{Told, has_written, offers_told, printers, wire_of};
+use crate::queries::{Told, offers_told, printers};
 use std::alloc::Global;
 use std::test::Fail;
 use td_cdr::{Boxed, Text};
@@ -31,7 +31,7 @@ fn ask(alloc: Global, wire: &mut MemWire, target: &Ior, q: &Query) -> Told {
 fn told_over(alloc: Global, given: &[&[u8]], requests: &[&[u8]]) -> Result<(Told, bool), Fail> {
     let q = printers(alloc)?;
     let target = make_ior(alloc, b"IDL:L:1.0", b"h", 9, b"A/L")?;
-    let mut wire = wire_of(alloc, given)?;
+    let mut wire = wire_of(alloc, given, &[])?;
     let told = ask(alloc, &mut wire, &target, &q);
     Ok((told, has_written(&wire, requests)))
 }
@@ -89,7 +89,7 @@ fn evaluates(
 fn value_told(alloc: Global, given: &[u8], told: Result<i32, PeerFault>) -> Result<bool, Fail> {
     let name = Text::from_slice(alloc, b"Cost")?;
     let evaluator = make_ior(alloc, b"IDL:E:1.0", b"h", 9, b"E")?;
-    let mut wire = wire_of(alloc, &[given])?;
+    let mut wire = wire_of(alloc, &[given], &[])?;
     let good = evaluates(alloc, &mut wire, &evaluator, &name, told);
     Ok(good && has_written(&wire, &[EVAL_DP]))
 }
@@ -123,7 +123,7 @@ fn calls(alloc: Global, wire: &mut MemWire, target: &Ior) -> bool {
 
 fn gone_told(alloc: Global) -> Result<bool, Fail> {
     let target = make_ior(alloc, b"IDL:L:1.0", b"h", 9, b"A/L")?;
-    let mut wire = wire_of(alloc, &[GONE])?;
+    let mut wire = wire_of(alloc, &[GONE], &[])?;
     let good = calls(alloc, &mut wire, &target);
     Ok(good && has_written(&wire, &[NON_EXISTENT]))
 }

@@ -54,7 +54,7 @@ fn ask(alloc: Global, wire: &mut MemWire, target: &Ior) -> Told {
 /// What a call comes to over a wire that gives these bytes, some of whose calls fail.
 fn told_over(alloc: Global, given: &[u8], failing: &[u64]) -> Result<Told, Fail> {
     let target = make_ior(alloc, b"IDL:X:1.0", b"h", 9, b"A/L")?;
-    let mut wire = wire_of(alloc, given, failing)?;
+    let mut wire = wire_of(alloc, &[given], failing)?;
     Ok(ask(alloc, &mut wire, &target))
 }
 
@@ -88,7 +88,7 @@ fn a_reply_of_each_status_is_told(rt: HostRuntime) -> Result<(), Fail> {
             told: Told::Truth(false),
         },
         Row {
-            given: USER,
+            given: REFUSED,
             told: Told::User,
         },
         Row {
@@ -162,9 +162,9 @@ fn a_call_of_the_wire_that_fails_is_a_fault_of_the_wire(rt: HostRuntime) -> Resu
 
 /// Whether one Request was written to the target, and its reply told.
 fn writes_one_request(alloc: Global, target: &Ior) -> Result<bool, Fail> {
-    let mut wire = wire_of(alloc, GONE, &[])?;
+    let mut wire = wire_of(alloc, &[GONE], &[])?;
     let told = ask(alloc, &mut wire, target);
-    Ok(told == Told::Truth(true) && has_written(&wire, NON_EXISTENT))
+    Ok(told == Told::Truth(true) && has_written(&wire, &[NON_EXISTENT]))
 }
 
 #[test]
@@ -183,7 +183,7 @@ fn makes_no_connection(alloc: Global) -> Result<bool, Fail> {
         id: Text::new(alloc),
         profiles: List::new(alloc),
     };
-    let mut wire = wire_of(alloc, GONE, &[])?;
+    let mut wire = wire_of(alloc, &[GONE], &[])?;
     let told = ask(alloc, &mut wire, &nil);
     Ok(told == Told::Fault(PeerFault::Grammar) && wire.written(0).is_none())
 }

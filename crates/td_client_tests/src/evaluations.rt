@@ -47,9 +47,9 @@ fn evaluate(alloc: Global, wire: &mut MemWire, evaluator: &Ior, name: &Text) -> 
 fn told_over(alloc: Global, given: &[u8]) -> Result<(Told, bool), Fail> {
     let name = Text::from_slice(alloc, b"Cost")?;
     let evaluator = make_ior(alloc, b"IDL:E:1.0", b"h", 9, b"E")?;
-    let mut wire = wire_of(alloc, given, &[])?;
+    let mut wire = wire_of(alloc, &[given], &[])?;
     let told = evaluate(alloc, &mut wire, &evaluator, &name);
-    Ok((told, has_written(&wire, EVAL_DP)))
+    Ok((told, has_written(&wire, &[EVAL_DP])))
 }
 
 #[test]
@@ -58,7 +58,7 @@ fn what_an_evaluator_gives_is_told(rt: HostRuntime) -> Result<(), Fail> {
     let grammar = Told::Fault(PeerFault::Grammar);
     assert!(rt; told_over(alloc, VALUE)? == (Told::Long(42), true));
     assert!(rt; told_over(alloc, OTHER_TYPE)? == (grammar, true));
-    assert!(rt; told_over(alloc, USER)? == (Told::Exception, true));
+    assert!(rt; told_over(alloc, REFUSED)? == (Told::Exception, true));
     assert!(rt; told_over(alloc, NO_MEMORY)? == (Told::Exception, true));
     assert!(rt; told_over(alloc, FORWARD)? == (grammar, true));
     assert!(rt; told_over(alloc, GONE)? == (grammar, true));
