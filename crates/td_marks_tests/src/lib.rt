@@ -1,5 +1,0 @@
-//! Tests of td_marks.
-#![tactic(auto)]
-
-#[cfg(test)]
-mod ring;
