@@ -107,112 +107,119 @@ fn order_of(word: &str) -> Order {
     }
 }
 
-/// Reads a value that fills the bytes, and writes its copy.
-fn spelled<T: Spelled + Twin + Drop>(
-    rt: &impl Abort,
+/// Whether a value that fills the bytes is read, and its copy written as these bytes.
+fn is_spelled<T: Spelled + Twin + Drop>(
     alloc: Global,
     bytes: &[u8],
     order: Order,
-) -> Result<(), Fail> {
-    assert!(rt; bytes.len() < 1000);
+) -> Result<bool, ValueFault> {
+    if bytes.len() >= 1000 {
+        return Ok(false);
+    }
     let mut reader = Reader::new(bytes, 0, order);
     let value = Boxed::new(alloc, read_whole::<T>(alloc, &mut reader)?)?;
-    assert_eq!(rt; reader.place() as usize, bytes.len());
     let twin = Boxed::new(alloc, value.get().copy(alloc)?)?;
     let mut writer = Writer::new(alloc, order);
     write_whole(alloc, &mut writer, twin.get())?;
-    assert!(rt; writer.bytes() == bytes);
-    Ok(())
+    Ok(reader.place() as usize == bytes.len() && writer.bytes() == bytes)
 }
 
-/// Lines of an order and the bytes.
-fn each_spelled<T: Spelled + Twin + Drop>(
-    rt: &impl Abort,
-    alloc: Global,
-    lines: &str,
-) -> Result<(), Fail> {
-    for line in lines.lines() {
-        let (order, digits) = line.split_once(' ').ok_or("an order")?;
-        let bytes = hex::decode(alloc, digits.as_bytes())?;
-        spelled::<T>(rt, alloc, &bytes, order_of(order))?;
+/// An order and the bytes.
+fn is_line_spelled<T: Spelled + Twin + Drop>(alloc: Global, line: &str) -> bool {
+    let (order, digits) = line.split_once(' ').unwrap_or((line, ""));
+    match hex::decode(alloc, digits.as_bytes()) {
+        Ok(bytes) => is_spelled::<T>(alloc, bytes.as_slice(), order_of(order)) == Ok(true),
+        Err(_) => false,
     }
-    Ok(())
+}
+
+fn are_spelled<T: Spelled + Twin + Drop>(alloc: Global, lines: &str) -> bool {
+    for line in lines.lines() {
+        if !is_line_spelled::<T>(alloc, line) {
+            return false;
+        }
+    }
+    true
 }
 
 #[test]
 fn enumerations(rt: HostRuntime) -> Result<(), Fail> {
-    let alloc = rt.alloc();
-    each_spelled::<FollowOption>(&rt, alloc, FOLLOW_OPTION)?;
-    each_spelled::<HowManyProps>(&rt, alloc, HOW_MANY_PROPS)?;
-    each_spelled::<PropertyMode>(&rt, alloc, PROPERTY_MODE)?;
-    each_spelled::<ListOption>(&rt, alloc, LIST_OPTION)?;
+    assert!(rt; are_enumerations(rt.alloc()));
     Ok(())
+}
+
+fn are_enumerations(alloc: Global) -> bool {
+    are_spelled::<FollowOption>(alloc, FOLLOW_OPTION)
+        && are_spelled::<HowManyProps>(alloc, HOW_MANY_PROPS)
+        && are_spelled::<PropertyMode>(alloc, PROPERTY_MODE)
+        && are_spelled::<ListOption>(alloc, LIST_OPTION)
 }
 
 #[test]
 fn structures(rt: HostRuntime) -> Result<(), Fail> {
-    let alloc = rt.alloc();
-    each_spelled::<IncarnationNumber>(&rt, alloc, INCARNATION_NUMBER)?;
-    each_spelled::<Property>(&rt, alloc, PROPERTY)?;
-    each_spelled::<Policy>(&rt, alloc, POLICY)?;
-    each_spelled::<PropStruct>(&rt, alloc, PROP_STRUCT)?;
-    each_spelled::<Offer>(&rt, alloc, OFFER)?;
+    assert!(rt; are_structures(rt.alloc()));
     Ok(())
+}
+
+fn are_structures(alloc: Global) -> bool {
+    are_spelled::<IncarnationNumber>(alloc, INCARNATION_NUMBER)
+        && are_spelled::<Property>(alloc, PROPERTY)
+        && are_spelled::<Policy>(alloc, POLICY)
+        && are_spelled::<PropStruct>(alloc, PROP_STRUCT)
+        && are_spelled::<Offer>(alloc, OFFER)
 }
 
 #[test]
 fn more_structures(rt: HostRuntime) -> Result<(), Fail> {
-    let alloc = rt.alloc();
-    each_spelled::<OfferInfo>(&rt, alloc, OFFER_INFO)?;
-    each_spelled::<LinkInfo>(&rt, alloc, LINK_INFO)?;
-    each_spelled::<ProxyInfo>(&rt, alloc, PROXY_INFO)?;
-    each_spelled::<TypeStruct>(&rt, alloc, TYPE_STRUCT)?;
-    each_spelled::<DynamicProp>(&rt, alloc, DYNAMIC_PROP)?;
+    assert!(rt; are_more_structures(rt.alloc()));
     Ok(())
+}
+
+fn are_more_structures(alloc: Global) -> bool {
+    are_spelled::<OfferInfo>(alloc, OFFER_INFO)
+        && are_spelled::<LinkInfo>(alloc, LINK_INFO)
+        && are_spelled::<ProxyInfo>(alloc, PROXY_INFO)
+        && are_spelled::<TypeStruct>(alloc, TYPE_STRUCT)
+        && are_spelled::<DynamicProp>(alloc, DYNAMIC_PROP)
 }
 
 #[test]
 fn unions(rt: HostRuntime) -> Result<(), Fail> {
-    let alloc = rt.alloc();
-    each_spelled::<SpecifiedProps>(&rt, alloc, SPECIFIED_PROPS)?;
-    each_spelled::<SpecifiedServiceTypes>(&rt, alloc, SPECIFIED_SERVICE_TYPES)?;
+    assert!(rt; are_unions(rt.alloc()));
     Ok(())
 }
 
-/// Why nothing is read, and the place where the reader is then.
-fn fault_of<T: Spelled + Drop>(alloc: Global, bytes: &[u8]) -> (Option<ValueFault>, u32) {
+fn are_unions(alloc: Global) -> bool {
+    are_spelled::<SpecifiedProps>(alloc, SPECIFIED_PROPS)
+        && are_spelled::<SpecifiedServiceTypes>(alloc, SPECIFIED_SERVICE_TYPES)
+}
+
+/// Whether the bytes are refused by this fault, and the reader is then unchanged.
+fn is_refused<T: Spelled + Drop>(alloc: Global, bytes: &[u8], want: ValueFault) -> bool {
     if bytes.len() >= 1000 {
-        return (None, 0);
+        return false;
     }
     let mut reader = Reader::new(bytes, 0, Order::Big);
     let found = read_whole::<T>(alloc, &mut reader).err();
-    (found, reader.place())
-}
-
-/// The bytes are refused, by a reader that is then unchanged.
-fn refused<T: Spelled + Drop>(
-    rt: &impl Abort,
-    alloc: Global,
-    bytes: &[u8],
-    want: ValueFault,
-) -> Result<(), Fail> {
-    let (found, place) = fault_of::<T>(alloc, bytes);
-    assert!(rt; found == Some(want));
-    assert_eq!(rt; place, 0);
-    Ok(())
+    found == Some(want) && reader.place() == 0
 }
 
 #[test]
 fn faults(rt: HostRuntime) -> Result<(), Fail> {
-    let alloc = rt.alloc();
-    refused::<FollowOption>(&rt, alloc, &[0, 0, 0, 3], ValueFault::BadValue(0))?;
-    refused::<HowManyProps>(&rt, alloc, &[0, 0, 0, 3], ValueFault::BadValue(0))?;
-    refused::<PropertyMode>(&rt, alloc, &[0, 0, 0, 4], ValueFault::BadValue(0))?;
-    refused::<ListOption>(&rt, alloc, &[0, 0, 0, 2], ValueFault::BadValue(0))?;
-    refused::<SpecifiedProps>(&rt, alloc, &[0, 0, 0, 7], ValueFault::BadValue(0))?;
+    assert!(rt; are_refused(rt.alloc()));
+    Ok(())
+}
+
+fn are_refused(alloc: Global) -> bool {
+    let unknown = ValueFault::BadValue(0);
     let short = ValueFault::Cdr(CdrFault::Short(4));
-    refused::<IncarnationNumber>(&rt, alloc, &[0, 0, 0, 1, 0, 0], short)?;
-    refused::<SpecifiedServiceTypes>(&rt, alloc, &[0, 0, 0, 1, 0, 0, 0], short)
+    is_refused::<FollowOption>(alloc, b"\0\0\0\x03", unknown)
+        && is_refused::<HowManyProps>(alloc, b"\0\0\0\x03", unknown)
+        && is_refused::<PropertyMode>(alloc, b"\0\0\0\x04", unknown)
+        && is_refused::<ListOption>(alloc, b"\0\0\0\x02", unknown)
+        && is_refused::<SpecifiedProps>(alloc, b"\0\0\0\x07", unknown)
+        && is_refused::<IncarnationNumber>(alloc, b"\0\0\0\x01\0\0", short)
+        && is_refused::<SpecifiedServiceTypes>(alloc, b"\0\0\0\x01\0\0\0", short)
 }
 
 /// A reference with neither a type nor a profile.

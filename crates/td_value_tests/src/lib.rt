@@ -1,5 +1,0 @@
-//! Tests of the trading service's enumerations, structures and unions.
-#![tactic(auto)]
-
-#[cfg(test)]
-mod tests;
