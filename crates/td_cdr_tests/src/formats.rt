@@ -34,8 +34,15 @@ fn read_behind<T: Spelled + Drop>(
     (value, reader.place())
 }
 
-/// Whether the value is written as these bytes, and read from them as one that is written so again.
-fn is_spelled<T: Spelled + Drop>(
+/// Whether the value is written as the bytes of these digits, and read from them as one that is written so again.
+fn is_spelled<T: Spelled + Drop>(alloc: Global, order: Order, value: &T, digits: &str) -> bool {
+    match hex::decode(alloc, digits.as_bytes()) {
+        Ok(want) => is_spelled_by(alloc, order, value, want.as_slice()) == Ok(true),
+        Err(_) => false,
+    }
+}
+
+fn is_spelled_by<T: Spelled + Drop>(
     alloc: Global,
     order: Order,
     value: &T,
@@ -50,56 +57,53 @@ fn is_spelled<T: Spelled + Drop>(
     Ok(end as usize == want.len() && again.bytes() == want)
 }
 
-/// Why no value of the type is read, and where the reader then stands.
-fn refusal<T: Spelled + Drop>(alloc: Global, bytes: &[u8]) -> (Option<ValueFault>, u32) {
-    let (read, end) = read_behind::<T>(alloc, bytes, BIG);
-    (read.err(), end)
+/// Whether the bytes of these digits are refused by this fault, and where the reader then stands.
+fn is_refused<T: Spelled + Drop>(alloc: Global, digits: &str, want: CdrFault) -> bool {
+    match hex::decode(alloc, digits.as_bytes()) {
+        Ok(bytes) => {
+            let (read, end) = read_behind::<T>(alloc, bytes.as_slice(), BIG);
+            read.err() == Some(ValueFault::Cdr(want)) && end == 1
+        }
+        Err(_) => false,
+    }
 }
 
 #[test]
 fn numbers(rt: HostRuntime) {
     let alloc = rt.alloc();
-    assert_eq!(rt; is_spelled(alloc, BIG, &258_u16, &[9, 0, 1, 2]), Ok(true));
-    assert_eq!(rt;
-        is_spelled(alloc, LITTLE, &258_u32, &[9, 0, 0, 0, 2, 1, 0, 0]),
-        Ok(true)
-    );
-    assert_eq!(rt;
-        is_spelled(alloc, BIG, &-2_i16, &[9, 0, 255, 254]),
-        Ok(true)
-    );
-    assert_eq!(rt;
-        is_spelled(alloc, LITTLE, &-2_i32, &[9, 0, 0, 0, 254, 255, 255, 255]),
-        Ok(true)
-    );
-    assert_eq!(rt; is_spelled(alloc, BIG, &true, &[9, 1]), Ok(true));
+    assert!(rt; are_numbers(alloc));
+}
+
+fn are_numbers(alloc: Global) -> bool {
+    is_spelled(alloc, BIG, &258_u16, "09000102")
+        && is_spelled(alloc, LITTLE, &258_u32, "0900000002010000")
+        && is_spelled(alloc, BIG, &-2_i16, "0900fffe")
+        && is_spelled(alloc, LITTLE, &-2_i32, "09000000feffffff")
+        && is_spelled(alloc, BIG, &true, "0901")
 }
 
 #[test]
 fn long_numbers(rt: HostRuntime) {
     let alloc = rt.alloc();
-    let unsigned = [9, 0, 0, 0, 0, 0, 0, 0, 1, 2, 3, 4, 5, 6, 7, 8];
-    assert_eq!(rt;
-        is_spelled(alloc, BIG, &72_623_859_790_382_856_u64, &unsigned),
-        Ok(true)
-    );
-    let signed = [9, 0, 0, 0, 0, 0, 0, 0, 0, 0, 0, 0, 0, 0, 0, 128];
-    assert_eq!(rt; is_spelled(alloc, LITTLE, &i64::MIN, &signed), Ok(true));
+    assert!(rt; are_long_numbers(alloc));
+}
+
+fn are_long_numbers(alloc: Global) -> bool {
+    is_spelled(
+        alloc,
+        BIG,
+        &72_623_859_790_382_856_u64,
+        "09000000000000000102030405060708",
+    ) && is_spelled(alloc, LITTLE, &i64::MIN, "09000000000000000000000000000080")
 }
 
 #[test]
 fn texts_and_octets(rt: HostRuntime) -> Result<(), Fail> {
     let alloc = rt.alloc();
     let text = Text::from_slice(alloc, b"hi")?;
-    assert_eq!(rt;
-        is_spelled(alloc, BIG, &text, &[9, 0, 0, 0, 0, 0, 0, 3, b'h', b'i', 0]),
-        Ok(true)
-    );
+    assert!(rt; is_spelled(alloc, BIG, &text, "0900000000000003686900"));
     let octets = Octets::from_slice(alloc, &[7, 0])?;
-    assert_eq!(rt;
-        is_spelled(alloc, LITTLE, &octets, &[9, 0, 0, 0, 2, 0, 0, 0, 7, 0]),
-        Ok(true)
-    );
+    assert!(rt; is_spelled(alloc, LITTLE, &octets, "09000000020000000700"));
     Ok(())
 }
 
@@ -107,48 +111,24 @@ fn texts_and_octets(rt: HostRuntime) -> Result<(), Fail> {
 fn lists_and_pairs(rt: HostRuntime) -> Result<(), Fail> {
     let alloc = rt.alloc();
     let numbers = List::from_slice(alloc, &[5_u16, 6, 7])?;
-    assert_eq!(rt;
-        is_spelled(
-            alloc,
-            BIG,
-            &numbers,
-            &[9, 0, 0, 0, 0, 0, 0, 3, 0, 5, 0, 6, 0, 7]
-        ),
-        Ok(true)
-    );
+    assert!(rt; is_spelled(alloc, BIG, &numbers, "0900000000000003000500060007"));
     let pair = (true, 1_u32);
-    assert_eq!(rt;
-        is_spelled(alloc, BIG, &pair, &[9, 1, 0, 0, 0, 0, 0, 1]),
-        Ok(true)
-    );
+    assert!(rt; is_spelled(alloc, BIG, &pair, "0901000000000001"));
     Ok(())
 }
 
 #[test]
 fn refusals(rt: HostRuntime) {
     let alloc = rt.alloc();
-    let beyond = Some(ValueFault::Cdr(CdrFault::BadBoolean(1)));
-    assert_eq!(rt; refusal::<bool>(alloc, &[9, 2]), (beyond, 1));
-    let second = Some(ValueFault::Cdr(CdrFault::BadBoolean(9)));
-    assert_eq!(rt;
-        refusal::<List<bool>>(alloc, &[9, 0, 0, 0, 0, 0, 0, 3, 1, 2, 3]),
-        (second, 1)
-    );
-    let count = Some(ValueFault::Cdr(CdrFault::Short(4)));
-    assert_eq!(rt;
-        refusal::<List<bool>>(alloc, &[9, 0, 0, 0, 0, 0]),
-        (count, 1)
-    );
-    let third = Some(ValueFault::Cdr(CdrFault::Short(12)));
-    assert_eq!(rt;
-        refusal::<List<u16>>(alloc, &[9, 0, 0, 0, 0, 0, 0, 3, 0, 1, 0, 2, 0]),
-        (third, 1)
-    );
-    let after = Some(ValueFault::Cdr(CdrFault::TooLong(4)));
-    assert_eq!(rt;
-        refusal::<(bool, Text)>(alloc, &[9, 1, 0, 0, 0, 0, 0, 2, b'a']),
-        (after, 1)
-    );
+    assert!(rt; are_refused(alloc));
+}
+
+fn are_refused(alloc: Global) -> bool {
+    is_refused::<bool>(alloc, "0902", CdrFault::BadBoolean(1))
+        && is_refused::<List<bool>>(alloc, "0900000000000003010203", CdrFault::BadBoolean(9))
+        && is_refused::<List<bool>>(alloc, "090000000000", CdrFault::Short(4))
+        && is_refused::<List<u16>>(alloc, "09000000000000030001000200", CdrFault::Short(12))
+        && is_refused::<(bool, Text)>(alloc, "090100000000000261", CdrFault::TooLong(4))
 }
 
 #[test]

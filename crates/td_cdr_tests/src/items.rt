@@ -2,7 +2,7 @@
 
 ghost use Rattle.std.specs.Prelude.{◌≤◌, ◌<◌, ◌^◌, length};
 
-use std::process::Abort;
+use std::alloc::Global;
 use std::test::Fail;
 use td_cdr::{
     Boxed, CdrFault, List, Octets, Order, Reader, Text, Twin, Writer, is_identifier,
@@ -13,190 +13,161 @@ const BIG: Order = Order::Big;
 
 const LITTLE: Order = Order::Little;
 
-#[derive(Clone, Copy)]
-enum Kind {
-    Octet,
-    Boolean,
-    UShort,
-    Short,
-    ULong,
-    Long,
-    ULongLong,
-    LongLong,
+/// A kind of number, the order, the place of a message from which it is read, and the message; and what is read, with
+/// where the reader then stands.
+const NUMBERS: &str = "octet big 0 2a => 42 1
+ushort big 1 09070102 => 258 4
+ushort little 1 09070102 => 513 4
+short big 0 fffe => -2 2
+ulong little 3 000000aa04030201 => 16909060 8
+long big 1 0001020380000000 => -2147483648 8
+ulonglong big 5 00000000000909090102030405060708 => 72623859790382856 16
+longlong little 1 0000000000000000ffffffffffffffff => -1 16
+boolean big 1 0001 => 1 2
+boolean big 0 0001 => 0 1
+boolean big 1 0002 => BadBoolean:1 1
+boolean big 2 0002 => Short:2 2
+ulonglong big 1 000000000000000001020304050607 => Short:8 1
+ulong little 2 000000 => Short:4 2";
+
+fn order_of(word: &str) -> Order {
+    match word {
+        "big" => BIG,
+        _ => LITTLE,
+    }
 }
 
-fn number_of(reader: &mut Reader, kind: Kind) -> Result<i128, CdrFault> {
+fn number_of(reader: &mut Reader, kind: &str) -> Result<i128, CdrFault> {
     match kind {
-        Kind::Octet => Ok(i128::from(reader.octet()?)),
-        Kind::Boolean => Ok(i128::from(reader.boolean()?)),
-        Kind::UShort => Ok(i128::from(reader.u16()?)),
-        Kind::Short => Ok(i128::from(reader.i16()?)),
-        Kind::ULong => Ok(i128::from(reader.u32()?)),
-        Kind::Long => Ok(i128::from(reader.i32()?)),
-        Kind::ULongLong => Ok(i128::from(reader.u64()?)),
-        Kind::LongLong => Ok(i128::from(reader.i64()?)),
+        "octet" => Ok(i128::from(reader.octet()?)),
+        "boolean" => Ok(i128::from(reader.boolean()?)),
+        "ushort" => Ok(i128::from(reader.u16()?)),
+        "short" => Ok(i128::from(reader.i16()?)),
+        "ulong" => Ok(i128::from(reader.u32()?)),
+        "long" => Ok(i128::from(reader.i32()?)),
+        "ulonglong" => Ok(i128::from(reader.u64()?)),
+        _ => Ok(i128::from(reader.i64()?)),
     }
 }
 
-/// Reads a number from a place of a message, and looks at where the reader then stands.
-fn number(
-    rt: &impl Abort,
-    bytes: &[u8],
-    place: u32,
-    order: Order,
-    kind: Kind,
-    want: Result<i128, CdrFault>,
-    end: u32,
-) {
-    assert!(rt; place as usize <= bytes.len() && bytes.len() < 100);
+/// The number that a word of decimal digits names.
+fn named(word: &str) -> u32 {
+    word.parse::<u32>().unwrap_or(0)
+}
+
+/// The fault of a word `NAME:PLACE`.
+fn fault_of(word: &str) -> Option<CdrFault> {
+    let (name, place) = word.split_once(':')?;
+    let place = named(place);
+    match name {
+        "Short" => Some(CdrFault::Short(place)),
+        "TooLong" => Some(CdrFault::TooLong(place)),
+        "BadString" => Some(CdrFault::BadString(place)),
+        _ => Some(CdrFault::BadBoolean(place)),
+    }
+}
+
+/// The number or the fault of a word.
+fn wanted(word: &str) -> Result<i128, CdrFault> {
+    match fault_of(word) {
+        Some(fault) => Err(fault),
+        None => Ok(i128::from(word.parse::<i64>().unwrap_or(0))),
+    }
+}
+
+/// Whether this number is read from this place on, and where the reader then stands.
+fn is_number(bytes: &[u8], place: u32, order: Order, kind: &str, told: &str) -> bool {
+    if place as usize > bytes.len() || bytes.len() >= 100 {
+        return false;
+    }
+    let (word, end) = told.split_once(' ').unwrap_or((told, ""));
     let mut reader = Reader::new(bytes, place, order);
-    assert_eq!(rt; number_of(&mut reader, kind), want);
-    assert_eq!(rt; reader.place(), end);
+    number_of(&mut reader, kind) == wanted(word) && reader.place() == named(end)
+}
+
+fn is_number_so(alloc: Global, line: &str) -> Result<bool, Fail> {
+    let (asked, told) = line.split_once(" => ").ok_or("a number")?;
+    let (kind, rest) = asked.split_once(' ').ok_or("an order")?;
+    let (order, rest) = rest.split_once(' ').ok_or("a place")?;
+    let (place, digits) = rest.split_once(' ').ok_or("bytes")?;
+    let bytes = hex::decode(alloc, digits.as_bytes())?;
+    Ok(is_number(bytes.as_slice(), named(place), order_of(order), kind, told))
 }
 
 #[test]
-fn numbers(rt: HostRuntime) {
-    number(&rt, &[42], 0, BIG, Kind::Octet, Ok(42), 1);
-    number(&rt, &[9, 7, 1, 2], 1, BIG, Kind::UShort, Ok(258), 4);
-    number(&rt, &[9, 7, 1, 2], 1, LITTLE, Kind::UShort, Ok(513), 4);
-    number(&rt, &[255, 254], 0, BIG, Kind::Short, Ok(-2), 2);
-    number(
-        &rt,
-        &[0, 0, 0, 170, 4, 3, 2, 1],
-        3,
-        LITTLE,
-        Kind::ULong,
-        Ok(16_909_060),
-        8,
-    );
-    number(
-        &rt,
-        &[0, 1, 2, 3, 128, 0, 0, 0],
-        1,
-        BIG,
-        Kind::Long,
-        Ok(-2_147_483_648),
-        8,
-    );
-    number(
-        &rt,
-        &[0, 0, 0, 0, 0, 9, 9, 9, 1, 2, 3, 4, 5, 6, 7, 8],
-        5,
-        BIG,
-        Kind::ULongLong,
-        Ok(72_623_859_790_382_856),
-        16,
-    );
-    number(
-        &rt,
-        &[
-            0, 0, 0, 0, 0, 0, 0, 0, 255, 255, 255, 255, 255, 255, 255, 255,
-        ],
-        1,
-        LITTLE,
-        Kind::LongLong,
-        Ok(-1),
-        16,
-    );
-    number(&rt, &[0, 1], 1, BIG, Kind::Boolean, Ok(1), 2);
-    number(&rt, &[0, 1], 0, BIG, Kind::Boolean, Ok(0), 1);
-    number(
-        &rt,
-        &[0, 2],
-        1,
-        BIG,
-        Kind::Boolean,
-        Err(CdrFault::BadBoolean(1)),
-        1,
-    );
-    number(
-        &rt,
-        &[0, 2],
-        2,
-        BIG,
-        Kind::Boolean,
-        Err(CdrFault::Short(2)),
-        2,
-    );
-    number(
-        &rt,
-        &[0, 0, 0, 0, 0, 0, 0, 0, 1, 2, 3, 4, 5, 6, 7],
-        1,
-        BIG,
-        Kind::ULongLong,
-        Err(CdrFault::Short(8)),
-        1,
-    );
-    number(
-        &rt,
-        &[0, 0, 0],
-        2,
-        LITTLE,
-        Kind::ULong,
-        Err(CdrFault::Short(4)),
-        2,
-    );
+fn numbers(rt: HostRuntime) -> Result<(), Fail> {
+    let alloc = rt.alloc();
+    for line in NUMBERS.lines() {
+        assert!(rt; is_number_so(alloc, line)?, "{line}");
+    }
+    Ok(())
 }
 
-/// Reads a string, or with `text` false a sequence of octets, of a big-endian message.
-fn bytes_of(rt: &impl Abort, bytes: &[u8], place: u32, text: bool, want: Result<&[u8], CdrFault>) {
-    assert!(rt; place as usize <= bytes.len() && bytes.len() < 100);
+/// Strings and sequences of octets of a message in big order: the place and the message, and what is read.
+const BYTES: &str = "string 0 0000000368690009 => 6869
+string 1 07090909000000026100 => 61
+string 0 0000000100 =>
+string 0 00000000 =>
+string 0 000000026869 => BadString:0
+string 1 0709090900000003680000 => BadString:4
+string 0 000000096869 => TooLong:0
+string 0 000000 => Short:0
+octets 0 000000020008 => 0008
+octets 0 00000000 =>
+octets 2 07070707000000030102 => TooLong:4";
+
+/// Whether these bytes are read, or a fault, which leaves the reader where it is.
+fn are_bytes(bytes: &[u8], place: u32, kind: &str, want: &[u8], fault: Option<CdrFault>) -> bool {
+    if place as usize > bytes.len() || bytes.len() >= 100 {
+        return false;
+    }
     let mut reader = Reader::new(bytes, place, BIG);
-    let found = if text {
-        reader.string()
-    } else {
-        reader.octets()
+    let found = match kind {
+        "string" => reader.string(),
+        _ => reader.octets(),
     };
-    match (found, want) {
-        (Ok(found), Ok(want)) => assert!(rt; found == want),
-        (Err(found), Err(want)) => {
-            assert_eq!(rt; found, want);
-            assert_eq!(rt; reader.place(), place);
-        }
-        _ => assert!(rt; false),
+    match found {
+        Ok(found) => fault.is_none() && found == want,
+        Err(found) => fault == Some(found) && reader.place() == place,
     }
 }
 
-#[test]
-fn strings_and_octets(rt: HostRuntime) {
-    bytes_of(&rt, &[0, 0, 0, 3, b'h', b'i', 0, 9], 0, true, Ok(b"hi"));
-    bytes_of(&rt, &[7, 9, 9, 9, 0, 0, 0, 2, b'a', 0], 1, true, Ok(b"a"));
-    bytes_of(&rt, &[0, 0, 0, 1, 0], 0, true, Ok(b""));
-    bytes_of(&rt, &[0, 0, 0, 0], 0, true, Ok(b""));
-    bytes_of(
-        &rt,
-        &[0, 0, 0, 2, b'h', b'i'],
-        0,
-        true,
-        Err(CdrFault::BadString(0)),
-    );
-    bytes_of(
-        &rt,
-        &[7, 9, 9, 9, 0, 0, 0, 3, b'h', 0, 0],
-        1,
-        true,
-        Err(CdrFault::BadString(4)),
-    );
-    bytes_of(
-        &rt,
-        &[0, 0, 0, 9, b'h', b'i'],
-        0,
-        true,
-        Err(CdrFault::TooLong(0)),
-    );
-    bytes_of(&rt, &[0, 0, 0], 0, true, Err(CdrFault::Short(0)));
-    bytes_of(&rt, &[0, 0, 0, 2, 0, 8], 0, false, Ok(&[0, 8]));
-    bytes_of(&rt, &[0, 0, 0, 0], 0, false, Ok(&[]));
-    bytes_of(
-        &rt,
-        &[7, 7, 7, 7, 0, 0, 0, 3, 1, 2],
-        2,
-        false,
-        Err(CdrFault::TooLong(4)),
-    );
+fn are_bytes_so(alloc: Global, line: &str) -> Result<bool, Fail> {
+    let (asked, told) = line.split_once(" =>").ok_or("bytes")?;
+    let (kind, rest) = asked.split_once(' ').ok_or("a place")?;
+    let (place, digits) = rest.split_once(' ').ok_or("a message")?;
+    let bytes = hex::decode(alloc, digits.as_bytes())?;
+    let told = told.trim();
+    let fault = fault_of(told);
+    let want = hex::decode(
+        alloc,
+        if fault.is_some() {
+            b""
+        } else {
+            told.as_bytes()
+        },
+    )?;
+    Ok(are_bytes(bytes.as_slice(), named(place), kind, want.as_slice(), fault))
 }
 
-/// Reads an encapsulation of a big-endian message and an unsigned long long inside it.
+#[test]
+fn strings_and_octets(rt: HostRuntime) -> Result<(), Fail> {
+    let alloc = rt.alloc();
+    for line in BYTES.lines() {
+        assert!(rt; are_bytes_so(alloc, line)?, "{line}");
+    }
+    Ok(())
+}
+
+/// Encapsulations of a message in big order: the place and the message; and an unsigned long long inside, with where the
+/// reader inside and the one outside then stand.
+const INSIDE: &str = "0 000000100109090909090909050000000000000007 => 5 20 20
+0 00000012000909090909090900000000000000060707 => 6 20 22
+2 0303030300000000 => Short:4
+2 03030303000000020200 => BadBoolean:8
+2 030303030000000201 => TooLong:4
+2 03030303000000020101 => Short:16";
+
 fn inside(bytes: &[u8], place: u32) -> Result<(u64, u32, u32), CdrFault>
     requires within { place ≤ length bytes.now }
     requires short { length bytes.now < 2 ^ 32 }
@@ -207,32 +178,37 @@ fn inside(bytes: &[u8], place: u32) -> Result<(u64, u32, u32), CdrFault>
     Ok((value, inner.place(), reader.place()))
 }
 
+/// Whether this is read inside, or a fault.
+fn is_inside(bytes: &[u8], place: u32, told: &str) -> bool {
+    if place as usize > bytes.len() || bytes.len() >= 100 {
+        return false;
+    }
+    match inside(bytes, place) {
+        Ok((value, inner, outer)) => are_places(value, inner, outer, told),
+        Err(fault) => fault_of(told) == Some(fault),
+    }
+}
+
+fn are_places(value: u64, inner: u32, outer: u32, told: &str) -> bool {
+    let (number, places) = told.split_once(' ').unwrap_or((told, ""));
+    let (first, second) = places.split_once(' ').unwrap_or((places, ""));
+    number.parse::<u64>() == Ok(value) && named(first) == inner && named(second) == outer
+}
+
+fn is_inside_so(alloc: Global, line: &str) -> Result<bool, Fail> {
+    let (asked, told) = line.split_once(" => ").ok_or("a number")?;
+    let (place, digits) = asked.split_once(' ').ok_or("a message")?;
+    let bytes = hex::decode(alloc, digits.as_bytes())?;
+    Ok(is_inside(bytes.as_slice(), named(place), told))
+}
+
 #[test]
-fn encapsulations(rt: HostRuntime) {
-    let little = [
-        0, 0, 0, 16, 1, 9, 9, 9, 9, 9, 9, 9, 5, 0, 0, 0, 0, 0, 0, 0, 7,
-    ];
-    assert_eq!(rt; inside(&little, 0), Ok((5, 20, 20)));
-    let ignored = [
-        0, 0, 0, 18, 0, 9, 9, 9, 9, 9, 9, 9, 0, 0, 0, 0, 0, 0, 0, 6, 7, 7,
-    ];
-    assert_eq!(rt; inside(&ignored, 0), Ok((6, 20, 22)));
-    assert_eq!(rt;
-        inside(&[3, 3, 3, 3, 0, 0, 0, 0], 2),
-        Err(CdrFault::Short(4))
-    );
-    assert_eq!(rt;
-        inside(&[3, 3, 3, 3, 0, 0, 0, 2, 2, 0], 2),
-        Err(CdrFault::BadBoolean(8))
-    );
-    assert_eq!(rt;
-        inside(&[3, 3, 3, 3, 0, 0, 0, 2, 1], 2),
-        Err(CdrFault::TooLong(4))
-    );
-    assert_eq!(rt;
-        inside(&[3, 3, 3, 3, 0, 0, 0, 2, 1, 1], 2),
-        Err(CdrFault::Short(16))
-    );
+fn encapsulations(rt: HostRuntime) -> Result<(), Fail> {
+    let alloc = rt.alloc();
+    for line in INSIDE.lines() {
+        assert!(rt; is_inside_so(alloc, line)?, "{line}");
+    }
+    Ok(())
 }
 
 #[test]
@@ -297,27 +273,66 @@ fn written_inside(rt: HostRuntime) -> Result<(), Fail> {
     Ok(())
 }
 
-#[test]
-fn names(rt: HostRuntime) {
-    for (name, word, identifier, trader) in [
-        (b"".as_slice(), false, false, false),
-        (b"a".as_slice(), true, true, true),
-        (b"Cpu_9".as_slice(), true, true, true),
-        (b"9pins".as_slice(), true, false, true),
-        (b"_x".as_slice(), true, false, true),
-        (b"a-b".as_slice(), true, false, true),
-        (b"::a/b~!".as_slice(), true, false, false),
-        (b"a b".as_slice(), false, false, false),
-        (b"\x7f".as_slice(), false, false, false),
-        ([b'a'; 32].as_slice(), true, true, true),
-        ([b'a'; 33].as_slice(), true, true, false),
-        ([b'a'; 256].as_slice(), true, true, false),
-        ([b'a'; 257].as_slice(), false, false, false),
-    ] {
-        assert_eq!(rt; is_word_name(name), word);
-        assert_eq!(rt; is_identifier(name), identifier);
-        assert_eq!(rt; is_trader_name(name), trader);
+/// Names as `TEXT*COUNT` or once, `-` for none, with `+` for a blank and `?` for the octet 127; and whether they are
+/// words, identifiers and names of traders.
+const NAMES: &str = "- no no no
+a yes yes yes
+Cpu_9 yes yes yes
+9pins yes no yes
+_x yes no yes
+a-b yes no yes
+::a/b~! yes no no
+a+b no no no
+? no no no
+a*32 yes yes yes
+a*33 yes yes no
+a*256 yes yes no
+a*257 no no no";
+
+/// The octets of a name.
+fn name_of(alloc: Global, word: &str) -> Result<Vec<u8>, Fail> {
+    let mut name = Vec::new(alloc);
+    let (text, count) = word.split_once('*').unwrap_or((word, "1"));
+    for _ in 0..named(count) {
+        for octet in text.as_bytes() {
+            name.push(octet_of(*octet))?;
+        }
     }
+    Ok(name)
+}
+
+fn octet_of(letter: u8) -> u8 {
+    match letter {
+        b'+' => b' ',
+        b'?' => 127,
+        _ => letter,
+    }
+}
+
+fn is_named(name: &[u8], told: &str) -> bool {
+    let (word, rest) = told.split_once(' ').unwrap_or((told, ""));
+    let (identifier, trader) = rest.split_once(' ').unwrap_or((rest, ""));
+    is_word_name(name) == (word == "yes")
+        && is_identifier(name) == (identifier == "yes")
+        && is_trader_name(name) == (trader == "yes")
+}
+
+fn is_named_so(alloc: Global, line: &str) -> Result<bool, Fail> {
+    let (word, told) = line.split_once(' ').ok_or("a name")?;
+    if word == "-" {
+        return Ok(is_named(b"", told));
+    }
+    let name = name_of(alloc, word)?;
+    Ok(is_named(name.as_slice(), told))
+}
+
+#[test]
+fn names(rt: HostRuntime) -> Result<(), Fail> {
+    let alloc = rt.alloc();
+    for line in NAMES.lines() {
+        assert!(rt; is_named_so(alloc, line)?, "{line}");
+    }
+    Ok(())
 }
 
 #[test]
