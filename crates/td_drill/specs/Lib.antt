@@ -1,0 +1,4 @@
+pub mod Drills
+pub mod Examples
+pub mod Lines
+pub mod Tallies
