@@ -1,3 +1,5 @@
+pub mod Obey
+pub mod Said
 pub mod Serving
 pub mod Telling
 pub mod Whole

@@ -13,7 +13,8 @@ use Rattle.td_trader.specs.Solos.{nothing, solo_view, unchanged}
 use Rattle.td_trader.specs.Worlds.{View}
 use Rattle.td_walk.specs.declared.trace.Address.{Address}
 use Rattle.td_command.specs.declared.ended.Ended.{Ended}
-use Rattle.td_command.specs.declared.ended.Ended.TheVariants.{Usage, Missing, TooLong, Refused, Memory, Served}
+use Rattle.td_command.specs.declared.ended.Ended.TheVariants.{Usage, Missing, TooLong, Refused, Memory, Printed}
+use Rattle.td_command.specs.declared.ended.Ended.TheVariants.{PrintFault, Served}
 use Rattle.td_command.specs.Runs.{Seeded, ServesOpened, ServesOpening, ServesText, beginning, seeding_of}
 
 pub text-serves : (text : List ℕ) (o : Opening) (seeded : Seeded) (ended : Ended) (before after : Outside)
@@ -24,6 +25,8 @@ text-serves text o seeded Usage before after e h = absurd h
 text-serves text o seeded Missing before after e h = absurd h
 text-serves text o seeded TooLong before after e h = absurd h
 text-serves text o seeded (Refused number cause) before after e h = absurd h
+text-serves text o seeded Printed before after e h = absurd h
+text-serves text o seeded PrintFault before after e h = absurd h
 
 same-scene : (w : List View) (d0 d1 : Live) (p0 p1 : PeersSeen) (f0 f1 : ℕ → ℕ) → d0 ≡ d1 → p0 ≡ p1
     → ((k : ℕ) → f0 k ≡ f1 k) → scene w d0 p0 f0 ≡ scene w d1 p1 f1

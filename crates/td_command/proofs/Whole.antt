@@ -12,8 +12,9 @@ use Rattle.td_session.specs.Outside.{Outside}
 use Rattle.td_trader.specs.Solos.{nothing, unchanged}
 use Rattle.td_session.proofs.Complete.{complete}
 use Rattle.td_command.specs.declared.ended.Ended.{Ended}
-use Rattle.td_command.specs.declared.ended.Ended.TheVariants.{Usage, Missing, TooLong, Refused, Memory, Served}
-use Rattle.td_command.specs.Commands.{file_named}
+use Rattle.td_command.specs.declared.ended.Ended.TheVariants.{Usage, Missing, TooLong, Refused, Memory, Printed}
+use Rattle.td_command.specs.declared.ended.Ended.TheVariants.{PrintFault, Served}
+use Rattle.td_command.specs.Commands.{Pipe, command_of}
 use Rattle.td_command.specs.Completeness.{NamesOpening, NothingFailed, IsAnswered, Completes}
 use Rattle.td_command.specs.Runs.{Seeded, Shelves, ServesOpening, ServesText, ServesFile, Obeys, beginning}
 use Rattle.td_command.specs.Status.{status_of, end_status}
@@ -72,6 +73,8 @@ text_answered o seeded text Memory before after stream messages accepted h input
 text_answered o seeded text Usage before after stream messages accepted h input servable unhurt = absurd h
 text_answered o seeded text Missing before after stream messages accepted h input servable unhurt = absurd h
 text_answered o seeded text TooLong before after stream messages accepted h input servable unhurt = absurd h
+text_answered o seeded text Printed before after stream messages accepted h input servable unhurt = absurd h
+text_answered o seeded text PrintFault before after stream messages accepted h input servable unhurt = absurd h
 
 of_text : (o : Opening) (seeded : Seeded) (text other : List ℕ) (ended : Ended) (before after : Outside)
     (stream : List ℕ) (messages : List (List ℕ))
@@ -98,13 +101,15 @@ file_answered words texts seeded o n TooLong before after stream messages h inpu
     absurd (short_text words texts o n h.0)
 file_answered words texts seeded o n Memory before after stream messages h input servable unhurt = inr refl
 file_answered words texts seeded o n Usage before after stream messages h input servable unhurt = absurd h
+file_answered words texts seeded o n Printed before after stream messages h input servable unhurt = absurd h
+file_answered words texts seeded o n PrintFault before after stream messages h input servable unhurt = absurd h
 
 pub answered : (words : List (List ℕ)) (texts : Shelves) (seeded : Seeded) (ended : Ended) (before after : Outside)
     (status : ℕ)
-    → status ≡ status_of ended → Obeys (file_named words) texts seeded ended before after
+    → status ≡ status_of ended → Obeys (command_of words) texts seeded ended before after
     → Completes words texts seeded before after status
 answered words texts seeded ended before after status e obeys o stream messages n input servable unhurt =
-    let h : Obeys (Some n.name) texts seeded ended before after =
+    let h : Obeys (Some (Pipe n.name)) texts seeded ended before after =
     subst (λ f. Obeys f texts seeded ended before after) n.command obeys in
     subst (λ (k : ℕ). IsAnswered o seeded before after messages k) (sym e)
     (file_answered words texts seeded o n ended before after stream messages h.0 input servable unhurt)

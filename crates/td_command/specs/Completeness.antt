@@ -7,13 +7,13 @@ use Rattle.td_out.specs.Texts.{Named, text_named, longest_text}
 use Rattle.td_session.specs.Completeness.{IsServable, NoneFailed, ServesAll}
 use Rattle.td_session.specs.Outside.{Outside}
 use Rattle.td_trader.specs.Solos.{nothing, unchanged}
-use Rattle.td_command.specs.Commands.{file_named}
+use Rattle.td_command.specs.Commands.{Pipe, command_of}
 use Rattle.td_command.specs.Runs.{Seeded, Shelves, beginning}
 
 -- the words are `pipe` and the name of a text that opens this
 pub record NamesOpening (words : List (List ℕ)) (texts : Shelves) (o : Opening) : Type 0 where
   pub name : List ℕ
-  pub command : file_named words ≡ Some name
+  pub command : command_of words ≡ Some (Pipe name)
   pub shelf : List Named
   pub told : texts.told ≡ Some shelf
   pub text : List ℕ

@@ -6,7 +6,8 @@ use Rattle.td_lines.specs.declared.cause.LineCause.{LineCause}
 use Rattle.td_lines.specs.declared.cause.LineCause.TheVariants as cause
 use Rattle.td_session.specs.declared.end.End.TheVariants as end
 use Rattle.td_command.specs.declared.ended.Ended.{Ended}
-use Rattle.td_command.specs.declared.ended.Ended.TheVariants.{Usage, Missing, TooLong, Refused, Memory, Served}
+use Rattle.td_command.specs.declared.ended.Ended.TheVariants.{Usage, Missing, TooLong, Refused, Memory, Printed}
+use Rattle.td_command.specs.declared.ended.Ended.TheVariants.{PrintFault, Served}
 
 abbrev pub numbered : List ℕ → ℕ → List ℕ → List ℕ
 numbered before number after = before ++ decimal number ++ after
@@ -26,13 +27,15 @@ cause_end cause.Value = codes ": value\n"
 cause_end cause.Reference = codes ": reference\n"
 cause_end cause.Rejected = codes ": rejected\n"
 
--- the line for a command that ended so; for a session that was closed there is none
+-- the line for a command that ended so; for a session that was closed and a text that was printed there is none
 abbrev pub line_of : Ended → List ℕ
 line_of Usage = codes "usage\n"
 line_of Missing = status_line 10
 line_of TooLong = codes "too long\n"
 line_of (Refused number why) = numbered (codes "line ") number (cause_end why)
 line_of Memory = status_line 9
+line_of Printed = []
+line_of PrintFault = status_line 7
 line_of (Served end.Closed) = []
 line_of (Served (end.Broken place cause)) = status_line 4
 line_of (Served (end.Truncated place)) = status_line 5

@@ -3,7 +3,8 @@ use Rattle.std.specs.Prelude.{ℕ}
 use Rattle.td_session.specs.declared.end.End.{End}
 use Rattle.td_session.specs.declared.end.End.TheVariants as end
 use Rattle.td_command.specs.declared.ended.Ended.{Ended}
-use Rattle.td_command.specs.declared.ended.Ended.TheVariants.{Usage, Missing, TooLong, Refused, Memory, Served}
+use Rattle.td_command.specs.declared.ended.Ended.TheVariants.{Usage, Missing, TooLong, Refused, Memory, Printed}
+use Rattle.td_command.specs.declared.ended.Ended.TheVariants.{PrintFault, Served}
 
 -- the status for the end of a session
 abbrev pub end_status : End → ℕ
@@ -21,4 +22,6 @@ status_of Missing = 10
 status_of TooLong = 3
 status_of (Refused number cause) = 3
 status_of Memory = 9
+status_of Printed = 0
+status_of PrintFault = 7
 status_of (Served end) = end_status end

@@ -3,29 +3,39 @@
 ghost use Rattle.std.specs.Prelude.{◌≡◌, map, string_bytes};
 ghost use Rattle.std.specs.Option.{option_map};
 ghost use Rattle.td_session.specs.Outside.{outside};
-ghost use Rattle.td_command.specs.Commands.{file_named};
+ghost use Rattle.td_command.specs.Commands.{command_by, command_of, two_words};
 ghost use Rattle.td_command.specs.Completeness.{Completes};
 ghost use Rattle.td_command.specs.Runs.{Obeys, Runs, shelves};
 
+use crate::checking::check_file;
+use crate::drilling::drill_ring;
 use crate::ended::Ended;
-use crate::report::report;
+use crate::printing::print_file;
+use crate::reporting::report;
 use crate::serve::serve_file;
+use crate::verb::{Verb, count_of, verb_named};
 use std::alloc::Global;
 use td_out::{Sink, Source, Texts, Words};
 use td_wire::Wire;
 
-/// Does what the arguments say. `pipe FILE` serves one session over the source and the sink with the traders that the
-/// text of that name opens. Objects outside are called over the wire: traders behind links, evaluators of dynamic
-/// properties, and the registers of other traders. What each of them gave is told by the session's journal, in the
-/// entry of the Request for which it was asked; what is written over the wire has no clause of its own here.
-/// The random words are those that come after a seeding with the file's seed and stream 0. The faults sink gets a
-/// line where the status isn't 0: `usage`, `line N: CAUSE`, `too long` or `status N`.
+/// Does what the arguments say.
 ///
-/// The status is 0 where the session was closed, 2 where the arguments are no command, 3 where the file is
-/// refused or too long, 4 where the session broke off, 5 where its input ended inside a message, 6 where the
-/// source failed, 7 where the sink failed, 8 where the session was too long, 9 for want of memory, and 10
-/// where the file can't be had. It is 0 or 9 where the file is accepted, the input is messages to a server, and
-/// nothing fails.
+/// - `pipe FILE` serves one session over the source and the sink with the traders that the text of that name opens.
+///   Objects outside are called over the wire: traders behind links, evaluators of dynamic properties, and the
+///   registers of other traders. What each of them gave is told by the session's journal, in the entry of the Request
+///   for which it was asked; what is written over the wire has no clause of its own here.
+/// - `check FILE` prints what that text opens: of each trader its name, how many types, offers and links it has, and
+///   the references of its objects.
+/// - `make N` prints the file of a ring of N traders, N from 1 to 64.
+/// - `drill N` asks each trader of that file one query, and prints in one line what the walks come to.
+///
+/// The random words are those that come after a seeding with the file's seed and stream 0. The faults sink gets a line
+/// where the status isn't 0: `usage`, `line N: CAUSE`, `too long` or `status N`.
+///
+/// The status is 0 where the session was closed or all was printed, 2 where the arguments are no command, 3 where the
+/// file is refused or too long, 4 where the session broke off, 5 where its input ended inside a message, 6 where the
+/// source failed, 7 where the sink failed, 8 where the session was too long, 9 for want of memory, and 10 where the
+/// file can't be had. It is 0 or 9 where the file is accepted, the input is messages to a server, and nothing fails.
 pub fn run<F: Texts, S: Source, K: Sink, E: Sink, L: Wire, W: Words>(
     alloc: Global,
     args: &[String],
@@ -52,6 +62,7 @@ pub fn run<F: Texts, S: Source, K: Sink, E: Sink, L: Wire, W: Words>(
 }
 
 /// Does what the arguments say, without the report.
+#[tactic(auto, using(crate::proofs::Obey::by_words))]
 fn obey<F: Texts, S: Source, K: Sink, L: Wire, W: Words>(
     alloc: Global,
     args: &[String],
@@ -61,23 +72,58 @@ fn obey<F: Texts, S: Source, K: Sink, L: Wire, W: Words>(
     wire: &mut L,
     words: &mut W,
 ) -> Ended
-    ensures { Obeys (file_named (map string_bytes args.now))
+    ensures { Obeys (command_of (map string_bytes args.now))
         (shelves (F.told files.old) (F.faults files.old) (F.faults files.new)) (W.word_after words.old) result
         (outside (S.left source.old) (S.faults source.old) (K.written sink.old) (K.faults sink.old))
         (outside (S.left source.new) (S.faults source.new) (K.written sink.new) (K.faults sink.new)) }
 {
-    match file_named(args) {
-        Some(name) => serve_file(alloc, name, files, source, sink, wire, words),
+    match two_words(args) {
+        Some((word, operand)) => {
+            let verb = verb_named(word.as_bytes());
+            obey_verb(alloc, verb, operand, files, source, sink, wire, words)
+        }
         None => Ended::Usage,
     }
 }
 
-/// The name of the file in the command `pipe FILE`, which is the only one.
-fn file_named(args: &[String]) -> Option<&str>
-    ensures { option_map (λ name. name.now) result ≡ file_named (map string_bytes args.now) }
+/// The words of a command, of which there are two.
+fn two_words(args: &[String]) -> Option<(&str, &str)>
+    ensures { option_map (λ w. (w.0.now, w.1.now)) result ≡ two_words (map string_bytes args.now) }
 {
     match args {
-        [word, name] if word.as_str() == "pipe" => Some(name.as_str()),
+        [word, operand] => Some((word.as_str(), operand.as_str())),
         _ => None,
+    }
+}
+
+/// Does what a verb and its operand say.
+#[tactic(auto, using(crate::proofs::Obey::by_make, crate::proofs::Obey::by_drill, crate::proofs::Obey::by_none))]
+fn obey_verb<F: Texts, S: Source, K: Sink, L: Wire, W: Words>(
+    alloc: Global,
+    verb: Option<Verb>,
+    operand: &str,
+    files: &mut F,
+    source: &mut S,
+    sink: &mut K,
+    wire: &mut L,
+    words: &mut W,
+) -> Ended
+    ensures { Obeys (command_by verb operand.now)
+        (shelves (F.told files.old) (F.faults files.old) (F.faults files.new)) (W.word_after words.old) result
+        (outside (S.left source.old) (S.faults source.old) (K.written sink.old) (K.faults sink.old))
+        (outside (S.left source.new) (S.faults source.new) (K.written sink.new) (K.faults sink.new)) }
+{
+    match verb {
+        Some(Verb::Pipe) => serve_file(alloc, operand, files, source, sink, wire, words),
+        Some(Verb::Check) => check_file(alloc, operand, files, sink),
+        Some(Verb::Make) => match count_of(operand.as_bytes()) {
+            Some(count) => print_file(alloc, count, sink),
+            None => Ended::Usage,
+        },
+        Some(Verb::Drill) => match count_of(operand.as_bytes()) {
+            Some(count) => drill_ring(alloc, count, sink, words),
+            None => Ended::Usage,
+        },
+        None => Ended::Usage,
     }
 }

@@ -17,8 +17,12 @@ pub enum Ended {
     TooLong,
     /// The file is refused at the line of this number, counted from 1, and why.
     Refused(u32, LineCause),
-    /// Want of memory, before the session began.
+    /// Want of memory, before a session began or anything was printed.
     Memory,
+    /// All was printed.
+    Printed,
+    /// The sink failed before all was printed.
+    PrintFault,
     /// The session ended so.
     Served(End),
 }
@@ -34,6 +38,8 @@ impl Ended {
             Ended::TooLong => 3,
             Ended::Refused(_, _) => 3,
             Ended::Memory => 9,
+            Ended::Printed => 0,
+            Ended::PrintFault => 7,
             Ended::Served(End::Closed) => 0,
             Ended::Served(End::Broken(_, _)) => 4,
             Ended::Served(End::Truncated(_)) => 5,

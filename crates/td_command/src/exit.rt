@@ -10,7 +10,7 @@ ghost use Rattle.td_command.specs.Status.{status_of};
 
 use crate::command::run;
 use crate::ended::Ended;
-use crate::report::report;
+use crate::reporting::report;
 use std::alloc::Global;
 use std::env;
 use std::io::{self, ErrorKind, Read, Write};

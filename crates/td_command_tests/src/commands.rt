@@ -86,17 +86,17 @@ const SHORT_REQUEST: &[u8] = b"GIOP\x01\0\0\0\0\0\0\x18\
 
 /// A command: its words, its input, and the calls of the source and the sink that fail.
 #[derive(Clone, Copy)]
-struct Command<'a> {
+pub struct Command<'a> {
     words: &'a [&'a str],
     input: &'a [u8],
     /// What comes behind it.
     more: &'a [u8],
     reads_failing: &'a [u64],
-    writes_failing: &'a [u64],
+    pub writes_failing: &'a [u64],
 }
 
 /// `pipe` with a file of this name and this input.
-const fn piped<'a>(words: &'a [&'a str], input: &'a [u8]) -> Command<'a> {
+pub const fn piped<'a>(words: &'a [&'a str], input: &'a [u8]) -> Command<'a> {
     Command {
         words,
         input,
@@ -108,15 +108,15 @@ const fn piped<'a>(words: &'a [&'a str], input: &'a [u8]) -> Command<'a> {
 
 /// What a command answers, writes, and leaves on the faults sink.
 #[derive(Clone, Copy)]
-struct Expected<'a> {
+pub struct Expected<'a> {
     status: u8,
     written: &'a [u8],
     /// What is written behind it.
-    then: &'a [u8],
+    pub then: &'a [u8],
     line: &'a [u8],
 }
 
-const fn ending<'a>(status: u8, written: &'a [u8], line: &'a [u8]) -> Expected<'a> {
+pub const fn ending<'a>(status: u8, written: &'a [u8], line: &'a [u8]) -> Expected<'a> {
     Expected {
         status,
         written,
@@ -138,7 +138,7 @@ fn texts(alloc: Global) -> Result<MemTexts, Memory> {
     Ok(MemTexts::new(files, List::new(alloc)))
 }
 
-pub fn words(alloc: Global, words: &[&str]) -> Result<Vec<String>, Fail> {
+pub fn words(alloc: Global, words: &[&str]) -> Result<Vec<String>, Memory> {
     let mut all = Vec::new(alloc);
     for word in words {
         all.push(String::from_str(alloc, word)?)?;
@@ -154,12 +154,12 @@ fn source(alloc: Global, command: &Command) -> Result<MemSource, Memory> {
 }
 
 /// Whether a command over these texts does as said.
-fn does_with(
+pub fn does_with(
     alloc: Global,
     files: &mut MemTexts,
     command: &Command,
     expected: &Expected,
-) -> Result<bool, Fail> {
+) -> Result<bool, Memory> {
     let args = words(alloc, command.words)?;
     let mut source = source(alloc, command)?;
     let mut sink = MemSink::new(alloc, List::from_slice(alloc, command.writes_failing)?);
@@ -184,7 +184,7 @@ fn does_with(
 }
 
 /// Whether a command does as said.
-fn does(alloc: Global, command: &Command, expected: &Expected) -> Result<bool, Fail> {
+pub fn does(alloc: Global, command: &Command, expected: &Expected) -> Result<bool, Memory> {
     let mut files = texts(alloc)?;
     does_with(alloc, &mut files, command, expected)
 }
@@ -281,7 +281,7 @@ pub fn named_printers(alloc: Global, text: Octets) -> Result<MemTexts, Memory> {
 }
 
 /// Whether a file is refused with this line.
-fn is_refused(alloc: Global, text: &[u8], line: &[u8]) -> Result<bool, Fail> {
+fn is_refused(alloc: Global, text: &[u8], line: &[u8]) -> Result<bool, Memory> {
     let mut files = named_printers(alloc, Octets::from_slice(alloc, text)?)?;
     does_with(
         alloc,

@@ -5,3 +5,5 @@
 mod commands;
 #[cfg(test)]
 mod outside;
+#[cfg(test)]
+mod printed;

@@ -1,5 +1,6 @@
-//! A trading service over standard input and output. `tradesrv pipe FILE` serves one session with the offers
-//! of a server's file.
+//! A trading service over standard input and output. `tradesrv pipe FILE` serves one session with the traders of a
+//! server's file, `tradesrv check FILE` prints what the file opens, `tradesrv make N` a file of N traders in a ring,
+//! and `tradesrv drill N` what queries to each of them come to.
 #![tactic(auto)]
 
 use std::process::ExitCode;

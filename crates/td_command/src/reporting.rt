@@ -22,6 +22,7 @@ pub fn report<E: Sink>(faults: &mut E, ended: Ended)
         Ended::Refused(number, cause) => {
             write_numbered(faults, b"line ", number, cause_end(cause))
         }
+        Ended::Printed => Ok(()),
         Ended::Served(End::Closed) => Ok(()),
         other => write_numbered(faults, b"status ", u32::from(other.status()), b"\n"),
     };
@@ -44,7 +45,7 @@ fn cause_end(cause: LineCause) -> &'static [u8]
 }
 
 /// Writes a number in decimal between two texts.
-fn write_numbered<E: Sink>(
+pub fn write_numbered<E: Sink>(
     sink: &mut E,
     before: &[u8],
     number: u32,
@@ -64,7 +65,7 @@ fn write_numbered<E: Sink>(
 /// # Errors
 ///
 /// `Failed` only where the sink failed; the front of the text that it had taken is written.
-fn write_all<E: Sink>(sink: &mut E, text: &[u8]) -> Result<(), Failed>
+pub(crate) fn write_all<E: Sink>(sink: &mut E, text: &[u8]) -> Result<(), Failed>
     ensures tells { Tells text.now (E.written sink.old) (E.written sink.new) (E.faults sink.old) (E.faults sink.new) }
     ensures whole { OnOk result (Appends (E.written sink.old) (E.written sink.new) text.now) }
     ensures failed { OnErr result (Rose (E.faults sink.old) (E.faults sink.new)) }

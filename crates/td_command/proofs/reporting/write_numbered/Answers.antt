@@ -1,6 +1,6 @@
 use Rattle.std.proofs.Common.{decimal, ◌∙◌}
 use Rattle.td_command.proofs.Telling.{first-fails, second-fails, third-tells}
-use Rattle.td_command.proofs.report.write_numbered.Goals as goal
+use Rattle.td_command.proofs.reporting.write_numbered.Goals as goal
 
 pub returns-in_err-write_all : goal.returns-in_err-write_all
 returns-in_err-write_all g c =
