@@ -1,0 +1,11 @@
+pub mod Adding
+pub mod Plain
+pub mod Walks
+pub mod Ends
+pub mod Moves
+pub mod Few
+pub mod Linking
+pub mod Exporting
+pub mod Typing
+pub mod Law
+pub mod Answering

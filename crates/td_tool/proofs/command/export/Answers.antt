@@ -1,0 +1,16 @@
+use Rattle.std.proofs.Common.{rules, codes}
+use Rattle.std.proofs.lemmas.Result.{IfOk-weaker}
+use Rattle.clap.specs.Words.{new_app}
+use Rattle.td_tool.specs.Tool.{IsCommand, fixed, many}
+use Rattle.td_tool.proofs.Adding.{added}
+use Rattle.td_tool.proofs.command.export.Goals as goal
+
+pub returns : goal.returns
+returns c =
+    let a0 : IsCommand (new_app (codes "export")) c.named.result =
+    record { app = search rules; local = search rules } in
+    let a1 = added _ _ _ _ (fixed (codes "ref")) c.in_ok-arg.ensures a0 (search rules) (search rules) in
+    let a2 = added _ _ _ _ (fixed (codes "type")) c.in_ok-arg-2.ensures a1 (search rules) (search rules) in
+    let a3 = added _ _ _ _ (fixed (codes "object")) c.in_ok-arg-3.ensures a2 (search rules) (search rules) in
+    IfOk-weaker c.arg-4.result _ _ (λ r h. added _ _ _ _ (many (codes "property")) h a3 (search rules) (search rules))
+    c.arg-4.ensures

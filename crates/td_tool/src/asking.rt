@@ -1,0 +1,72 @@
+//! What the words ask for, or why they are refused.
+
+ghost use Rattle.std.specs.Prelude.{◌≡◌, ◌≢◌, ◌⊎◌, map, string_bytes, IfOk, IfErr};
+ghost use Rattle.clap.specs.Words.{kind_of, subcommand_rows_of};
+ghost use Rattle.td_tool.specs.Answers.{IsAnswer, IsRefusal, asked_of};
+ghost use Rattle.td_tool.specs.Matches.{read_matches};
+ghost use Rattle.td_tool.specs.declared.asking.Refusal.TheVariants as refusal;
+
+use crate::read_many::read_matches;
+use crate::stages::tool;
+use crate::wanted::Wanted;
+use clap::ArgMatches;
+use clap::error::ErrorKind;
+use std::alloc::{AllocError, Global};
+
+/// Why the words are refused.
+#[derive(Debug, Drop)]
+pub enum Refusal {
+    /// Want of memory.
+    Memory,
+    /// clap refuses the words.
+    Words(clap::Error),
+    /// A word isn't in its form.
+    Form,
+}
+
+impl From<AllocError> for Refusal {
+    ghost from_gives = { λ _ r. r ≡ refusal.Memory };
+
+    fn from(_error: AllocError) -> Refusal {
+        Refusal::Memory
+    }
+}
+
+/// What the words ask for.
+///
+/// # Errors
+///
+/// `Words` only where clap refuses the words, which it does of no documented ones; `Form` where they ask for nothing;
+/// `Memory` for want of memory.
+pub fn ask<'a>(alloc: Global, words: &'a [String]) -> Result<Wanted<'a>, Refusal>
+    ensures { IsAnswer (map string_bytes words.now) result }
+{
+    let matches = parse(alloc, words)?;
+    match read_matches(alloc, &matches)? {
+        Some(wanted) => Ok(wanted),
+        None => Err(Refusal::Form),
+    }
+}
+
+/// What clap reads of the words.
+fn parse<'a>(alloc: Global, words: &'a [String]) -> Result<ArgMatches<'a>, Refusal>
+    ensures ok { IfOk result (λ m. read_matches (subcommand_rows_of m) ≡ asked_of (map string_bytes words.now)) }
+    ensures err { IfErr result (IsRefusal (map string_bytes words.now)) }
+{
+    let command = tool(alloc)?;
+    match command.try_get_matches_from(words) {
+        Ok(matches) => Ok(matches),
+        Err(error) => Err(refused(error)),
+    }
+}
+
+/// Tells want of memory from words that clap refuses.
+fn refused(error: clap::Error) -> Refusal
+    ensures { (result ≡ refusal.Memory)
+        ⊎ ((kind_of error ≢ ErrorKind.OutOfMemory) × (result ≡ refusal.Words error)) }
+{
+    match error.kind() {
+        ErrorKind::OutOfMemory => Refusal::Memory,
+        _ => Refusal::Words(error),
+    }
+}

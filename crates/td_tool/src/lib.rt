@@ -1,0 +1,27 @@
+//! The words of the client's program: its subcommands with their help, which clap reads, and what the words ask for.
+#![tactic(auto)]
+
+mod asking;
+mod command;
+mod help;
+mod read;
+mod read_many;
+mod stages;
+mod wanted;
+
+ghost use Rattle.std.specs.Prelude.{◌≡◌, ◌≤◌, true, List, ℕ, length, Some};
+ghost use Rattle.clap.specs.Lexer.{usize_max};
+ghost use Rattle.td_tool.specs.Answers.{asked_of, is_taken};
+ghost use Rattle.td_tool.specs.Forms.{Spells};
+ghost use Rattle.td_tool.specs.Wishes.{Asked};
+
+pub use asking::{Refusal, ask};
+pub use stages::tool;
+pub use wanted::{ExportWords, LinkWords, QueryWords, TypeWords, Wanted};
+
+/// Of words in the documented form clap makes what they ask for, or it has no memory.
+#[tactic(auto, using(crate::proofs::Law::reads))]
+pub fn documented_words_are_read()
+    ensures { (words : List (List ℕ)) (asked : Asked) → Spells words asked → length words ≤ usize_max
+        → (is_taken words ≡ true) × (asked_of words ≡ Some asked) }
+{}
