@@ -1,0 +1,7 @@
+//! Tests of td_shown.
+#![tactic(auto)]
+
+#[cfg(test)]
+mod answers;
+#[cfg(test)]
+mod values;
