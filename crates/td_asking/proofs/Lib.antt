@@ -1,0 +1,4 @@
+pub mod Piecing
+pub mod Places
+pub mod Putting
+pub mod Refusing
