@@ -1,0 +1,116 @@
+-- What the words ask for is answered with lines.
+use Rattle.std.proofs.Common.{◌≡◌, ℕ, Bool, true, false, cond, refl, List, [], Option, Some, None, subst}
+use Rattle.std.specs.Prelude.{IfSome, is_some, ⊤, Ok}
+use Rattle.std.specs.List.{list_any}
+use Rattle.clap.specs.Words.{Text}
+use Rattle.td_cdr.specs.Text.{has_nul}
+use Rattle.td_codes.specs.declared.reference.Ior.{Ior}
+use Rattle.td_forms.specs.Words.{rule_named}
+use Rattle.td_ior.specs.Keys.{◌>>=◌}
+use Rattle.td_ior.specs.Texts.{reference_in}
+use Rattle.td_ops.specs.Called.{operation_in}
+use Rattle.td_ops.specs.Operations.{row}
+use Rattle.td_ops.specs.declared.call.Call.{Call}
+use Rattle.td_ops.specs.declared.call.Call.TheVariants as call
+use Rattle.td_ops.specs.declared.call.Change.TheVariants as change
+use Rattle.td_ops.specs.declared.call.Look.TheVariants as look
+use Rattle.td_ops.specs.declared.outcome.Answered.{Answered as Told}
+use Rattle.td_value.specs.declared.structures.Property.{Property}
+use Rattle.td_value.specs.declared.unions.SpecifiedServiceTypes.TheVariants as which
+use Rattle.td_asking.specs.Askings.{asking_of, called}
+use Rattle.td_asking.specs.Forms.{target_in}
+use Rattle.td_asking.specs.Properties.{properties_behind}
+use Rattle.td_asking.specs.Queries.{query_in}
+use Rattle.td_asking.specs.Types.{items_behind, nothing_yet}
+use Rattle.td_asking.specs.declared.making.Asking.{Asking}
+use Rattle.td_asking.specs.declared.making.Asking.TheVariants as wish
+use Rattle.td_tool.specs.Answers.{asked_of}
+use Rattle.td_tool.specs.Wishes.{Asked, AskedExport, query, export, withdraw, describe, link, links, types, addtype}
+use Rattle.td_wire.specs.Connections.{Traffic}
+use Rattle.td_call.specs.Calling.{Answers, first_id, next_given}
+use Rattle.td_call.specs.Readings.{outcome_told}
+use Rattle.td_call.specs.Replies.{Comes}
+use Rattle.td_call.specs.Requests.{request_of}
+use Rattle.td_gather.specs.Asking.{asked}
+use Rattle.td_gather.specs.Draining.{raised}
+use Rattle.td_gather.specs.declared.gathered.Gathered.TheVariants.{Offers, Refused}
+use Rattle.td_client_run.specs.Outcomes.{outcome_lines}
+use Rattle.td_client_run.specs.Sending.{Line, Sends}
+use Rattle.td_client_run.specs.Words.{asking_in}
+use Rattle.td_client_run.specs.declared.outcome.Outcome.{Outcome}
+use Rattle.td_client_run.specs.declared.outcome.Outcome.TheVariants.{Gathered, Answered}
+use Rattle.td_client_run.proofs.Coming.{AllTold, replied_told}
+use Rattle.td_client_run.proofs.Endings.{raised_lined}
+use Rattle.td_client_run.proofs.Results.{HasLines, is_lined, outcome_lined}
+
+-- a query, or a call of an operation whose result has lines
+abbrev IsLined : Asking → Type 0
+IsLined (wish.Query target q) = ⊤
+IsLined (wish.Call target c) = is_lined (row (operation_in c)).result ≡ true
+
+bound : {A : Type 0} (o : Option A) (f : A → Option Asking) → ((a : A) → IfSome (f a) IsLined)
+    → IfSome (o >>= f) IsLined
+bound (Some a) f h = h a
+bound None f h = tt
+
+called_lined : (reference : List ℕ) (c : Call) → is_lined (row (operation_in c)).result ≡ true
+    → IfSome (called reference c) IsLined
+called_lined reference c e = bound (target_in reference) _ (λ target. e)
+
+exported : (object : Option Ior) (properties : Option (List Property)) (e : AskedExport)
+    → IfSome ((object >>= λ o. (properties >>= λ ps. Some (change.Export o e.service ps)))
+    >>= λ c. called e.reference (call.Change c)) IsLined
+exported (Some o) (Some ps) e = called_lined e.reference (call.Change (change.Export o e.service ps)) refl
+exported (Some o) None e = tt
+exported None properties e = tt
+
+asked_lined : (a : Asked) → IfSome (asking_of a) IsLined
+asked_lined (query q) = bound (query_in q) _ (λ p. bound (target_in q.reference) _ (λ target. tt))
+asked_lined (export e) = exported (reference_in e.object) (properties_behind [] e.properties) e
+asked_lined (withdraw reference number) = called_lined reference (call.Change (change.Withdraw number)) refl
+asked_lined (describe reference number) = called_lined reference (call.Look (look.Describe number)) refl
+asked_lined (link l) =
+    bound (rule_named l.def_pass_on) _
+    (λ d. bound (rule_named l.limiting) _
+    (λ m. bound (reference_in l.target) _
+    (λ o. called_lined l.reference
+    (call.AddLink (record { name = l.name; target = o; def_pass_on = d; limiting = m })) refl)))
+asked_lined (links reference) = called_lined reference (call.Look look.ListLinks) refl
+asked_lined (types reference) = called_lined reference (call.Look (look.ListTypes which.All)) refl
+asked_lined (addtype t) =
+    bound (items_behind nothing_yet t.items) _
+    (λ i. called_lined t.reference (call.Change (change.AddType t.name t.interface i.props i.supers)) refl)
+
+read_lined : (b : Bool) (o : Option Asked) → IfSome (cond b None (o >>= asking_of)) IsLined
+read_lined true o = tt
+read_lined false o = bound o asking_of asked_lined
+
+words_lined : (words : List Text) → IfSome (asking_in words) IsLined
+unfolding asking_in
+words_lined words = read_lined (list_any has_nul words) (asked_of words)
+
+-- ---- what comes back
+
+sent : (asking : Asking) (t : Traffic) (v w : Line) (o : Outcome) → IsLined asking → v.told ≡ Some t
+    → Sends asking v w (Ok o) → is_some (outcome_lines o) ≡ true
+sent (wish.Query target q) t v w (Gathered (Offers found)) known tells s = refl
+sent (wish.Query target q) t v w (Gathered (Refused answer)) known tells s =
+    raised_lined (call.Query q) (next_given t) answer
+    (subst
+    (λ (before : Option Traffic). IfSome before (λ u. asked (call.Query q) (next_given u) ≡ raised answer)) tells s)
+sent (wish.Query target q) t v w (Answered a) known tells s = absurd s
+sent (wish.Call target c) t v w (Gathered g) known tells s = absurd s
+sent (wish.Call target c) t v w (Answered a) known tells s =
+    let p = s.0 in
+    let came =
+    subst
+    (λ (before : Option Traffic).
+    IfSome before (λ u. Answers (outcome_told c) (request_of first_id p.key c) p u w.told a))
+    tells s.2 in
+    subst (λ (x : Comes Told). AllTold HasLines x) came.is
+    (replied_told HasLines (outcome_told c) (λ status at. outcome_lined c status at known) first_id (next_given t))
+
+pub lined : (words : List Text) (asking : Asking) (t : Traffic) (v w : Line) (o : Outcome)
+    → asking_in words ≡ Some asking → v.told ≡ Some t → Sends asking v w (Ok o) → is_some (outcome_lines o) ≡ true
+lined words asking t v w o e tells s =
+    sent asking t v w o (subst (λ (x : Option Asking). IfSome x IsLined) e (words_lined words)) tells s

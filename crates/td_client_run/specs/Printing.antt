@@ -1,0 +1,37 @@
+-- What goes to a sink.
+use Rattle.std.specs.Prelude.{◌≡◌, ◌⊎◌, ℕ, ◌≤◌, List, [], ◌++◌, Option, Some, None}
+use Rattle.std.specs.Io.KnownBytes.{Appends}
+use Rattle.td_out.specs.Causes.{Rose}
+use Rattle.td_client_run.specs.Outcomes.{outcome_lines, outcome_status}
+use Rattle.td_client_run.specs.declared.outcome.Outcome.{Outcome}
+
+-- a sink: its bytes where it tells, and its count of faults
+pub record Sunk : Type 0 where
+  pub bytes : Option (List ℕ)
+  pub faults : ℕ
+
+abbrev pub sunk : Option (List ℕ) → ℕ → Sunk
+sunk bytes faults = record { bytes = bytes; faults = faults }
+
+-- a sink was given this text, or its front where its count of faults rose
+pub record Tells (text : List ℕ) (written0 written1 : Option (List ℕ)) (faults0 faults1 : ℕ) : Type 0 where
+  pub told : List ℕ
+  pub untold : List ℕ
+  pub parts : text ≡ told ++ untold
+  pub gave : Appends written0 written1 told
+  pub whole : (untold ≡ []) ⊎ Rose faults0 faults1
+  pub later : faults0 ≤ faults1
+
+-- all of a text is printed, and the status is this one, or the sink failed
+pub data Prints (text : List ℕ) (status : ℕ) : (before after : Sunk) → ℕ → Type 0 where
+  all_printed : (a b : Sunk) → Appends a.bytes b.bytes text → a.faults ≤ b.faults → Prints text status a b status
+  sink_failed : (a b : Sunk) → Tells text a.bytes b.bytes a.faults b.faults → Rose a.faults b.faults
+      → Prints text status a b 7
+
+-- the lines of an outcome are printed; or the reply isn't that of the operation, or memory is wanting for the lines,
+-- and nothing is printed
+pub data Shows (o : Outcome) : (before after : Sunk) → ℕ → Type 0 where
+  shown : (text : List ℕ) (a b : Sunk) (n : ℕ) → outcome_lines o ≡ Some text → Prints text (outcome_status o) a b n
+      → Shows o a b n
+  unshown : (a : Sunk) → outcome_lines o ≡ None → Shows o a a 8
+  no_lines : (a : Sunk) → Shows o a a 9

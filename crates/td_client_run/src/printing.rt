@@ -1,0 +1,62 @@
+//! Texts on their way to a sink.
+
+ghost use Rattle.std.specs.Prelude.{OnErr, OnOk};
+ghost use Rattle.std.specs.Io.KnownBytes.{Appends};
+ghost use Rattle.td_out.specs.Causes.{Rose};
+ghost use Rattle.td_client_run.specs.Printing.{Prints, Shows, Tells, sunk};
+
+use crate::outcome::{Outcome, outcome_status, put_outcome};
+use std::alloc::Global;
+use td_out::{Failed, Sink};
+
+/// The status where a sink failed.
+const SINK_FAILED: u8 = 7;
+
+/// The status where the reply isn't that of the operation.
+const NOT_THE_REPLY: u8 = 8;
+
+/// The status for want of memory.
+const NO_MEMORY: u8 = 9;
+
+/// Writes all of a text.
+///
+/// # Errors
+///
+/// `Failed` only where the sink failed; the front of the text that it had taken is written.
+pub(crate) fn write_all<E: Sink>(sink: &mut E, text: &[u8]) -> Result<(), Failed>
+    ensures tells { Tells text.now (E.written sink.old) (E.written sink.new) (E.faults sink.old) (E.faults sink.new) }
+    ensures whole { OnOk result (Appends (E.written sink.old) (E.written sink.new) text.now) }
+    ensures failed { OnErr result (Rose (E.faults sink.old) (E.faults sink.new)) }
+{
+    let mut rest = text;
+    while !rest.is_empty() {
+        let size = sink.write(rest)?;
+        let (_told, left) = rest.split_at(size);
+        rest = left;
+    }
+    Ok(())
+}
+
+/// Prints a text, and answers this status where all of it is printed.
+fn print<K: Sink>(sink: &mut K, text: &[u8], status: u8) -> u8
+    ensures { Prints text.now status (sunk (K.written sink.old) (K.faults sink.old))
+        (sunk (K.written sink.new) (K.faults sink.new)) result }
+{
+    match write_all(sink, text) {
+        Ok(()) => status,
+        Err(_) => SINK_FAILED,
+    }
+}
+
+/// Prints the lines of an outcome, and answers the status.
+pub(crate) fn show<K: Sink>(alloc: Global, outcome: &Outcome, sink: &mut K) -> u8
+    ensures { Shows outcome.now (sunk (K.written sink.old) (K.faults sink.old))
+        (sunk (K.written sink.new) (K.faults sink.new)) result }
+{
+    let mut lines = Vec::new(alloc);
+    match put_outcome(alloc, &mut lines, outcome) {
+        Ok(true) => print(sink, lines.as_slice(), outcome_status(outcome)),
+        Ok(false) => NOT_THE_REPLY,
+        Err(_) => NO_MEMORY,
+    }
+}

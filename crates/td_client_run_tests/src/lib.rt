@@ -1,0 +1,13 @@
+//! Tests of the client's program over a wire and sinks in memory.
+#![tactic(auto)]
+
+#[cfg(test)]
+mod messages;
+#[cfg(test)]
+mod refusals;
+#[cfg(test)]
+mod running;
+#[cfg(test)]
+mod statuses;
+#[cfg(test)]
+mod uses;
