@@ -58,3 +58,14 @@ pub struct Pass<B: Book> {
     ghost quiet: { seat.me.0.told ≡ None },
     ghost empty: { seat.me.1 ≡ [] },
 }
+
+impl<B: Book> Pass<B> {
+    ghost use Rattle.td_cell.specs.Passes.{knowledge};
+
+    /// How many entries the history has that the pass has seen. Makes no turn, and takes no memory.
+    pub fn changes(&self) -> u64
+        ensures { ForSome (knowledge self.now).seen (λ b. result ≡ B.size b) }
+    {
+        self.changes
+    }
+}
