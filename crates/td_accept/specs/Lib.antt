@@ -1,0 +1,4 @@
+pub mod Calls
+pub mod Doors
+pub mod InMemory
+pub mod Listening

@@ -1,0 +1,157 @@
+//! An acceptor over TCP.
+
+ghost use Rattle.std.specs.Prelude.{◌≡◌, ◌≤◌, None, true, false};
+ghost use Rattle.td_out.specs.Causes.{raised};
+
+use crate::accept::Accept;
+use crate::visitor::Visitor;
+use std::io::ErrorKind;
+use std::marker::Model;
+use std::net::{Net, OpenListener, OpenStream, TcpListener};
+use td_out::{ChaChaWords, Failed, StdSink, StdSource};
+use td_wire::TcpWire;
+
+/// An acceptor over TCP. A host is a name, which the system looks up, or an address. Each connection is a visitor; it
+/// holds nothing back, so that a reply goes out at once. It tells nothing of its content.
+#[derive(Drop)]
+pub struct TcpAccept<'a, R: Net> {
+    rt: &'a R,
+    listener: Option<R::Listener>,
+    faults: u64,
+}
+
+impl<'a, R: Net> Model for TcpAccept<'a, R> {
+    ghost use Rattle.std.specs.Prelude.{is_some};
+    ghost use Rattle.td_accept.specs.Listening.{Listening};
+
+    ghost Value = { Listening };
+
+    ghost view = { λ a. record { bound = is_some a.listener; faults = a.faults } };
+}
+
+impl<'a, R: Net> TcpAccept<'a, R> {
+    /// An acceptor that is bound to nothing yet. No fault was counted yet.
+    pub fn new(rt: &'a R) -> TcpAccept<'a, R>
+        ensures { result ≡ record { bound = false; faults = 0 } }
+    {
+        TcpAccept {
+            rt,
+            listener: None,
+            faults: 0,
+        }
+    }
+
+    /// Counts a fault. The count stands still at 2^64 - 1.
+    fn count_fault(&mut self)
+        ensures after { self.new ≡ record self.old { faults = raised self.old.faults } }
+        ensures later { self.old.faults ≤ self.new.faults }
+    {
+        self.faults = self.faults.saturating_add(1);
+    }
+}
+
+impl<'a, R: Net + Sync> Accept for TcpAccept<'a, R>
+where
+    R::Stream: Send,
+{
+    type S = StdSource<R::Stream>;
+
+    type K = StdSink<R::Stream>;
+
+    type L = TcpWire<'a, R>;
+
+    type W = ChaChaWords;
+
+    ghost told = { λ _. None };
+
+    ghost bound = { λ a. a.bound };
+
+    ghost faults = { λ a. a.faults };
+
+    ghost same = { λ _ _. Unit {0} };
+
+    ghost same_self = { λ _. tt };
+
+    ghost same_on = { λ _ _ _ _ _. tt };
+
+    /// A host that is no text, or none of whose addresses can be bound, is a fault.
+    fn bind(&mut self, host: &[u8], port: u16) -> Result<(), Failed> {
+        match listen(self.rt, host, port) {
+            Ok(listener) => {
+                self.listener = Some(listener);
+                Ok(())
+            }
+            Err(fault) => {
+                self.count_fault();
+                Err(fault)
+            }
+        }
+    }
+
+    /// It never comes to the end of its visitors.
+    fn next(
+        &mut self,
+    ) -> Result<
+        Option<Visitor<StdSource<R::Stream>, StdSink<R::Stream>, TcpWire<'a, R>, ChaChaWords>>,
+        Failed,
+    > {
+        match connect(&self.listener) {
+            Ok((stream, twin)) => Ok(Some(Visitor {
+                source: StdSource::new(stream),
+                sink: StdSink::new(twin),
+                wire: TcpWire::new(self.rt),
+                words: ChaChaWords::new(),
+            })),
+            Err(fault) => {
+                self.count_fault();
+                Err(fault)
+            }
+        }
+    }
+}
+
+/// A listener at the first of the host's addresses that can be bound.
+fn listen<R: Net>(rt: &R, host: &[u8], port: u16) -> Result<R::Listener, Failed> {
+    let Ok(host) = std::str::from_utf8(host) else {
+        return Err(Failed);
+    };
+    match TcpListener::bind(rt, (host, port)) {
+        Ok(listener) => Ok(listener),
+        Err(_) => Err(Failed),
+    }
+}
+
+/// The next connection, for reading and for writing. One that ended before it was taken is passed over.
+fn connect<L: OpenListener>(listener: &Option<L>) -> Result<(L::Stream, L::Stream), Failed>
+where
+    L::Stream: OpenStream,
+{
+    let Some(listener) = listener else {
+        return Err(Failed);
+    };
+    for _ in 0..u64::MAX {
+        match listener.accept() {
+            Ok((stream, _peer)) => return split(stream),
+            Err(e) => {
+                if !passes(e.kind()) {
+                    return Err(Failed);
+                }
+            }
+        }
+    }
+    Err(Failed)
+}
+
+/// Whether the next connection is waited for after a fault of this kind.
+fn passes(kind: ErrorKind) -> bool {
+    kind == ErrorKind::Interrupted || kind == ErrorKind::ConnectionAborted
+}
+
+/// Both ends of a connection, over which small pieces go out at once where the system can do so.
+fn split<S: OpenStream + Drop>(stream: S) -> Result<(S, S), Failed> {
+    let _ = stream.set_nodelay(true);
+    match stream.try_clone() {
+        Ok(twin) => Ok((stream, twin)),
+        Err(_) => Err(Failed),
+    }
+}
