@@ -1,0 +1,37 @@
+-- What an act on a trader answers, and leaves.
+use Rattle.std.proofs.Common.{◌≡◌, ℕ, Result, Ok, Err, IfOk, OnOk, OnErr, refl}
+use Rattle.td_cdr.specs.declared.memory.Memory.{Memory}
+use Rattle.td_marks.specs.Keeping.{IsKept as AreMarks}
+use Rattle.td_ops.specs.declared.call.Change.{Change}
+use Rattle.td_ops.specs.declared.call.Look.{Look}
+use Rattle.td_ops.specs.declared.call.Query.{Query}
+use Rattle.td_ops.specs.declared.outcome.Outcome.{Outcome}
+use Rattle.td_changes.specs.Applying.{seek}
+use Rattle.td_trader.specs.Following.{ActsBegin, ActsChange, ActsLook}
+use Rattle.td_trader.specs.PlainTraders.{AreBounds, PlainTrader, after_begin, after_change, begin_at, outcome_of}
+use Rattle.td_trader.specs.PlainTraders.{store_of}
+use Rattle.td_trader.specs.declared.begin.Begin.{Begin}
+use Rattle.td_stall.specs.Acting.{StartsQuery}
+
+pub changes : (t u : PlainTrader) (c : Change) (r : Result Outcome Memory) → IfOk r (λ o. o ≡ outcome_of t c)
+    → OnOk r (u ≡ after_change t c) → OnErr r (u ≡ t) → ActsChange t c r u
+changes t u c (Ok o) told after failed = (told, after)
+changes t u c (Err e) told after failed = failed
+
+pub looks : (t : PlainTrader) (l : Look) (r : Result (Outcome × ℕ) Memory) → IfOk r (λ a. a ≡ seek (store_of t) l)
+    → ActsLook t l r t
+looks t l (Ok a) told = (told, refl)
+looks t l (Err e) told = refl
+
+begins : (t u : PlainTrader) (q : Query) (r : Result Begin Memory) → IfOk r (λ b. b ≡ begin_at t q)
+    → IfOk r (λ b. u ≡ after_begin t q b) → OnErr r (u ≡ t) → ActsBegin t q r u
+begins t u q (Ok b) told after failed = (told, after)
+begins t u q (Err e) told after failed = failed
+
+pub starts : (t u : PlainTrader) (q : Query) (r : Result Begin Memory) → AreBounds t.bounds → AreMarks t.marks
+    → IfOk r (λ b. b ≡ begin_at t q) → IfOk r (λ b. u ≡ after_begin t q b) → OnErr r (u ≡ t) → StartsQuery t q r u
+starts t u q r bounds marks told after failed = record {
+  bounds = bounds;
+  marks = marks;
+  begins = begins t u q r told after failed;
+}

@@ -1,0 +1,30 @@
+-- A trader as the book of a cell: what an act answers, and what it leaves (OMG's Trading Object Service, the operations
+-- of Register, Link, Proxy, Admin, Lookup and ServiceTypeRepository).
+use Rattle.std.specs.Prelude.{Result}
+use Rattle.td_cdr.specs.declared.memory.Memory.{Memory}
+use Rattle.td_marks.specs.Keeping.{IsKept as AreMarks}
+use Rattle.td_ops.specs.declared.call.Query.{Query}
+use Rattle.td_trader.specs.Following.{ActsBegin, ActsChange, ActsLook}
+use Rattle.td_trader.specs.PlainTraders.{AreBounds, PlainTrader}
+use Rattle.td_trader.specs.declared.begin.Begin.{Begin}
+use Rattle.td_stall.specs.declared.stall.Act.{Act}
+use Rattle.td_stall.specs.declared.stall.Act.TheVariants as act
+use Rattle.td_stall.specs.declared.stall.Reply.{Reply}
+use Rattle.td_stall.specs.declared.stall.Reply.TheVariants as reply
+
+-- how a query begins at a trader with bounds and marks as each has them, and what it leaves
+pub record StartsQuery (t : PlainTrader) (q : Query) (r : Result Begin Memory) (u : PlainTrader) : Type 0 where
+  pub bounds : AreBounds t.bounds
+  pub marks : AreMarks t.marks
+  pub begins : ActsBegin t q r u
+
+abbrev pub Acts : PlainTrader → Act → Reply → PlainTrader → Type 0
+Acts t (act.Change c) (reply.Changed r) u = ActsChange t c r u
+Acts t (act.Change c) (reply.Looked r) u = ⊥
+Acts t (act.Change c) (reply.Begun r) u = ⊥
+Acts t (act.Look l) (reply.Changed r) u = ⊥
+Acts t (act.Look l) (reply.Looked r) u = ActsLook t l r u
+Acts t (act.Look l) (reply.Begun r) u = ⊥
+Acts t (act.Query q) (reply.Changed r) u = ⊥
+Acts t (act.Query q) (reply.Looked r) u = ⊥
+Acts t (act.Query q) (reply.Begun r) u = StartsQuery t q r u

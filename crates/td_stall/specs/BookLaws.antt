@@ -1,0 +1,75 @@
+-- The laws of a trader as the book of a cell.
+use Rattle.std.proofs.Common.{◌≡◌, ℕ, ◌+◌, ◌≤◌, inl, inr, List, [], ◌∷◌, length, length-append, sym, subst, arith}
+use Rattle.td_cdr.specs.Marks.{Marks, Later}
+use Rattle.td_register.specs.declared.history.Accepted.{Accepted}
+use Rattle.td_cell.specs.OwnMarks.{MarksOnce}
+use Rattle.td_trader.specs.Following.{Follows, MarksOnce as MarksAtMostOnce}
+use Rattle.td_trader.specs.PlainTraders.{PlainTrader}
+use Rattle.td_trader.proofs.Growing.{begin-once, change-once, follows-itself, follows-on, look-once}
+use Rattle.td_stall.specs.Acting.{Acts}
+use Rattle.td_stall.specs.declared.stall.Act.{Act}
+use Rattle.td_stall.specs.declared.stall.Act.TheVariants as act
+use Rattle.td_stall.specs.declared.stall.Reply.{Reply}
+use Rattle.td_stall.specs.declared.stall.Reply.TheVariants as reply
+
+-- ---- what a trader may become
+
+pub follows_itself : (t : PlainTrader) → Follows t t
+follows_itself t = follows-itself t
+
+pub follows_on : (t u v : PlainTrader) → Follows t u → Follows u v → Follows t v
+follows_on t u v p q = follows-on t u v p q
+
+pub grows : (t u : PlainTrader) → Follows t u → length t.history ≤ length u.history
+grows t u f = rw (f.history, length-append) (omega arith)
+
+pub marks_later : (t u : PlainTrader) → Follows t u → Later t.marks u.marks
+marks_later t u f = f.marks
+
+-- ---- what an act makes of it
+
+pub acts_follow : (t : PlainTrader) (a : Act) (r : Reply) (u : PlainTrader) → Acts t a r u → Follows t u
+acts_follow t (act.Change c) (reply.Changed r) u h = (change-once t u c r h).follows
+acts_follow t (act.Change c) (reply.Looked r) u h = absurd h
+acts_follow t (act.Change c) (reply.Begun r) u h = absurd h
+acts_follow t (act.Look l) (reply.Changed r) u h = absurd h
+acts_follow t (act.Look l) (reply.Looked r) u h = (look-once t u l r h).follows
+acts_follow t (act.Look l) (reply.Begun r) u h = absurd h
+acts_follow t (act.Query q) (reply.Changed r) u h = absurd h
+acts_follow t (act.Query q) (reply.Looked r) u h = absurd h
+acts_follow t (act.Query q) (reply.Begun r) u h = (begin-once t u q r h.bounds h.marks h.begins).follows
+
+within : (xs ys : List Accepted) → xs ≡ ys → length xs ≤ length ys + 1
+within xs ys e =
+    let most : length ys ≤ length ys + 1 = omega arith in
+    subst (λ (zs : List Accepted). length zs ≤ length ys + 1) (sym e) most
+
+pub acts_within : (t : PlainTrader) (a : Act) (r : Reply) (u : PlainTrader) → Acts t a r u
+    → length u.history ≤ length t.history + 1
+acts_within t (act.Change c) (reply.Changed r) u h = (change-once t u c r h).once
+acts_within t (act.Change c) (reply.Looked r) u h = absurd h
+acts_within t (act.Change c) (reply.Begun r) u h = absurd h
+acts_within t (act.Look l) (reply.Changed r) u h = absurd h
+acts_within t (act.Look l) (reply.Looked r) u h = (look-once t u l r h).once
+acts_within t (act.Look l) (reply.Begun r) u h = absurd h
+acts_within t (act.Query q) (reply.Changed r) u h = absurd h
+acts_within t (act.Query q) (reply.Looked r) u h = absurd h
+acts_within t (act.Query q) (reply.Begun r) u h =
+    within u.history t.history (begin-once t u q r h.bounds h.marks h.begins).history
+
+new_mark : (m n : Marks) → MarksAtMostOnce m n → MarksOnce m n
+new_mark m n (inl e) = inl e
+new_mark m n (inr f) = inr f.new
+
+pub makes_one_mark : (t : PlainTrader) (a : Act) (r : Reply) (u : PlainTrader) → Acts t a r u
+    → MarksOnce t.marks u.marks
+makes_one_mark t (act.Change c) (reply.Changed r) u h = inl (change-once t u c r h).marks
+makes_one_mark t (act.Change c) (reply.Looked r) u h = absurd h
+makes_one_mark t (act.Change c) (reply.Begun r) u h = absurd h
+makes_one_mark t (act.Look l) (reply.Changed r) u h = absurd h
+makes_one_mark t (act.Look l) (reply.Looked r) u h = inl (look-once t u l r h).marks
+makes_one_mark t (act.Look l) (reply.Begun r) u h = absurd h
+makes_one_mark t (act.Query q) (reply.Changed r) u h = absurd h
+makes_one_mark t (act.Query q) (reply.Looked r) u h = absurd h
+makes_one_mark t (act.Query q) (reply.Begun r) u h =
+    new_mark t.marks u.marks (begin-once t u q r h.bounds h.marks h.begins).once
