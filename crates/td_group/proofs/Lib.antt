@@ -1,0 +1,6 @@
+pub mod Calls
+pub mod Closed
+pub mod Passing
+pub mod RowLaws
+pub mod Seen
+pub mod Taken

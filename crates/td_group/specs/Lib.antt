@@ -1,0 +1,4 @@
+pub mod Grouping
+pub mod Rows
+pub mod Seeing
+pub mod Soundness

@@ -1,0 +1,7 @@
+//! Tests of the traders that sessions on threads share.
+#![tactic(auto)]
+
+#[cfg(test)]
+mod sample;
+#[cfg(test)]
+mod sharing;
