@@ -68,15 +68,19 @@ def request(key, operation, body):
     return bytes(it.bytes)
 
 
-def query(constraint, preference, desired, how_many, service_type="Printer"):
+def query(constraint, preference, desired, how_many, service_type="Printer", numbers=(), key="A/L"):
+    """A query; each of the numbers is a policy with its name."""
+
     def body(it):
         for word in (service_type, constraint, preference):
             it.string(word)
-        it.ulong(0)
+        it.ulong(len(numbers))
+        for name, value in numbers:
+            it.number(name, value)
         it.ulong(desired)
         it.ulong(how_many)
 
-    return request("A/L", "query", body)
+    return request(key, "query", body)
 
 
 def properties(it, number):
@@ -98,6 +102,10 @@ def export(number):
 
 def describe(number):
     return request("A/R", "describe", lambda it: it.string(str(number)))
+
+
+def withdraw(number):
+    return request("A/R", "withdraw", lambda it: it.string(str(number)))
 
 
 def modify(number, cost):
