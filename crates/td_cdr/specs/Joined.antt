@@ -13,7 +13,7 @@ use Rattle.td_cdr.specs.Place.{At}
 use Rattle.td_cdr.specs.Reading.{after, padding, aligned, number, ◌>>=◌, cell_at, number_at, octets_at}
 use Rattle.td_cdr.specs.Reading.{encapsulation_at, inside, within}
 use Rattle.td_cdr.specs.Spelling.{SpellsNumber, SpellsThen, SpellsOctets, SpellsWithin, IsFlag, Found, Joins}
-use Rattle.byteorder.specs.Numbers.{big_from-take, little_from-take, big_number-reads_back, little_number-reads_back}
+use Rattle.byteorder.specs.Numbers.{big_number-reads_back, little_number-reads_back}
 use Rattle.byteorder.specs.Numbers.{length-bytes_high_first, length-bytes_low_first}
 use Rattle.td_cdr.specs.Writing.{written_number, written_octets}
 use Rattle.std.proofs.lemmas.List.{append-nil, length-replicate}
@@ -32,11 +32,6 @@ done x = Ok x
 
 pub ok_is : {F A : Type 0} (x y : A) → done {F = F} x ≡ done y → x ≡ y
 ok_is x y e = cc
-
--- the number in n bytes reads no more than them
-number-take : (order : Order) (n : ℕ) (bytes : List ℕ) → number order n (take n bytes) ≡ number order n bytes
-number-take Big n bytes = big_from-take 0 n n bytes (omega arith)
-number-take Little n bytes = little_from-take 0 n n bytes (omega arith)
 
 pub number-found : (size : ℕ) (a : At) (v : ℕ) (next : At) → number_at size a ≡ Ok (v, next)
     → Found (SpellsNumber size) a v next

@@ -35,9 +35,6 @@ identifier (first ∷ others) = is_letter first && nat_le (length others) 255 &&
 abbrev pub trader_name : List ℕ → Bool
 trader_name name = nat_le 1 (length name) && nat_le (length name) 32 && list_all is_trader_byte name
 
-abbrev pub IsWordName : List ℕ → Type 0
-IsWordName name = IsTrue (word_name name)
-
 abbrev pub IsIdentifier : List ℕ → Type 0
 IsIdentifier name = IsTrue (identifier name)
 

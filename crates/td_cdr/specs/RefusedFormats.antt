@@ -13,7 +13,7 @@ use Rattle.td_cdr.specs.Faults.{NumberFault, OuterFault, WithinFault, ThenFault,
 use Rattle.td_cdr.specs.Format.{◌>>=◌, Format, number, with_fault, dependent_pair, ◌&◌, structure_format}
 use Rattle.td_cdr.specs.Format.{variant_format, constant_format, placeholder_format, failure_format, union_format}
 use Rattle.td_cdr.specs.Format.{restriction_format, or_fault, partial_format, encapsulation_format, array_format}
-use Rattle.td_cdr.specs.Format.{other_writing, sequence_format}
+use Rattle.td_cdr.specs.Format.{sequence_format}
 use Rattle.td_cdr.specs.FormatFaults.{Faults, no_fault, each_fault, RestrictionFault, PartialFault, ArrayFault}
 use Rattle.td_cdr.specs.FormatFaults.{SequenceFault}
 use Rattle.td_cdr.specs.Lawful.{Lawful}
@@ -77,10 +77,6 @@ failure_format-refuses {X = X} bad = record {
   told = λ a f h e. sym (fault_is (X × At) (bad a) f e);
   only = λ a f h d. ap (refusal (X × At)) (sym d);
 }
-
-pub other_writing-refuses : {F X : Type 0} (w : X → Order → ℕ → List ℕ) (g : Format F X) (faults : Faults F)
-    → Refuses faults g.reads → Refuses faults (other_writing w g).reads
-other_writing-refuses w g faults r = r
 
 -- ---- values that may not stand there
 

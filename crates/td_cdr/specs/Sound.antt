@@ -1,6 +1,6 @@
 -- Formats with their laws: a way to build one is a way to build the other too. A structure, a union or an
 -- operation's parameters is then one line of definition (CORBA, General Inter-ORB Protocol, "CDR Transfer Syntax").
-use Rattle.std.specs.Prelude.{◌≡◌, true, false, ℕ, ℤ, ◌+◌, ◌^◌, ◌++◌, Bool, List, length, map, Option, Some, None}
+use Rattle.std.specs.Prelude.{◌≡◌, true, false, ℕ, ℤ, ◌+◌, ◌^◌, ◌++◌, Bool, List, length, map, Option, Some}
 use Rattle.std.proofs.Common.{refl, ap, sym, ◌∙◌}
 use Rattle.std.specs.Int.{Width, w16, w32, w64}
 use mir.Val.{bits}
@@ -11,15 +11,15 @@ use Rattle.td_cdr.specs.Format.{Format, Piece, row, ◌then◌, number as a_numb
 use Rattle.td_cdr.specs.Format.{boolean as a_boolean, octets as some_octets, text as a_text, with_fault, dependent_pair}
 use Rattle.td_cdr.specs.Format.{◌&◌ as ◌and◌, structure_format, variant_format, constant_format, placeholder_format}
 use Rattle.td_cdr.specs.Format.{failure_format, restriction_format, encapsulation_format, array_format, union_format}
-use Rattle.td_cdr.specs.Format.{nth, upwards, partial_format, enumeration_format, value_named}
+use Rattle.td_cdr.specs.Format.{nth, upwards, partial_format, enumeration_format}
 use Rattle.td_cdr.specs.Format.{other_writing as otherwise_written, sequence_format}
 use Rattle.td_cdr.specs.Lawful.{Lawful}
 use Rattle.td_cdr.specs.LawfulFormats.{number-lawful, signed-lawful, boolean-lawful, octets-lawful, text-lawful}
 use Rattle.td_cdr.specs.LawfulFormats.{with_fault-lawful, dependent_pair-lawful, ◌&&&◌, structure_format-lawful}
 use Rattle.td_cdr.specs.LawfulFormats.{variant_format-lawful, constant_format-lawful, placeholder_format-lawful}
 use Rattle.td_cdr.specs.LawfulFormats.{failure_format-lawful, restriction_format-lawful, encapsulation_format-lawful}
-use Rattle.td_cdr.specs.LawfulFormats.{array_format-lawful, union_format-lawful, partial_format-lawful}
-use Rattle.td_cdr.specs.LawfulFormats.{enumeration_format-lawful, value_named-name, other_writing-lawful, times-length}
+use Rattle.td_cdr.specs.LawfulFormats.{array_format-lawful, union_format-lawful}
+use Rattle.td_cdr.specs.LawfulFormats.{enumeration_format-lawful, other_writing-lawful, times-length}
 use Rattle.td_cdr.specs.LawfulFormats.{times-row, sequence_format-lawful}
 use Rattle.td_cdr.specs.Faults.{NumberFault, BooleanFault, OctetsFault, StringFault, OuterFault, WithinFault, ThenFault}
 use Rattle.td_cdr.specs.Faults.{Refuses}
@@ -169,17 +169,6 @@ enumeration ys number_of forth all = record {
   refuses = partial_format-refuses (nth ys) number_of bad_value ulong.format ulong.faults ulong.lawful ulong.refuses;
 }
 
--- the values that a text names
-abbrev pub name_table : {F K : Type 0} (ks : List K) (name_of : K → List ℕ) (bad : List ℕ → At → F)
-    → ((k : K) → value_named name_of ks (name_of k) ≡ Some k) → Sound F (List ℕ) → Sound F K
-name_table ks name_of bad forth g = record {
-  format = partial_format (value_named name_of ks) name_of bad g.format;
-  lawful =
-      partial_format-lawful (value_named name_of ks) name_of bad g.format forth (value_named-name name_of ks) g.lawful;
-  faults = PartialFault g.format.spells (value_named name_of ks) bad g.faults;
-  refuses = partial_format-refuses (value_named name_of ks) name_of bad g.format g.faults g.lawful g.refuses;
-}
-
 -- only such values; the fault of another may name where it stands
 abbrev pub restriction : {F X : Type 0} → (X → Bool) → (X → At → F) → Sound F X → Sound F X
 restriction good bad g = record {
@@ -297,11 +286,6 @@ selection tag tag_of arms told = record {
 abbrev pub either : {F Y : Type 0} → Bool → Sound F Y → Sound F Y → Sound F Y
 either true g k = g
 either false g k = k
-
--- a value without bytes where there is one, else another format
-abbrev pub constant_or : {F Y : Type 0} → Option Y → Sound F Y → Sound F Y
-constant_or (Some y) g = constant y
-constant_or None g = g
 
 -- ---- the same bytes, written in another way
 

@@ -68,7 +68,8 @@ fn is_letter(byte: u8) -> bool
     byte.is_ascii_alphabetic()
 }
 
-fn is_word(byte: u8) -> bool
+/// Whether a byte is a letter, a digit or `_`.
+pub fn is_word(byte: u8) -> bool
     ensures { result ≡ is_word byte }
 {
     byte.is_ascii_alphanumeric() || byte == b'_'

@@ -9,6 +9,10 @@ use crate::writer::Writer;
 use std::alloc::Global;
 
 /// Two values.
+///
+/// # Errors
+///
+/// `Memory` for want of memory alone; the first of the values may then be written.
 pub fn put_two<A: Spelled, B: Spelled>(
     alloc: Global,
     w: &mut Writer,
@@ -22,6 +26,10 @@ pub fn put_two<A: Spelled, B: Spelled>(
 }
 
 /// Three values.
+///
+/// # Errors
+///
+/// `Memory` for want of memory alone; the first of the values may then be written.
 pub fn put_three<A: Spelled, B: Spelled, C: Spelled>(
     alloc: Global,
     w: &mut Writer,
@@ -36,6 +44,10 @@ pub fn put_three<A: Spelled, B: Spelled, C: Spelled>(
 }
 
 /// Four values.
+///
+/// # Errors
+///
+/// `Memory` for want of memory alone; the first of the values may then be written.
 pub fn put_four<A: Spelled, B: Spelled, C: Spelled, D: Spelled>(
     alloc: Global,
     w: &mut Writer,
@@ -52,6 +64,10 @@ pub fn put_four<A: Spelled, B: Spelled, C: Spelled, D: Spelled>(
 }
 
 /// Five values.
+///
+/// # Errors
+///
+/// `Memory` for want of memory alone; the first of the values may then be written.
 pub fn put_five<A: Spelled, B: Spelled, C: Spelled, D: Spelled, E: Spelled>(
     alloc: Global,
     w: &mut Writer,
@@ -69,6 +85,10 @@ pub fn put_five<A: Spelled, B: Spelled, C: Spelled, D: Spelled, E: Spelled>(
 }
 
 /// Six values.
+///
+/// # Errors
+///
+/// `Memory` for want of memory alone; the first of the values may then be written.
 pub fn put_six<A: Spelled, B: Spelled, C: Spelled, D: Spelled, E: Spelled, F: Spelled>(
     alloc: Global,
     w: &mut Writer,

@@ -315,7 +315,8 @@ impl Writer {
     }
 }
 
-fn flag_of(order: Order) -> u8
+/// The octet that tells the order: 0 for big-endian, 1 for little-endian.
+pub fn flag_of(order: Order) -> u8
     ensures { result ≡ flag order }
 {
     match order {

@@ -89,9 +89,6 @@ code-longlong = ap out-TypeCode (sym code.rolls-LongLong) ∙ out-roll-TypeCode 
 pub code-ulonglong : out-TypeCode code.ULongLong ≡ c.TypeCode::ULongLong
 code-ulonglong = ap out-TypeCode (sym code.rolls-ULongLong) ∙ out-roll-TypeCode c.TypeCode::ULongLong
 
-pub value-empty : out-Value value.Empty ≡ c.Empty
-value-empty = ap out-Value (sym value.rolls-Empty) ∙ out-roll-Value c.Empty
-
 pub value-short : (z : ℤ) → out-Value (value.Short z) ≡ c.Value::Short z
 value-short z = ap out-Value (sym (value.rolls-Short z)) ∙ out-roll-Value (c.Value::Short z)
 

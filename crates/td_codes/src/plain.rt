@@ -9,54 +9,63 @@ ghost use Rattle.td_codes.specs.Labels.{ulonglong_value, boolean_value, char_val
 use crate::code::Value;
 use td_cdr::{Reader, ValueFault};
 
+/// A short.
 pub fn short_at(r: &mut Reader) -> Result<Value, ValueFault>
     ensures { Gives is_memory r.new result (short_value.format.reads r.old) }
 {
     Ok(Value::Short(r.i16()?))
 }
 
+/// A long.
 pub fn long_at(r: &mut Reader) -> Result<Value, ValueFault>
     ensures { Gives is_memory r.new result (long_value.format.reads r.old) }
 {
     Ok(Value::Long(r.i32()?))
 }
 
+/// An unsigned short.
 pub fn ushort_at(r: &mut Reader) -> Result<Value, ValueFault>
     ensures { Gives is_memory r.new result (ushort_value.format.reads r.old) }
 {
     Ok(Value::UShort(r.u16()?))
 }
 
+/// An unsigned long.
 pub fn ulong_at(r: &mut Reader) -> Result<Value, ValueFault>
     ensures { Gives is_memory r.new result (ulong_value.format.reads r.old) }
 {
     Ok(Value::ULong(r.u32()?))
 }
 
+/// A long long.
 pub fn longlong_at(r: &mut Reader) -> Result<Value, ValueFault>
     ensures { Gives is_memory r.new result (longlong_value.format.reads r.old) }
 {
     Ok(Value::LongLong(r.i64()?))
 }
 
+/// An unsigned long long.
 pub fn ulonglong_at(r: &mut Reader) -> Result<Value, ValueFault>
     ensures { Gives is_memory r.new result (ulonglong_value.format.reads r.old) }
 {
     Ok(Value::ULongLong(r.u64()?))
 }
 
+/// A boolean.
 pub fn boolean_at(r: &mut Reader) -> Result<Value, ValueFault>
     ensures { Gives is_memory r.new result (boolean_value.format.reads r.old) }
 {
     Ok(Value::Boolean(r.boolean()?))
 }
 
+/// A char.
 pub fn char_at(r: &mut Reader) -> Result<Value, ValueFault>
     ensures { Gives is_memory r.new result (char_value.format.reads r.old) }
 {
     Ok(Value::Char(r.octet()?))
 }
 
+/// An octet.
 pub fn octet_at(r: &mut Reader) -> Result<Value, ValueFault>
     ensures { Gives is_memory r.new result (octet_value.format.reads r.old) }
 {

@@ -1,6 +1,6 @@
 -- When an any holds a DynamicProp (OMG's Trading Object Service, module CosTradingDynamic): by its
 -- TypeCode, without aliases at every level.
-use Rattle.std.specs.Prelude.{ℕ, Bool, true, false, IsTrue, ◌&&◌, List, [], ◌∷◌, nat_eq, codes}
+use Rattle.std.specs.Prelude.{ℕ, Bool, true, false, ◌&&◌, List, [], ◌∷◌, nat_eq, codes}
 use Rattle.std.specs.Cmp.Lexicographic.{pointwise}
 use Rattle.td_codes.specs.declared.code.TypeCode.{TypeCode}
 use Rattle.td_codes.specs.declared.kinds.CodeKind.TheVariants as kind
@@ -25,6 +25,3 @@ dynamic_kinds = number_of kind.ObjRef ∷ number_of kind.Code ∷ number_of kind
 abbrev pub dynamic_shape : Shape → Bool
 dynamic_shape s =
     nat_eq s.kind (number_of kind.Struct) && (pointwise nat_eq s.id dynamic_id && has_kinds dynamic_kinds s.inner)
-
-abbrev pub IsDynamic : TypeCode → Type 0
-IsDynamic t = IsTrue (dynamic_shape (shape t))
