@@ -2,9 +2,9 @@
 use Rattle.std.specs.Prelude.{◌≡◌, ℕ, Bool, true, false, List, [], ◌∷◌, Option, Some, Result, IfOk, OnOk}
 use Rattle.std.specs.Prelude.{OnErr, is_err}
 use Rattle.td_out.specs.declared.fault.Failed.{Failed}
-use Rattle.td_accept.specs.declared.calls.Calls.{Calls}
+use Rattle.td_out.specs.declared.calls.Calls.{Calls}
 use Rattle.td_accept.specs.declared.mem_accept.Endpoint.{Endpoint}
-use Rattle.td_accept.specs.Calls.{fails, counted, failed}
+use Rattle.td_out.specs.Calls.{fails, counted, failed}
 use Rattle.td_accept.specs.Doors.{Comes, Door, bound_to}
 
 pub record Listed (X : Type 0) : Type 0 where

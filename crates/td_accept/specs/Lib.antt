@@ -1,4 +1,3 @@
-pub mod Calls
 pub mod Doors
 pub mod InMemory
 pub mod Listening

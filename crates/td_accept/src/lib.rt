@@ -4,7 +4,6 @@
 #![tactic(auto)]
 
 mod accept;
-mod calls;
 mod gate;
 mod mem_accept;
 mod tcp_accept;

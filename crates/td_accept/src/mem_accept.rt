@@ -6,12 +6,11 @@ ghost use Rattle.td_accept.specs.InMemory.{Admits, Opens, some_of};
 ghost use Rattle.td_out.specs.Causes.{HasCause};
 
 use crate::accept::Accept;
-use crate::calls::Calls;
 use crate::visitor::Visitor;
 use std::alloc::Global;
 use std::marker::Model;
 use td_cdr::{List, Memory, Text};
-use td_out::{Failed, Sink, Source, Words};
+use td_out::{Calls, Failed, Sink, Source, Words};
 use td_wire::Wire;
 
 /// A host and a port.

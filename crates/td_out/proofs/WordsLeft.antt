@@ -20,3 +20,5 @@ words_behind words place = ap (λ n. drop n words) (add_comm place 1) ∙ sym (s
 
 pub no_word : (words : List ℕ) (place k : ℕ) → length words ≤ place → 0 ≡ get_or (drop place words) k 0
 no_word words place k h = rw (drop_all place words h) refl
+
+pub ruleset by_place = (first_word, later_word, words_behind, no_word)

@@ -19,6 +19,7 @@ mod std_source;
 mod texts;
 mod words;
 
+pub use calls::Calls;
 pub use chacha_words::ChaChaWords;
 pub use fault::{Failed, TextFault};
 pub use file_texts::FileTexts;

@@ -74,7 +74,7 @@ impl Words for MemWords {
         self.seeding = Some(SeedingBytes { key: bytes, stream });
     }
 
-    #[tactic(auto, using(crate::proofs::WordsLeft::first_word, crate::proofs::WordsLeft::later_word, crate::proofs::WordsLeft::words_behind, crate::proofs::WordsLeft::no_word))]
+    #[tactic(auto, using(crate::proofs::WordsLeft::by_place))]
     fn next(&mut self) -> u64
         ensures same { Unit {0} }
         ensures first { result ≡ word_in self.old 0 }

@@ -54,3 +54,5 @@ drawn {E = E} t now n new before after e g =
       end = λ none room. none_left t n new before after g none room;
       err = tt;
     })
+
+pub ruleset given = (gives_front, given_within, none_left)

@@ -30,3 +30,5 @@ pub first_answer : (answers : List (List ℕ)) (first : List ℕ) → 0 < length
     → first ≡ first_or_none answers
 first_answer [] first h e = absurd (omega arith)
 first_answer (answer ∷ answers) first h e = e
+
+pub ruleset by_number = (number_past, number_none, number_last, number_ended)

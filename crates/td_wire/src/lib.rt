@@ -2,7 +2,6 @@
 //! its content, and one over TCP, which tells nothing of it.
 #![tactic(auto)]
 
-mod calls;
 mod held;
 mod mem_wire;
 mod tcp_wire;

@@ -5,13 +5,12 @@ ghost use Rattle.td_out.specs.Causes.{HasCause, Takes};
 ghost use Rattle.td_wire.specs.Connections.{as_list, opened, Connects, Reads, Writes};
 ghost use Rattle.td_wire.specs.InMemory.{Draws, Opens, Puts, written_over};
 
-use crate::calls::Calls;
 use crate::held::{Held, draw, keep, put, take_first};
 use crate::wire::Wire;
 use std::alloc::Global;
 use std::marker::Model;
 use td_cdr::{List, Memory, Octets, Text};
-use td_out::Failed;
+use td_out::{Calls, Failed};
 
 /// A wire to peers that lie in memory: each connection gives the bytes that were set for it, and keeps what is
 /// written over it. Some calls fail.
@@ -78,7 +77,7 @@ impl MemWire {
 }
 
 /// What was written over a connection, counted from the first past one.
-#[tactic(auto, using(crate::proofs::Numbering::number_past, crate::proofs::Numbering::number_none, crate::proofs::Numbering::number_last, crate::proofs::Numbering::number_ended))]
+#[tactic(auto, using(crate::proofs::Numbering::by_number))]
 fn written_over<'a>(
     past: &'a [Held],
     current: &'a Option<Held>,
@@ -133,7 +132,7 @@ impl Wire for MemWire {
     }
 
     /// No connection that stands is a fault.
-    #[tactic(auto, using(crate::proofs::Drawing::gives_front, crate::proofs::Drawing::given_within, crate::proofs::Drawing::none_left))]
+    #[tactic(auto, using(crate::proofs::Drawing::given))]
     fn read(&mut self, into: &mut [u8]) -> Result<usize, Failed>
         ensures same { Unit {0} }
         ensures bytes { Reads into.new (Some self.old.traffic) (Some self.new.traffic) result }
