@@ -63,3 +63,5 @@ module _ (map : List Property) where
   of_truth p =
       ap (λ e. operand (fold-Expr (Option Content) (value_layer map) e)) (sym (expr.rolls-Truth p))
       ∙ ap operand (fold-roll-Expr (Option Content) (value_layer map) (layer.Truth p))
+
+pub ruleset by_variant = (of_binary, of_within, of_not, of_exist, of_name, of_number, of_text, of_truth)

@@ -69,3 +69,5 @@ unfolding names_in
 of_truth names p =
     ap (λ e. with_names names (fold-Expr Names names_layer e)) (sym (expr.rolls-Truth p))
     ∙ ap (with_names names) (fold-roll-Expr Names names_layer (layer.Truth p)) ∙ sym (none names)
+
+pub ruleset by_variant = (of_binary, of_within, of_not, of_exist, of_name, of_number, of_text, of_truth)

@@ -65,3 +65,7 @@ pub no_more : (x : Simple) (found : Bool) (kind : ℕ) (vs : List Value) (i : �
 no_more x found kind vs i h =
     ap (λ l. option_map (λ xs. found || list_any (equals x) xs) (all_under kind l)) (drop_all i vs h)
     ∙ ap (λ b. Some b) (or_false found)
+
+pub ruleset operands = (operand_one, operand_many)
+
+pub ruleset by_item = (one_more, none_more, no_more)

@@ -69,3 +69,5 @@ end constraint map made parts i h short =
     ap (rest_of constraint map made) (drop_all i parts h)
     ∙ ap (λ x. if_short (Some x)) (append-nil made)
     ∙ ap (λ b. if b then Some made else None) (le-leb (length made) 65536 short)
+
+pub ruleset by_part = (start, step, stop, too_long, end)

@@ -70,7 +70,7 @@ fn apply(op: Op, left: Operand, right: Operand) -> Option<Operand<'static>>
 
 /// The value of an expression, where it has one and that is no list. It recurses as deep as the tree is high,
 /// and copies no text.
-#[tactic(auto, using(crate::proofs::Evaluating::of_binary, crate::proofs::Evaluating::of_within, crate::proofs::Evaluating::of_not, crate::proofs::Evaluating::of_exist, crate::proofs::Evaluating::of_name, crate::proofs::Evaluating::of_number, crate::proofs::Evaluating::of_text, crate::proofs::Evaluating::of_truth))]
+#[tactic(auto, using(crate::proofs::Evaluating::by_variant))]
 pub(crate) fn evaluate<'a>(e: &'a Expr, map: &'a [Property]) -> Option<Operand<'a>>
     ensures { option_map view result ≡ simple_value map.now e.now }
 {

@@ -145,7 +145,7 @@ fn put_part(
 /// # Errors
 ///
 /// `Memory` for want of memory alone.
-#[tactic(auto, using(crate::proofs::Parts::start, crate::proofs::Parts::step, crate::proofs::Parts::stop, crate::proofs::Parts::too_long, crate::proofs::Parts::end))]
+#[tactic(auto, using(crate::proofs::Parts::by_part))]
 pub fn expand_recipe(
     alloc: Global,
     recipe: &Recipe,

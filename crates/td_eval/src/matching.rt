@@ -12,6 +12,10 @@ use td_lang::Constraint;
 use td_value::Property;
 
 /// Whether the constraint matches: it is empty, or its value is TRUE. It takes no memory.
+///
+/// # Errors
+///
+/// None: it answers `Ok` always.
 pub fn matches(constraint: &Constraint, map: &List<Property>) -> Result<bool, Memory>
     ensures { result ≡ Ok (matching map.now constraint.now) }
 {

@@ -28,7 +28,7 @@ fn add_name(alloc: Global, names: &mut List<Text>, name: &Text) -> Result<(), Me
 }
 
 /// Adds the names in an expression that aren't there yet, in the order of mention.
-#[tactic(auto, using(crate::proofs::Mentions::of_binary, crate::proofs::Mentions::of_within, crate::proofs::Mentions::of_not, crate::proofs::Mentions::of_exist, crate::proofs::Mentions::of_name, crate::proofs::Mentions::of_number, crate::proofs::Mentions::of_text, crate::proofs::Mentions::of_truth))]
+#[tactic(auto, using(crate::proofs::Mentions::by_variant))]
 fn add_names(alloc: Global, names: &mut List<Text>, e: &Expr) -> Result<(), Memory>
     ensures { OnOk result (names.new ≡ with_names names.old (names_in e.now)) }
 {

@@ -137,7 +137,7 @@ fn simple_under<'a>(kind: u32, value: &'a Value) -> Option<Operand<'a>>
 }
 
 /// What an any is, where it is no list.
-#[tactic(auto, unfolding(crate::specs::Kinds::content_of), using(crate::proofs::Operating::operand_one, crate::proofs::Operating::operand_many))]
+#[tactic(auto, unfolding(crate::specs::Kinds::content_of), using(crate::proofs::Operating::operands))]
 fn simple_of<'a>(any: &'a Any) -> Option<Operand<'a>>
     ensures { option_map view result ≡ operand (content_of any.now) }
 {
@@ -170,7 +170,7 @@ fn is_of(sort: Sort, operand: Operand) -> bool
 }
 
 /// Whether a value is one of these under a kind, where each of them is something.
-#[tactic(auto, using(crate::proofs::Operating::one_more, crate::proofs::Operating::none_more, crate::proofs::Operating::no_more))]
+#[tactic(auto, using(crate::proofs::Operating::by_item))]
 fn contains(item: Operand, kind: u32, items: &[Value]) -> Option<bool>
     ensures { result ≡ option_map (list_any (equals (view item.entry))) (all_under kind items.now) }
 {
