@@ -8,6 +8,7 @@ use crate::pass::View;
 use atomic_table::{Join, Play, Split, TableRule};
 use std::snapshot::Snapshot;
 
+/// The table's rule: what the cell holds is kept as the steps below tell it.
 pub struct Turns;
 
 impl<B: Book> TableRule<B, View<B>, Snapshot<B>> for Turns {

@@ -1,3 +1,5 @@
+//! Why a stream is given up.
+
 use thiserror::Error;
 
 /// Why a message header is refused. The first that fits, in this order, is answered.

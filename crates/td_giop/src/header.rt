@@ -50,6 +50,10 @@ pub struct Header {
 }
 
 /// The header in front, once its octets are there.
+///
+/// # Errors
+///
+/// The first `FrameFault` that fits, in the order of its variants.
 #[tactic(auto, unfolding(crate::specs::Header::header_at))]
 pub fn judge(ring: &HeapCircularBuffer<u8>, limit: u32) -> Result<Option<Header>, FrameFault>
     ensures { result ≡ header_at limit ring.now.items }

@@ -1,3 +1,5 @@
+//! A message as the framer lends it.
+
 use td_cdr::Order;
 
 /// A whole message, lent.

@@ -2,14 +2,14 @@
 //! appends, and the seal that sets the size field.
 
 ghost use Rattle.std.specs.Prelude.{◌≡◌, ◌+◌, ◌≤◌, ◌<◌, ◌^◌, [], ◌∷◌, ◌++◌, length, OnOk, OnErr};
-ghost use Rattle.td_cdr.specs.Gap.{flag, gap};
+ghost use Rattle.td_cdr.specs.Gap.{gap};
 ghost use Rattle.td_cdr.specs.Writing.{Adds, written_octets};
 ghost use Rattle.td_giop.specs.Written.{octets_end, request_size, header_written, request_start, reply_start};
 ghost use Rattle.td_giop.specs.Written.{locate_written, locate_reply_written, sealed};
 
 use crate::header::{HEADER_SIZE, MAGIC, MAJOR, MINOR, SIZE_PLACE};
 use crate::message_type::{LOCATE_REPLY, LOCATE_REQUEST, REPLY, REQUEST};
-use td_cdr::{Memory, Order, Writer};
+use td_cdr::{Memory, Writer, flag_of};
 
 /// How long the start of a Reply is: the header, the number of contexts, the request id and the status.
 const REPLY_SIZE: usize = HEADER_SIZE + 12;
@@ -93,7 +93,8 @@ pub fn start_reply(w: &mut Writer, id: u32, status: u32) -> Result<(), Memory>
     w.u32(status)
 }
 
-/// Writes a LocateRequest. The writer is empty.
+/// Writes a LocateRequest. The writer is empty. No program of this repository sends one: it serves tests, and the law
+/// that what is written is read.
 ///
 /// # Errors
 ///
@@ -125,7 +126,8 @@ pub fn write_locate_reply(w: &mut Writer, id: u32, status: u32) -> Result<(), Me
     w.u32(status)
 }
 
-/// Writes a message that is a header alone: a CloseConnection or a MessageError. The writer is empty.
+/// Writes a message that is a header alone: a CloseConnection or a MessageError. The writer is empty. No program of this
+/// repository sends one.
 ///
 /// # Errors
 ///
@@ -144,16 +146,6 @@ fn put_header(w: &mut Writer, kind: u8) -> Result<(), Memory>
     let order = flag_of(w.order());
     let [g, i, o, p] = MAGIC;
     w.append(&[g, i, o, p, MAJOR, MINOR, order, kind, 0, 0, 0, 0])
-}
-
-/// The octet that tells the order.
-fn flag_of(order: Order) -> u8
-    ensures { result ≡ flag order }
-{
-    match order {
-        Order::Big => 0,
-        Order::Little => 1,
-    }
 }
 
 /// Sets the size field to the number of bytes behind the header. Takes no memory.
