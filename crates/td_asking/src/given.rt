@@ -9,7 +9,8 @@ use crate::fault::AskFault;
 use hex::FromHexError;
 use std::alloc::Global;
 use td_cdr::Octets;
-use td_forms::{number_up_to, rule_named};
+use td_forms::rule_named;
+use td_ior::number_up_to;
 use td_value::FollowOption;
 
 /// How many offers are asked for where the words don't say.

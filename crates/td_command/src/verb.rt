@@ -4,7 +4,7 @@ ghost use Rattle.std.specs.Prelude.{◌≡◌, ◌≤◌, IfSome};
 ghost use Rattle.td_command.specs.Commands.{count_of, from_one, verb_name, verb_named};
 
 use td_cdr::{Named, find_named};
-use td_forms::number_up_to;
+use td_ior::number_up_to;
 
 /// What a command does.
 #[derive(Clone, Copy, Debug, PartialEq, Eq)]

@@ -3,7 +3,6 @@
 
 mod item;
 mod names;
-mod number;
 mod sequence;
 mod signed;
 mod value_type;
@@ -11,6 +10,5 @@ mod values;
 
 pub use item::ItemType;
 pub use names::{mode_named, rule_named, truth_named};
-pub use number::number_up_to;
 pub use value_type::{ValueType, code_of, value_type_of};
 pub use values::value_of;

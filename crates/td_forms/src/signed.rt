@@ -3,7 +3,7 @@
 ghost use Rattle.std.specs.Prelude.{◌≡◌, ◌≤◌};
 ghost use Rattle.td_forms.specs.Numbers.{minus, negative, positive, signed_below};
 
-use crate::number::number_up_to;
+use td_ior::number_up_to;
 
 /// -n, and nothing for 0.
 fn minus_short(n: u64) -> Option<i16>

@@ -8,12 +8,12 @@ ghost use Rattle.td_forms.specs.Values.{sequence_value, u_short_value, value_of}
 
 use crate::item::ItemType;
 use crate::names::truth_named;
-use crate::number::number_up_to;
 use crate::sequence::items_of;
 use crate::signed::{long_long_of, long_of, short_of};
 use crate::value_type::ValueType;
 use std::alloc::Global;
 use td_cdr::{Memory, Text};
+use td_ior::number_up_to;
 use td_value::Value;
 
 fn short_value(text: &[u8]) -> Option<Value>

@@ -3,9 +3,8 @@
 use std::alloc::Global;
 use std::test::Fail;
 use td_cdr::{Boxed, Memory};
-use td_forms::{
-    code_of, mode_named, number_up_to, rule_named, truth_named, value_of, value_type_of,
-};
+use td_forms::{code_of, mode_named, rule_named, truth_named, value_of, value_type_of};
+use td_ior::number_up_to;
 use td_value::{FollowOption, PropertyMode, TypeCode, Value};
 
 /// Words of types and texts that spell a value of the type: `TYPE TEXT`.

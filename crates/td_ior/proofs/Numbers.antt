@@ -112,23 +112,27 @@ below-not limit word t e =
     ap (λ (x : Bool). x && nat_lt (number_after 0 word) limit) (sym t) ∙ f in
     grind (arith, nat_tests)
 
--- a port is a number of 64 bits that is below 65536
-port-none-at : (t : Bool) (word : List ℕ) → numeral word ≡ t → number_of word ≡ None → number_below 65536 word ≡ None
-port-none-at true word t e = let big = below-not (2 ^ 64) word t e in below-large 65536 word (omega arith)
-port-none-at false word t e = below-none 65536 word t
+-- ---- numbers below a limit, from numbers of 64 bits
 
-pub port-none : (word : List ℕ) → number_of word ≡ None → number_below 65536 word ≡ None
-port-none word e = port-none-at (numeral word) word refl e
+none-at : (limit : ℕ) (t : Bool) (word : List ℕ) → limit ≤ 2 ^ 64 → numeral word ≡ t → number_of word ≡ None
+    → number_below limit word ≡ None
+none-at limit true word low t e = let big = below-not (2 ^ 64) word t e in below-large limit word (omega arith)
+none-at limit false word low t e = below-none limit word t
 
-pub port-some : (word : List ℕ) (n : ℕ) → number_of word ≡ Some n → n < 65536 → number_below 65536 word ≡ Some n
-port-some word n e h =
+pub limit-none : (limit : ℕ) (word : List ℕ) → limit ≤ 2 ^ 64 → number_of word ≡ None → number_below limit word ≡ None
+limit-none limit word low e = none-at limit (numeral word) word low refl e
+
+pub limit-some : (limit : ℕ) (word : List ℕ) (n : ℕ) → number_of word ≡ Some n → n < limit
+    → number_below limit word ≡ Some n
+limit-some limit word n e h =
     let p = below-parts (2 ^ 64) word n e in
-    below-made 65536 word n (record { numeral_is = p.numeral_is; same = p.same; below = h })
+    below-made limit word n (record { numeral_is = p.numeral_is; same = p.same; below = h })
 
-pub port-large : (word : List ℕ) (n : ℕ) → number_of word ≡ Some n → 65536 ≤ n → number_below 65536 word ≡ None
-port-large word n e h =
+pub limit-large : (limit : ℕ) (word : List ℕ) (n : ℕ) → number_of word ≡ Some n → limit ≤ n
+    → number_below limit word ≡ None
+limit-large limit word n e h =
     let p = below-parts (2 ^ 64) word n e in
-    below-large 65536 word (omega arith)
+    below-large limit word (omega arith)
 
 -- ---- what is read is spelled so, and only so
 

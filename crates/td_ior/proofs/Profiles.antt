@@ -98,9 +98,6 @@ front p ps v h s = record {
 none-is : (p : Profile) → iiop_in p ≡ None → (w : Iiop) → ¬ (IsIiop p w)
 none-is p e = λ w s. cc (profile-only p w s, e)
 
-abbrev some_iiop : Iiop → Option Iiop
-some_iiop v = Some v
-
 mutual_found : (o : Option Iiop) (p : Profile) (ps : List Profile) (v : Iiop) → iiop_in p ≡ o
     → or_else o (first_iiop ps) ≡ Some v → ((first_iiop ps ≡ Some v) → IsFirstIiop ps v) → IsFirstIiop (p ∷ ps) v
 mutual_found (Some w) p ps v e h later = record {

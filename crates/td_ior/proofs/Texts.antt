@@ -201,9 +201,6 @@ plain-only text r s = rw (parts-only text r s) (ap (λ (x : Ior). Some x) (sym s
 
 -- ---- the form of `IOR:` and digits
 
-abbrev octets_option : Result (List ℕ) FromHexError → Option (List ℕ)
-octets_option r = result_ok r
-
 decoded-found : (r : Result (List ℕ) FromHexError) (octets : List ℕ) → result_ok r ≡ Some octets → r ≡ Ok octets
 decoded-found (Ok x) octets e = ap (λ (y : List ℕ). Ok y) (some-is x octets e)
 decoded-found (Err d) octets e = absurd cc

@@ -1,9 +1,9 @@
 //! Numbers in decimal, without leading zeros.
 
-ghost use Rattle.std.specs.Prelude.{◌≡◌};
+ghost use Rattle.std.specs.Prelude.{◌≡◌, ◌+◌, ◌≤◌, IfSome};
 ghost use Rattle.std.specs.List.{list_all};
 ghost use Rattle.td_cdr.specs.Names.{is_digit};
-ghost use Rattle.td_ior.specs.Number.{leads_with_zero, numeral, number_of, port_of};
+ghost use Rattle.td_ior.specs.Number.{leads_with_zero, numeral, number_below, number_of, port_of};
 
 fn is_digit(byte: u8) -> bool
     ensures { result ≡ is_digit byte }
@@ -31,7 +31,7 @@ fn is_numeral(word: &[u8]) -> bool
 }
 
 /// The number below 2^64 that a word spells in decimal without leading zeros.
-pub(crate) fn number_of(word: &[u8]) -> Option<u64>
+pub fn number_of(word: &[u8]) -> Option<u64>
     ensures { result ≡ number_of word.now }
 {
     if !is_numeral(word) {
@@ -41,6 +41,15 @@ pub(crate) fn number_of(word: &[u8]) -> Option<u64>
         return None;
     };
     text.parse().ok()
+}
+
+/// The number that a word spells in decimal without leading zeros, where it is at most `most`.
+pub fn number_up_to(word: &[u8], most: u64) -> Option<u64>
+    ensures found { result ≡ number_below (most + 1) word.now }
+    ensures small { IfSome result (λ n. n ≤ most) }
+{
+    let number = number_of(word)?;
+    if number <= most { Some(number) } else { None }
 }
 
 /// The port that a word spells, from 0 to 65535.

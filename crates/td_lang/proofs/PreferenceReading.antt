@@ -30,12 +30,6 @@ use Rattle.td_lang.proofs.TapeSpelling.{AllOnTape, tape_kept}
 
 -- ---- a list of tokens is one preference
 
-abbrev with_expression : Keyword → Expr → Preference
-with_expression keyword.Min e = preference.Min e
-with_expression keyword.Max e = preference.Max e
-with_expression keyword.With e = preference.With e
-with_expression k e = preference.Empty
-
 abbrev picked_behind : Keyword → List Token → Result Preference Stop
 picked_behind keyword.First [] = Ok preference.First
 picked_behind keyword.First (t ∷ ts) = Err stop.Refused

@@ -63,3 +63,5 @@ printed_quoted text t l = ap (λ (c : Phrase). put_all text (tokens c)) (of-Str 
 
 pub printed_truth : (text : List ℕ) (b : Bool) (l : ℕ) → expr_text text (expr.Truth b) l ≡ put text (token.Truth b)
 printed_truth text b l = ap (λ (c : Phrase). put_all text (tokens c)) (of-Truth b l)
+
+pub ruleset printed = (printed_binary, printed_exist, printed_name, printed_number, printed_quoted, printed_truth)

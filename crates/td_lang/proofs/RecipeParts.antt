@@ -14,6 +14,7 @@ use Rattle.td_cdr.specs.Names.{identifier, is_letter, is_word}
 use Rattle.td_lang.specs.declared.expr.Part.{Part}
 use Rattle.td_lang.specs.declared.expr.Part.TheVariants as part
 use Rattle.td_lang.proofs.Conjunction.{and-left, and-right}
+use Rattle.td_lang.proofs.Words.{word_letter}
 use Rattle.td_lang.specs.Recipes.{SpellsPart, Begins, SpellsParts, IsRefusedAt, part_in_front, escape_part, dollar_part}
 use Rattle.td_lang.specs.Recipes.{property_part, named_part}
 
@@ -128,16 +129,13 @@ end-place (x ∷ name) more e =
     let rest = end-place name more (and-right (is_word x) (list_all is_word name) e) in
     rw other (omega (arith, rest))
 
-word-letter : (b : ℕ) → is_letter b ≡ true → is_word b ≡ true
-word-letter b h = rw h refl
-
 all-words : (name : List ℕ) → identifier name ≡ true → list_all is_word name ≡ true
 all-words [] e = absurd cc
 all-words (b ∷ others) e =
     let letter =
     and-left (is_letter b) (nat_le (length others) 255)
     (and-left (is_letter b && nat_le (length others) 255) (list_all is_word others) e) in
-    rw (word-letter b letter) (and-right (is_letter b && nat_le (length others) 255) (list_all is_word others) e)
+    rw (word_letter b letter) (and-right (is_letter b && nat_le (length others) 255) (list_all is_word others) e)
 
 at_place : (xs : List ℕ) (i : ℕ) → position_or_len is_end xs ≡ i → i < length xs → position is_end xs ≡ Some i
 at_place xs i e h =
@@ -177,11 +175,12 @@ front-only (part.Property name) piece more h =
     subst (Leads (part.Property name) more) (sym h.1) (named-only name more h.0)
 
 -- what begins a text is what stands in its front
-begins-front : (bytes : List ℕ) (p : Part) (rest : List ℕ) (b : Begins bytes p rest)
+pub begins-front : (bytes : List ℕ) (p : Part) (rest : List ℕ) (b : Begins bytes p rest)
     → part_in_front bytes ≡ Some (p, length b.piece)
 begins-front bytes p rest b = ap part_in_front b.whole ∙ front-only p b.piece rest b.spells
 
-begins-rest : (bytes : List ℕ) (p : Part) (rest : List ℕ) (b : Begins bytes p rest) → drop (length b.piece) bytes ≡ rest
+pub begins-rest : (bytes : List ℕ) (p : Part) (rest : List ℕ) (b : Begins bytes p rest)
+    → drop (length b.piece) bytes ≡ rest
 begins-rest bytes p rest b = ap (drop (length b.piece)) b.whole ∙ drop_at b.piece rest (length b.piece) refl
 
 front-none : (bytes : List ℕ) → part_in_front bytes ≡ None → (p : Part) (more : List ℕ) → Begins bytes p more → ⊥

@@ -21,6 +21,7 @@ use Rattle.td_lang.specs.declared.token.Token.TheVariants as token
 use Rattle.td_lang.specs.Lexing.{lead, word_token, byte_at, word_at, own_name_at, value_of, number_at, quoted_from}
 use Rattle.td_lang.specs.Lexing.{quoted_of, quoted_at, comparison_at, sign_at, token_at}
 use Rattle.td_lang.specs.Spelling.{operator_word, is_reserved, needs_backslash, inside_quotes, Spells, EndsWord, Apart}
+use Rattle.td_lang.proofs.Words.{word_letter}
 
 lead_exact : (p : ℕ → Bool) (w more : List ℕ) → list_all p w ≡ true → p (byte_at more 0) ≡ false
     → lead p (w ++ more) ≡ length w
@@ -37,9 +38,6 @@ pub record PropertyName (w : List ℕ) : Type 0 where
   pub letter : is_letter first ≡ true
   pub words : list_all is_word w ≡ true
   pub short : length w ≤ 256
-
-word_letter : (b : ℕ) → is_letter b ≡ true → is_word b ≡ true
-word_letter b h = rw h refl
 
 pub named : (w : List ℕ) → IsIdentifier w → PropertyName w
 named [] i = absurd (cc)

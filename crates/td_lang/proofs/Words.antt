@@ -32,7 +32,7 @@ identifier_front : (b : ℕ) (bs : List ℕ) (n : ℕ) → is_letter b ≡ true 
 identifier_front b bs n letter short within all =
     rw letter (rw (length-take-le n bs within) (rw (le-leb n 255 short) all))
 
-word_letter : (b : ℕ) → is_letter b ≡ true → is_word b ≡ true
+pub word_letter : (b : ℕ) → is_letter b ≡ true → is_word b ≡ true
 word_letter b h = rw h refl
 
 pub name_front : (name : List ℕ) → is_letter (byte_at name 0) ≡ true → lead is_word name ≤ 256

@@ -12,8 +12,9 @@ use crate::expr::Op;
 use crate::fault::LangFault;
 use crate::token::{Keyword, Token};
 use std::alloc::Global;
-use td_cdr::{Memory, Text};
+use td_cdr::{Memory, Text, is_word};
 
+/// Whether a byte is a blank, which parts tokens.
 pub fn is_blank(byte: u8) -> bool
     ensures { result ≡ is_blank byte }
 {
@@ -30,12 +31,6 @@ fn is_digit(byte: u8) -> bool
     ensures { result ≡ is_digit byte }
 {
     byte.is_ascii_digit()
-}
-
-fn is_word(byte: u8) -> bool
-    ensures { result ≡ is_word byte }
-{
-    byte.is_ascii_alphanumeric() || byte == b'_'
 }
 
 /// The byte at a place, 0 past the end.

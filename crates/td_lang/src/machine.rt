@@ -68,6 +68,7 @@ impl<T: Drop> From<AllocFailed<T>> for Stop {
     }
 }
 
+/// The level of the production that has the operator: 1 binds least.
 pub fn level(op: Op) -> u8
     ensures { result ≡ level op }
 {
@@ -81,6 +82,7 @@ pub fn level(op: Op) -> u8
     }
 }
 
+/// The level of its left operand.
 pub fn left(op: Op) -> u8
     ensures { result ≡ left op }
 {
@@ -93,6 +95,7 @@ pub fn left(op: Op) -> u8
     }
 }
 
+/// The level of its right operand.
 pub fn right(op: Op) -> u8
     ensures { result ≡ right op }
 {
@@ -161,6 +164,11 @@ fn waits(stack: &[Frame], next: u8) -> bool
 }
 
 /// Takes a token.
+///
+/// # Errors
+///
+/// `Refused` where the token can't stand here, `Deep` where more parentheses than 64 would be open, or `Memory` for
+/// want of memory.
 pub fn step(
     alloc: Global,
     stack: &mut Vec<Frame>,
@@ -371,6 +379,10 @@ fn close(
 }
 
 /// What was read, where the text ends.
+///
+/// # Errors
+///
+/// `Refused` where no expression ends here, or `Memory` for want of memory.
 pub fn end(alloc: Global, stack: Vec<Frame>, state: State) -> Result<Expr, Stop>
     ensures { Gives (λ e. e) result (end_of (reverse stack.items) state) }
 {

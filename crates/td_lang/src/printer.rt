@@ -231,7 +231,7 @@ fn close_if(out: &mut Vec<u8>, wanted: bool) -> Result<(), Memory>
 
 /// Prints an operand behind a text, where the grammar has something of the level `place`. It recurses as
 /// deep as the tree is.
-#[tactic(auto, using(crate::proofs::PrintSteps::printed_binary, crate::proofs::PrintSteps::printed_exist, crate::proofs::PrintSteps::printed_name, crate::proofs::PrintSteps::printed_number, crate::proofs::PrintSteps::printed_quoted, crate::proofs::PrintSteps::printed_truth))]
+#[tactic(auto, using(crate::proofs::PrintSteps::printed))]
 #[cycle(print)]
 pub(crate) fn print(alloc: Global, out: &mut Vec<u8>, e: &Expr, place: u8) -> Result<(), Memory>
     ensures { OnOk result (out.new.items ≡ expr_text out.old.items e.now place) }

@@ -79,6 +79,10 @@ fn turn(
 }
 
 /// The expression that stands in a text from a place on, up to its end.
+///
+/// # Errors
+///
+/// The fault of the first token that can't be read or can't stand where it does, with its place; or want of memory.
 pub fn read_from(alloc: Global, text: &[u8], from: u32) -> Result<Expr, LangFault>
     requires short { length text.now ≤ 4096 }
     requires place { from ≤ length text.now }

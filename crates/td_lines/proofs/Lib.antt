@@ -1,5 +1,6 @@
 pub mod Blanks
 pub mod Feeds
+pub mod OnLiterals
 pub mod Pairs
 pub mod Sounding
 pub mod Stepping

@@ -22,4 +22,5 @@ comment_alone = file (codes "# one" ∷ [] ∷ [])
 
 -- a trader with a link to one that isn't there yet, and an attribute that is set, without a last line feed
 abbrev pub linked : List ℕ
-linked = file (codes "address h 9" ∷ codes "trader A" ∷ codes "link l B local_only always" ∷ []) ++ codes "set max_list 7"
+linked =
+    file (codes "address h 9" ∷ codes "trader A" ∷ codes "link l B local_only always" ∷ []) ++ codes "set max_list 7"

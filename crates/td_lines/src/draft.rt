@@ -1,8 +1,6 @@
 //! What the lines so far say.
 
 ghost use Rattle.std.specs.Prelude.{◌≡◌, [], IfOk, OnOk};
-ghost use Rattle.std.specs.List.{list_any};
-ghost use Rattle.std.specs.Str.{bytes_eq};
 ghost use Rattle.td_lines.specs.Drafts.{has_trader, line_above, nothing_yet, offer_line};
 ghost use Rattle.td_lines.specs.Drafts.{type_line, with_entry};
 
@@ -133,11 +131,4 @@ impl Draft {
             Part::Dynamic => self.offer_line(),
         }
     }
-}
-
-/// Whether a name is among these.
-pub(crate) fn is_among(name: &[u8], names: &[Text]) -> bool
-    ensures { result ≡ list_any (bytes_eq name.now) names.now }
-{
-    names.iter().any(|other| name == other.as_slice())
 }

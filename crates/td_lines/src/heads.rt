@@ -6,7 +6,7 @@ ghost use Rattle.td_lines.specs.Heads.{finished, is_declared, opened_trader, wit
 ghost use Rattle.td_lines.specs.Heads.{with_declared, with_seed, with_set, with_stem, with_trader};
 
 use crate::cause::{LineCause, Misfit};
-use crate::draft::{Draft, is_among};
+use crate::draft::Draft;
 use crate::entry::{Entry, TraderScript};
 use crate::hexadecimal::{octets_told, seed_told};
 use crate::home::{has_nul, have_nul, home_told};
@@ -15,7 +15,7 @@ use crate::words::{cut_word, one_word, two_words, words_of};
 use std::alloc::Global;
 use std::mem;
 use td_cdr::{List, Memory, Text, is_trader_name};
-use td_ops::Change;
+use td_ops::{Change, is_among};
 
 impl Draft {
     /// `address HOST PORT`

@@ -10,7 +10,7 @@ use crate::cause::{LineCause, Misfit};
 use crate::entry::Home;
 use std::alloc::Global;
 use td_cdr::Text;
-use td_forms::number_up_to;
+use td_ior::number_up_to;
 
 pub(crate) fn has_nul(bytes: &[u8]) -> bool
     ensures { result ≡ has_nul bytes.now }

@@ -2,11 +2,11 @@
 
 ghost use Rattle.std.specs.Prelude.{◌≡◌, [], is_some};
 ghost use Rattle.td_lines.specs.Causes.{Gives};
-ghost use Rattle.td_lines.specs.References.{is_nil, reference_told, register_told};
+ghost use Rattle.td_lines.specs.References.{reference_told, register_told};
 
 use crate::cause::{LineCause, Misfit};
 use std::alloc::Global;
-use td_ior::{IorFault, read_text};
+use td_ior::{IorFault, is_nil, read_text};
 use td_value::Ior;
 
 /// The reference that a word spells.
@@ -18,13 +18,6 @@ pub(crate) fn reference_told(alloc: Global, word: &[u8]) -> Result<Ior, Misfit>
         Err(IorFault::Memory) => Err(Misfit::Memory),
         Err(_) => Err(Misfit::Is(LineCause::Reference)),
     }
-}
-
-/// Whether a reference is nil: it has neither an id nor a profile.
-fn is_nil(reference: &Ior) -> bool
-    ensures { result ≡ is_nil reference.now }
-{
-    reference.id.len() == 0 && reference.profiles.len() == 0
 }
 
 /// The register that a word spells; a nil reference is none.

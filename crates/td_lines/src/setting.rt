@@ -9,7 +9,8 @@ ghost use Rattle.td_ops.specs.Attributes.{follow_name, number_name, truth_name};
 
 use crate::cause::{LineCause, Misfit};
 use td_cdr::{Named, find_named};
-use td_forms::{number_up_to, rule_named, truth_named};
+use td_forms::{rule_named, truth_named};
+use td_ior::number_up_to;
 use td_ops::{Change, FollowAttribute, NumberAttribute, TruthAttribute};
 
 /// An attribute that a file may set.

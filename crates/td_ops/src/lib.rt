@@ -11,6 +11,7 @@ mod copying_outcomes;
 mod fault;
 mod finding;
 mod laws;
+mod names;
 mod operation;
 mod outcome;
 mod reading;
@@ -34,11 +35,12 @@ pub use laws::{
     bodies_are_refused, calls_are_read_back, calls_are_spelled, exceptions_are_read_back,
     operations_are_named, outcomes_are_read_back,
 };
+pub use names::is_among;
 pub use operation::{
     AdminOperation, IteratorOperation, LinkOperation, Operation, ProxyOperation, RegisterOperation,
     TypesOperation,
 };
-pub use outcome::{Answered, Outcome, Reply, SystemKind};
+pub use outcome::{Answered, COMPLETED_MAYBE, COMPLETED_NO, Outcome, Reply, SystemKind};
 pub use reading::read_call;
 pub use replies::{status_of, write_outcome};
 pub use shape::Shape;

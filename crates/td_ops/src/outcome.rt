@@ -59,6 +59,12 @@ pub enum Reply {
     },
 }
 
+/// The completion status of a call that wasn't done (CORBA, chapter "Standard Exceptions").
+pub const COMPLETED_NO: u32 = 1;
+
+/// The completion status of a call that may have been done.
+pub const COMPLETED_MAYBE: u32 = 2;
+
 /// What a call comes to.
 #[derive(Drop)]
 pub enum Outcome {

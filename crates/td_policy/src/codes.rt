@@ -73,7 +73,11 @@ pub(crate) fn is_number(code: &TypeCode) -> bool
 }
 
 /// Whether this is the type of a rule for following links.
-pub(crate) fn is_rule(alloc: Global, code: &TypeCode) -> Result<bool, Memory>
+///
+/// # Errors
+///
+/// `Memory` for want of memory alone.
+pub fn is_rule(alloc: Global, code: &TypeCode) -> Result<bool, Memory>
     ensures { IfOk result (λ b. b ≡ same code.now rule.code) }
 {
     let expected = rule_code(alloc)?;

@@ -15,7 +15,7 @@ mod values;
 mod writing;
 
 pub use attributes::{Attributes, OwnReferences, default_attributes};
-pub use codes::{octets_code, rule_code, texts_code};
+pub use codes::{is_rule, octets_code, rule_code, texts_code};
 pub use effective::{Effective, effective_of};
 pub use fault::PolicyFault;
 pub use laws::{
@@ -25,4 +25,5 @@ pub use laws::{
 pub use reading::read_policies;
 pub use rules::{follow, lesser, pass_on};
 pub use stated::Stated;
+pub use values::MOST_NAMES;
 pub use writing::{number_policy, octets_policy, rule_policy, texts_policy, truth_policy};

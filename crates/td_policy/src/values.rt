@@ -13,8 +13,8 @@ use std::alloc::Global;
 use td_cdr::{Boxed, List, Memory, Octets, Text, Twin};
 use td_value::{FollowOption, Policy, Value};
 
-/// How many names starting_trader has at most.
-const MOST_NAMES: usize = 64;
+/// How many names starting_trader has at most, and a name of links.
+pub const MOST_NAMES: usize = 64;
 
 /// How many octets request_id has at most.
 const MOST_OCTETS: usize = 256;

@@ -15,6 +15,7 @@ use crate::entry::{Entry, ServiceType};
 use crate::fault::TypesFault;
 use crate::inheriting::{ancestors, with_inherited};
 use crate::interfaces::Interfaces;
+use crate::limits::MOST_BYTES;
 use crate::naming::{check_name, check_properties};
 use crate::redefining::check_redefinitions;
 use crate::reply::TypesReply;
@@ -25,9 +26,6 @@ use td_value::{PropStruct, TypeStruct, type_struct_size};
 
 /// How many types there are at most.
 const MOST_TYPES: usize = 4096;
-
-/// How many bytes the full description of a type has at most.
-const MOST_BYTES: usize = 1048576;
 
 /// The last incarnation that is given.
 const LAST_INCARNATION: u64 = 1099511627776;

@@ -13,14 +13,12 @@ ghost use Rattle.td_value.specs.declared.structures.PropStruct.{PropStruct as a_
 
 use crate::entry::Entry;
 use crate::fault::TypesFault;
+use crate::limits::MOST_PROPERTIES;
 use crate::modes::join;
 use std::alloc::Global;
 use std::collections::BTreeSet;
 use td_cdr::{List, Memory, Text, Twin, nothing_seen, see};
 use td_value::{PropStruct, PropertyMode};
-
-/// How many full properties a type has at most.
-pub(crate) const MOST_PROPERTIES: usize = 256;
 
 /// The full properties: its own in order, then its supertypes'.
 ///

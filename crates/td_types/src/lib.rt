@@ -13,6 +13,7 @@ mod inheriting;
 mod interfaces;
 mod judgement;
 mod laws;
+mod limits;
 mod listing;
 mod lookup;
 mod modes;
@@ -34,5 +35,7 @@ pub use laws::{
     removing_leaves_the_others, supertypes_modes_hold, the_oldest_sub_type_is_named, types_conform,
     types_stay_writable,
 };
+pub use limits::{MOST_BYTES, MOST_PROPERTIES};
+pub use modes::{is_mandatory, is_readonly};
 pub use reply::TypesReply;
 pub use types::Types;

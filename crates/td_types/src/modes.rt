@@ -5,7 +5,8 @@ ghost use Rattle.td_types.specs.Modes.{is_mandatory, is_readonly, mode_of, is_at
 
 use td_value::PropertyMode;
 
-fn is_mandatory(mode: PropertyMode) -> bool
+/// Whether an offer must have the property.
+pub fn is_mandatory(mode: PropertyMode) -> bool
     ensures { result ≡ is_mandatory mode }
 {
     match mode {
@@ -14,7 +15,8 @@ fn is_mandatory(mode: PropertyMode) -> bool
     }
 }
 
-fn is_readonly(mode: PropertyMode) -> bool
+/// Whether the property stays as it was exported.
+pub fn is_readonly(mode: PropertyMode) -> bool
     ensures { result ≡ is_readonly mode }
 {
     match mode {

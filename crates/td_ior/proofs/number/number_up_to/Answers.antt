@@ -1,6 +1,6 @@
 use Rattle.std.proofs.Common.{◌+◌, sym, ◌∙◌, arith}
-use Rattle.td_forms.proofs.Numerals.{limit-none, limit-some, limit-large}
-use Rattle.td_forms.proofs.number.number_up_to.Goals as goal
+use Rattle.td_ior.proofs.Numbers.{limit-none, limit-some, limit-large}
+use Rattle.td_ior.proofs.number.number_up_to.Goals as goal
 
 pub returns-in_err-number-clause-found : goal.returns-in_err-number-clause-found
 returns-in_err-number-clause-found c =
