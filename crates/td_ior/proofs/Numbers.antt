@@ -32,7 +32,7 @@ below-some limit word e h =
     ap (λ (t : Bool). chosen_below t limit (number_after 0 word)) e
     ∙ ap (λ (t : Bool). if t then Some (number_after 0 word) else None) (lt-ltb (number_after 0 word) limit h)
 
-below-large : (limit : ℕ) (word : List ℕ) → limit ≤ number_after 0 word → number_below limit word ≡ None
+pub below-large : (limit : ℕ) (word : List ℕ) → limit ≤ number_after 0 word → number_below limit word ≡ None
 unfolding number_below
 below-large limit word h = rw (le-ltb (number_after 0 word) limit h) (grind (arith))
 
