@@ -1,8 +1,9 @@
 -- What Admin sets and lists, and the attributes that all objects tell (OMG's Trading Object Service, interfaces
 -- TraderComponents, SupportAttributes, ImportAttributes, LinkAttributes and Admin).
-use Rattle.std.specs.Prelude.{ℕ, nat_lt, Bool, true, false, if◌then◌else◌, List, [], length, map, filter, None}
+use Rattle.std.specs.Prelude.{ℕ, nat_lt, Bool, true, false, if◌then◌else◌, List, length, map, filter, None}
 use Rattle.td_codes.specs.declared.reference.Ior.{Ior}
 use Rattle.td_exceptions.specs.declared.exception.UserException.TheVariants.{NotImplemented}
+use Rattle.td_ior.specs.Nil.{nil}
 use Rattle.td_policy.specs.declared.attributes.Attributes.{Attributes}
 use Rattle.td_types.specs.Repository.{halves}
 use Rattle.td_value.specs.declared.enumerations.FollowOption.{FollowOption}
@@ -127,9 +128,6 @@ unfoldable pub get : Store → Attribute → Outcome
 get s which = Done (attribute_reply s which)
 
 -- ---- list_offers, list_proxies: every id, by rising number, and a nil iterator
-
-abbrev pub nil : Ior
-nil = record { id = []; profiles = [] }
 
 abbrev pub ids_of : (proxies : Bool) → List OfferRecord → List (List ℕ)
 ids_of proxies offers = map (λ o. id_of o.number) (filter (is_of_kind proxies) offers)

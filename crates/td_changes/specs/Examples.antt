@@ -3,6 +3,7 @@ use Rattle.std.specs.Prelude.{ℕ, true, false, List, [], ◌∷◌, codes, None
 use Rattle.td_codes.specs.declared.code.TypeCode.TheVariants as code
 use Rattle.td_codes.specs.declared.code.Value.TheVariants as value
 use Rattle.td_codes.specs.declared.reference.Ior.{Ior}
+use Rattle.td_ior.specs.Nil.{nil}
 use Rattle.td_ops.specs.declared.call.Change.{Change}
 use Rattle.td_ops.specs.declared.call.Change.TheVariants as change
 use Rattle.td_policy.specs.Attributes.{default_attributes}
@@ -11,7 +12,6 @@ use Rattle.td_value.specs.declared.enumerations.PropertyMode.TheVariants.{Normal
 use Rattle.td_value.specs.declared.structures.PropStruct.{PropStruct}
 use Rattle.td_value.specs.declared.structures.Property.{Property}
 use Rattle.td_types.specs.Repository.{Repository}
-use Rattle.td_changes.specs.Administration.{nil}
 use Rattle.td_changes.specs.Applying.{apply}
 use Rattle.td_register.specs.Stores.{Store}
 

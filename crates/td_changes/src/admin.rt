@@ -111,6 +111,10 @@ fn put_follow(which: FollowAttribute, value: FollowOption, a: &mut Attributes)
 }
 
 /// Sets a truth value, and answers the old one. Takes no memory.
+///
+/// # Errors
+///
+/// None: no truth value is refused.
 #[tactic(auto, unfolding(crate::specs::Administration::set_truth))]
 pub fn set_truth(
     store: &mut Store,
@@ -127,6 +131,10 @@ pub fn set_truth(
 }
 
 /// Sets a number, and answers the old one. Takes no memory.
+///
+/// # Errors
+///
+/// None: no number is refused.
 #[tactic(auto, unfolding(crate::specs::Administration::set_number))]
 pub fn set_number(
     store: &mut Store,
@@ -143,6 +151,10 @@ pub fn set_number(
 }
 
 /// Sets a rule for following links, and answers the old one. Takes no memory.
+///
+/// # Errors
+///
+/// None: no rule is refused.
 #[tactic(auto, unfolding(crate::specs::Administration::set_follow))]
 pub fn set_follow(
     store: &mut Store,
@@ -202,6 +214,10 @@ fn attribute_reply(alloc: Global, store: &Store, which: Attribute) -> Result<Rep
 }
 
 /// An attribute is read.
+///
+/// # Errors
+///
+/// `Memory` for want of memory alone.
 #[tactic(auto, unfolding(crate::specs::Administration::get))]
 pub fn get(alloc: Global, store: &Store, which: Attribute) -> Result<Outcome, Memory>
     ensures { Tells (get store.now which) result }

@@ -1,7 +1,7 @@
 //! Changes at a trader that accepts no more of them: what else refuses a change comes first, and IMP_LIMIT
 //! last (CORBA, chapter "Standard Exceptions"). Nothing is done.
 
-ghost use Rattle.std.specs.Prelude.{◌≡◌, Err, true, IfOk, IsOk};
+ghost use Rattle.std.specs.Prelude.{◌≡◌, Err, true, IsOk};
 ghost use Rattle.td_exceptions.specs.declared.exception.UserException.TheVariants as user;
 ghost use Rattle.td_changes.specs.Applying.{comes_to};
 ghost use Rattle.td_changes.specs.Barring.{barred, barred_outcome, Bars, IsBarredBy};

@@ -1,5 +1,8 @@
 //! How much a trader takes.
 
+/// How many changes are accepted at most, whatever the bound of a trader.
+pub const MOST_CHANGES: usize = 1_000_000;
+
 /// The limits of one trader between its opening and its end.
 #[derive(Clone, Copy, Debug)]
 pub struct Bounds {

@@ -18,7 +18,7 @@ mod seeking;
 pub use admin::{get, set_follow, set_number, set_request_id_stem, set_truth};
 pub use applying::{apply, not_done, perform};
 pub use barring::barred_outcome;
-pub use bounds::Bounds;
+pub use bounds::{Bounds, MOST_CHANGES};
 pub use laws::{
     exports_take_the_next_number, histories_are_legal, points_lead_to_stores,
     refused_changes_leave_the_store, worked_examples,

@@ -1,7 +1,6 @@
 //! Links that are added (OMG's Trading Object Service, interface Link, add_link).
 
-ghost use Rattle.std.specs.Prelude.{◌≡◌, None, Some, IfOk, MatchResult, is_some};
-ghost use Rattle.td_exceptions.specs.declared.exception.UserException.TheVariants as user;
+ghost use Rattle.std.specs.Prelude.{◌≡◌, None, Some, MatchResult, is_some};
 ghost use Rattle.td_ior.specs.Profiles.{iiop_of};
 ghost use Rattle.td_ops.specs.declared.call.Change.TheVariants as change;
 ghost use Rattle.td_store.specs.LinkLists.{link_of};
@@ -9,15 +8,13 @@ ghost use Rattle.td_register.specs.Judged.{Accepts, IsMet, Judges};
 ghost use Rattle.td_changes.specs.LinkJudged.{IsLinked, IsNewLink, link_cause};
 ghost use Rattle.td_changes.specs.Links.{add_link, name_cause, permits_more, rules_cause, target_cause};
 ghost use Rattle.td_register.specs.Needs.{NeedsNone};
-ghost use Rattle.td_register.specs.declared.refusal.Fault.TheVariants as fault;
-ghost use Rattle.td_register.specs.declared.refusal.Refusal.TheVariants as refusal;
 
 use std::alloc::Global;
 use td_cdr::{Memory, Text, Twin, copy_three, is_word_name};
 use td_exceptions::UserException;
 use td_ior::{IorFault, iiop_of};
 use td_ops::{Change, Reply};
-use td_register::{Accepted, Fault, Refusal, entry_of, raised};
+use td_register::{Accepted, Fault, Refusal, entry_of, invalid_lookup, raised};
 use td_store::{LinkRecord, Links, Store, StoreFault};
 use td_value::{FollowOption, Ior};
 
@@ -79,15 +76,6 @@ pub(crate) fn is_reachable(alloc: Global, reference: &Ior) -> bool
         // Only a profile that was found wants memory.
         Err(_) => true,
     }
-}
-
-/// The refusal of a target.
-pub(crate) fn invalid_lookup(alloc: Global, target: &Ior) -> Result<Fault, Memory>
-    ensures { IfOk result (λ f. f ≡ fault.Refused (refusal.Raised (user.InvalidLookupRef target.now))) }
-{
-    Ok(raised(UserException::InvalidLookupRef {
-        target: target.copy(alloc)?,
-    }))
 }
 
 /// The Register of a target that can be reached.

@@ -68,7 +68,11 @@ pub(crate) fn link_info(alloc: Global, link: &LinkRecord) -> Result<LinkInfo, Me
     })
 }
 
-/// What a link is (describe_link).
+/// What a link is (describe_link), or the refusal as an outcome.
+///
+/// # Errors
+///
+/// `Memory` for want of memory alone.
 #[tactic(auto, unfolding(crate::specs::Links::describe_link))]
 pub fn describe_link(alloc: Global, store: &Store, name: &Text) -> Result<Outcome, Memory>
     ensures { Tells (describe_link store.now name.now) result }
@@ -81,6 +85,10 @@ pub fn describe_link(alloc: Global, store: &Store, name: &Text) -> Result<Outcom
 }
 
 /// The names of all links (list_links).
+///
+/// # Errors
+///
+/// `Memory` for want of memory alone.
 #[tactic(auto, unfolding(crate::specs::Links::list_links))]
 pub fn list_links(alloc: Global, store: &Store) -> Result<Outcome, Memory>
     ensures { Tells (list_links store.now) result }

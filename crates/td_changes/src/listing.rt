@@ -1,27 +1,17 @@
 //! The ids of all offers (OMG's Trading Object Service, interface Admin, list_offers and list_proxies).
 
 ghost use Rattle.std.specs.Prelude.{◌≡◌, map, IfOk};
-ghost use Rattle.td_changes.specs.Administration.{ids_of, list_offers, list_proxies, nil};
+ghost use Rattle.td_changes.specs.Administration.{ids_of, list_offers, list_proxies};
 ghost use Rattle.td_register.specs.Ids.{id_of};
 ghost use Rattle.td_register.specs.Judged.{Tells};
 
 use std::alloc::Global;
 use td_cdr::{List, Memory, Text};
 use td_exceptions::UserException;
+use td_ior::nil;
 use td_ops::{Outcome, Reply};
 use td_register::id_of;
 use td_store::{Offers, Store};
-use td_value::Ior;
-
-/// A nil reference.
-fn nil(alloc: Global) -> Ior
-    ensures { result ≡ nil }
-{
-    Ior {
-        id: Text::new(alloc),
-        profiles: List::new(alloc),
-    }
-}
 
 /// The ids of these numbers.
 fn spelled(alloc: Global, numbers: &[u32]) -> Result<List<Text>, Memory>
@@ -44,6 +34,10 @@ fn ids_of(alloc: Global, offers: &Offers, proxies: bool) -> Result<List<Text>, M
 }
 
 /// The ids of all ordinary offers, by rising number (list_offers).
+///
+/// # Errors
+///
+/// `Memory` for want of memory alone.
 #[tactic(auto, unfolding(crate::specs::Administration::list_offers))]
 pub fn list_offers(alloc: Global, store: &Store) -> Result<Outcome, Memory>
     ensures { Tells (list_offers store.now) result }
@@ -55,7 +49,11 @@ pub fn list_offers(alloc: Global, store: &Store) -> Result<Outcome, Memory>
     }))
 }
 
-/// The ids of all proxy offers, by rising number (list_proxies).
+/// The ids of all proxy offers, by rising number (list_proxies); `NotImplemented` where the trader supports none.
+///
+/// # Errors
+///
+/// `Memory` for want of memory alone.
 #[tactic(auto, unfolding(crate::specs::Administration::list_proxies))]
 pub fn list_proxies(alloc: Global, store: &Store) -> Result<Outcome, Memory>
     ensures { Tells (list_proxies store.now) result }

@@ -1,21 +1,18 @@
 //! The changes and looks of the type repository (OMG's Trading Object Service, interface
 //! CosTradingRepos::ServiceTypeRepository).
 
-ghost use Rattle.std.specs.Prelude.{◌≡◌, Ok, MatchResult};
+ghost use Rattle.std.specs.Prelude.{◌≡◌, Ok};
 ghost use Rattle.td_ops.specs.declared.call.Change.TheVariants as change;
 ghost use Rattle.td_types.specs.Calls as types;
-ghost use Rattle.td_types.specs.Judgements.{IsJudged};
 ghost use Rattle.td_types.specs.Repository.{Repository};
-ghost use Rattle.td_exceptions.specs.declared.exception.UserException.TheVariants as user;
 ghost use Rattle.td_register.specs.declared.refusal.Fault.TheVariants as fault;
 ghost use Rattle.td_register.specs.declared.refusal.Refusal.TheVariants as refusal;
 ghost use Rattle.td_register.specs.Judged.{Accepts, Tells};
 ghost use Rattle.td_changes.specs.RepositoryJudged.{IsAnswer};
 ghost use Rattle.td_register.specs.Needs.{NeedsNone};
-ghost use Rattle.td_changes.specs.Repositories.{add_type, changes_types, describe_type, exception_of};
+ghost use Rattle.td_changes.specs.Repositories.{add_type, describe_type, exception_of};
 ghost use Rattle.td_changes.specs.Repositories.{fully_describe_type, list_types, mask_type, number_of, outcome_of};
 ghost use Rattle.td_changes.specs.Repositories.{remove_type, reply_of, since, unmask_type};
-ghost use Rattle.td_register.specs.Stores.{Store as Kept};
 
 use std::alloc::Global;
 use td_cdr::{List, Memory, Text, copy_four};
@@ -25,10 +22,16 @@ use td_register::{
     Accepted, Fault, Refusal, entry_of, illegal_type, raised, refused, unknown_type,
 };
 use td_store::Store;
-use td_types::{Judgement, RepoFault, Types, TypesFault, TypesReply, halves};
+use td_types::{Judgement, RepoFault, TypesFault, TypesReply, halves};
 use td_value::{IncarnationNumber, PropStruct, SpecifiedServiceTypes};
 
 /// Adds a type (add_type).
+///
+/// # Errors
+///
+/// `IllegalServiceType`, `ServiceTypeExists`; `IllegalPropertyName`, `DuplicatePropertyName`;
+/// `UnknownServiceType`, `DuplicateServiceTypeName`, `InterfaceTypeMismatch` for a supertype;
+/// `ValueTypeRedefinition`; IMP_LIMIT; `Memory` for want of memory.
 #[tactic(auto, unfolding(crate::specs::Repositories::add_type))]
 pub fn add_type(
     alloc: Global,
@@ -62,6 +65,10 @@ pub fn add_type(
 }
 
 /// Removes a type (remove_type).
+///
+/// # Errors
+///
+/// `IllegalServiceType`, `UnknownServiceType`; `HasSubTypes`; `Memory` for want of memory.
 #[tactic(auto, unfolding(crate::specs::Repositories::remove_type))]
 pub fn remove_type(store: &mut Store, name: Text) -> Result<Accepted, Fault>
     ensures { Accepts (change.RemoveType name) (remove_type store.old name) store.old store.new result }
@@ -72,6 +79,10 @@ pub fn remove_type(store: &mut Store, name: Text) -> Result<Accepted, Fault>
 }
 
 /// Masks a type (mask_type). Takes no memory.
+///
+/// # Errors
+///
+/// `IllegalServiceType`, `UnknownServiceType`; `AlreadyMasked`.
 #[tactic(auto, unfolding(crate::specs::Repositories::mask_type))]
 pub fn mask_type(store: &mut Store, name: Text) -> Result<Accepted, Fault>
     ensures accepts { Accepts (change.MaskType name) (mask_type store.old name) store.old store.new result }
@@ -92,6 +103,10 @@ pub fn mask_type(store: &mut Store, name: Text) -> Result<Accepted, Fault>
 }
 
 /// Takes the mask from a type (unmask_type). Takes no memory.
+///
+/// # Errors
+///
+/// `IllegalServiceType`, `UnknownServiceType`; `NotMasked`.
 #[tactic(auto, unfolding(crate::specs::Repositories::unmask_type))]
 pub fn unmask_type(store: &mut Store, name: Text) -> Result<Accepted, Fault>
     ensures accepts { Accepts (change.UnmaskType name) (unmask_type store.old name) store.old store.new result }
@@ -210,6 +225,10 @@ fn told(answer: Result<TypesReply, TypesFault>) -> Result<Outcome, Memory>
 }
 
 /// The names of types (list_types).
+///
+/// # Errors
+///
+/// `Memory` for want of memory alone.
 #[tactic(auto, unfolding(crate::specs::Repositories::list_types))]
 pub fn list_types(store: &Store, which: &SpecifiedServiceTypes) -> Result<Outcome, Memory>
     ensures { Tells (list_types store.now which.now) result }
@@ -218,6 +237,10 @@ pub fn list_types(store: &Store, which: &SpecifiedServiceTypes) -> Result<Outcom
 }
 
 /// A type with its own properties (describe_type).
+///
+/// # Errors
+///
+/// `Memory` for want of memory alone.
 #[tactic(auto, unfolding(crate::specs::Repositories::describe_type))]
 pub fn describe_type(store: &Store, name: &Text) -> Result<Outcome, Memory>
     ensures { Tells (describe_type store.now name.now) result }
@@ -226,6 +249,10 @@ pub fn describe_type(store: &Store, name: &Text) -> Result<Outcome, Memory>
 }
 
 /// A type with all its properties (fully_describe_type).
+///
+/// # Errors
+///
+/// `Memory` for want of memory alone.
 #[tactic(auto, unfolding(crate::specs::Repositories::fully_describe_type))]
 pub fn fully_describe_type(store: &Store, name: &Text) -> Result<Outcome, Memory>
     ensures { Tells (fully_describe_type store.now name.now) result }

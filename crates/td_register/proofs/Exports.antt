@@ -5,6 +5,7 @@ use Rattle.std.proofs.lemmas.Bool.Decides.{nat_tests}
 use Rattle.std.specs.List.{AllByRecursion}
 use Rattle.td_codes.specs.declared.reference.Ior.{Ior}
 use Rattle.td_exceptions.specs.declared.exception.UserException.TheVariants.{InvalidObjectRef}
+use Rattle.td_ior.specs.Nil.{is_nil}
 use Rattle.td_ops.specs.declared.call.Change.TheVariants as change
 use Rattle.td_ops.specs.declared.outcome.Reply.TheVariants as reply
 use Rattle.td_store.specs.OfferLists.{most_offers}
@@ -15,7 +16,7 @@ use Rattle.td_register.specs.Ids.{id_of}
 use Rattle.td_register.specs.Judged.{Accepts, front_cause, IsAdded, IsMet, size_cause}
 use Rattle.td_register.specs.Named.{open_type}
 use Rattle.td_register.specs.Properties.{is_too_large}
-use Rattle.td_register.specs.Registers.{export, export_cause, exported, interface_cause, is_nil, last_number, offer_cause}
+use Rattle.td_register.specs.Registers.{export, export_cause, exported, interface_cause, last_number, offer_cause}
 use Rattle.td_register.specs.Registers.{passes_limit, with_offer}
 use Rattle.td_register.specs.Stores.{Store}
 use Rattle.td_register.specs.declared.refusal.Fault.{Fault}

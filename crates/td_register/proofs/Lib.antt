@@ -1,5 +1,4 @@
 pub mod Exports
-pub mod IdNumbers
 pub mod InOrder
 pub mod Limits
 pub mod Modifies

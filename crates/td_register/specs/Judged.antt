@@ -4,10 +4,10 @@ use Rattle.std.specs.Prelude.{Result, Ok, Err, Bool, false}
 use Rattle.td_cdr.specs.declared.memory.Memory.{Memory as Wanting}
 use Rattle.td_ops.specs.declared.call.Change.{Change}
 use Rattle.td_ops.specs.declared.outcome.Outcome.{Outcome}
-use Rattle.td_ops.specs.declared.outcome.Reply.{Reply}
 use Rattle.td_codes.specs.declared.reference.Ior.{Ior}
 use Rattle.td_exceptions.specs.declared.exception.UserException.TheVariants.{IllegalRecipe, InvalidLookupRef}
 use Rattle.td_exceptions.specs.declared.exception.UserException.TheVariants.{InvalidObjectRef}
+use Rattle.td_ior.specs.Nil.{is_nil}
 use Rattle.td_ior.specs.Profiles.{iiop_of}
 use Rattle.td_lang.specs.declared.fault.LangFault.{LangFault}
 use Rattle.td_lang.specs.declared.fault.LangFault.TheVariants as lang
@@ -21,7 +21,7 @@ use Rattle.td_register.specs.Ids.{id_of, ordinary}
 use Rattle.td_register.specs.Named.{open_type}
 use Rattle.td_register.specs.Properties.{is_too_large}
 use Rattle.td_register.specs.Proxies.{is_recipe, policies_cause}
-use Rattle.td_register.specs.Registers.{interface_cause, is_nil, last_number, modify_cause, no_more, offer_cause}
+use Rattle.td_register.specs.Registers.{interface_cause, last_number, modify_cause, no_more, offer_cause}
 use Rattle.td_register.specs.Registers.{offers_modified, with_offer}
 use Rattle.td_register.specs.Stores.{Store}
 use Rattle.td_register.specs.declared.history.Accepted.{Accepted}

@@ -1,5 +1,5 @@
 -- Offers that are exported, modified and withdrawn (OMG's Trading Object Service, interface Register).
-use Rattle.std.specs.Prelude.{ℕ, ◌+◌, nat_eq, nat_le, Bool, not, ◌&&◌, ◌||◌, is_some, List, [], ◌∷◌, ◌++◌, length, map}
+use Rattle.std.specs.Prelude.{ℕ, ◌+◌, nat_le, Bool, not, ◌&&◌, ◌||◌, is_some, List, [], ◌∷◌, ◌++◌, length, map}
 use Rattle.std.specs.Prelude.{filter, find, Option, None, Some, Result, Ok, Err, unwrap_or}
 use Rattle.std.specs.List.{list_any}
 use Rattle.std.specs.Str.{bytes_eq}
@@ -9,6 +9,7 @@ use Rattle.td_exceptions.specs.declared.exception.UserException.TheVariants.{Inv
 use Rattle.td_exceptions.specs.declared.exception.UserException.TheVariants.{NotImplemented, UnknownPropertyName}
 use Rattle.td_exceptions.specs.declared.exception.UserException.TheVariants.{MandatoryProperty, ReadonlyProperty}
 use Rattle.td_exceptions.specs.declared.exception.UserException.TheVariants.{IllegalConstraint, NoMatchingOffers}
+use Rattle.td_ior.specs.Nil.{is_nil}
 use Rattle.td_lang.specs.Constraints.{constraint_of}
 use Rattle.td_lang.specs.declared.expr.Constraint.{Constraint}
 use Rattle.td_lang.specs.declared.fault.LangFault.{LangFault}
@@ -29,14 +30,11 @@ use Rattle.td_store.specs.declared.record.OfferRecord.{OfferRecord}
 use Rattle.td_register.specs.Causes.{Cause, Found, Comes, raise, raise_if, limit_if, ◌otherwise◌, given, tells, unless}
 use Rattle.td_register.specs.Ids.{id_of, number_in, ordinary}
 use Rattle.td_register.specs.Named.{known, open_type, demanded}
-use Rattle.td_register.specs.Properties.{carries, is_dynamic, mode_of, name_cause, value_cause, properties_cause, missing}
-use Rattle.td_register.specs.Properties.{missing_cause, is_too_large}
+use Rattle.td_register.specs.Properties.{carries, is_dynamic, mode_of, name_cause, value_cause, properties_cause}
+use Rattle.td_register.specs.Properties.{missing, missing_cause, is_too_large}
 use Rattle.td_register.specs.Stores.{Store}
 
 -- ---- export
-
-abbrev pub is_nil : Ior → Bool
-is_nil reference = nat_eq (length reference.id) 0 && nat_eq (length reference.profiles) 0
 
 abbrev pub last_number : ℕ
 last_number = 4294967295

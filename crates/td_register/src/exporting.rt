@@ -2,13 +2,14 @@
 
 ghost use Rattle.std.specs.Prelude.{◌≡◌, ◌≤◌, ◌<◌, IfOk};
 ghost use Rattle.std.specs.List.{AllByRecursion};
+ghost use Rattle.td_ior.specs.Nil.{is_nil};
 ghost use Rattle.td_ops.specs.declared.call.Change.TheVariants as change;
 ghost use Rattle.td_exceptions.specs.declared.exception.UserException.TheVariants as user;
 ghost use Rattle.td_store.specs.declared.record.OfferRecord.{OfferRecord as Kept};
 ghost use Rattle.td_register.specs.Causes.{given, raise_if};
 ghost use Rattle.td_register.specs.Judged.{Accepts, IsAdded, Judges, Yields, front_cause, size_cause};
 ghost use Rattle.td_register.specs.Named.{open_type};
-ghost use Rattle.td_register.specs.Registers.{export, exported, incarnation_now, interface_cause, is_nil, last_number};
+ghost use Rattle.td_register.specs.Registers.{export, exported, incarnation_now, interface_cause, last_number};
 ghost use Rattle.td_register.specs.Registers.{offer_cause};
 
 use crate::history::{Accepted, entry_of};
@@ -19,15 +20,10 @@ use crate::refusal::{Fault, Refusal, raised};
 use std::alloc::Global;
 use td_cdr::{List, Memory, Text, Twin, copy_three};
 use td_exceptions::UserException;
+use td_ior::is_nil;
 use td_ops::{Change, Reply};
 use td_store::{OfferRecord, Store, StoreFault};
 use td_value::{Ior, Property};
-
-fn is_nil(reference: &Ior) -> bool
-    ensures { result ≡ is_nil reference.now }
-{
-    reference.id.len() == 0 && reference.profiles.len() == 0
-}
 
 /// Refuses a nil reference.
 fn check_reference(alloc: Global, reference: &Ior) -> Result<(), Fault>
@@ -90,6 +86,12 @@ pub(crate) fn check_limits(
 }
 
 /// Refuses an offer that can't be exported.
+///
+/// # Errors
+///
+/// `InvalidObjectRef`; `IllegalServiceType`, `UnknownServiceType`; `InterfaceTypeMismatch`; what is at
+/// fault with a property; IMP_LIMIT where no number is left or the offer is too large; `Memory` for want of
+/// memory.
 pub fn check_export(
     alloc: Global,
     store: &Store,

@@ -21,6 +21,6 @@ pub use ids::{id_of, number_in};
 pub use modifying::{modify, renewal};
 pub use proxies::{describe_proxy, withdraw_proxy};
 pub use proxy_exporting::{check_export_proxy, export_proxy};
-pub use refusal::{Fault, Refusal, illegal_type, raised, refused, unknown_type};
+pub use refusal::{Fault, Refusal, illegal_type, invalid_lookup, raised, refused, unknown_type};
 pub use register::{describe, is_proxy, withdraw};
 pub use withdrawing::{check_withdraw_met, withdraw_using_constraint};

@@ -1,6 +1,6 @@
 //! Offers that are modified (OMG's Trading Object Service, interface Register, modify).
 
-ghost use Rattle.std.specs.Prelude.{◌≡◌, ◌∷◌, ◌++◌, List, ℕ, [], IfOk, OnOk, map, filter, not};
+ghost use Rattle.std.specs.Prelude.{◌≡◌, ◌++◌, List, ℕ, [], IfOk, OnOk, map, filter, not};
 ghost use Rattle.td_cdr.specs.Seen.{HaveSeen};
 ghost use Rattle.td_exceptions.specs.declared.exception.UserException.TheVariants as user;
 ghost use Rattle.td_ops.specs.declared.call.Change.TheVariants as change;
@@ -16,16 +16,17 @@ ghost use Rattle.td_register.specs.declared.refusal.Refusal.TheVariants as refus
 
 use crate::history::{Accepted, entry_of};
 use crate::named::demanded;
-use crate::properties::{carries, check_name, check_size, check_value};
+use crate::properties::{carries, check_name, check_size, check_value, push_copy};
 use crate::refusal::{Fault, raised};
 use crate::register::ordinary;
-use crate::typing::{is_mandatory, is_readonly, mode_of};
+use crate::typing::mode_of;
 use std::alloc::Global;
 use std::collections::BTreeSet;
 use td_cdr::{List, Memory, Text, Twin, copy_two, nothing_seen};
 use td_exceptions::UserException;
-use td_ops::{Change, Reply};
+use td_ops::{Change, Reply, is_among};
 use td_store::{OfferRecord, Store};
+use td_types::{is_mandatory, is_readonly};
 use td_value::{PropStruct, Property};
 
 fn unknown_property(alloc: Global, name: &Text) -> Result<Fault, Memory>
@@ -148,12 +149,6 @@ fn check_modify(
     Ok(())
 }
 
-fn is_among(name: &[u8], names: &[Text]) -> bool
-    ensures { result ≡ is_among name.now names.now }
-{
-    names.iter().any(|other| name == other.as_slice())
-}
-
 /// The property that is given in place of this one, or else this one.
 fn renewed<'a>(changed: &'a [Property], property: &'a Property) -> &'a Property
     ensures { result.now ≡ renewed changed.now property.now }
@@ -164,18 +159,6 @@ fn renewed<'a>(changed: &'a [Property], property: &'a Property) -> &'a Property
         }
     }
     property
-}
-
-/// Puts a copy of a property behind the others.
-fn push_copy(
-    alloc: Global,
-    properties: &mut List<Property>,
-    property: &Property,
-) -> Result<(), Memory>
-    ensures { OnOk result (properties.new ≡ properties.old ++ property.now ∷ []) }
-{
-    let twin = property.copy(alloc)?;
-    properties.push(twin)
 }
 
 /// The properties that stay, with their new values.
@@ -258,6 +241,11 @@ fn new_properties(
 }
 
 /// The number of the offer, and its properties as they are afterwards.
+///
+/// # Errors
+///
+/// `NotImplemented`; `IllegalOfferId`, `UnknownOfferId`, `ProxyOfferId`; what is at fault with a name
+/// that is to be deleted, and then with a property; IMP_LIMIT; `Memory` for want of memory.
 pub fn renewal(
     alloc: Global,
     store: &Store,

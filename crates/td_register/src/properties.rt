@@ -1,8 +1,6 @@
 //! What is asked of an offer's properties (OMG's Trading Object Service, interface Register, export).
 
-ghost use Rattle.std.specs.Prelude.{◌≡◌, List, ℕ, [], ◌∷◌, IfOk, OnOk, option_copied};
-ghost use Rattle.std.specs.List.{list_any};
-ghost use Rattle.std.specs.Str.{bytes_eq};
+ghost use Rattle.std.specs.Prelude.{◌≡◌, List, ℕ, [], ◌∷◌, ◌++◌, IfOk, OnOk, option_copied};
 ghost use Rattle.td_cdr.specs.Seen.{HaveSeen};
 ghost use Rattle.td_exceptions.specs.declared.exception.UserException.TheVariants as user;
 ghost use Rattle.td_register.specs.Causes.{limit_if};
@@ -13,18 +11,13 @@ ghost use Rattle.td_register.specs.declared.refusal.Fault.TheVariants as fault;
 ghost use Rattle.td_register.specs.declared.refusal.Refusal.TheVariants as refusal;
 
 use crate::refusal::{Fault, Refusal, raised};
-use crate::typing::{is_dynamic, is_mandatory, is_readonly, is_typed, mode_of, property_named};
+use crate::typing::{is_dynamic, is_typed, mode_of, property_named};
 use std::alloc::Global;
 use std::collections::BTreeSet;
 use td_cdr::{List, Memory, Text, Twin, copy_two, is_identifier, nothing_seen, see};
 use td_exceptions::UserException;
+use td_types::{MOST_BYTES, MOST_PROPERTIES, is_mandatory, is_readonly};
 use td_value::{Ior, PropStruct, Property, offer_size};
-
-/// How many properties an offer has at most.
-const MOST_PROPERTIES: usize = 256;
-
-/// How many encoded bytes an offer has at most.
-const MOST_BYTES: usize = 1048576;
 
 /// Whether one of these has the name.
 pub(crate) fn carries(properties: &[Property], name: &[u8]) -> bool
@@ -33,6 +26,18 @@ pub(crate) fn carries(properties: &[Property], name: &[u8]) -> bool
     properties
         .iter()
         .any(|property| property.name.as_slice() == name)
+}
+
+/// Puts a copy of a property behind the others.
+pub(crate) fn push_copy(
+    alloc: Global,
+    properties: &mut List<Property>,
+    property: &Property,
+) -> Result<(), Memory>
+    ensures { OnOk result (properties.new ≡ properties.old ++ property.now ∷ []) }
+{
+    let twin = property.copy(alloc)?;
+    properties.push(twin)
 }
 
 /// Refuses a name that is none, or that was met; and notes it as met.

@@ -118,7 +118,11 @@ fn proxy_info(alloc: Global, offer: &OfferRecord) -> Result<ProxyInfo, Memory>
     }
 }
 
-/// What a proxy offer is (describe_proxy).
+/// What a proxy offer is (describe_proxy), or the refusal as an outcome.
+///
+/// # Errors
+///
+/// `Memory` for want of memory alone.
 #[tactic(auto, unfolding(crate::specs::Proxies::describe_proxy))]
 pub fn describe_proxy(alloc: Global, store: &Store, id: &Text) -> Result<Outcome, Memory>
     ensures { Tells (describe_proxy store.now id.now) result }

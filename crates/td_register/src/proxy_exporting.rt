@@ -9,16 +9,15 @@ ghost use Rattle.td_store.specs.declared.record.OfferRecord.{OfferRecord as Kept
 ghost use Rattle.td_register.specs.Causes.{raise_if, given, unless_supported};
 ghost use Rattle.td_register.specs.Judged.{Accepts, Judges, Yields, later_proxy_cause, proxy_front_cause};
 ghost use Rattle.td_register.specs.Judged.{told};
-ghost use Rattle.td_register.specs.Named.{open_type};
 ghost use Rattle.td_register.specs.Proxies.{export_proxy, exported_proxy, is_recipe, policies_cause};
-ghost use Rattle.td_register.specs.Registers.{last_number, no_more};
+ghost use Rattle.td_register.specs.Registers.{last_number};
 ghost use Rattle.td_register.specs.declared.refusal.Fault.TheVariants as fault;
 ghost use Rattle.td_register.specs.declared.refusal.Refusal.TheVariants as refusal;
 
 use crate::exporting::{add_offer, check_limits, check_offer, new_offer};
 use crate::history::{Accepted, entry_of};
 use crate::named::check_open;
-use crate::refusal::{Fault, Refusal, raised};
+use crate::refusal::{Fault, Refusal, invalid_lookup, raised};
 use std::alloc::Global;
 use td_cdr::{List, Memory, Text, Twin, nothing_seen, see};
 use td_exceptions::UserException;
@@ -59,14 +58,6 @@ fn is_recipe(alloc: Global, text: &[u8]) -> Result<bool, Memory>
         Ok(_) => Ok(true),
         Err(fault) => told(fault),
     }
-}
-
-fn invalid_lookup(alloc: Global, target: &Ior) -> Result<Fault, Memory>
-    ensures { IfOk result (λ f. f ≡ fault.Refused (refusal.Raised (user.InvalidLookupRef target.now))) }
-{
-    Ok(raised(UserException::InvalidLookupRef {
-        target: target.copy(alloc)?,
-    }))
 }
 
 fn illegal_recipe(alloc: Global, recipe: &Text) -> Result<Fault, Memory>
@@ -149,6 +140,12 @@ fn check_parts(
 }
 
 /// Refuses a proxy offer that can't be exported.
+///
+/// # Errors
+///
+/// NO_IMPLEMENT; `IllegalServiceType`, `UnknownServiceType`; `InvalidLookupRef`; what is at fault with a
+/// property; `IllegalRecipe`; `DuplicatePolicyName`; IMP_LIMIT where no number is left or the offer is too
+/// large; `Memory` for want of memory.
 pub fn check_export_proxy(
     alloc: Global,
     store: &Store,

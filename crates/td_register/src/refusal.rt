@@ -1,17 +1,16 @@
 //! Why a call is refused.
 
-ghost use Rattle.std.specs.Prelude.{◌≡◌};
+ghost use Rattle.std.specs.Prelude.{◌≡◌, IfOk};
 ghost use Rattle.td_exceptions.specs.declared.exception.UserException.TheVariants as user;
 ghost use Rattle.td_register.specs.Causes.{system, refused};
 ghost use Rattle.td_register.specs.declared.refusal.Fault.TheVariants as fault;
 ghost use Rattle.td_register.specs.declared.refusal.Refusal.TheVariants as refusal;
 
-use td_cdr::{Memory, Text};
+use std::alloc::Global;
+use td_cdr::{Memory, Text, Twin};
 use td_exceptions::UserException;
-use td_ops::{Outcome, SystemKind};
-
-/// The completion status of a call that wasn't done (CORBA, chapter "Standard Exceptions").
-const COMPLETED_NO: u32 = 1;
+use td_ops::{COMPLETED_NO, Outcome, SystemKind};
+use td_value::Ior;
 
 /// Why a call is refused.
 #[derive(Drop)]
@@ -58,6 +57,19 @@ pub fn unknown_type(service_type: Text) -> Fault
     ensures { result ≡ fault.Refused (refusal.Raised (user.UnknownServiceType service_type)) }
 {
     raised(UserException::UnknownServiceType { service_type })
+}
+
+/// InvalidLookupRef as the reason of a refusal.
+///
+/// # Errors
+///
+/// `Memory` for want of memory alone.
+pub fn invalid_lookup(alloc: Global, target: &Ior) -> Result<Fault, Memory>
+    ensures { IfOk result (λ f. f ≡ fault.Refused (refusal.Raised (user.InvalidLookupRef target.now))) }
+{
+    Ok(raised(UserException::InvalidLookupRef {
+        target: target.copy(alloc)?,
+    }))
 }
 
 /// A system exception of a call that wasn't done.

@@ -56,6 +56,10 @@ pub(crate) fn ordinary<'a>(
 }
 
 /// Withdraws an ordinary offer. Takes no memory.
+///
+/// # Errors
+///
+/// `IllegalOfferId`, `UnknownOfferId`, `ProxyOfferId`.
 #[tactic(auto, unfolding(crate::specs::Registers::withdraw))]
 pub fn withdraw(store: &mut Store, id: Text) -> Result<Accepted, Fault>
     ensures accepts { Accepts (change.Withdraw id) (withdraw store.old id) store.old store.new result }
@@ -91,7 +95,11 @@ fn offer_info(alloc: Global, offer: &OfferRecord) -> Result<OfferInfo, Memory>
     })
 }
 
-/// What an ordinary offer is (describe).
+/// What an ordinary offer is (describe), or the refusal as an outcome.
+///
+/// # Errors
+///
+/// `Memory` for want of memory alone.
 #[tactic(auto, unfolding(crate::specs::Registers::describe))]
 pub fn describe(alloc: Global, store: &Store, id: &Text) -> Result<Outcome, Memory>
     ensures { Tells (describe store.now id.now) result }

@@ -3,7 +3,6 @@
 
 ghost use Rattle.std.specs.Prelude.{◌≡◌, option_copied};
 ghost use Rattle.td_codes.specs.declared.code.Value.{out-Value};
-ghost use Rattle.td_types.specs.Modes.{is_mandatory, is_readonly};
 ghost use Rattle.td_types.specs.Properties.{property_named};
 ghost use Rattle.td_register.specs.Properties.{code_in, has_type, is_dynamic, is_typed, mode_of, returned_type};
 ghost use Rattle.td_register.specs.Properties.{second_code};
@@ -89,23 +88,5 @@ pub(crate) fn mode_of(demanded: &[PropStruct], name: &[u8]) -> PropertyMode
     match property_named(demanded, name) {
         None => PropertyMode::Normal,
         Some(declared) => declared.mode,
-    }
-}
-
-pub(crate) fn is_mandatory(mode: PropertyMode) -> bool
-    ensures { result ≡ is_mandatory mode }
-{
-    match mode {
-        PropertyMode::Normal | PropertyMode::Readonly => false,
-        PropertyMode::Mandatory | PropertyMode::MandatoryReadonly => true,
-    }
-}
-
-pub(crate) fn is_readonly(mode: PropertyMode) -> bool
-    ensures { result ≡ is_readonly mode }
-{
-    match mode {
-        PropertyMode::Normal | PropertyMode::Mandatory => false,
-        PropertyMode::Readonly | PropertyMode::MandatoryReadonly => true,
     }
 }

@@ -1,7 +1,7 @@
 //! Offers that are withdrawn by a constraint (OMG's Trading Object Service, interface Register,
 //! withdraw_using_constraint).
 
-ghost use Rattle.std.specs.Prelude.{◌≡◌, ◌∷◌, ◌++◌, [], None, Ok, filter, map, not, IfOk, MatchResult, OnOk};
+ghost use Rattle.std.specs.Prelude.{◌≡◌, None, Ok, filter, map, not, IfOk, MatchResult};
 ghost use Rattle.td_exceptions.specs.declared.exception.UserException.TheVariants as user;
 ghost use Rattle.td_ops.specs.declared.call.Change.TheVariants as change;
 ghost use Rattle.td_store.specs.Candidates.{has_conforming_type};
@@ -15,6 +15,7 @@ ghost use Rattle.td_register.specs.declared.refusal.Fault.TheVariants as fault;
 ghost use Rattle.td_register.specs.declared.refusal.Refusal.TheVariants as refusal;
 
 use crate::history::{Accepted, entry_of};
+use crate::properties::push_copy;
 use crate::refusal::{Fault, illegal_type, raised, unknown_type};
 use std::alloc::Global;
 use std::marker::Brand;
@@ -52,18 +53,6 @@ fn asked_in(alloc: Global, text: &Text) -> Result<Constraint, Fault>
             constraint: text.copy(alloc)?,
         })),
     }
-}
-
-/// Puts a copy of a property behind the others.
-fn push_copy(
-    alloc: Global,
-    properties: &mut List<Property>,
-    property: &Property,
-) -> Result<(), Memory>
-    ensures { OnOk result (properties.new ≡ properties.old ++ property.now ∷ []) }
-{
-    let twin = property.copy(alloc)?;
-    properties.push(twin)
 }
 
 /// The properties that aren't dynamic.
@@ -200,6 +189,11 @@ fn met_numbers(
 }
 
 /// Refuses a type that isn't known, a text that is no constraint, and where no offer matches.
+///
+/// # Errors
+///
+/// `IllegalServiceType`, `UnknownServiceType`; `IllegalConstraint`; `NoMatchingOffers`; `Memory` for want of
+/// memory.
 pub fn check_withdraw_met(
     alloc: Global,
     store: &Store,

@@ -9,6 +9,6 @@ returns c =
     let s = c.args.store.now in
     let t = c.args.service_type.now in
     let text = c.args.constraint.now in
-    c.or_limit.ensures (withdraw_using_constraint s t text) (bars (withdraw_met_cause s t text) reply.Nothing (record s {
-      offers = offers_not_met s t (asked_in text);
-    }) c.check_withdraw_met.result c.check_withdraw_met.ensures)
+    let after = record s { offers = offers_not_met s t (asked_in text) } in
+    c.or_limit.ensures (withdraw_using_constraint s t text)
+    (bars (withdraw_met_cause s t text) reply.Nothing after c.check_withdraw_met.result c.check_withdraw_met.ensures)

@@ -1,9 +1,10 @@
 use Rattle.std.proofs.lemmas.Result.{err_from_is_err_and}
 use Rattle.td_exceptions.specs.declared.exception.UserException.TheVariants.{InvalidObjectRef}
+use Rattle.td_ior.specs.Nil.{is_nil}
 use Rattle.td_register.specs.Causes.{given, raise_if, ◌otherwise◌}
 use Rattle.td_register.specs.Judged.{size_cause}
 use Rattle.td_register.specs.Named.{open_type}
-use Rattle.td_register.specs.Registers.{interface_cause, is_nil, offer_cause}
+use Rattle.td_register.specs.Registers.{interface_cause, offer_cause}
 use Rattle.td_register.proofs.Otherwise.{first, neither, second}
 use Rattle.td_register.proofs.exporting.check_export.Goals as goal
 
