@@ -2,7 +2,7 @@
 use Rattle.std.proofs.Common.{◌≡◌, ℕ, ◌<◌, List, length, Some, Ok, Err, IsSomeAnd, refl}
 use Rattle.std.proofs.Common.{sym, ap, subst, ◌∙◌, inl, inr, arith}
 use Rattle.td_file.specs.Files.{Opening, opening_of}
-use Rattle.td_file.specs.Openings.{refusal}
+use Rattle.td_lines.specs.Steps.{refusal}
 use Rattle.td_lines.specs.declared.cause.LineCause.{LineCause}
 use Rattle.td_out.specs.declared.fault.TextFault.TheVariants as fault
 use Rattle.td_out.specs.Texts.{HasText, longest_text}

@@ -4,7 +4,7 @@ use Rattle.std.specs.Io.KnownBytes.{Appends}
 use Rattle.td_check.specs.Checked.{check_lines}
 use Rattle.td_drill.specs.Drills.{Drills}
 use Rattle.td_file.specs.Files.{Opening, opening_of}
-use Rattle.td_file.specs.Openings.{refusal}
+use Rattle.td_lines.specs.Steps.{refusal}
 use Rattle.td_out.specs.Causes.{Rose}
 use Rattle.td_out.specs.Texts.{HasText, longest_text}
 use Rattle.td_out.specs.declared.fault.TextFault.TheVariants as fault

@@ -3,7 +3,7 @@ pub use Rattle.td_command.specs.Seeds.{Seeded, seeding_of}
 pub use Rattle.td_command.specs.Shelves.{Shelves, shelves}
 use Rattle.std.specs.Prelude.{◌≡◌, ℕ, ◌≤◌, List, [], map, Option, Some, None, Ok, Err}
 use Rattle.td_file.specs.Files.{Opening, opening_of}
-use Rattle.td_file.specs.Openings.{refusal}
+use Rattle.td_lines.specs.Steps.{refusal}
 use Rattle.td_lookup.specs.Scenes.{Scene, scene}
 use Rattle.td_make.specs.Generated.{generated}
 use Rattle.td_out.specs.declared.fault.TextFault.TheVariants as fault

@@ -4,6 +4,7 @@ use Rattle.std.proofs.Common.{refl, sym, ap, subst, ◌∙◌}
 use Rattle.td_cdr.specs.Reading.{◌>>=◌}
 use Rattle.td_changes.specs.Applying.{apply}
 use Rattle.td_changes.specs.Histories.{after_all, is_done}
+use Rattle.td_lines.specs.Steps.{refusal}
 use Rattle.td_lines.specs.declared.cause.LineCause.TheVariants.{Rejected}
 use Rattle.td_lines.specs.declared.entry.Home.{Home}
 use Rattle.td_lines.specs.declared.entry.Numbered.{Numbered}
@@ -18,7 +19,7 @@ use Rattle.td_register.specs.Stores.{Store}
 use Rattle.td_register.specs.declared.history.Accepted.{Accepted}
 use Rattle.td_file.specs.Laws.{AcceptedEntriesAreDone, AreAccepted, FirstRefusedIsTold, IsBehind, IsFirstRefused}
 use Rattle.td_file.specs.Laws.{StoresAreBehind, changes_in, changes_of}
-use Rattle.td_file.specs.Openings.{behind, change_of, entered, refusal, store_after}
+use Rattle.td_file.specs.Openings.{behind, change_of, entered, store_after}
 
 -- ---- one entry
 

@@ -12,6 +12,7 @@ use Rattle.td_changes.specs.Links.{add_link, add_link_cause, modify_link, modify
 use Rattle.td_changes.specs.Links.{remove_link_cause}
 use Rattle.td_changes.specs.Repositories.{add_type, changes_types, mask_type, remove_type, unmask_type}
 use Rattle.td_codes.specs.declared.reference.Ior.{Ior}
+use Rattle.td_lines.specs.Steps.{refusal}
 use Rattle.td_lines.specs.declared.cause.LineCause.TheVariants.{Rejected}
 use Rattle.td_lines.specs.declared.entry.Home.{Home}
 use Rattle.td_lines.specs.declared.entry.Numbered.{Numbered}
@@ -42,7 +43,7 @@ use Rattle.td_value.specs.declared.enumerations.FollowOption.{FollowOption}
 use Rattle.td_value.specs.declared.structures.Policy.{Policy}
 use Rattle.td_value.specs.declared.structures.PropStruct.{PropStruct}
 use Rattle.td_value.specs.declared.structures.Property.{Property}
-use Rattle.td_file.specs.Openings.{behind, change_of, new_store, refusal, store_after}
+use Rattle.td_file.specs.Openings.{behind, change_of, new_store, store_after}
 
 abbrev IsShort : Store → Type 0
 IsShort s = length s.attributes.request_id_stem ≤ 64

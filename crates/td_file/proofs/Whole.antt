@@ -30,7 +30,8 @@ pub opens_at : (home : Home) (seed : List ℕ) (told : List TraderScript) (refus
 opens_at home seed told refused later ts r all tried h =
     let here : Answers (behind_all home seed told refused ts) r =
     subst (λ (x : Option Refused). Answers (unless_refused x (opening home seed ts)) r) tried h in
-    subst (λ (x : Result (List PlainTrader) Refused). Answers (x >>= behind_all home seed told refused) r) (sym all) here
+    subst (λ (x : Result (List PlainTrader) Refused). Answers (x >>= behind_all home seed told refused) r) (sym all)
+    here
 
 pub refuses_at : (home : Home) (seed : List ℕ) (told : List TraderScript) (refused : Option Refused)
     (fault : FileFault) → Refuses (all_traders home told) fault

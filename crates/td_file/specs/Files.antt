@@ -4,6 +4,7 @@ use Rattle.std.specs.Prelude.{◌≡◌, ℕ, ◌≤◌, List, length, Option, S
 use Rattle.td_cdr.specs.Reading.{◌>>=◌}
 use Rattle.td_cdr.specs.Text.{HasNoNul}
 use Rattle.td_lines.specs.Scripts.{script_of}
+use Rattle.td_lines.specs.Steps.{refusal}
 use Rattle.td_lines.specs.declared.cause.LineCause.TheVariants.{Place}
 use Rattle.td_lines.specs.declared.entry.Home.{Home}
 use Rattle.td_lines.specs.declared.entry.Refused.{Refused}
@@ -11,7 +12,7 @@ use Rattle.td_lines.specs.declared.entry.Script.{Script}
 use Rattle.td_lines.specs.declared.entry.TraderScript.{TraderScript}
 use Rattle.td_trader.specs.PlainTraders.{PlainTrader}
 use Rattle.td_walk.specs.declared.trace.Address.{Address}
-use Rattle.td_file.specs.Openings.{all_traders, later_refusal, missing_in, refusal}
+use Rattle.td_file.specs.Openings.{all_traders, later_refusal, missing_in}
 use Rattle.td_file.specs.Stages.{Refuses}
 use Rattle.td_file.specs.declared.fault.FileFault.{FileFault}
 use Rattle.td_file.specs.declared.reading.Opened.{Opened}

@@ -3,6 +3,7 @@
 use Rattle.std.specs.Prelude.{◌≡◌, false, List, [], ◌∷◌, ◌++◌, map, Ok, Err}
 use Rattle.td_changes.specs.Applying.{apply}
 use Rattle.td_changes.specs.Histories.{after_all, is_done}
+use Rattle.td_lines.specs.Steps.{refusal}
 use Rattle.td_lines.specs.declared.cause.LineCause.TheVariants.{Rejected}
 use Rattle.td_lines.specs.declared.entry.Home.{Home}
 use Rattle.td_lines.specs.declared.entry.Numbered.{Numbered}
@@ -11,7 +12,7 @@ use Rattle.td_ops.specs.declared.call.Change.{Change}
 use Rattle.td_ops.specs.declared.outcome.Outcome.TheVariants.{Done}
 use Rattle.td_register.specs.Stores.{Store}
 use Rattle.td_register.specs.declared.history.Accepted.{Accepted}
-use Rattle.td_file.specs.Openings.{change_of, refusal, store_after}
+use Rattle.td_file.specs.Openings.{change_of, store_after}
 
 -- the changes that the entries ask for
 abbrev pub changes_of : Home → List Numbered → List Change

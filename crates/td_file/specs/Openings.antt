@@ -7,7 +7,7 @@ use Rattle.td_cdr.specs.Reading.{◌>>=◌}
 use Rattle.td_changes.specs.Applying.{apply}
 use Rattle.td_changes.specs.Histories.{is_done}
 use Rattle.td_changes.specs.declared.bounds.Bounds.{Bounds}
-use Rattle.td_lines.specs.declared.cause.LineCause.{LineCause}
+use Rattle.td_lines.specs.Steps.{refusal}
 use Rattle.td_lines.specs.declared.cause.LineCause.TheVariants.{Name, Rejected}
 use Rattle.td_lines.specs.declared.entry.Entry.{Entry}
 use Rattle.td_lines.specs.declared.entry.Entry.TheVariants as entry
@@ -24,9 +24,6 @@ use Rattle.td_trader.specs.PlainTraders.{PlainTrader, opened}
 use Rattle.td_types.specs.Repository.{Declared}
 use Rattle.td_value.specs.declared.enumerations.FollowOption.{FollowOption}
 use Rattle.td_file.specs.Objects.{lookup_of, own, register_of}
-
-abbrev pub refusal : ℕ → LineCause → Refused
-refusal n cause = record { line = n; cause = cause }
 
 -- ---- the entries of one trader
 

@@ -1,8 +1,8 @@
 -- What the steps of an opening answer.
 use Rattle.std.specs.Prelude.{◌≡◌, Result, Ok, Err}
+use Rattle.td_lines.specs.Steps.{refusal}
 use Rattle.td_lines.specs.declared.entry.Refused.{Refused}
 use Rattle.td_register.specs.Stores.{Store}
-use Rattle.td_file.specs.Openings.{refusal}
 use Rattle.td_file.specs.declared.fault.FileFault.{FileFault}
 use Rattle.td_file.specs.declared.fault.FileFault.TheVariants.{Line, Memory}
 

@@ -4,7 +4,7 @@ ghost use Rattle.std.specs.Prelude.{◌≡◌, [], ◌∷◌, Ok, Err};
 ghost use Rattle.td_file.specs.Examples.{lists_in, lists_of_seven, type_twice, type_twice_and_more};
 ghost use Rattle.td_file.specs.Files.{opening_of};
 ghost use Rattle.td_file.specs.Laws.{AcceptedEntriesAreDone, FirstRefusedIsTold, StoresAreBehind};
-ghost use Rattle.td_file.specs.Openings.{refusal};
+ghost use Rattle.td_lines.specs.Steps.{refusal};
 ghost use Rattle.td_lines.specs.declared.cause.LineCause.TheVariants.{Rejected};
 
 /// The store with which a trader opens is the one behind a history of the changes that its entries ask for, each

@@ -1,6 +1,6 @@
 //! The references of the objects of a trader of the file.
 
-ghost use Rattle.std.specs.Prelude.{◌≡◌, codes, IfOk};
+ghost use Rattle.std.specs.Prelude.{◌≡◌, IfOk};
 ghost use Rattle.td_cdr.specs.Text.{HasNoNul};
 ghost use Rattle.td_file.specs.Objects.{admin_of, key, link_of, lookup_of, object, own, proxy_of};
 ghost use Rattle.td_file.specs.Objects.{register_of, types_of};

@@ -1,8 +1,6 @@
 //! Links to traders that the file doesn't have.
 
-ghost use Rattle.std.specs.Prelude.{◌≡◌, not};
-ghost use Rattle.std.specs.List.{list_any};
-ghost use Rattle.std.specs.Str.{bytes_eq};
+ghost use Rattle.std.specs.Prelude.{◌≡◌};
 ghost use Rattle.td_file.specs.Openings.{is_known, is_missing, missing_among, missing_in};
 
 use td_lines::{Entry, Numbered, TraderScript};

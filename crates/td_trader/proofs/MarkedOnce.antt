@@ -18,7 +18,7 @@ use Rattle.td_trader.proofs.Begun.{counter_rises, unless_is}
 use Rattle.td_trader.proofs.Counted.{has-room}
 
 -- while no more marks were made values are left
-left-over : (m : Marks) → IsKept m → m.count < 2 ^ 40 → AreKept m
+pub left-over : (m : Marks) → IsKept m → m.count < 2 ^ 40 → AreKept m
 left-over m k few =
     let within = k.within in
     let most = k.most in

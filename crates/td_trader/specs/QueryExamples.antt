@@ -1,12 +1,12 @@
 -- Worked examples: queries at a trader with the type Printer and a link `b`, at which three marks may be made.
 use Rattle.std.specs.Prelude.{ℕ, true, List, [], ◌∷◌, codes}
+use Rattle.td_ior.specs.Nil.{nil}
 use Rattle.td_ops.specs.declared.call.Query.{Query}
 use Rattle.td_policy.specs.Values.{policy, texts, truth as a_truth}
 use Rattle.td_value.specs.declared.enumerations.FollowOption.TheVariants.{IfNoLocal, Always}
 use Rattle.td_value.specs.declared.structures.Policy.{Policy}
 use Rattle.td_value.specs.declared.unions.SpecifiedProps.TheVariants as desired
 use Rattle.td_store.specs.declared.record.LinkRecord.{LinkRecord}
-use Rattle.td_changes.specs.Administration.{nil}
 use Rattle.td_register.specs.Causes.{Cause}
 use Rattle.td_changes.specs.Examples.{opening}
 use Rattle.td_trader.specs.Queries.{refusal}

@@ -16,14 +16,11 @@ use std::alloc::Global;
 use std::marker::Model;
 use std::snapshot::Snapshot;
 use td_cdr::{Memory, Octets, Text};
-use td_changes::{Bounds, acceptance, barred_outcome, not_done, perform, seek};
+use td_changes::{Bounds, MOST_CHANGES, acceptance, barred_outcome, not_done, perform, seek};
 use td_marks::Ring;
 use td_ops::{Change, Look, Outcome, Query};
 use td_register::Accepted;
 use td_store::Store;
-
-/// How many changes a trader accepts at most.
-const MOST_CHANGES: usize = 1000000;
 
 /// A trader: its store, the changes that it accepted since it was opened, with their replies, and the marks of
 /// the queries that it searched.

@@ -17,6 +17,7 @@ use Rattle.td_ops.specs.declared.operation.Operation.TheVariants.{Admin, Get, Li
 use Rattle.td_ops.specs.declared.operation.ProxyOperation.TheVariants as proxy_operation
 use Rattle.td_ops.specs.declared.operation.RegisterOperation.TheVariants as register
 use Rattle.td_ops.specs.declared.operation.TypesOperation.TheVariants as types_operation
+use Rattle.td_ior.specs.Nil.{nil}
 use Rattle.td_ops.specs.declared.outcome.Outcome.{Outcome}
 use Rattle.td_ops.specs.declared.outcome.Outcome.TheVariants.{Done, User}
 use Rattle.td_ops.specs.declared.outcome.Reply.TheVariants as reply
@@ -45,7 +46,7 @@ use Rattle.td_register.specs.Registers.{describe, last_number}
 use Rattle.td_register.specs.Stores.{Store}
 use Rattle.td_register.specs.declared.refusal.Refusal.TheVariants.{NotSupported}
 use Rattle.td_changes.specs.Administration.{all_ids, attribute_reply, follow_of, get, ids_of, list_offers, list_proxies}
-use Rattle.td_changes.specs.Administration.{nil, number_of, reference_of, truth_of}
+use Rattle.td_changes.specs.Administration.{number_of, reference_of, truth_of}
 use Rattle.td_changes.specs.Applying.{seen}
 use Rattle.td_changes.specs.Links.{describe_link, linked, list_links}
 use Rattle.td_changes.specs.Repositories.{describe_type, fully_describe_type, list_types, outcome_of, since}

@@ -12,6 +12,7 @@ use Rattle.td_exceptions.specs.declared.exception.UserException.TheVariants as u
 use Rattle.td_ior.specs.Profiles.{iiop_of}
 use Rattle.td_lang.specs.Constraints.{constraint_of}
 use Rattle.td_lang.specs.declared.expr.Constraint.{Constraint}
+use Rattle.td_ior.specs.Nil.{is_nil}
 use Rattle.td_lang.specs.declared.fault.LangFault.{LangFault}
 use Rattle.td_ops.specs.declared.call.Change.TheVariants as change
 use Rattle.td_ops.specs.declared.operation.Operation.TheVariants.{Register, Proxy}
@@ -45,7 +46,7 @@ use Rattle.td_register.specs.Properties.{mode_of, name_cause, properties_cause, 
 use Rattle.td_register.specs.Proxies.{export_proxy, export_proxy_cause, exported_proxy, is_recipe, policies_cause}
 use Rattle.td_register.specs.Proxies.{withdraw_proxy, withdraw_proxy_cause}
 use Rattle.td_register.specs.Registers.{asked, asked_in, changes_cause, deletion_cause, deletions_cause, export}
-use Rattle.td_register.specs.Registers.{export_cause, exported, interface_cause, is_met, is_nil, last_number, modified}
+use Rattle.td_register.specs.Registers.{export_cause, exported, interface_cause, is_met, last_number, modified}
 use Rattle.td_register.specs.Registers.{modify, modify_cause, no_more, none_met, offer_cause, offer_changes_cause}
 use Rattle.td_register.specs.Registers.{offers_modified, offers_not_met, offers_without, passes_limit, readonly_cause}
 use Rattle.td_register.specs.Registers.{renewed, with_offer, withdraw, withdraw_cause, withdraw_met_cause}

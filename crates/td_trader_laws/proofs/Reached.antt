@@ -39,17 +39,9 @@ use Rattle.td_trader.specs.declared.begin.Begin.TheVariants.{Refused, Repeat, Se
 use Rattle.td_trader.proofs.Begun.{are_served, counter_rises, unless_is}
 use Rattle.td_trader.proofs.Counted.{has-room}
 use Rattle.td_trader.proofs.Growing.{legal-there}
-use Rattle.td_trader.proofs.MarkedOnce.{later-once, marked-once}
+use Rattle.td_trader.proofs.MarkedOnce.{later-once, left-over, marked-once}
 
 -- ---- one mark more
-
--- while no more marks were made values are left
-pub left-over : (m : Marks) → IsKept m → m.count < 2 ^ 40 → AreKept m
-left-over m k few =
-    let within = k.within in
-    let most = k.most in
-    let steps = k.steps in
-    record { orderly = k.orderly; left = omega arith }
 
 numbered-length : (k : ℕ) (es : List Remembered) (n : ℕ) → Numbered k es n → k + length es ≡ n
 numbered-length k [] n h = omega (arith, h)

@@ -1,4 +1,4 @@
-use Rattle.td_trader_laws.proofs.Reached.{left-over}
+use Rattle.td_trader.proofs.MarkedOnce.{left-over}
 use Rattle.td_trader_laws.proofs.reaching.values_are_left.Goals as goal
 
 pub returns : goal.returns
