@@ -82,12 +82,6 @@ settled-absent : (ps : List Property) (made : List Evaluation) (name : List ℕ)
 settled-absent ps made name e more rest =
     either-way (made ++ more) name rest (is_evaluated (made ++ more) name) (dynamic_named ps name) e
 
-settled-more : (ps : List Property) (made more : List Evaluation) (name : List ℕ) → Settled ps made name
-    → Settled ps (made ++ more) name
-settled-more ps made more name h extra rest =
-    subst (λ (m : List Evaluation). evaluated_name ps m name rest ≡ Ok (m, rest)) (sym (append_assoc made more extra))
-    (h (more ++ extra) rest)
-
 record IsMade (ps : List Property) (made : List Evaluation) (name : List ℕ) (now : List Evaluation) : Type 0 where
   more : List Evaluation
   grown : now ≡ made ++ more

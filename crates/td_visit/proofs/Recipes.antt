@@ -3,22 +3,15 @@ use Rattle.std.proofs.Common.{◌≡◌, ℕ, zero, suc, ◌+◌, ◌<◌, ◌�
 use Rattle.std.proofs.Common.{length, take, drop, Option, Some, None, refl, sym, ap, subst, ◌∙◌, arith}
 use Rattle.std.proofs.Common.{option_map}
 use Rattle.std.proofs.lemmas.Bool.{le-leb, lt-leb}
-use Rattle.std.proofs.lemmas.List.{take-append-drop, length-append, drop_at}
+use Rattle.std.proofs.lemmas.List.{take-append-drop, length-append}
 use Rattle.td_lang.specs.declared.expr.Part.{Part}
 use Rattle.td_lang.specs.Recipes.{SpellsParts, Begins, IsRefusedAt, part_in_front}
-use Rattle.td_lang.proofs.RecipeParts.{front-found, front-only, not_both}
+use Rattle.td_lang.proofs.RecipeParts.{begins-front, begins-rest, front-found, not_both}
 use Rattle.td_walk.specs.SubQueries.{part_before, parts_of, recipe_of}
 
 empty : (most : ℕ) → parts_of most [] ≡ Some []
 empty zero = refl
 empty (suc most) = refl
-
-begins-front : (bytes : List ℕ) (p : Part) (rest : List ℕ) (b : Begins bytes p rest)
-    → part_in_front bytes ≡ Some (p, length b.piece)
-begins-front bytes p rest b = ap part_in_front b.whole ∙ front-only p b.piece rest b.spells
-
-begins-rest : (bytes : List ℕ) (p : Part) (rest : List ℕ) (b : Begins bytes p rest) → drop (length b.piece) bytes ≡ rest
-begins-rest bytes p rest b = ap (drop (length b.piece)) b.whole ∙ drop_at b.piece rest (length b.piece) refl
 
 shorter : (bytes : List ℕ) (p : Part) (rest : List ℕ) (b : Begins bytes p rest) → length rest < length bytes
 shorter bytes p rest b =

@@ -1,6 +1,6 @@
 //! How far a visit comes with the answers that there are. What was done before isn't done again.
 
-ghost use Rattle.std.specs.Prelude.{◌≡◌, ◌-◌, [], true, length, unwrap_or, IfOk, OnOk};
+ghost use Rattle.std.specs.Prelude.{◌≡◌, ◌-◌, [], true, unwrap_or, IfOk, OnOk};
 ghost use Rattle.std.specs.List.{list_any};
 ghost use Rattle.td_visit.specs.Resuming.{start, none_asked, Stands, SearchesTo, CompletesTo, ComesTo, IsEnd};
 ghost use Rattle.td_walk.specs.Visits.{is_ordinary, next_of};

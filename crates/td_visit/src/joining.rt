@@ -1,8 +1,7 @@
 //! What a visit answers (OMG's Trading Object Service, interface Lookup, query, limits_applied).
 
-ghost use Rattle.std.specs.Prelude.{◌≡◌, ℕ, [], ◌∷◌, ◌++◌, ◌+◌, take, codes, IfOk, OnOk, OnErr};
+ghost use Rattle.std.specs.Prelude.{◌≡◌, ℕ, [], ◌∷◌, ◌++◌, ◌+◌, take, IfOk, OnOk, OnErr};
 ghost use Rattle.std.specs.List.{flat_map, list_any};
-ghost use Rattle.std.specs.Str.{bytes_eq};
 ghost use Rattle.td_walk.specs.Answers.{offer_of, own_offers, joined, is_among, is_limit, limit, limits_applied};
 ghost use Rattle.td_walk.specs.Answers.{drawn_by, IsRankedAnswer};
 ghost use Rattle.td_walk.specs.Resolving.{resolved};
@@ -10,10 +9,11 @@ ghost use Rattle.td_walk.specs.Resolving.{resolved};
 use std::alloc::Global;
 use td_cdr::{List, Memory, Text};
 use td_eval::rank;
+use td_ops::is_among;
 use td_out::Words;
 use td_store::Local;
 use td_value::Offer;
-use td_walk::{Evaluation, Found, Gathered, SubAnswer, resolved};
+use td_walk::{Found, Gathered, SubAnswer, resolved};
 
 /// The offer as it is answered.
 fn offer_of(alloc: Global, one: Found) -> Result<Offer, Memory>
@@ -60,25 +60,19 @@ fn joined(alloc: Global, gathered: Gathered) -> Result<List<Offer>, Memory>
     Ok(List::from_vec(offers))
 }
 
-fn is_among(names: &[Text], name: &[u8]) -> bool
-    ensures { result ≡ is_among names.now name.now }
-{
-    names.iter().any(|other| name == other.as_slice())
-}
-
 /// Whether another trader names the limit.
 fn is_given(given: &[SubAnswer], name: &[u8]) -> bool
     ensures { result ≡ list_any (λ a. is_among a.limits name.now) given.now }
 {
     given
         .iter()
-        .any(|answer| is_among(answer.limits.as_slice(), name))
+        .any(|answer| is_among(name, answer.limits.as_slice()))
 }
 
 fn is_limit(over: &[Text], given: &[SubAnswer], name: &[u8]) -> bool
     ensures { result ≡ is_limit over.now given.now name.now }
 {
-    is_among(over, name) || is_given(given, name)
+    is_among(name, over) || is_given(given, name)
 }
 
 fn add_limit(

@@ -5,7 +5,6 @@ use Rattle.std.specs.List.{flat_map, list_any}
 use Rattle.std.specs.Str.{bytes_eq}
 use Rattle.td_eval.specs.Ranking.{IsRanked, draw_count}
 use Rattle.td_store.specs.declared.local.Local.{Local}
-use Rattle.td_store.specs.declared.record.OfferRecord.{OfferRecord}
 use Rattle.td_value.specs.declared.structures.Offer.{Offer}
 use Rattle.td_walk.specs.Resolving.{resolved}
 use Rattle.td_walk.specs.Visits.{Reads, is_ordinary, visit_of}

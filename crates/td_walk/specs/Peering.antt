@@ -1,6 +1,6 @@
 -- The calls of a peer outside: which were made, and what each gave (OMG's Trading Object Service, interfaces
 -- Lookup, Register and DynamicPropEval).
-use Rattle.std.specs.Prelude.{◌≡◌, ℕ, ◌≤◌, Bool, true, false, List, [], ◌∷◌, ◌++◌, length, Result, Ok, Err, IfErr, IfOk}
+use Rattle.std.specs.Prelude.{◌≡◌, ℕ, ◌≤◌, Bool, true, false, List, [], ◌∷◌, ◌++◌, length, Result, Ok, Err, IfErr}
 use Rattle.std.specs.List.{AllByRecursion}
 use Rattle.td_cdr.specs.Format.{Unless}
 use Rattle.td_cdr.specs.declared.order.Order.TheVariants.{Big}

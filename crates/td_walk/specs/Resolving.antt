@@ -2,7 +2,7 @@
 -- interface DynamicPropEval): a dynamic property has the value that its evaluation gave, or is absent.
 use Rattle.std.specs.Prelude.{ℕ, nat_le, Bool, ◌&&◌, if◌then◌else◌, List, [], ◌∷◌, length, Option, None, Some, is_some}
 use Rattle.std.specs.Prelude.{option_map, option_and_then}
-use Rattle.std.specs.List.{find, list_any, filter_map}
+use Rattle.std.specs.List.{find, filter_map}
 use Rattle.std.specs.Str.{bytes_eq}
 use Rattle.td_cdr.specs.declared.order.Order.TheVariants.{Big}
 use Rattle.td_codes.specs.Labels.{Held}

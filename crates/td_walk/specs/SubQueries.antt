@@ -2,8 +2,6 @@
 -- Service, "Link Follow Behavior", starting_trader and interface Proxy).
 use Rattle.std.specs.Prelude.{ℕ, zero, suc, nat_le, nat_lt, Bool, true, false, ◌&&◌, ◌||◌, if◌then◌else◌, List, [], ◌∷◌}
 use Rattle.std.specs.Prelude.{length, drop, Option, None, Some, option_map, option_and_then, codes, ◌++◌}
-use Rattle.std.specs.List.{filter_map, list_any}
-use Rattle.td_codes.specs.declared.reference.Ior.{Ior}
 use Rattle.td_eval.specs.Expansion.{expansion}
 use Rattle.td_lang.specs.Recipes.{part_in_front}
 use Rattle.td_lang.specs.declared.expr.Part.{Part}

@@ -50,11 +50,6 @@ answers_behind [] answers = answers
 answers_behind (question ∷ questions) [] = []
 answers_behind (question ∷ questions) (a ∷ answers) = answers_behind questions answers
 
--- a question that may be asked
-abbrev pub step_list : Option Next → List Next
-step_list None = []
-step_list (Some question) = question ∷ []
-
 -- these questions were asked as far as there are answers
 pub record Passes (questions : List Next) (before : List StepAnswer) (question : Option Next) (after : List StepAnswer)
     : Type 0 where

@@ -1,6 +1,6 @@
 -- The questions of one visit of a query, and in which order they are asked (OMG's Trading Object Service, interface
 -- Lookup, query, "Policies" and "Link Follow Behavior").
-use Rattle.std.specs.Prelude.{ℕ, nat_le, Bool, true, false, if◌then◌else◌, List, [], ◌∷◌, ◌++◌, length, map, Option}
+use Rattle.std.specs.Prelude.{ℕ, nat_le, Bool, false, if◌then◌else◌, List, [], ◌∷◌, ◌++◌, length, map, Option}
 use Rattle.std.specs.Prelude.{None}
 use Rattle.std.specs.Prelude.{Some, Result, Ok, Err, is_none}
 use Rattle.std.specs.List.{filter_map, list_any}

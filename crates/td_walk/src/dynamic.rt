@@ -15,7 +15,7 @@ use td_ior::{IorFault, iiop_of};
 use td_value::{Any, Ior, Property, TypeCode, Value, any_size, is_dynamic, same_type};
 
 /// The most bytes of an evaluated value.
-const LONGEST: usize = 16_384;
+pub const LONGEST_VALUE: usize = 16_384;
 
 /// A DynamicProp that lies in a property.
 #[derive(Clone, Copy)]
@@ -135,7 +135,7 @@ fn may_stand(alloc: Global, dynamic: Dynamic<'_>, any: &Any) -> Result<bool, Mem
         return Ok(false);
     }
     let size = any_size(alloc, any)?;
-    Ok(size <= LONGEST)
+    Ok(size <= LONGEST_VALUE)
 }
 
 /// A copy of the value, where it may stand and its evaluator can be reached.

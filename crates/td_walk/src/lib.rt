@@ -18,6 +18,7 @@ mod sub_query;
 mod trace;
 
 pub use answer::{Next, StepAnswer, SubAnswer};
+pub use dynamic::LONGEST_VALUE;
 pub use evaluating::{evaluate_each, evaluate_named};
 pub use evaluation::Evaluation;
 pub use fault::PeerFault;

@@ -3,18 +3,17 @@
 
 ghost use Rattle.std.specs.Prelude.{◌≡◌, ◌-◌, codes, option_copied, option_map, IfOk, OnOk};
 ghost use Rattle.std.specs.List.{position};
-ghost use Rattle.td_codes.specs.Same.{same};
 ghost use Rattle.td_value.specs.Enumerations.{follow_option_number};
-ghost use Rattle.td_policy.specs.Values.{number, rule, rule_numbered};
+ghost use Rattle.td_policy.specs.Values.{rule, rule_numbered};
 ghost use Rattle.td_walk.specs.Passing.{is_named, policy_named, with_policy, with_optional, without_policy};
-ghost use Rattle.td_walk.specs.Passing.{hop_policy, follow_policy, identifier_policy, start_policy, replaced};
+ghost use Rattle.td_walk.specs.Passing.{follow_policy, identifier_policy, replaced};
 ghost use Rattle.td_walk.specs.Passing.{along_path};
-ghost use Rattle.td_walk.specs.Passing.{value_in, hops_in, follow_in, is_less, states_less, stands, with_passed};
+ghost use Rattle.td_walk.specs.Passing.{hops_in, follow_in, is_less, states_less, stands, with_passed};
 ghost use Rattle.td_walk.specs.Passing.{with_all_passed};
 
 use std::alloc::Global;
 use td_cdr::{List, Memory, Octets, Text, Twin};
-use td_policy::{number_policy, octets_policy, rule_code, rule_policy, texts_policy};
+use td_policy::{is_rule, number_policy, octets_policy, rule_policy, texts_policy};
 use td_value::{FollowOption, Policy, TypeCode, Value, same_type};
 
 fn is_named(policy: &Policy, name: &[u8]) -> bool
@@ -169,13 +168,6 @@ fn follow_number(value: &Value) -> Option<u32>
         Value::Enum(n) => rule_number(*n),
         _ => None,
     }
-}
-
-fn is_rule(alloc: Global, code: &TypeCode) -> Result<bool, Memory>
-    ensures { IfOk result (λ b. b ≡ same code.now rule.code) }
-{
-    let expected = rule_code(alloc)?;
-    Ok(same_type(code, &expected))
 }
 
 fn follow_in(alloc: Global, policy: &Policy) -> Result<Option<u32>, Memory>

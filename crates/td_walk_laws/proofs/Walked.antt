@@ -18,11 +18,11 @@ use Rattle.td_walk_laws.specs.Walks.{unanswered, evaluated, unevaluated, unreach
 
 -- ---- items and calls, one after the other
 
-given-append : (xs ys : List Exchange) → given_in (xs ++ ys) ≡ given_in xs ++ given_in ys
+pub given-append : (xs ys : List Exchange) → given_in (xs ++ ys) ≡ given_in xs ++ given_in ys
 given-append [] ys = refl
 given-append (x ∷ xs) ys = ap (λ t. x.gave ∷ t) (given-append xs ys)
 
-shown-append : (is js : List TraceItem) → shown (is ++ js) ≡ shown is ++ shown js
+pub shown-append : (is js : List TraceItem) → shown (is ++ js) ≡ shown is ++ shown js
 shown-append [] js = refl
 shown-append (i ∷ is) js =
     ap (λ t. shown_by i ++ t) (shown-append is js) ∙ sym (append_assoc (shown_by i) (shown is) (shown js))
