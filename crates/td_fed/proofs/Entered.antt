@@ -20,7 +20,7 @@ use Rattle.td_changes.specs.declared.bounds.Bounds.{Bounds}
 use Rattle.td_trader.proofs.Begun.{marks_once}
 use Rattle.td_trader.specs.Beginning.{after_begin, begin_of}
 use Rattle.td_trader.specs.Worlds.{Begun, View, Watches, history_at, number_between, store_seen, with_view}
-use Rattle.td_trader.specs.Worlds.{after_begin as seen_after, after_others}
+use Rattle.td_trader.specs.Worlds.{after_begin as seen_after}
 use Rattle.td_trader.specs.declared.begin.Begin.{Begin}
 use Rattle.td_trader.specs.declared.begin.Begin.TheVariants.{Refused, Repeat, Search, Path}
 use Rattle.td_walk.specs.Peering.{Exchange}
@@ -118,10 +118,6 @@ no-calls k point (Search l) = refl
 no-calls k point (Path l) = refl
 
 module _ (others : List Accepted → Type 0) (later : Marks → Marks → Type 0) where
-  others-own : (w : List View) (k : ℕ) (seen : View) (v : View) (between : List Accepted) (marks : Marks)
-      → seen ≡ after_others v between marks → seen.own_marks ≡ v.own_marks
-  others-own w k seen v between marks is = ap (λ (x : View). x.own_marks) is
-
   -- a query that begins
   pub shown-begun : (w u : List View) (k point : ℕ) (q : Query) (b : Begin) (x z y : List TraceItem)
       → Begun others later w k q b u → point ≡ length (history_at u k) → z ≡ x

@@ -2,6 +2,7 @@ pub mod Called
 pub mod Entered
 pub mod Going
 pub mod Measures
+pub mod Members
 pub mod Moving
 pub mod Opening
 pub mod Pending

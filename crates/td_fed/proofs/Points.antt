@@ -1,10 +1,11 @@
 -- The points at which queries begin: how many changes were seen of a trader then, which are never fewer than before.
-use Rattle.std.proofs.Common.{◌≡◌, ℕ, zero, suc, ◌+◌, ◌≤◌, Bool, true, false, cond, nat_eq, List, [], ◌∷◌}
+use Rattle.std.proofs.Common.{◌≡◌, ℕ, ◌+◌, ◌≤◌, Bool, true, false, cond, nat_eq, List, [], ◌∷◌}
 use Rattle.std.proofs.Common.{Option, None, Some, length, slice_get, slice_set, append-nil, length-append, eqb-true}
 use Rattle.std.proofs.Common.{le_refl, refl, sym, ap, subst, ◌∙◌, arith}
 use Rattle.std.proofs.lemmas.Bool.{eqb-false}
 use Rattle.td_cdr.specs.Marks.{Marks}
 use Rattle.td_changes.specs.declared.bounds.Bounds.{Bounds}
+use Rattle.td_fed.proofs.Members.{get-set_other, get-set_same}
 use Rattle.td_fed.proofs.Rising.{rises-most}
 use Rattle.td_fed.specs.Entering.{begin_item}
 use Rattle.td_fed.specs.Trails.{Goes, Rises, began, only_of, points_of, stays, watched}
@@ -21,22 +22,6 @@ use Rattle.td_trader.specs.Worlds.{Begun, Meanwhile, View, Watches, after_begin 
 use Rattle.td_trader.specs.Worlds.{history_in, store_seen}
 use Rattle.td_trader.specs.declared.begin.Begin.TheVariants as begin
 use Rattle.td_trader.specs.declared.begin.Begin.{Begin}
-
--- ---- one trader of a list
-
-pub get-set_same : {A : Type 0} (xs : List A) (k : ℕ) (x y : A) → slice_get xs k ≡ Some x
-    → slice_get (slice_set xs k y) k ≡ Some y
-get-set_same [] k x y e = absurd (let bad : ⊥ = cc in bad)
-get-set_same (z ∷ xs) zero x y e = refl
-get-set_same (z ∷ xs) (suc k) x y e = get-set_same xs k x y e
-
-pub get-set_other : {A : Type 0} (xs : List A) (k j : ℕ) (y : A) → (k ≡ j → ⊥)
-    → slice_get (slice_set xs k y) j ≡ slice_get xs j
-get-set_other [] k j y h = refl
-get-set_other (x ∷ xs) zero zero y h = absurd (h refl)
-get-set_other (x ∷ xs) zero (suc j) y h = refl
-get-set_other (x ∷ xs) (suc k) zero y h = refl
-get-set_other (x ∷ xs) (suc k) (suc j) y h = get-set_other xs k j y (λ e. h (ap suc e))
 
 -- one of them is seen otherwise, and was called at these points
 pub put-rise : (w : List View) (k : ℕ) (v x : View) (points : List ℕ) → slice_get w k ≡ Some v

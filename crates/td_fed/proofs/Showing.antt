@@ -6,17 +6,9 @@ use Rattle.td_fed.proofs.Rising.{flat-append, rises-on}
 use Rattle.td_fed.specs.Trails.{IsShown, Rises, mark_of, marks_of, own_marks_at, point_of, points_of}
 use Rattle.td_trader.specs.Worlds.{View, history_at}
 use Rattle.td_walk.specs.Peering.{Exchange, Given}
+use Rattle.td_walk_laws.proofs.Walked.{given-append, shown-append}
 use Rattle.td_walk_laws.specs.Walks.{Asked, given_in, shown, shown_by}
 use Rattle.td_walk.specs.declared.trace.TraceItem.{TraceItem}
-
-pub given-append : (xs ys : List Exchange) → given_in (xs ++ ys) ≡ given_in xs ++ given_in ys
-given-append [] ys = refl
-given-append (x ∷ xs) ys = ap (λ t. x.gave ∷ t) (given-append xs ys)
-
-pub shown-append : (is js : List TraceItem) → shown (is ++ js) ≡ shown is ++ shown js
-shown-append [] js = refl
-shown-append (i ∷ is) js =
-    ap (λ t. shown_by i ++ t) (shown-append is js) ∙ sym (append_assoc (shown_by i) (shown is) (shown js))
 
 pub marks-append : (k : ℕ) (is js : List TraceItem) → marks_of k (is ++ js) ≡ marks_of k is ++ marks_of k js
 marks-append k [] js = refl

@@ -4,8 +4,8 @@ use Rattle.std.proofs.Common.{Bool, false, cond, le_refl, le-ltb, Option, Some, 
 use Rattle.std.proofs.Common.{refl, sym, ap, subst, ◌∙◌}
 use Rattle.std.specs.Result.{result_unwrap_or}
 use Rattle.td_cdr.specs.Marks.{Marks}
-use Rattle.td_codes.specs.declared.reference.Ior.{Ior}
 use Rattle.td_changes.specs.declared.bounds.Bounds.{Bounds}
+use Rattle.td_fed.proofs.Members.{Beginnings}
 use Rattle.td_fed.specs.Visiting.{Begins, start_of}
 use Rattle.td_ops.specs.declared.call.Query.{Query}
 use Rattle.td_ops.specs.declared.outcome.Outcome.{Outcome}
@@ -29,23 +29,9 @@ use Rattle.td_trader.specs.Worlds.{with_view}
 use Rattle.td_trader.specs.declared.begin.Begin.{Begin}
 use Rattle.td_trader.specs.declared.begin.Begin.TheVariants as begin
 use Rattle.td_trader.proofs.Begun.{are_passed_on, are_served, only_searches}
-use Rattle.td_walk_laws.specs.Walks.{Path, Refused, Repeat, Search, Start}
+use Rattle.td_walk_laws.specs.Walks.{Path, Refused, Repeat, Search}
 
 -- ---- one of a list
-
-pub get-set_same : {A : Type 0} (xs : List A) (k : ℕ) (x y : A) → slice_get xs k ≡ Some x
-    → slice_get (slice_set xs k y) k ≡ Some y
-get-set_same [] k x y e = absurd (let bad : ⊥ = cc in bad)
-get-set_same (z ∷ xs) zero x y e = refl
-get-set_same (z ∷ xs) (suc k) x y e = get-set_same xs k x y e
-
-pub get-set_other : {A : Type 0} (xs : List A) (k j : ℕ) (y : A) → (j ≡ k → ⊥)
-    → slice_get (slice_set xs k y) j ≡ slice_get xs j
-get-set_other [] k j y h = refl
-get-set_other (x ∷ xs) zero zero y h = absurd (h refl)
-get-set_other (x ∷ xs) zero (suc j) y h = refl
-get-set_other (x ∷ xs) (suc k) zero y h = refl
-get-set_other (x ∷ xs) (suc k) (suc j) y h = get-set_other xs k j y (λ e. h (ap suc e))
 
 set-same : {A : Type 0} (xs : List A) (k : ℕ) (x : A) → slice_get xs k ≡ Some x → slice_set xs k x ≡ xs
 set-same [] k x e = refl
@@ -268,13 +254,6 @@ pub record SearchSeen (q : Query) (l : Local) : Type 0 where
 pub record PathSeen (q : Query) (l : Local) : Type 0 where
   pub seen : View
   pub here : IsPathHere (store_seen seen) (length seen.history) q l
-
--- how queries begin in a group, and which trader of it a target is
-abbrev pub Beginnings : Type 1
-Beginnings = List View → ℕ → Query → Start → List View → Type 0
-
-abbrev pub Insides : Type 0
-Insides = List View → Ior → Option ℕ
 
 -- what is known of each beginning
 pub record AreKnown (B : Beginnings) : Type 0 where

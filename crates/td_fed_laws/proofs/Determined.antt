@@ -6,10 +6,11 @@ use Rattle.std.specs.Prelude.{Ok, Err}
 use mathlib.Core.Path.{fun_ext}
 use Rattle.td_codes.specs.declared.code.Any.{Any}
 use Rattle.td_codes.specs.declared.reference.Ior.{Ior}
+use Rattle.td_fed.proofs.Members.{Insides, same-view}
 use Rattle.td_fed.specs.Targets.{inside_group}
 use Rattle.td_fed.specs.Visiting.{Begins, course, start_of}
 use Rattle.td_fed_laws.specs.WalkLaws.{WalksAreDetermined}
-use Rattle.td_fed_laws.proofs.Alone.{Insides, alone}
+use Rattle.td_fed_laws.proofs.Alone.{alone}
 use Rattle.td_fed_laws.proofs.Leading.{no-step}
 use Rattle.td_ops.specs.declared.call.Query.{Query}
 use Rattle.td_ops.specs.declared.outcome.Outcome.{Outcome}
@@ -45,9 +46,6 @@ left w k q v b = with_view w k (seen_after v (after_begin (store_seen v) v.marks
 
 abbrev began : Query → View → Begin
 began q v = begin_of v.bounds (store_seen v) (length v.history) v.marks q
-
-same-view : (o : Option View) (v x : View) → o ≡ Some v → o ≡ Some x → v ≡ x
-same-view o v x a b = let same : Some v ≡ Some x = sym a ∙ b in cc
 
 same-trader : (o : Option ℕ) (n k : ℕ) → o ≡ Some n → o ≡ Some k → n ≡ k
 same-trader o n k a b = let same : Some n ≡ Some k = sym a ∙ b in cc
@@ -157,15 +155,9 @@ record OneRow (r rs : List TraceItem) (all every : List StepAnswer) (u x : Cours
   course_is : u ≡ x
 
 module _ (inside : Insides) (one : HasOneAnswer) where
-  abbrev WalksTo : Course (List View) → ℕ → Query → List TraceItem → Visit → Course (List View) → Type 0
-  WalksTo = Walk (Begins nothing unchanged) inside
-
   abbrev StepsTo : Course (List View) → Local → List StepAnswer → List TraceItem → List StepAnswer
       → Course (List View) → Type 0
   StepsTo = Steps (Begins nothing unchanged) inside
-
-  abbrev StepTo : Course (List View) → Next → List TraceItem → StepAnswer → Course (List View) → Type 0
-  StepTo = Step (Begins nothing unchanged) inside
 
   refused-one : (s : Course (List View)) (k : ℕ) (q : Query) (p n : ℕ) (o f : Outcome) (w y : List View)
       (r rs : List TraceItem) → Begins nothing unchanged s.world k q (Refused p o) w

@@ -1,11 +1,12 @@
 -- What is seen of each trader only grows in a walk, so that a search's store is there at its point afterwards.
 use Rattle.std.proofs.Common.{◌≡◌, ℕ, Bool, true, false, nat_eq, List, [], ◌++◌, append_assoc, append-nil, length}
-use Rattle.std.proofs.Common.{Option, Some, refl, sym, ap, subst, ◌∙◌, slice_get, slice_set, eqb-true, take_at}
+use Rattle.std.proofs.Common.{Some, refl, sym, ap, subst, ◌∙◌, slice_get, slice_set, eqb-true, take_at}
 use Rattle.std.proofs.lemmas.Bool.{eqb-false}
 use Rattle.td_cdr.specs.Marks.{Marks}
 use Rattle.td_changes.specs.Histories.{after_all, at}
+use Rattle.td_fed.proofs.Members.{Beginnings, Insides, get-set_other, get-set_same, same-view}
 use Rattle.td_fed.specs.Visiting.{Begins}
-use Rattle.td_fed_laws.proofs.Alone.{Beginnings, Insides, IsSearchHere, get-set_other, get-set_same, search-here}
+use Rattle.td_fed_laws.proofs.Alone.{IsSearchHere, search-here}
 use Rattle.td_ops.specs.declared.call.Query.{Query}
 use Rattle.td_register.specs.Stores.{Store}
 use Rattle.td_register.specs.declared.history.Accepted.{Accepted}
@@ -64,9 +65,6 @@ pub record Grow (B : Beginnings) : Type 0 where
   pub leaves : (w : List View) (k : ℕ) (q : Query) (l : Local) (u : List View) → B w k q (Search l) u
       → SearchLeft u k q l
 
-same-view : (o : Option View) (v x : View) → o ≡ Some v → o ≡ Some x → v ≡ x
-same-view o v x a b = let same : Some v ≡ Some x = sym a ∙ b in cc
-
 -- one trader of the group is seen otherwise
 put-grown : (w : List View) (k : ℕ) (v x : View) (more : List Accepted) → slice_get w k ≡ Some v
     → x.opening ≡ v.opening → x.history ≡ v.history ++ more → Grown w (slice_set w k x)
@@ -86,7 +84,7 @@ put-grown w k v x more at_k opening history j z is = by-trader (nat_eq k j) refl
         }
     by-trader false e = record {
       now = z;
-      is = get-set_other w k j x (λ h. eqb-false k j e (sym h)) ∙ is;
+      is = get-set_other w k j x (eqb-false k j e) ∙ is;
       opening = refl;
       more = [];
       history = sym (append-nil z.history);

@@ -5,11 +5,12 @@ use Rattle.std.specs.Option.{option_or}
 use Rattle.td_cdr.specs.Marks.{Marks}
 use Rattle.td_changes.specs.Histories.{at}
 use Rattle.td_codes.specs.declared.reference.Ior.{Ior}
+use Rattle.td_fed.proofs.Members.{Beginnings, Insides}
 use Rattle.td_fed.specs.Targets.{inside_group}
 use Rattle.td_fed_laws.specs.Traces.{first_point, first_searched, hops_in, searched_at}
 use Rattle.td_fed.specs.Visiting.{Begins}
 use Rattle.td_fed_laws.specs.WalkLaws.{WalksStayWithinTheirHops}
-use Rattle.td_fed_laws.proofs.Alone.{AreKnown, Beginnings, Insides, IsTaken, PathSeen, known}
+use Rattle.td_fed_laws.proofs.Alone.{AreKnown, IsTaken, PathSeen, known}
 use Rattle.td_fed_laws.proofs.Carried.{Keeps, Says, hop_count, path-keeps, says, search-hops}
 use Rattle.td_fed_laws.proofs.Growing.{Grow, Grown, SearchLeft, grow, steps-grow, store-there}
 use Rattle.td_fed_laws.proofs.Hopping.{Within, no-less, search-within, steps-within, within-at, within-left}

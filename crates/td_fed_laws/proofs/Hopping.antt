@@ -3,11 +3,12 @@ use Rattle.std.proofs.Common.{◌≡◌, ℕ, ◌+◌, ◌-◌, ◌<◌, ◌≤�
 use Rattle.std.proofs.Common.{ap, subst, ◌∙◌, arith, le_refl}
 use Rattle.td_cdr.specs.Marks.{Marks}
 use Rattle.td_codes.specs.declared.reference.Ior.{Ior}
+use Rattle.td_fed.proofs.Members.{Beginnings, Insides}
 use Rattle.td_fed.specs.Targets.{inside_group}
 use Rattle.td_fed_laws.specs.Traces.{hops_in, waiting, waiting_after}
 use Rattle.td_fed.specs.Visiting.{Begins}
 use Rattle.td_fed_laws.specs.WalkLaws.{VisitsEnd, WalksStayWithinStatedHops}
-use Rattle.td_fed_laws.proofs.Alone.{AreKnown, Beginnings, Insides, IsTaken, PathSeen, known}
+use Rattle.td_fed_laws.proofs.Alone.{AreKnown, IsTaken, PathSeen, known}
 use Rattle.td_fed_laws.proofs.Carried.{Keeps, MayGo, hop_count, path-keeps, says, search-fewer}
 use Rattle.td_fed_laws.proofs.Carried.{search-most}
 use Rattle.td_ops.specs.declared.call.Query.{Query}

@@ -5,10 +5,11 @@ use Rattle.std.specs.Option.{option_or}
 use Rattle.td_cdr.specs.Marks.{remembered}
 use Rattle.td_codes.specs.declared.code.Any.{Any}
 use Rattle.td_codes.specs.declared.reference.Ior.{Ior}
+use Rattle.td_fed.proofs.Members.{Insides}
 use Rattle.td_fed_laws.specs.Fresh.{IsFresh, made_so, stated_so}
 use Rattle.td_fed_laws.specs.Traces.{first_searched, searched_by}
 use Rattle.td_fed.specs.Visiting.{Begins}
-use Rattle.td_fed_laws.proofs.Alone.{Insides, IsTaken, PathBegun, path-begun, repeat-begun, search-begun}
+use Rattle.td_fed_laws.proofs.Alone.{IsTaken, PathBegun, path-begun, repeat-begun, search-begun}
 use Rattle.td_fed_laws.proofs.Carried.{Keeps, Says, path-keeps, request, says}
 use Rattle.td_fed_laws.proofs.Noting.{IsRight, IsRightFromNone, right-append}
 use Rattle.td_fed_laws.proofs.Recalling.{told, told-none}

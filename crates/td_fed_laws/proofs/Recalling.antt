@@ -9,9 +9,10 @@ use Rattle.std.proofs.lemmas.Slice.Eq.{bytes_eq-Decides}
 use mathlib.Core.Path.{fun_ext}
 use Rattle.td_cdr.specs.Marks.{In, Marks, Remembered, entry_of, kept_beside, marked, remembered, without_first}
 use Rattle.td_cdr.proofs.Marking.{is_held}
+use Rattle.td_fed.proofs.Members.{get-set_other, get-set_same}
 use Rattle.td_fed_laws.specs.Fresh.{Remembers}
 use Rattle.td_fed_laws.specs.WalkLaws.{UnmarkedGroupsAreFresh}
-use Rattle.td_fed_laws.proofs.Alone.{SearchBegun, get-set_other, get-set_same}
+use Rattle.td_fed_laws.proofs.Alone.{SearchBegun}
 use Rattle.td_fed_laws.proofs.Noting.{noted}
 use Rattle.td_ops.specs.declared.call.Query.{Query}
 use Rattle.td_register.specs.Stores.{Store}
@@ -87,7 +88,7 @@ told-set id w k v x is j = by-trader (nat_eq k j) refl
     by-trader true same =
         ap (told_in id)
         (subst (λ (n : ℕ). slice_get (slice_set w k v) n ≡ Some v) (eqb-true k j same) (get-set_same w k x v is))
-    by-trader false apart = ap (told_in id) (get-set_other w k j v (λ e. eqb-false k j apart (sym e)))
+    by-trader false apart = ap (told_in id) (get-set_other w k j v (eqb-false k j apart))
 
 -- where nobody of the group remembers it
 pub told-none : (id : List ℕ) (w : List View) (k : ℕ) → ((number : ℕ) → Remembers w k id number → ⊥)

@@ -2,8 +2,9 @@
 -- induction over the walk, its steps and each step.
 use Rattle.std.proofs.Common.{◌≡◌, ℕ, List, [], ◌∷◌, ◌++◌, length, Option, Some, None, refl, sym, ap, subst, ◌∙◌}
 use Rattle.td_codes.specs.declared.reference.Ior.{Ior}
+use Rattle.td_fed.proofs.Members.{Insides}
 use Rattle.td_fed.specs.Visiting.{Begins}
-use Rattle.td_fed_laws.proofs.Alone.{Insides, IsTaken, SearchBegun, path-begun, refused-begun, repeat-begun}
+use Rattle.td_fed_laws.proofs.Alone.{IsTaken, SearchBegun, path-begun, refused-begun, repeat-begun}
 use Rattle.td_fed_laws.proofs.Alone.{search-begun}
 use Rattle.td_fed_laws.proofs.Carried.{States, path-keeps, search-states}
 use Rattle.td_fed_laws.proofs.Noting.{Goes, goes-first, goes-left, goes-on}

@@ -6,10 +6,11 @@ use Rattle.std.proofs.lemmas.Bool.{cases_lt, eqb-false}
 use Rattle.td_cdr.specs.Marks.{Holds, Later, Marks, entry_of, marked, remembered}
 use Rattle.td_cdr.proofs.Marking.{is_not_held, newest}
 use Rattle.td_codes.specs.declared.reference.Ior.{Ior}
+use Rattle.td_fed.proofs.Members.{Beginnings, Insides, get-set_other, get-set_same, same-view}
 use Rattle.td_fed.specs.Targets.{inside_group}
 use Rattle.td_fed.specs.Visiting.{Begins}
 use Rattle.td_fed_laws.specs.WalkLaws.{WalksSearchFarApart, ring_at, ring_in}
-use Rattle.td_fed_laws.proofs.Alone.{Beginnings, Insides, get-set_other, get-set_same, known}
+use Rattle.td_fed_laws.proofs.Alone.{known}
 use Rattle.td_fed_laws.proofs.Alone.{path-is, refused-is, repeat-is, search-here, search-is}
 use Rattle.td_fed_laws.proofs.Carried.{States, path-keeps, says, request, search-states}
 use Rattle.td_fed_laws.proofs.Noting.{after, after-append, after_item, noted}
@@ -87,9 +88,6 @@ module _ (id : List ℕ) (rings : ℕ → ℕ) where
     ring_is : (j : ℕ) (v : View) → slice_get w j ≡ Some v → v.marks.ring ≡ rings j
     old : (j : ℕ) (v : View) → slice_get w j ≡ Some v → IsOldIn id (f j) v.marks
 
-  same-view : (o : Option View) (v x : View) → o ≡ Some v → o ≡ Some x → v ≡ x
-  same-view o v x a b = let same : Some v ≡ Some x = sym a ∙ b in cc
-
   -- one trader of the group has these marks
   put-in-step : (f g : ℕ → Option ℕ) (w : List View) (k : ℕ) (v x : View) → InStep f w → slice_get w k ≡ Some v
       → x.marks.ring ≡ v.marks.ring → IsOldIn id (g k) x.marks → ((j : ℕ) → (k ≡ j → ⊥) → g j ≡ f j)
@@ -105,7 +103,7 @@ module _ (id : List ℕ) (rings : ℕ → ℕ) where
           (subst (λ (n : ℕ). slice_get (slice_set w k x) n ≡ Some x) one (get-set_same w k v x is)) e
 
       apart : (j : ℕ) (z : View) → slice_get (slice_set w k x) j ≡ Some z → (k ≡ j → ⊥) → slice_get w j ≡ Some z
-      apart j z e other = sym (get-set_other w k j x (λ n. other (sym n))) ∙ e
+      apart j z e other = sym (get-set_other w k j x other) ∙ e
 
       ring-by : (j : ℕ) (z : View) → slice_get (slice_set w k x) j ≡ Some z → (b : Bool) → nat_eq k j ≡ b
           → z.marks.ring ≡ rings j

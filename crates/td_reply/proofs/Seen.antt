@@ -54,11 +54,6 @@ own_history v c (Done told) =
 own_history v c (User e) = refl
 own_history v c (System kind minor completion) = refl
 
-own_name : (v : View) (c : Change) (o : Outcome) → (after_own v c o).name ≡ v.name
-own_name v c (Done told) = refl
-own_name v c (User e) = refl
-own_name v c (System kind minor completion) = refl
-
 module _ (others : List Accepted → Type 0) (later : Marks → Marks → Type 0) where
   -- ---- a change
 

@@ -8,7 +8,7 @@ use Rattle.td_changes.specs.Applying.{apply_counted}
 use Rattle.td_changes.specs.Histories.{Legal, LegalFrom, StandsAt, after_all}
 use Rattle.td_changes.specs.Laws.{applied_after}
 use Rattle.td_changes.specs.declared.bounds.Bounds.{Bounds}
-use Rattle.td_fed.proofs.Points.{get-set_other, get-set_same}
+use Rattle.td_fed.proofs.Members.{get-set_other, get-set_same, same-view}
 use Rattle.td_ops.specs.declared.call.Change.{Change}
 use Rattle.td_ops.specs.declared.outcome.Outcome.TheVariants.{Done, User, System}
 use Rattle.td_ops.specs.declared.outcome.Outcome.{Outcome}
@@ -19,11 +19,6 @@ use Rattle.td_register.specs.declared.history.Accepted.{Accepted}
 use Rattle.td_trader.proofs.Growing.{after-append, legal-append, legal-none}
 use Rattle.td_trader.specs.Worlds.{LegalAt, LegalIn, View, after_others, after_own, history_at, history_in, store_seen}
 use Rattle.td_turns.specs.Seen.{AllGrow, Grows, IsLater}
-
--- ---- one of a list
-
-pub same-view : (o : Option View) (v x : View) → o ≡ Some v → o ≡ Some x → v ≡ x
-same-view o v x a b = let same : Some v ≡ Some x = sym a ∙ b in cc
 
 -- ---- one trader
 
@@ -151,9 +146,6 @@ put-grow w k v x is g = record { count = length-set w k x; each = λ j z at_j. b
     }
 
 -- ---- what follows for one of them
-
-same-length : (o : Option View) (v u : View) → IsLater v o → o ≡ Some u → Grows v u
-same-length o v u h is = subst (λ (y : View). Grows v y) (same-view o h.view u h.is is) h.grows
 
 from-none : (o : Option View) (n : ℕ) → o ≡ None → length (history_in o) ≤ n
 from-none None n e = omega arith

@@ -8,7 +8,8 @@ use Rattle.td_cdr.specs.Marks.{Marks}
 use Rattle.td_changes.proofs.Extending.{stands-last}
 use Rattle.td_changes.specs.Histories.{StandsAt, is_done}
 use Rattle.td_fed.proofs.Entered.{shown-begun}
-use Rattle.td_fed.proofs.Points.{begun-rise, get-set_other, get-set_same, put-rise}
+use Rattle.td_fed.proofs.Members.{get-set_other, get-set_same}
+use Rattle.td_fed.proofs.Points.{begun-rise, put-rise}
 use Rattle.td_fed.proofs.Rising.{rises-on}
 use Rattle.td_fed.specs.Entering.{begin_item}
 use Rattle.td_fed.specs.Trails.{Rises, marks_of, only_of, own_at, own_in, own_marks_at, own_marks_in, points_of}

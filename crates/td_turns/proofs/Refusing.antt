@@ -5,6 +5,7 @@ use Rattle.td_cdr.specs.Marks.{Marks}
 use Rattle.td_cdr.specs.Writing.{Draft}
 use Rattle.td_changes.specs.Histories.{is_done}
 use Rattle.td_codes.specs.declared.reference.Ior.{Ior}
+use Rattle.td_fed.proofs.Members.{Beginnings, Insides}
 use Rattle.td_fed.specs.Targets.{inside_group}
 use Rattle.td_fed.specs.Trails.{Goes, began, marks_of, own_at, own_marks_at, stays, watched}
 use Rattle.td_fed.specs.Visiting.{Begins, course}
@@ -42,7 +43,6 @@ use Rattle.td_serve.specs.Requests.{Answers, CallComes, Comes, number_in}
 use Rattle.td_trader.specs.Worlds.{Changes, View, name_at}
 use Rattle.td_turns.proofs.Acting.{Does, note}
 use Rattle.td_turns.proofs.Resting.{resolves-goes}
-use Rattle.td_turns.proofs.Travelling.{Beginnings, Insides}
 use Rattle.td_turns.specs.Journals.{asks_change, is_refusal, marks_in, places_in, points_in}
 use Rattle.td_turns.specs.Laws.{Keeps, KeepsAll}
 use Rattle.td_walk.specs.declared.fault.PeerFault.{PeerFault}

@@ -1,12 +1,12 @@
 -- What a walk leaves: its items show the marks and the points, and what each call of a peer gave, in order; and the
 -- words that it draws are the next ones.
 use Rattle.std.proofs.Common.{◌≡◌, ℕ, List, [], ◌∷◌, ◌++◌, append_assoc, append-nil, refl, sym, ap, subst}
-use Rattle.std.proofs.Common.{◌∙◌, length, Option}
+use Rattle.std.proofs.Common.{◌∙◌, length}
 use Rattle.td_cdr.specs.Marks.{Marks}
-use Rattle.td_codes.specs.declared.reference.Ior.{Ior}
+use Rattle.td_fed.proofs.Members.{Beginnings, Insides}
 use Rattle.td_fed.proofs.Moving.{draws-after, draws-none, has-drawn}
 use Rattle.td_fed.proofs.Rising.{flat-append}
-use Rattle.td_fed.proofs.Showing.{given-append, marks-append, shown-append}
+use Rattle.td_fed.proofs.Showing.{marks-append}
 use Rattle.td_fed.specs.Entering.{begin_item}
 use Rattle.td_fed.specs.Targets.{inside_group}
 use Rattle.td_fed.specs.Trails.{DrawsOn, marks_of, point_of, points_of}
@@ -27,6 +27,7 @@ use Rattle.td_walk.specs.declared.trace.Address.{Address}
 use Rattle.td_walk.specs.declared.trace.TraceItem.TheVariants as item
 use Rattle.td_walk.specs.declared.trace.TraceItem.{TraceItem}
 use Rattle.td_walk.specs.declared.trace.Visit.{Visit}
+use Rattle.td_walk_laws.proofs.Walked.{given-append, shown-append}
 use Rattle.td_walk_laws.specs.Walks.{Course, Ends, Opens, Path, Refused, Repeat, Search, Start, Step, Steps, Walk}
 use Rattle.td_walk_laws.specs.Walks.{asked, asking, done, evaluated, outside, passing, refused, repeat, searching}
 use Rattle.td_walk_laws.specs.Walks.{called, given_in, shown, with_world}
@@ -93,12 +94,6 @@ start-shown k (Refused point o) = refl
 start-shown k (Repeat point mark) = refl
 start-shown k (Search l) = refl
 start-shown k (Path l) = refl
-
-abbrev pub Beginnings : Type 1
-Beginnings = List View → ℕ → Query → Start → List View → Type 0
-
-abbrev pub Insides : Type 0
-Insides = List View → Ior → Option ℕ
 
 -- the first item of a visit shows what its beginning leaves
 abbrev Starts : Beginnings → Type 0
