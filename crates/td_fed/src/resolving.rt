@@ -17,16 +17,11 @@ use crate::target::register_inside;
 use std::alloc::Global;
 use td_cdr::{List, Memory, Text, Twin, is_word_name};
 use td_exceptions::UserException;
-use td_ops::{Look, Outcome, Reply, SystemKind};
+use td_ops::{COMPLETED_NO, Look, Outcome, Reply, SystemKind};
+use td_policy::MOST_NAMES;
 use td_trader::Traders;
 use td_value::Ior;
 use td_walk::{Address, PeerFault, Peers};
-
-/// How many names of links may stand in one.
-const MOST_NAMES: usize = 64;
-
-/// The completion status of a call that wasn't done (CORBA, chapter "Standard Exceptions").
-const COMPLETED_NO: u32 = 1;
 
 /// What a name of links comes to.
 #[derive(Drop)]

@@ -5,15 +5,10 @@ ghost use Rattle.std.specs.List.{list_any};
 ghost use Rattle.td_lookup.specs.Telling.{in_vain, unanswered, wants_memory};
 ghost use Rattle.td_lookup.specs.Unserved.{completion_of, is_search, wanting};
 
-use td_ops::{Outcome, SystemKind};
+use td_ops::{COMPLETED_MAYBE, COMPLETED_NO, Outcome, SystemKind};
 use td_reply::{Answer, Entry, ReplyBody};
 use td_trader::Traders;
 use td_walk::TraceItem;
-
-/// The completion status of a call that wasn't done, and of one that may have been done in part.
-const COMPLETED_NO: u32 = 1;
-
-const COMPLETED_MAYBE: u32 = 2;
 
 fn is_search(item: &TraceItem) -> bool
     ensures { result ≡ is_search item.now }

@@ -39,7 +39,7 @@ use Rattle.td_register.specs.Named.{open_type}
 use Rattle.td_register.specs.Properties.{is_too_large}
 use Rattle.td_register.specs.Proxies.{export_proxy, export_proxy_cause, exported_proxy, is_recipe, policies_cause}
 use Rattle.td_register.specs.Proxies.{withdraw_proxy, withdraw_proxy_cause}
-use Rattle.td_register.specs.Registers.{asked_in, export, export_cause, exported, interface_cause, is_nil, last_number}
+use Rattle.td_register.specs.Registers.{asked_in, export, export_cause, exported, interface_cause, last_number}
 use Rattle.td_register.specs.Registers.{modify, modify_cause, no_more, offer_cause, offers_modified, offers_not_met}
 use Rattle.td_register.specs.Registers.{offers_without, passes_limit, with_offer, withdraw, withdraw_cause}
 use Rattle.td_register.specs.Registers.{withdraw_met_cause, withdraw_using_constraint}
@@ -57,6 +57,7 @@ use Rattle.td_value.specs.declared.structures.PropStruct.{PropStruct}
 use Rattle.td_value.specs.declared.structures.Property.{Property}
 use Rattle.td_exceptions.specs.declared.exception.UserException.TheVariants.{IllegalRecipe, InvalidLookupRef}
 use Rattle.td_exceptions.specs.declared.exception.UserException.TheVariants.{InvalidObjectRef}
+use Rattle.td_ior.specs.Nil.{is_nil}
 use Rattle.td_ior.specs.Profiles.{iiop_of}
 use Rattle.td_trader.specs.PlainTraders.{HasShortReplies}
 use Rattle.td_trader.specs.Worlds.{AdmittedIn, View}

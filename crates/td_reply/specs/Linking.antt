@@ -5,11 +5,11 @@ use Rattle.std.specs.Prelude.{◌≡◌, ℕ, false, if◌then◌else◌, List, 
 use Rattle.std.specs.Prelude.{IfErr}
 use Rattle.td_cdr.specs.Marks.{Marks}
 use Rattle.td_codes.specs.declared.reference.Ior.{Ior}
+use Rattle.td_ior.specs.Nil.{is_nil}
 use Rattle.td_ops.specs.declared.call.AddLink.{AddLink}
 use Rattle.td_ops.specs.declared.call.Change.{Change}
 use Rattle.td_ops.specs.declared.call.Change.TheVariants as change
 use Rattle.td_ops.specs.declared.outcome.Outcome.{Outcome}
-use Rattle.td_register.specs.Registers.{is_nil}
 use Rattle.td_register.specs.declared.history.Accepted.{Accepted}
 use Rattle.td_trader.specs.Worlds.{Changes, View, history_at, name_at}
 use Rattle.td_walk.specs.Peering.{Exchange, IsNoted, Referred, RegisterOf, is_memory}

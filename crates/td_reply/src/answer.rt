@@ -4,10 +4,7 @@ ghost use Rattle.std.specs.Prelude.{◌≡◌};
 ghost use Rattle.td_reply.specs.Answers.{no_memory, plain, system};
 
 use crate::entry::Entry;
-use td_ops::{Outcome, SystemKind};
-
-/// The completion status of a call that wasn't done (CORBA, chapter "Standard Exceptions").
-const COMPLETED_NO: u32 = 1;
+use td_ops::{COMPLETED_NO, Outcome, SystemKind};
 
 /// How the body of a reply stands.
 #[derive(Drop)]

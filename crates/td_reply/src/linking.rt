@@ -1,7 +1,6 @@
 //! `add_link` (OMG's Trading Object Service, interface Link).
 
 ghost use Rattle.std.specs.Prelude.{◌≡◌, ◌⊎◌, ◌≤◌, ◌<◌, false, List, length, None, Some, Ok, IfOk, IfErr, OnErr};
-ghost use Rattle.td_register.specs.Registers.{is_nil};
 ghost use Rattle.td_ops.specs.declared.call.Change.{Change as a_change};
 ghost use Rattle.td_reply.specs.Answers.{IfLong, IsToldPlainly};
 ghost use Rattle.td_reply.specs.Changing.{ChangeComes, Rests};
@@ -21,7 +20,7 @@ use crate::references::own_reference;
 use crate::target::{Target, target_of};
 use std::alloc::Global;
 use td_cdr::{Memory, Twin};
-use td_ior::Kind;
+use td_ior::{Kind, is_nil};
 use td_ops::{AddLink, Change};
 use td_trader::Traders;
 use td_value::Ior;
@@ -224,12 +223,6 @@ fn unless_nil(alloc: Global, register: &Ior) -> Result<Option<Ior>, Memory>
     }
     let copy = register.copy(alloc)?;
     Ok(Some(copy))
-}
-
-fn is_nil(reference: &Ior) -> bool
-    ensures { result ≡ is_nil reference.now }
-{
-    reference.id.len() == 0 && reference.profiles.len() == 0
 }
 
 /// Makes the change, and notes what the peer gave.
