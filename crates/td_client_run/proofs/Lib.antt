@@ -1,4 +1,3 @@
-pub mod Telling
 pub mod Judging
 pub mod Showing
 pub mod Never

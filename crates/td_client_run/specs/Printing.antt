@@ -1,7 +1,8 @@
 -- What goes to a sink.
-use Rattle.std.specs.Prelude.{◌≡◌, ◌⊎◌, ℕ, ◌≤◌, List, [], ◌++◌, Option, Some, None}
+use Rattle.std.specs.Prelude.{◌≡◌, ℕ, ◌≤◌, List, Option, Some, None}
 use Rattle.std.specs.Io.KnownBytes.{Appends}
 use Rattle.td_out.specs.Causes.{Rose}
+use Rattle.td_tell.specs.Texts.{Tells}
 use Rattle.td_client_run.specs.Outcomes.{outcome_lines, outcome_status}
 use Rattle.td_client_run.specs.declared.outcome.Outcome.{Outcome}
 
@@ -12,15 +13,6 @@ pub record Sunk : Type 0 where
 
 abbrev pub sunk : Option (List ℕ) → ℕ → Sunk
 sunk bytes faults = record { bytes = bytes; faults = faults }
-
--- a sink was given this text, or its front where its count of faults rose
-pub record Tells (text : List ℕ) (written0 written1 : Option (List ℕ)) (faults0 faults1 : ℕ) : Type 0 where
-  pub told : List ℕ
-  pub untold : List ℕ
-  pub parts : text ≡ told ++ untold
-  pub gave : Appends written0 written1 told
-  pub whole : (untold ≡ []) ⊎ Rose faults0 faults1
-  pub later : faults0 ≤ faults1
 
 -- all of a text is printed, and the status is this one, or the sink failed
 pub data Prints (text : List ℕ) (status : ℕ) : (before after : Sunk) → ℕ → Type 0 where

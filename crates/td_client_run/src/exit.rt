@@ -2,12 +2,12 @@
 
 ghost use Rattle.std.specs.Prelude.{◌≡◌, codes, map, string_bytes, MatchBool};
 ghost use Rattle.std.specs.Process.{exit_status};
-ghost use Rattle.td_client_run.specs.Printing.{Tells, sunk};
+ghost use Rattle.td_client_run.specs.Printing.{sunk};
 ghost use Rattle.td_client_run.specs.Runs.{Runs};
 ghost use Rattle.td_client_run.specs.Sending.{line};
+ghost use Rattle.td_tell.specs.Texts.{Tells};
 
 use crate::client::client_run;
-use crate::printing::write_all;
 use std::alloc::Global;
 use std::env;
 use std::io::{self, ErrorKind, Write};
@@ -15,6 +15,7 @@ use std::net::Net;
 use std::process::ExitCode;
 use std::rt::Env;
 use td_out::{Sink, StdSink};
+use td_tell::write_all;
 use td_wire::{TcpWire, Wire};
 
 /// Does what the words say, as `client_run` does, and gives the process its status.

@@ -6,11 +6,12 @@ ghost use Rattle.td_client_run.specs.Sending.{line};
 ghost use Rattle.td_tool.specs.declared.asking.Refusal.TheVariants as refusal;
 
 use crate::outcome::fault_status;
-use crate::printing::{show, write_all};
+use crate::printing::show;
 use crate::sending::send;
 use std::alloc::{AllocError, Global};
 use td_asking::Asking;
 use td_out::Sink;
+use td_tell::write_all;
 use td_tool::Refusal;
 use td_wire::Wire;
 

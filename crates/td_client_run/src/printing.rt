@@ -1,13 +1,11 @@
 //! Texts on their way to a sink.
 
-ghost use Rattle.std.specs.Prelude.{OnErr, OnOk};
-ghost use Rattle.std.specs.Io.KnownBytes.{Appends};
-ghost use Rattle.td_out.specs.Causes.{Rose};
-ghost use Rattle.td_client_run.specs.Printing.{Prints, Shows, Tells, sunk};
+ghost use Rattle.td_client_run.specs.Printing.{Prints, Shows, sunk};
 
 use crate::outcome::{Outcome, outcome_status, put_outcome};
 use std::alloc::Global;
-use td_out::{Failed, Sink};
+use td_out::Sink;
+use td_tell::write_all;
 
 /// The status where a sink failed.
 const SINK_FAILED: u8 = 7;
@@ -17,25 +15,6 @@ const NOT_THE_REPLY: u8 = 8;
 
 /// The status for want of memory.
 const NO_MEMORY: u8 = 9;
-
-/// Writes all of a text.
-///
-/// # Errors
-///
-/// `Failed` only where the sink failed; the front of the text that it had taken is written.
-pub(crate) fn write_all<E: Sink>(sink: &mut E, text: &[u8]) -> Result<(), Failed>
-    ensures tells { Tells text.now (E.written sink.old) (E.written sink.new) (E.faults sink.old) (E.faults sink.new) }
-    ensures whole { OnOk result (Appends (E.written sink.old) (E.written sink.new) text.now) }
-    ensures failed { OnErr result (Rose (E.faults sink.old) (E.faults sink.new)) }
-{
-    let mut rest = text;
-    while !rest.is_empty() {
-        let size = sink.write(rest)?;
-        let (_told, left) = rest.split_at(size);
-        rest = left;
-    }
-    Ok(())
-}
 
 /// Prints a text, and answers this status where all of it is printed.
 fn print<K: Sink>(sink: &mut K, text: &[u8], status: u8) -> u8

@@ -1,7 +1,5 @@
 -- What goes to the faults sink.
-use Rattle.std.specs.Prelude.{◌≡◌, ◌⊎◌, ℕ, ◌≤◌, List, [], ◌++◌, codes, decimal, Option}
-use Rattle.std.specs.Io.KnownBytes.{Appends}
-use Rattle.td_out.specs.Causes.{Rose}
+use Rattle.std.specs.Prelude.{ℕ, List, [], ◌++◌, codes, decimal}
 use Rattle.td_lines.specs.declared.cause.LineCause.{LineCause}
 use Rattle.td_lines.specs.declared.cause.LineCause.TheVariants as cause
 use Rattle.td_session.specs.declared.end.End.TheVariants as end
@@ -43,12 +41,3 @@ line_of (Served end.ReadFault) = status_line 6
 line_of (Served end.WriteFault) = status_line 7
 line_of (Served end.Long) = status_line 8
 line_of (Served end.Memory) = status_line 9
-
--- a sink was given this text, or its front where its count of faults rose
-pub record Tells (text : List ℕ) (written0 written1 : Option (List ℕ)) (faults0 faults1 : ℕ) : Type 0 where
-  pub told : List ℕ
-  pub untold : List ℕ
-  pub parts : text ≡ told ++ untold
-  pub gave : Appends written0 written1 told
-  pub whole : (untold ≡ []) ⊎ Rose faults0 faults1
-  pub later : faults0 ≤ faults1

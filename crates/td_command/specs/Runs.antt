@@ -19,7 +19,8 @@ use Rattle.td_command.specs.declared.ended.Ended.TheVariants.{Usage, Missing, To
 use Rattle.td_command.specs.declared.ended.Ended.TheVariants.{PrintFault, Served}
 use Rattle.td_command.specs.Commands.{Command, Pipe, Check, Make, Drill, command_of}
 use Rattle.td_command.specs.Printing.{Checks, DrillsWith, IsUnread, Prints, PrintsFile, PrintsOf, sink_of}
-use Rattle.td_command.specs.Reports.{line_of, Tells}
+use Rattle.td_command.specs.Reports.{line_of}
+use Rattle.td_tell.specs.Texts.{Tells}
 use Rattle.td_command.specs.Status.{status_of}
 
 -- Where a session begins: at the traders that a file opens, with no iterator kept and no peer called, and with the

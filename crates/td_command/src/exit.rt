@@ -4,9 +4,10 @@ ghost use Rattle.std.specs.Prelude.{◌≡◌, map, string_bytes};
 ghost use Rattle.std.specs.Process.{exit_status};
 ghost use Rattle.td_session.specs.Outside.{outside};
 ghost use Rattle.td_command.specs.Completeness.{Completes};
-ghost use Rattle.td_command.specs.Reports.{Tells, line_of};
+ghost use Rattle.td_command.specs.Reports.{line_of};
 ghost use Rattle.td_command.specs.Runs.{Runs, shelves};
 ghost use Rattle.td_command.specs.Status.{status_of};
+ghost use Rattle.td_tell.specs.Texts.{Tells};
 
 use crate::command::run;
 use crate::ended::Ended;

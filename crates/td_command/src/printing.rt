@@ -5,10 +5,10 @@ ghost use Rattle.td_command.specs.Printing.{Prints, PrintsText, sink_seen};
 ghost use Rattle.td_make.specs.Generated.{generated};
 
 use crate::ended::Ended;
-use crate::reporting::write_all;
 use std::alloc::Global;
 use td_make::make_file;
 use td_out::Sink;
+use td_tell::write_all;
 
 /// Prints a text.
 pub(crate) fn print<K: Sink>(sink: &mut K, text: &[u8]) -> Ended

@@ -1,15 +1,15 @@
 //! The line that a command leaves on the faults sink.
 
-ghost use Rattle.std.specs.Prelude.{◌≡◌, OnErr, OnOk};
-ghost use Rattle.std.specs.Io.KnownBytes.{Appends};
-ghost use Rattle.td_out.specs.Causes.{Rose};
-ghost use Rattle.td_command.specs.Reports.{Tells, cause_end, line_of, status_line, numbered};
+ghost use Rattle.std.specs.Prelude.{◌≡◌};
+ghost use Rattle.td_command.specs.Reports.{cause_end, line_of, status_line, numbered};
+ghost use Rattle.td_tell.specs.Texts.{Tells};
 
 use crate::ended::Ended;
 use itoa::Buffer;
 use td_file::LineCause;
 use td_out::{Failed, Sink};
 use td_session::End;
+use td_tell::write_all;
 
 /// Writes the line for a command that ended so. Where the sink fails, the rest of the line is lost.
 pub fn report<E: Sink>(faults: &mut E, ended: Ended)
@@ -45,6 +45,10 @@ fn cause_end(cause: LineCause) -> &'static [u8]
 }
 
 /// Writes a number in decimal between two texts.
+///
+/// # Errors
+///
+/// `Failed` only where the sink failed; the front of the line that it had taken is written.
 pub fn write_numbered<E: Sink>(
     sink: &mut E,
     before: &[u8],
@@ -58,23 +62,4 @@ pub fn write_numbered<E: Sink>(
     write_all(sink, before)?;
     write_all(sink, buffer.format(number).as_bytes())?;
     write_all(sink, after)
-}
-
-/// Writes all of a text.
-///
-/// # Errors
-///
-/// `Failed` only where the sink failed; the front of the text that it had taken is written.
-pub(crate) fn write_all<E: Sink>(sink: &mut E, text: &[u8]) -> Result<(), Failed>
-    ensures tells { Tells text.now (E.written sink.old) (E.written sink.new) (E.faults sink.old) (E.faults sink.new) }
-    ensures whole { OnOk result (Appends (E.written sink.old) (E.written sink.new) text.now) }
-    ensures failed { OnErr result (Rose (E.faults sink.old) (E.faults sink.new)) }
-{
-    let mut rest = text;
-    while !rest.is_empty() {
-        let size = sink.write(rest)?;
-        let (_told, left) = rest.split_at(size);
-        rest = left;
-    }
-    Ok(())
 }

@@ -1,0 +1,103 @@
+-- A text on its way to a sink.
+use Rattle.std.proofs.Common.{◌≡◌, inl, inr, ℕ, ◌≤◌, List, [], ◌++◌, take, drop, append_assoc, append-nil, subst}
+use Rattle.std.proofs.Common.{Option, Some, None, refl, sym, ap, ◌∙◌, arith}
+use Rattle.std.specs.Io.KnownBytes.{Appends, Keeps}
+use Rattle.std.proofs.lemmas.List.{take-append-drop}
+use Rattle.td_out.specs.Causes.{Rose}
+use Rattle.td_tell.specs.Texts.{Tells}
+
+pub Appends-nil : (w : Option (List ℕ)) → Appends w w []
+Appends-nil None = tt
+Appends-nil (Some xs) = sym (append-nil xs)
+
+pub Appends-step : (w0 w w1 : Option (List ℕ)) (front piece : List ℕ) → Appends w0 w front → Appends w w1 piece
+    → Appends w0 w1 (front ++ piece)
+Appends-step None w w1 front piece a b = tt
+Appends-step (Some xs) None w1 front piece a b = absurd a
+Appends-step (Some xs) (Some ys) None front piece a b = absurd b
+Appends-step (Some xs) (Some ys) (Some zs) front piece a b = b ∙ ap (λ l. l ++ piece) a ∙ append_assoc xs front piece
+
+pub Appends-kept : (w0 w w1 : Option (List ℕ)) (front : List ℕ) → Appends w0 w front → Keeps w w1 → Appends w0 w1 front
+Appends-kept None w w1 front a k = tt
+Appends-kept (Some xs) None w1 front a k = absurd a
+Appends-kept (Some xs) (Some ys) None front a k = absurd k
+Appends-kept (Some xs) (Some ys) (Some zs) front a k = k ∙ a
+
+pub Rose-before : (a b c : ℕ) → a ≤ b → Rose b c → Rose a c
+Rose-before a b c h r = omega (arith, h, r)
+
+-- what stands before the rest of a text was given
+pub record Telling (text rest : List ℕ) (w0 w : Option (List ℕ)) (f0 f : ℕ) : Type 0 where
+  pub front : List ℕ
+  pub parts : text ≡ front ++ rest
+  pub gave : Appends w0 w front
+  pub later : f0 ≤ f
+
+pub telling-start : (text : List ℕ) (w : Option (List ℕ)) (f : ℕ) → Telling text text w w f f
+telling-start text w f = record { front = []; parts = refl; gave = Appends-nil w; later = omega arith }
+
+pub telling-step : (text rest left : List ℕ) (n : ℕ) (w0 w w1 : Option (List ℕ)) (f0 f f1 : ℕ)
+    → Telling text rest w0 w f0 f → left ≡ drop n rest → Appends w w1 (take n rest) → f ≤ f1
+    → Telling text left w0 w1 f0 f1
+telling-step text rest left n w0 w w1 f0 f f1 t l a h = record {
+  front = t.front ++ take n rest;
+  parts =
+      t.parts ∙ ap (λ x. t.front ++ x) (sym (take-append-drop n rest))
+      ∙ sym (append_assoc t.front (take n rest) (drop n rest)) ∙ ap (λ x. (t.front ++ take n rest) ++ x) (sym l);
+  gave = Appends-step w0 w w1 t.front (take n rest) t.gave a;
+  later = omega (arith, t.later, h);
+}
+
+pub telling-fails : (text rest : List ℕ) (w0 w w1 : Option (List ℕ)) (f0 f f1 : ℕ) → Telling text rest w0 w f0 f
+    → Keeps w w1 → f ≤ f1 → Rose f f1 → Tells text w0 w1 f0 f1
+telling-fails text rest w0 w w1 f0 f f1 t k h r = record {
+  told = t.front;
+  untold = rest;
+  parts = t.parts;
+  gave = Appends-kept w0 w w1 t.front t.gave k;
+  whole = inr (Rose-before f0 f f1 t.later r);
+  later = omega (arith, t.later, h);
+}
+
+whole-front : (text front rest : List ℕ) → text ≡ front ++ rest → rest ≡ [] → front ≡ text
+whole-front text front rest p e = sym (append-nil front) ∙ ap (λ x. front ++ x) (sym e) ∙ sym p
+
+pub telling-whole : (text rest : List ℕ) (w0 w : Option (List ℕ)) (f0 f : ℕ) → Telling text rest w0 w f0 f → rest ≡ []
+    → Appends w0 w text
+telling-whole text rest w0 w f0 f t e =
+    subst (λ (x : List ℕ). Appends w0 w x) (whole-front text t.front rest t.parts e) t.gave
+
+pub tells-whole : (text : List ℕ) (w0 w : Option (List ℕ)) (f0 f : ℕ) → Appends w0 w text → f0 ≤ f
+    → Tells text w0 w f0 f
+tells-whole text w0 w f0 f a h = record {
+  told = text;
+  untold = [];
+  parts = sym (append-nil text);
+  gave = a;
+  whole = inl refl;
+  later = h;
+}
+
+-- a text that follows one that was given whole
+pub tells-after : (first second : List ℕ) (w0 w w1 : Option (List ℕ)) (f0 f f1 : ℕ) → Appends w0 w first → f0 ≤ f
+    → Tells second w w1 f f1 → Tells (first ++ second) w0 w1 f0 f1
+tells-after first second w0 w w1 f0 f f1 a h t = record {
+  told = first ++ t.told;
+  untold = t.untold;
+  parts = ap (λ x. first ++ x) t.parts ∙ sym (append_assoc first t.told t.untold);
+  gave = Appends-step w0 w w1 first t.told a t.gave;
+  whole = elim t.whole [ inl e ↦ inl e | inr r ↦ inr (Rose-before f0 f f1 h r) ];
+  later = omega (arith, h, t.later);
+}
+
+-- one whose front alone was given: what follows isn't
+pub tells-before : (first second : List ℕ) (w0 w : Option (List ℕ)) (f0 f : ℕ) → Tells first w0 w f0 f → Rose f0 f
+    → Tells (first ++ second) w0 w f0 f
+tells-before first second w0 w f0 f t r = record {
+  told = t.told;
+  untold = t.untold ++ second;
+  parts = ap (λ x. x ++ second) t.parts ∙ append_assoc t.told t.untold second;
+  gave = t.gave;
+  whole = inr r;
+  later = t.later;
+}
