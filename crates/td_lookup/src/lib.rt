@@ -12,4 +12,4 @@ mod unserved;
 pub use laws::worked_lookups;
 pub use naming::answer_resolve;
 pub use querying::answer_query;
-pub use unserved::{entry_in_vain, unanswered, wanting};
+pub use unserved::{entry_in_vain, wanting};

@@ -66,7 +66,7 @@ pub fn wanting(entry: &Entry) -> Outcome
 }
 
 /// The answer where memory is wanted, with what is noted.
-pub fn unanswered(entry: Entry) -> Answer
+pub(crate) fn unanswered(entry: Entry) -> Answer
     ensures { result ≡ unanswered entry }
 {
     let outcome = wanting(&entry);

@@ -23,7 +23,7 @@ pub struct Answer {
 }
 
 /// A system exception of a call that wasn't done.
-pub fn system(kind: SystemKind, minor: u32) -> Outcome
+pub(crate) fn system(kind: SystemKind, minor: u32) -> Outcome
     ensures { result ≡ system kind minor }
 {
     Outcome::System {

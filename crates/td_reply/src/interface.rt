@@ -53,7 +53,7 @@ impl Named for Interface {
 
 /// Whether an object of this interface has the one of a repository id: it is its own, one that its own
 /// inherits, or that of every object.
-pub fn is_a(interface: Interface, id: &[u8]) -> bool
+pub(crate) fn is_a(interface: Interface, id: &[u8]) -> bool
     ensures { result ≡ is_a interface id.now }
 {
     among(interface, id).is_some()

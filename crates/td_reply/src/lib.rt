@@ -17,11 +17,11 @@ mod objects;
 mod references;
 mod target;
 
-pub use answer::{Answer, ReplyBody, no_memory, plain, system, unserved};
+pub use answer::{Answer, ReplyBody, no_memory, plain, unserved};
 pub use changing::answer_change;
 pub use entry::Entry;
 pub use identity::{answer_is_a, answer_non_existent};
-pub use interface::{Interface, is_a};
+pub use interface::Interface;
 pub use iterating::answer_iterator;
 pub use judging::{Judged, judge};
 pub use laws::{

@@ -6,7 +6,8 @@ use Rattle.td_workers.specs.Works.{Working, came, closed, over, went}
 module _ {H J D : Type 0} {admits : H → ℕ → J → H → Type 0} {closes : H → H → Type 0} {does : J → D → Type 0}
     {parts : H → ℕ → D → H → Type 0} {K B E : Type 0} (admits2 : K → ℕ → B → K → Type 0)
     (closes2 : K → K → Type 0) (does2 : B → E → Type 0) (parts2 : K → ℕ → E → K → Type 0) (hall : H → K) (begun : J → B)
-    (made_as : D → E) (admitted : (h : H) (n : ℕ) (j : J) (m : H) → admits h n j m → admits2 (hall h) n (begun j) (hall m))
+    (made_as : D → E)
+    (admitted : (h : H) (n : ℕ) (j : J) (m : H) → admits h n j m → admits2 (hall h) n (begun j) (hall m))
     (is_closed : (h m : H) → closes h m → closes2 (hall h) (hall m))
     (done_so : (j : J) (d : D) → does j d → does2 (begun j) (made_as d))
     (parted : (h : H) (n : ℕ) (d : D) (m : H) → parts h n d m → parts2 (hall h) n (made_as d) (hall m)) where
@@ -35,7 +36,8 @@ pub working_maps : {H J D : Type 0} {admits : H → ℕ → J → H → Type 0} 
     {parts : H → ℕ → D → H → Type 0} {h k : H} {n : ℕ} {K B E : Type 0}
     (w : Working admits closes does parts true h n [] k) (admits2 : K → ℕ → B → K → Type 0)
     (closes2 : K → K → Type 0) (does2 : B → E → Type 0) (parts2 : K → ℕ → E → K → Type 0) (hall : H → K) (begun : J → B)
-    (made_as : D → E) (admitted : (h : H) (n : ℕ) (j : J) (m : H) → admits h n j m → admits2 (hall h) n (begun j) (hall m))
+    (made_as : D → E)
+    (admitted : (h : H) (n : ℕ) (j : J) (m : H) → admits h n j m → admits2 (hall h) n (begun j) (hall m))
     (is_closed : (h m : H) → closes h m → closes2 (hall h) (hall m))
     (done_so : (j : J) (d : D) → does j d → does2 (begun j) (made_as d))
     (parted : (h : H) (n : ℕ) (d : D) (m : H) → parts h n d m → parts2 (hall h) n (made_as d) (hall m))

@@ -34,8 +34,8 @@ pub record Parted {H J D : Type 0} (Ready : H → Type 0) (Waits : H → J → T
   pub ready : Ready u
   pub stays : (j : J) → Waits h j → Waits u j
 
--- The hall has gone on from h, where these jobs were out, to u, where the others are: what happens from there on happens
--- from h on.
+-- The hall has gone on from h, where these jobs were out, to u, where the others are: what happens from there on
+-- happens from h on.
 pub record Moves {H J D : Type 0} (Ready : H → Type 0) (Waits : H → J → Type 0) (admits : H → ℕ → J → H → Type 0)
     (closes : H → H → Type 0) (does : J → D → Type 0) (parts : H → ℕ → D → H → Type 0) (h : H) (out : List (ℕ × J))
     (u : H) (left : List (ℕ × J)) : Type 0 where
