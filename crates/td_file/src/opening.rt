@@ -32,7 +32,7 @@ fn links_and_attributes(
     ensures links { IfOk result (λ p. p.0 ≡ []) }
     ensures attributes { IfOk result (λ p. p.1 ≡ default_attributes name.now (own home.now name.now)) }
 {
-    let links = Links::new(alloc)?;
+    let links = Links::new(alloc);
     match attributes(alloc, home, name) {
         Ok(attributes) => Ok((links, attributes)),
         Err(memory) => {

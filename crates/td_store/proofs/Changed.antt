@@ -1,22 +1,19 @@
 -- One offer with other properties.
 use Rattle.std.proofs.Common.{◌≡◌, ℕ, Bool, true, false, cond, eqb, List, [], ◌∷◌, map, Option, Some, None, refl, sym}
-use Rattle.std.proofs.Common.{ap, ◌∙◌, subst}
+use Rattle.std.proofs.Common.{ap, ◌∙◌}
 use mathlib.Core.Logic.{◌≢◌}
 use Rattle.std.specs.BTreeMap.{is_at}
 use Rattle.std.specs.List.{filter, AllByRecursion}
 use Rattle.std.specs.Map.{lookup}
 use Rattle.std.specs.Option.{option_map, is_some}
 use Rattle.std.specs.Ordering.{nat_cmp}
-use Rattle.std.proofs.lemmas.Bool.{cases_eq, cases_Bool, ne_eqb, eq-eqb, eqb-true}
-use Rattle.std.proofs.Common.{inl, inr}
+use Rattle.std.proofs.lemmas.Bool.{cases_eq, ne_eqb, eq-eqb}
 use Rattle.td_value.specs.declared.structures.Property.{Property}
 use Rattle.td_store.specs.Homes.{offers_on, offers_at, places_of, kind_chain, number_in, IsHome, Homes}
 use Rattle.td_store.specs.OfferLists.{is_numbered, changed_offer, with_properties, is_of, is_of_kind, same_kind}
 use Rattle.td_store.specs.declared.record.OfferRecord.{OfferRecord}
 use Rattle.td_store.proofs.Homing.{either, made-mapped, filter-mapped}
-
-some-same : {X : Type 0} (x y : X) → ◌≡◌ {A = Option X} (Some x) (Some y) → x ≡ y
-some-same x y e = cc
+use Rattle.td_store.proofs.Homing.{some-same}
 
 -- what the change leaves as it was
 number-when : (b : Bool) (ps : List Property) (o : OfferRecord)

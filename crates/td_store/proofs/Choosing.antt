@@ -5,11 +5,11 @@ use Rattle.std.proofs.Common.{ap, ◌∙◌, subst, arith}
 use Rattle.std.specs.List.{filter, find, list_any}
 use Rattle.std.specs.Str.{bytes_eq}
 use Rattle.std.proofs.lemmas.Bool.{cases_Bool, or_left, or_right, or_cases, and_parts, and_from, eqb-true, eq-eqb}
-use Rattle.std.proofs.lemmas.Bool.{le-ltb, ne_eqb, false≢true}
+use Rattle.std.proofs.lemmas.Bool.{ne_eqb, false≢true}
 use Rattle.std.proofs.lemmas.List.{length_push, append_assoc, drop_more, map-append}
 use Rattle.td_types.specs.Conforming.{conforms, subtypes, ancestors}
 use Rattle.td_types.specs.Laws.{Rises}
-use Rattle.td_types.specs.Repository.{type_named, incarnation_in, incarnation_of, has_type, is_named}
+use Rattle.td_types.specs.Repository.{incarnation_in, incarnation_of, has_type, is_named}
 use Rattle.td_types.specs.Repository.{is_among as is_name_among}
 use Rattle.td_types.specs.declared.entry.ServiceType.{ServiceType}
 use Rattle.td_types.proofs.Equal.{bytes_same, bytes_refl}

@@ -1,37 +1,25 @@
 -- One offer fewer.
-use Rattle.std.proofs.Common.{◌≡◌, ℕ, ◌<◌, ◌≤◌, Bool, true, false, not, cond, ◌||◌, eqb, List, [], ◌∷◌, ◌++◌, Option}
-use Rattle.std.proofs.Common.{Some, None, refl, sym, ap, ◌∙◌, subst, arith}
+use Rattle.std.proofs.Common.{◌≡◌, ℕ, Bool, true, false, not, eqb, List, [], ◌∷◌, Option}
+use Rattle.std.proofs.Common.{Some, None, refl, sym, ap, ◌∙◌, subst}
 use mathlib.Core.Logic.{◌≢◌}
 use Rattle.std.specs.BTreeMap.{is_at}
 use Rattle.std.specs.List.{filter, AllByRecursion}
 use Rattle.std.specs.List.Sorted.{IsStrictlySortedBy}
 use Rattle.std.specs.Map.{keys_of, lookup, remove_entry}
-use Rattle.std.specs.Ordering.{nat_cmp, is_eq, is_lt}
-use Rattle.std.specs.declared.cmp.Ordering.{Ordering}
+use Rattle.std.specs.Ordering.{nat_cmp, is_eq}
 use Rattle.std.specs.declared.cmp.Ordering.TheVariants.{Less}
-use Rattle.std.proofs.lemmas.Bool.{cases_eq, ne_eqb, eq-eqb, eqb-true}
+use Rattle.std.proofs.lemmas.Bool.{cases_eq, ne_eqb, eq-eqb}
 use Rattle.std.proofs.lemmas.Map.Keys.{sorted_head, sorted_tail}
 use Rattle.td_store.specs.Homes.{offers_on, offers_at, places_of, kind_chain, number_in, IsHome, Homes}
 use Rattle.td_store.specs.OfferLists.{is_numbered, without_offer, is_of, is_of_kind}
-use Rattle.td_store.specs.Slabs.{is_in, without}
+use Rattle.td_store.specs.Slabs.{without}
 use Rattle.td_store.specs.declared.record.OfferRecord.{OfferRecord}
-use Rattle.td_store.proofs.Homing.{either, ahead, key-is, key-same, key-other, lookup-others, made-cons, filter-turned}
-
-some-same : {X : Type 0} (x y : X) → ◌≡◌ {A = Option X} (Some x) (Some y) → x ≡ y
-some-same x y e = cc
-
-none-some : {X : Type 0} (x : X) → ◌≡◌ {A = Option X} None (Some x) → ⊥
-none-some x e = cc
+use Rattle.td_store.proofs.Homing.{either, ahead, key-same, key-other, lookup-others, made-cons, filter-turned}
+use Rattle.td_store.proofs.Homing.{some-same, none-some}
 
 -- the offers but that of a number
 abbrev pub keeps : ℕ → OfferRecord → Bool
 keeps n o = not (is_numbered n o)
-
--- the number at an entry's place
-numbered-so : (o : Option OfferRecord) (n : ℕ) → number_in o ≡ Some n
-    → (x : OfferRecord) × (o ≡ Some x) × (x.number ≡ n)
-numbered-so None n e = absurd (none-some n e)
-numbered-so (Some x) n e = (x, refl, some-same x.number n e)
 
 kept-ahead : (n : ℕ) (o : Option OfferRecord) (k : ℕ) (os : List OfferRecord) → number_in o ≡ Some k → k ≢ n
     → filter (keeps n) (ahead o os) ≡ ahead o (filter (keeps n) os)

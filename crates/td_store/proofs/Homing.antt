@@ -1,21 +1,25 @@
 -- Offers at their places: lists of them by places and by numbers.
-use Rattle.std.proofs.Common.{◌≡◌, ℕ, ◌<◌, Bool, true, false, not, cond, ◌||◌, eqb, ltb, List, [], ◌∷◌, ◌++◌, map}
-use Rattle.std.proofs.Common.{Option, Some, None, refl, sym, ap, ◌∙◌, subst, arith, ◌⊎◌, ⊎_elim}
+use Rattle.std.proofs.Common.{◌≡◌, ℕ, ◌<◌, Bool, true, false, cond, eqb, ltb, List, [], ◌∷◌, ◌++◌, map}
+use Rattle.std.proofs.Common.{Option, Some, None, refl, sym, ap, ◌∙◌, arith, ◌⊎◌, ⊎_elim}
 use mathlib.Core.Logic.{◌≢◌}
 use Rattle.std.specs.BTreeMap.{is_at}
 use Rattle.std.specs.List.{filter, cons_option, AllByRecursion}
-use Rattle.std.specs.Map.{keys_of, lookup, remove_entry}
+use Rattle.std.specs.Map.{lookup, remove_entry}
 use Rattle.std.specs.Option.{option_map}
 use Rattle.std.specs.Ordering.{nat_cmp, is_eq}
 use Rattle.std.specs.Prelude.{filter_map}
-use Rattle.std.specs.declared.cmp.Ordering.{Ordering}
 use Rattle.std.specs.declared.cmp.Ordering.TheVariants.{Less, Equal, Greater}
-use Rattle.std.proofs.lemmas.Bool.{cases_eq, cases_Bool, ne_eqb, eq-eqb, eqb-true, ltb-true, or_parts, false≢true}
+use Rattle.std.proofs.lemmas.Bool.{cases_eq, ne_eqb, eq-eqb, eqb-true, ltb-true}
 use Rattle.std.proofs.lemmas.List.Elements.{filter_map-append, filter-append}
-use Rattle.td_store.specs.Slabs.{is_in, without}
 
 pub either : {P Q C : Type 0} → P ⊎ Q → (P → C) → (Q → C) → C
 either u f g = ⊎_elim f g u
+
+pub some-same : {X : Type 0} (x y : X) → ◌≡◌ {A = Option X} (Some x) (Some y) → x ≡ y
+some-same x y e = cc
+
+pub none-some : {X : Type 0} (x : X) → ◌≡◌ {A = Option X} None (Some x) → ⊥
+none-some x e = cc
 
 -- ---- numbers as keys
 
@@ -115,9 +119,6 @@ made-mapped f g h (x ∷ xs) e =
     made-cons g x xs ∙ (ap (λ o. ahead o (filter_map g xs)) (e x)
     ∙ (ap (ahead (option_map h (f x))) (made-mapped f g h xs e)
     ∙ (ahead-mapped h (f x) (filter_map f xs) ∙ ap (map h) (sym (made-cons f x xs)))))
-
-mapped-when : {Y : Type 0} (b : Bool) (y z : Y) (ys zs : List Y) → zs ≡ ys → cond b (z ∷ zs) zs ≡ cond b (z ∷ ys) ys
-mapped-when b y z ys zs e = rw e refl
 
 cond-map : {Y : Type 0} (h : Y → Y) (b : Bool) (y : Y) (ys : List Y)
     → map h (cond b (y ∷ ys) ys) ≡ cond b (h y ∷ map h ys) (map h ys)

@@ -1,8 +1,8 @@
 -- Offers, links and stores after each change.
-use Rattle.std.proofs.Common.{◌≡◌, ℕ, ◌+◌, ◌<◌, ◌≤◌, Bool, true, false, not, cond, eqb, ltb, ◌||◌, ◌&&◌, inl, inr, List}
+use Rattle.std.proofs.Common.{◌≡◌, ℕ, ◌+◌, ◌<◌, ◌≤◌, Bool, true, false, not, cond, ◌||◌, ◌&&◌, inl, inr, List}
 use Rattle.std.proofs.Common.{[], ◌∷◌, ◌++◌, length, map, take, zero, suc, Option, None, Some, refl, sym, ap, ◌∙◌}
 use Rattle.std.proofs.Common.{subst, arith}
-use Rattle.std.specs.List.{filter, find, list_any, AllByRecursion, IsDistinct}
+use Rattle.std.specs.List.{filter, list_any, AllByRecursion, IsDistinct}
 use Rattle.std.specs.List.Sorted.{IsStrictlySortedBy}
 use Rattle.std.specs.Option.{is_none}
 use Rattle.std.specs.Ordering.{nat_cmp}
@@ -13,7 +13,6 @@ use Rattle.std.proofs.lemmas.List.{length-append}
 use Rattle.td_policy.specs.Stated.{nothing}
 use Rattle.td_policy.specs.declared.attributes.Attributes.{Attributes}
 use Rattle.td_policy.specs.declared.stated.Stated.{Stated}
-use Rattle.td_types.specs.Conforming.{conforms}
 use Rattle.td_types.specs.Repository.{incarnation_of}
 use Rattle.td_types.specs.declared.entry.ServiceType.{ServiceType}
 use Rattle.td_value.specs.Enumerations.{follow_option}
@@ -24,7 +23,7 @@ use Rattle.td_store.specs.Candidates.{belongs, is_exact, is_asked, is_dynamic, i
 use Rattle.td_store.specs.Candidates.{has_conforming_type}
 use Rattle.td_store.specs.Laws.{HasConformingType, IsPlain}
 use Rattle.td_store.specs.LinkLists.{most_links, link_of, is_linked, ruled, without_link}
-use Rattle.td_store.specs.OfferLists.{most_offers, is_numbered, offer_of, without_offer, changed_offer, with_properties}
+use Rattle.td_store.specs.OfferLists.{most_offers, is_numbered, offer_of, without_offer, with_properties}
 use Rattle.td_store.specs.OfferLists.{NumbersRise}
 use Rattle.td_store.specs.Stores.{AdmitsLink, IsOffer, IsStore}
 use Rattle.td_store.specs.declared.record.LinkRecord.{LinkRecord}

@@ -8,13 +8,12 @@ use Rattle.std.proofs.lemmas.List.Sorted.{IsPermutation-trans, IsPermutation-app
 use Rattle.std.proofs.lemmas.List.Sorted.{IsPermutation-map, length_permutation, All-permutation}
 use Rattle.std.proofs.lemmas.List.Elements.{All-head, All-tail, All-filter, All-from_recursion}
 use Rattle.std.proofs.lemmas.Bool.{cases_Bool, eqb-true}
-use Rattle.std.specs.BTreeMap.{BTreeMap, get}
-use Rattle.std.specs.Ordering.{nat_cmp}
+use Rattle.std.specs.BTreeMap.{BTreeMap}
 use Rattle.td_store.specs.Candidates.{is_among}
 use Rattle.td_store.specs.OfferLists.{is_of, offer_of}
 use Rattle.td_store.specs.Searches.{AreApart, AreChained}
 use Rattle.td_store.specs.Slabs.{Slab}
-use Rattle.td_store.specs.Walks.{values_on, places_on, values_of}
+use Rattle.td_store.specs.Walks.{values_of}
 use Rattle.td_store.specs.declared.record.OfferRecord.{OfferRecord}
 use Rattle.td_store.proofs.Homing.{either}
 use Rattle.td_store.proofs.Ordering.{Ascends, ascends-from, offers-ascend, found-each, one-order}

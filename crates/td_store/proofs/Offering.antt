@@ -1,5 +1,5 @@
 -- What the fields of the offers hold after each step.
-use Rattle.std.proofs.Common.{◌≡◌, ℕ, zero, suc, ◌+◌, ◌<◌, ◌≤◌, Bool, true, false, not, cond, ◌||◌, eqb, List, [], ◌∷◌}
+use Rattle.std.proofs.Common.{◌≡◌, ℕ, zero, suc, ◌+◌, ◌<◌, Bool, true, false, not, cond, ◌||◌, eqb, List, [], ◌∷◌}
 use Rattle.std.proofs.Common.{◌++◌, length, map, Option, Some, None, refl, sym, ap, ◌∙◌, subst, arith}
 use mathlib.Core.Logic.{◌≢◌}
 use mathlib.Core.Path.{fun_ext}
@@ -17,19 +17,14 @@ use Rattle.td_store.specs.Homes.{AreChains, HoldsOffers}
 use Rattle.td_store.specs.OfferLists.{offer_of, without_offer, with_properties, is_numbered}
 use Rattle.td_store.specs.OfferPlaces.{changed_at, with_changed}
 use Rattle.td_store.specs.Puts.{IsPut, IsAsBefore}
-use Rattle.td_store.specs.Slabs.{Slab, value_at, chain_of, held, with_value, without, Puts, Takes}
+use Rattle.td_store.specs.Slabs.{Slab, value_at, chain_of, held, with_value, without, Takes}
 use Rattle.td_store.specs.declared.record.OfferRecord.{OfferRecord}
 use Rattle.td_store.proofs.Changed.{offers-changed, homes-changed}
 use Rattle.td_store.proofs.Gone.{offers-fewer, homes-fewer}
 use Rattle.td_store.proofs.Homing.{either, ahead, key-same, key-other, made-cons}
+use Rattle.td_store.proofs.Homing.{some-same, none-some}
 use Rattle.td_store.proofs.Inserted.{offers-more, homes-more}
 use Rattle.td_store.proofs.Keeping.{has-within, held-set}
-
-some-same : {X : Type 0} (x y : X) → ◌≡◌ {A = Option X} (Some x) (Some y) → x ≡ y
-some-same x y e = cc
-
-none-some : {X : Type 0} (x : X) → ◌≡◌ {A = Option X} None (Some x) → ⊥
-none-some x e = cc
 
 -- ---- the same places and chains
 

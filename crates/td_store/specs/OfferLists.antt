@@ -1,5 +1,5 @@
 -- Offers as a list by rising number.
-use Rattle.std.specs.Prelude.{◌≡◌, ℕ, ◌<◌, ◌≤◌, Bool, true, false, not, ◌==◌, is_some, if◌then◌else◌, List, find}
+use Rattle.std.specs.Prelude.{ℕ, ◌<◌, ◌≤◌, Bool, true, false, not, ◌==◌, is_some, if◌then◌else◌, List, find}
 use Rattle.std.specs.Prelude.{filter, map, Option, Result, Ok, Err}
 use Rattle.std.specs.List.Sorted.{IsStrictlySortedBy}
 use Rattle.std.specs.Ordering.{nat_cmp}

@@ -1,7 +1,7 @@
 -- What a trader keeps, as a plain value: its limits, and that all of it can be written (OMG's Trading Object Service,
 -- "Register Interface", "Link Interface" and "Service Type Repository"; CORBA, chapter on General Inter-ORB Protocol,
 -- "CDR Transfer Syntax").
-use Rattle.std.specs.Prelude.{ℕ, ◌<◌, ◌≤◌, List, length, map, Option, Some, None}
+use Rattle.std.specs.Prelude.{ℕ, ◌<◌, ◌≤◌, length, map, Option, Some, None}
 use Rattle.std.specs.List.{AllByRecursion, IsDistinct}
 use Rattle.std.specs.Str.{bytes_eq}
 use Rattle.td_cdr.specs.Sound.{text, sequence}

@@ -5,12 +5,11 @@ ghost use Rattle.std.specs.List.{list_any, list_all};
 ghost use Rattle.td_store.specs.Candidates.{belongs, has_asked_type, has_conforming_type, is_asked, is_candidate};
 ghost use Rattle.td_store.specs.Candidates.{is_dynamic, is_exact, is_fixed, mode_of, passes_dynamic};
 ghost use Rattle.td_store.specs.Candidates.{passes_modifiable, passes_proxy, uses};
-ghost use Rattle.td_types.specs.Modes.{is_readonly};
 
 use crate::record::OfferRecord;
 use td_cdr::Text;
 use td_policy::{Attributes, Stated};
-use td_types::Types;
+use td_types::{Types, is_readonly};
 use td_value::{Property, PropertyMode};
 
 /// Whether the offer's type is there, with the incarnation that it had when the offer came. Takes no
@@ -144,13 +143,4 @@ fn is_fixed(types: &Types, type_name: &[u8], property: &Property) -> bool
     ensures { result ≡ is_fixed types.now.types type_name.now property.now }
 {
     is_readonly(mode_of(types, type_name, property.name.as_slice()))
-}
-
-fn is_readonly(mode: PropertyMode) -> bool
-    ensures { result ≡ is_readonly mode }
-{
-    match mode {
-        PropertyMode::Normal | PropertyMode::Mandatory => false,
-        PropertyMode::Readonly | PropertyMode::MandatoryReadonly => true,
-    }
 }

@@ -1,6 +1,6 @@
 //! The links of a trader.
 
-ghost use Rattle.std.specs.Prelude.{◌≡◌, [], ◌∷◌, ◌++◌, Ok, None, length, map, IfOk, OnOk, OnErr, option_copied};
+ghost use Rattle.std.specs.Prelude.{◌≡◌, [], ◌∷◌, ◌++◌, None, length, map, IfOk, OnOk, OnErr, option_copied};
 ghost use Rattle.td_store.specs.LinkLists.{most_links, link_of, ruled, without_link};
 ghost use Rattle.td_store.specs.OfferLists.{IsLimited};
 
@@ -39,12 +39,12 @@ impl Model for Links {
 
 impl Links {
     /// No links. Takes no memory.
-    pub fn new(alloc: Global) -> Result<Links, Memory>
-        ensures { result ≡ Ok [] }
+    pub fn new(alloc: Global) -> Links
+        ensures { result ≡ [] }
     {
-        Ok(Links {
+        Links {
             named: IndexMap::new(alloc),
-        })
+        }
     }
 
     /// Adds a link of a new name.

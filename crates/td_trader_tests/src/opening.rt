@@ -88,7 +88,7 @@ fn parts(alloc: Global) -> Result<(Offers, (Links, Attributes)), Memory>
 fn links_and_attributes(alloc: Global) -> Result<(Links, Attributes), Memory>
     ensures { IfOk result (λ p. p.1.request_id_stem ≡ 65 ∷ []) }
 {
-    let links = Links::new(alloc)?;
+    let links = Links::new(alloc);
     match attributes(alloc) {
         Ok(attributes) => Ok((links, attributes)),
         Err(memory) => {

@@ -1,7 +1,5 @@
-use Rattle.std.proofs.Common.{ap, ◌∙◌}
-use Rattle.td_store.proofs.Linked.{Pairs, is_key, found}
-use Rattle.td_store.specs.LinkLists.{link_of}
-use Rattle.std.specs.Map.{lookup, values_of}
+use Rattle.std.proofs.Common.{◌∙◌}
+use Rattle.td_store.proofs.Linked.{found}
 use Rattle.td_store.proofs.links.Links.get.Goals as goal
 
 pub returns : goal.returns

@@ -1,4 +1,4 @@
-use Rattle.std.proofs.Common.{ap, sym, ◌∙◌}
+use Rattle.std.proofs.Common.{ap, ◌∙◌}
 use Rattle.std.specs.Map.{values_of}
 use Rattle.td_store.proofs.Linked.{Pairs, found, removed, names_removed}
 use Rattle.td_store.proofs.links.Links.remove.Goals as goal

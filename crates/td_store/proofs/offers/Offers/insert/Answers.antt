@@ -1,9 +1,9 @@
-use Rattle.std.proofs.Common.{◌≡◌, ℕ, List, length, [], ◌∷◌, ◌++◌, sym, ap, ◌∙◌, arith}
+use Rattle.std.proofs.Common.{List, length, [], ◌∷◌, ◌++◌, sym, ap, ◌∙◌, arith}
 use Rattle.std.proofs.lemmas.Result.{err_from_is_err_and}
 use Rattle.td_store.specs.Homes.{kind_chain}
 use Rattle.td_store.specs.Slabs.{value_at}
 use Rattle.td_store.specs.declared.record.OfferRecord.{OfferRecord}
-use Rattle.td_store.proofs.Offering.{chained-holds, chained-shows, unchanged-holds, unchanged-shows, put-holds}
+use Rattle.td_store.proofs.Offering.{chained-holds, chained-shows, unchanged-holds, put-holds}
 use Rattle.td_store.proofs.Offering.{put-shows, keys-below, count-is-numbers}
 use Rattle.td_store.proofs.offers.Offers.insert.Goals as goal
 

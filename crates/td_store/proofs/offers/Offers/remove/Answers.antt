@@ -1,4 +1,4 @@
-use Rattle.std.proofs.Common.{ℕ, List, sym, ap, ◌∙◌}
+use Rattle.std.proofs.Common.{sym, ap, ◌∙◌}
 use Rattle.td_store.specs.Homes.{offers_in}
 use Rattle.td_store.specs.Slabs.{value_at}
 use Rattle.td_store.proofs.Offering.{placed, offer-placed, home-of, without-none, taken-shows, taken-holds}
