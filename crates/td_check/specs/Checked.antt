@@ -3,7 +3,7 @@
 use Rattle.std.specs.Prelude.{ℕ, List, [], ◌∷◌, ◌++◌, codes, length}
 use Rattle.td_file.specs.Files.{Opening}
 use Rattle.td_ior.specs.Texts.{printed}
-use Rattle.td_make.specs.Pieces.{counted}
+use Rattle.td_put.specs.Pieces.{counted}
 use Rattle.td_reply.specs.References.{own_reference}
 use Rattle.td_reply.specs.declared.interface.Interface.{Interface}
 use Rattle.td_reply.specs.declared.interface.Interface.TheVariants as interface

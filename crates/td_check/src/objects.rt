@@ -8,7 +8,7 @@ ghost use Rattle.td_file.specs.Files.{IsAddress};
 use std::alloc::Global;
 use td_cdr::{Memory, Text};
 use td_ior::{Kind, print_text};
-use td_make::put;
+use td_put::put;
 use td_reply::{Interface, own_reference};
 use td_walk::Address;
 

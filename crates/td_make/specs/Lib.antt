@@ -1,3 +1,2 @@
 pub mod Examples
 pub mod Generated
-pub mod Pieces

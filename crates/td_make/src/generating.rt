@@ -5,9 +5,9 @@ ghost use Rattle.td_make.specs.Generated.{chord_after, cost, cost_line, first_of
 ghost use Rattle.td_make.specs.Generated.{heading, link_line, link_lines, next_after, offer_line, offer_lines};
 ghost use Rattle.td_make.specs.Generated.{offer_type, trader_lines};
 
-use crate::pieces::{put, put_counted};
 use std::alloc::Global;
 use td_cdr::{Memory, Octets};
+use td_put::{put, put_counted};
 
 /// The type of an offer, by its number.
 fn offer_type(number: u32) -> &'static [u8]

@@ -4,8 +4,6 @@
 
 mod generating;
 mod laws;
-mod pieces;
 
 pub use generating::make_file;
 pub use laws::worked_files;
-pub use pieces::{put, put_counted};

@@ -5,10 +5,10 @@ ghost use Rattle.td_shown.specs.Answers.{Puts, answer_lines, found_lines, reply_
 
 use crate::names::{put_exception, put_id, put_limits, put_names, put_total};
 use crate::offers::{put_described, put_offers};
-use crate::putting::put;
 use std::alloc::Global;
 use td_cdr::{Memory, Text};
 use td_ops::{Answered, Reply};
+use td_put::put;
 use td_value::Offer;
 
 /// Puts the lines of the offers that a query found behind these bytes, then the line of its limits and that of the

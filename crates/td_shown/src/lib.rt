@@ -11,4 +11,3 @@ mod values;
 
 pub use answers::{put_answer, put_found};
 pub use laws::values_are_printed_as_they_are_written;
-pub use putting::put;

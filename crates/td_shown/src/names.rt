@@ -4,8 +4,8 @@ ghost use Rattle.std.specs.Prelude.{◌≡◌, ◌++◌, OnOk};
 ghost use Rattle.td_shown.specs.Names.{exception_line, id_line, limit_word, limit_words, limits_line, name_line};
 ghost use Rattle.td_shown.specs.Names.{name_lines, total_line};
 
-use crate::putting::{put, put_decimal};
 use td_cdr::{Memory, Text};
+use td_put::{put, put_decimal};
 
 /// Puts a name's line behind these bytes.
 fn put_name(out: &mut Vec<u8>, name: &Text) -> Result<(), Memory>

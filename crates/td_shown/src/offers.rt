@@ -5,13 +5,13 @@ ghost use Rattle.td_ior.specs.Texts.{printed};
 ghost use Rattle.td_shown.specs.Offers.{any_text, described_lines, offer_lines, offers_lines, property_line};
 ghost use Rattle.td_shown.specs.Offers.{property_lines, typed_text};
 
-use crate::putting::put;
 use crate::types::{put_type, type_of};
 use crate::values::put_value;
 use std::alloc::Global;
 use td_cdr::Memory;
 use td_forms::ValueType;
 use td_ior::print_text;
+use td_put::put;
 use td_value::{Any, Ior, Offer, Property, Value};
 
 /// Puts a space, the word for a value's type, and the value behind these bytes.

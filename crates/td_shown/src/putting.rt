@@ -1,32 +1,11 @@
-//! Texts and numbers behind what is printed so far.
+//! Signed numbers behind what is printed so far.
 
-ghost use Rattle.std.specs.Prelude.{◌≡◌, ◌++◌, OnOk, decimal};
+ghost use Rattle.std.specs.Prelude.{◌≡◌, ◌++◌, OnOk};
 ghost use Rattle.std.specs.Fmt.{signed_decimal};
 
 use itoa::Buffer;
 use td_cdr::Memory;
-
-/// Puts a text behind these bytes.
-///
-/// # Errors
-///
-/// `Memory` for want of memory alone.
-pub fn put(out: &mut Vec<u8>, text: &[u8]) -> Result<(), Memory>
-    ensures { OnOk result (out.new.items ≡ out.old.items ++ text.now) }
-{
-    match out.extend_from_slice(text) {
-        Ok(()) => Ok(()),
-        Err(_) => Err(Memory),
-    }
-}
-
-/// Puts a number in decimal behind these bytes.
-pub(crate) fn put_decimal(out: &mut Vec<u8>, number: u64) -> Result<(), Memory>
-    ensures { OnOk result (out.new.items ≡ out.old.items ++ decimal number) }
-{
-    let mut buffer = Buffer::new();
-    put(out, buffer.format(number).as_bytes())
-}
+use td_put::put;
 
 /// Puts a short in decimal behind these bytes.
 pub(crate) fn put_short(out: &mut Vec<u8>, number: &i16) -> Result<(), Memory>

@@ -4,9 +4,10 @@ ghost use Rattle.std.specs.Prelude.{◌≡◌, ◌++◌, OnOk, option_map};
 ghost use Rattle.td_shown.specs.Values.{item_text, items_of, items_text, truth_text, value_text, with_comma};
 ghost use Rattle.td_shown.specs.Values.{with_commas};
 
-use crate::putting::{put, put_decimal, put_long, put_long_long, put_short};
+use crate::putting::{put_long, put_long_long, put_short};
 use std::slice;
 use td_cdr::Memory;
+use td_put::{put, put_decimal};
 use td_value::Value;
 
 /// The word for a truth value.

@@ -1,7 +1,7 @@
-//! Texts that are put together piece by piece.
+//! Pieces behind a text: a text, a number, and a label with its number.
 
 ghost use Rattle.std.specs.Prelude.{◌≡◌, ◌++◌, decimal, OnOk};
-ghost use Rattle.td_make.specs.Pieces.{counted};
+ghost use Rattle.td_put.specs.Pieces.{counted};
 
 use itoa::Buffer;
 use td_cdr::Memory;
@@ -19,7 +19,11 @@ pub fn put(text: &mut Vec<u8>, piece: &[u8]) -> Result<(), Memory>
 }
 
 /// Appends a number in decimal.
-fn put_decimal(text: &mut Vec<u8>, number: u64) -> Result<(), Memory>
+///
+/// # Errors
+///
+/// `Memory` for want of memory alone.
+pub fn put_decimal(text: &mut Vec<u8>, number: u64) -> Result<(), Memory>
     ensures { OnOk result (text.new.items ≡ text.old.items ++ decimal number) }
 {
     let mut buffer = Buffer::new();
