@@ -14,10 +14,7 @@ use std::alloc::Global;
 use td_cdr::{Boxed, Memory, Reader, ValueFault};
 use td_ops::{Answered, Call, OpsFault, read_outcome};
 use td_value::{Any, TypeCode, any_size, read_any, same_type};
-use td_walk::PeerFault;
-
-/// The most bytes of a value that an evaluator may give.
-const LONGEST_VALUE: usize = 16_384;
+use td_walk::{LONGEST_VALUE, PeerFault};
 
 /// What a reply of this status to a call tells.
 ///
