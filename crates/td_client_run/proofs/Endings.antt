@@ -5,6 +5,7 @@ use Rattle.std.specs.Prelude.{⊤}
 use Rattle.td_codes.specs.declared.reference.Ior.{Ior}
 use Rattle.td_ior.specs.Profiles.{iiop_of}
 use Rattle.td_ior.specs.declared.profile.Iiop.{Iiop}
+use Rattle.td_ior.specs.Nil.{is_nil}
 use Rattle.td_ops.specs.declared.call.Call.{Call}
 use Rattle.td_ops.specs.declared.outcome.Answered.{Answered}
 use Rattle.td_ops.specs.declared.outcome.Answered.TheVariants.{Done, User, System}
@@ -13,7 +14,7 @@ use Rattle.td_value.specs.declared.structures.Offer.{Offer}
 use Rattle.td_call.specs.Calling.{first_id}
 use Rattle.td_call.specs.Readings.{outcome_told}
 use Rattle.td_call.specs.Replies.{Comes, told, strange, short, replied}
-use Rattle.td_gather.specs.Asking.{after_query, asked, found_ends, is_nil, iterated, left_over, most_batches}
+use Rattle.td_gather.specs.Asking.{after_query, asked, found_ends, iterated, left_over, most_batches}
 use Rattle.td_gather.specs.Asking.{query_ends, second_id, with_limits}
 use Rattle.td_gather.specs.Draining.{Ended, gave, raised, unclear, cut, after_batch, after_destroy, answer_ends}
 use Rattle.td_gather.specs.Draining.{batch_length, behind, behind_batch, destroy, destroy_ends, drained}

@@ -1,6 +1,6 @@
 -- From a query's reply to what asking answers.
-use Rattle.std.proofs.Common.{◌≡◌, ◌∙◌, ◌⊎◌, inl, inr, ℕ, ◌+◌, ◌≤◌, List, [], ◌++◌, length, drop, Option, Some, None}
-use Rattle.std.proofs.Common.{IfSome, option_map, Result, Ok, Err, refl, sym, ap, subst, arith}
+use Rattle.std.proofs.Common.{◌≡◌, ◌∙◌, inl, inr, ℕ, ◌+◌, ◌≤◌, List, [], ◌++◌, drop, Option, Some, None}
+use Rattle.std.proofs.Common.{option_map, Result, Ok, Err, refl, sym, ap, subst, arith}
 use Rattle.td_codes.specs.declared.reference.Ior.{Ior}
 use Rattle.td_giop.specs.Stream.{Stream}
 use Rattle.td_ior.specs.declared.profile.Iiop.{Iiop}
@@ -9,19 +9,18 @@ use Rattle.td_ops.specs.declared.call.Call.{Call}
 use Rattle.td_ops.specs.declared.outcome.Answered.{Answered}
 use Rattle.td_ops.specs.declared.outcome.Answered.TheVariants.{Done}
 use Rattle.td_ops.specs.declared.outcome.Reply.{Reply}
-use Rattle.td_out.specs.Causes.{Rose}
 use Rattle.td_out.proofs.Steps.{Rose-later}
 use Rattle.td_walk.specs.declared.fault.PeerFault.{PeerFault}
 use Rattle.td_walk.specs.declared.fault.PeerFault.TheVariants as fault
 use Rattle.td_wire.specs.Connections.{Traffic, left_of, opened, with_left, wrote}
 use Rattle.td_wire.proofs.Steps.{moved_twice}
-use Rattle.td_call.specs.Calling.{Connected, first_id, fresh_stream, next_given}
+use Rattle.td_call.specs.Calling.{Connected, first_id, fresh_stream}
 use Rattle.td_call.specs.Fetching.{Exchanges, IsRead, Replies}
 use Rattle.td_call.specs.Readings.{outcome_told}
 use Rattle.td_call.specs.Requests.{request_of}
-use Rattle.td_gather.specs.Asking.{AsksAt, AsksBy, AsksThrough, EndsSo, Follows, after_query, asked, query_ends}
+use Rattle.td_gather.specs.Asking.{AsksAt, AsksBy, AsksThrough, EndsSo, after_query, asked, query_ends}
 use Rattle.td_gather.specs.Asking.{reply_ends}
-use Rattle.td_gather.specs.Draining.{Ended, gave, raised, unclear, cut}
+use Rattle.td_gather.specs.Draining.{raised}
 use Rattle.td_gather.specs.declared.gathered.Gathered.{Gathered}
 use Rattle.td_gather.specs.declared.gathered.Gathered.TheVariants.{Offers, Refused}
 

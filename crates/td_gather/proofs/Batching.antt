@@ -1,6 +1,6 @@
 -- One batch of an iterator.
-use Rattle.std.proofs.Common.{◌≡◌, ◌∙◌, ◌⊎◌, inl, inr, ℕ, zero, suc, ◌+◌, ◌<◌, ◌≤◌, Bool, true, false, cond, ◌&&◌}
-use Rattle.std.proofs.Common.{List, [], ◌∷◌, ◌++◌, length, drop, Option, Some, None, IfSome, Result, Ok, Err, refl, sym}
+use Rattle.std.proofs.Common.{◌≡◌, ◌∙◌, inl, inr, ℕ, ◌+◌, ◌<◌, ◌≤◌, Bool, true, false, cond}
+use Rattle.std.proofs.Common.{List, [], ◌∷◌, ◌++◌, length, Option, Some, None, Result, Ok, Err, refl, sym}
 use Rattle.std.proofs.Common.{ap, subst, arith, leb-true, length-append, nat_le}
 use Rattle.td_giop.proofs.Cond.{both_true}
 use Rattle.std.specs.List.{list_all}
@@ -8,19 +8,18 @@ use Rattle.std.specs.Prelude.{◌↔◌, IsTrue}
 use Rattle.td_ops.specs.declared.outcome.Answered.{Answered}
 use Rattle.td_ops.specs.declared.outcome.Answered.TheVariants.{Done}
 use Rattle.td_ops.specs.declared.outcome.Reply.TheVariants.{Batch}
-use Rattle.td_out.specs.Causes.{Rose}
 use Rattle.td_value.specs.declared.structures.Offer.{Offer}
 use Rattle.td_walk.specs.declared.fault.PeerFault.{PeerFault}
 use Rattle.td_walk.specs.declared.fault.PeerFault.TheVariants as fault
-use Rattle.td_wire.specs.Connections.{Traffic, left_of, with_left, wrote}
+use Rattle.td_wire.specs.Connections.{Traffic, left_of}
 use Rattle.td_call.specs.Fetching.{Exchanges}
 use Rattle.td_call.specs.Readings.{outcome_told}
-use Rattle.td_call.specs.Replies.{Comes, told, strange, short, replied}
+use Rattle.td_call.specs.Replies.{replied}
 use Rattle.td_call.specs.Requests.{request_of}
-use Rattle.td_gather.specs.Draining.{Ended, gave, raised, unclear, cut, behind, behind_batch, batch_ends, answer_ends}
+use Rattle.td_gather.specs.Draining.{Ended, unclear, behind, behind_batch, batch_ends}
 use Rattle.td_gather.specs.Draining.{after_batch, after_destroy, batch_length, destroy, destroy_ends, drained}
 use Rattle.td_gather.specs.Draining.{is_small, may_join, most_offers, next_batch}
-use Rattle.td_gather.specs.Turns.{Destroyed, Destroys, Finishes, GoesOn, Grew, Joins, Takes, Turns}
+use Rattle.td_gather.specs.Turns.{Destroyed, Destroys, Grew, Joins, Takes, Turns}
 use Rattle.td_gather.specs.declared.draining.Turn.{Turn}
 use Rattle.td_gather.specs.declared.draining.Turn.TheVariants.{More, Last, Refused}
 

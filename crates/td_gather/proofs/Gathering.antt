@@ -1,9 +1,8 @@
 -- A draining, batch by batch.
-use Rattle.std.proofs.Common.{◌≡◌, ◌∙◌, ◌⊎◌, inl, inr, ℕ, zero, suc, ◌+◌, ◌-◌, ◌*◌, ◌^◌, ◌<◌, ◌≤◌, List, [], ◌++◌}
+use Rattle.std.proofs.Common.{◌≡◌, ◌∙◌, inl, inr, ℕ, zero, suc, ◌+◌, ◌-◌, ◌≤◌, List, [], ◌++◌}
 use Rattle.std.proofs.Common.{length, Option, Some, None, IfSome, Result, Ok, Err, refl, sym, ap, subst, arith}
 use Rattle.std.proofs.Common.{append-nil, append_assoc, length-append}
 use Rattle.td_ops.specs.declared.outcome.Answered.{Answered}
-use Rattle.td_out.specs.Causes.{Rose}
 use Rattle.td_out.proofs.Steps.{Rose-later}
 use Rattle.td_value.specs.declared.structures.Offer.{Offer}
 use Rattle.td_walk.specs.declared.fault.PeerFault.{PeerFault}

@@ -1,31 +1,24 @@
 -- From what an iterator gave to what a query answers.
-use Rattle.std.proofs.Common.{◌≡◌, ◌∙◌, ◌⊎◌, inl, inr, ℕ, ◌+◌, ◌≤◌, Bool, true, false, cond, List, [], ◌++◌}
-use Rattle.std.proofs.Common.{length, drop, Option, Some, None, IfSome, option_map, Result, Ok, Err, refl, sym, ap}
+use Rattle.std.proofs.Common.{◌≡◌, ◌∙◌, inl, inr, ℕ, ◌+◌, Bool, true, false, cond, List, [], ◌++◌}
+use Rattle.std.proofs.Common.{length, Option, Some, None, Result, Ok, Err, refl, sym, ap}
 use Rattle.std.proofs.Common.{append-nil, append_assoc, arith, subst}
 use Rattle.td_codes.specs.declared.reference.Ior.{Ior}
-use Rattle.td_giop.specs.Stream.{Stream}
 use Rattle.td_ior.specs.declared.profile.Iiop.{Iiop}
+use Rattle.td_ior.specs.Nil.{is_nil}
 use Rattle.td_ior.specs.Profiles.{iiop_of}
-use Rattle.td_ops.specs.declared.call.Call.{Call}
 use Rattle.td_ops.specs.declared.outcome.Answered.{Answered}
-use Rattle.td_out.specs.Causes.{Rose}
 use Rattle.td_out.proofs.Steps.{Rose-later}
 use Rattle.td_value.specs.declared.structures.Offer.{Offer}
-use Rattle.td_walk.specs.declared.answer.SubAnswer.{SubAnswer}
 use Rattle.td_walk.specs.declared.fault.PeerFault.{PeerFault}
 use Rattle.td_walk.specs.declared.fault.PeerFault.TheVariants as fault
-use Rattle.td_wire.specs.Connections.{Traffic, left_of, opened, with_left, wrote}
+use Rattle.td_wire.specs.Connections.{Traffic, left_of}
 use Rattle.td_wire.proofs.Steps.{moved_none, moved_twice}
-use Rattle.td_call.specs.Calling.{Connected, first_id, fresh_stream, next_given}
-use Rattle.td_call.specs.Fetching.{Exchanges, IsRead}
-use Rattle.td_call.specs.Readings.{outcome_told}
-use Rattle.td_call.specs.Requests.{request_of}
-use Rattle.td_gather.specs.Asking.{AsksAt, AsksBy, AsksThrough, EndsSo, Follows, LeavesOver, after_query, asked}
-use Rattle.td_gather.specs.Asking.{found_ends, is_nil, iterated, left_over, most_batches, query_ends, second_id}
+use Rattle.td_call.specs.Fetching.{IsRead}
+use Rattle.td_gather.specs.Asking.{EndsSo, Follows, LeavesOver}
+use Rattle.td_gather.specs.Asking.{found_ends, iterated, left_over, most_batches, second_id}
 use Rattle.td_gather.specs.Asking.{with_limits}
 use Rattle.td_gather.specs.Draining.{Ended, gave, raised, unclear, cut, behind, drain_requests, drained, may_join}
 use Rattle.td_gather.specs.Turns.{Drains}
-use Rattle.td_gather.specs.declared.gathered.Gathered.{Gathered}
 use Rattle.td_gather.specs.declared.gathered.Gathered.TheVariants.{Offers, Refused}
 
 -- ---- an iterator

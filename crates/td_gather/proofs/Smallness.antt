@@ -1,5 +1,5 @@
 -- Offers that join are small.
-use Rattle.std.proofs.Common.{◌≡◌, ℕ, Bool, true, ◌+◌, List, [], ◌∷◌, ◌++◌, length, sym, subst, leb-true, nat_le}
+use Rattle.std.proofs.Common.{◌≡◌, ℕ, true, ◌+◌, List, [], ◌∷◌, ◌++◌, length, sym, subst, leb-true, nat_le}
 use Rattle.std.specs.List.{list_all}
 use Rattle.td_giop.proofs.Cond.{both_true}
 use Rattle.td_value.specs.declared.structures.Offer.{Offer}

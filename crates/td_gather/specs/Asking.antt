@@ -1,9 +1,10 @@
 -- What a query of a trader comes to over a connection of its own (OMG's Trading Object Service, interface Lookup): its
 -- reply, and what its iterator gives over the same connection.
-use Rattle.std.specs.Prelude.{◌≡◌, ◌⊎◌, ℕ, ◌+◌, ◌&&◌, nat_eq, Bool, true, false, if◌then◌else◌, List, [], ◌++◌, length}
+use Rattle.std.specs.Prelude.{◌≡◌, ◌⊎◌, ℕ, ◌+◌, if◌then◌else◌, List, [], ◌++◌, length}
 use Rattle.std.specs.Prelude.{drop, Option, Some, None, IfSome, Result, Ok, Err, ⊤}
 use Rattle.td_codes.specs.declared.reference.Ior.{Ior}
 use Rattle.td_ior.specs.declared.profile.Iiop.{Iiop}
+use Rattle.td_ior.specs.Nil.{is_nil}
 use Rattle.td_ior.specs.Profiles.{iiop_of}
 use Rattle.td_ops.specs.declared.call.Call.{Call}
 use Rattle.td_ops.specs.declared.call.Call.TheVariants.{Query as Querying}
@@ -23,14 +24,10 @@ use Rattle.td_call.specs.Calling.{first_id, next_given}
 use Rattle.td_call.specs.Readings.{outcome_told}
 use Rattle.td_call.specs.Replies.{Comes, told, strange, short, replied}
 use Rattle.td_call.specs.Requests.{request_of}
-use Rattle.td_gather.specs.Draining.{Ended, gave, raised, unclear, cut, behind, drained, may_join, most_offers}
+use Rattle.td_gather.specs.Draining.{Ended, gave, raised, unclear, cut, behind, drained, may_join}
 use Rattle.td_gather.specs.Draining.{drain_requests}
 use Rattle.td_gather.specs.declared.gathered.Gathered.{Gathered}
 use Rattle.td_gather.specs.declared.gathered.Gathered.TheVariants.{Offers, Refused}
-
--- neither an id nor a profile
-abbrev pub is_nil : Ior → Bool
-is_nil r = nat_eq (length r.id) 0 && nat_eq (length r.profiles) 0
 
 -- the id of the first request to an iterator
 abbrev pub second_id : ℕ

@@ -2,7 +2,7 @@
 
 ghost use Rattle.std.specs.Prelude.{◌≡◌, ◌≤◌, ◌+◌, true, length, IfOk, OnOk};
 ghost use Rattle.td_call.specs.Replies.{reply_limit};
-ghost use Rattle.td_gather.specs.Asking.{Asks, AsksBy, AsksAt, AsksThrough, EndsSo, LeavesOver, is_nil};
+ghost use Rattle.td_gather.specs.Asking.{Asks, AsksBy, AsksAt, AsksThrough, EndsSo, LeavesOver};
 ghost use Rattle.td_gather.specs.Asking.{GivesSmallOffers, found_ends, reply_ends, second_id};
 ghost use Rattle.td_call.specs.Calling.{fresh_stream};
 ghost use Rattle.td_gather.specs.Draining.{AreSmall, may_join, most_offers};
@@ -15,7 +15,7 @@ use std::alloc::Global;
 use td_call::{connect, exchange_call, profile_of};
 use td_cdr::{List, Text, Twin};
 use td_giop::Framer;
-use td_ior::Iiop;
+use td_ior::{Iiop, is_nil};
 use td_ops::{Answered, Call, Query, Reply};
 use td_value::{Ior, Offer};
 use td_walk::{PeerFault, SubAnswer};
@@ -23,13 +23,6 @@ use td_wire::Wire;
 
 /// The id of the first request over a connection.
 const FIRST_ID: u32 = 1;
-
-/// Whether a reference is nil: it has neither an id nor a profile.
-fn is_nil(reference: &Ior) -> bool
-    ensures { result ≡ is_nil reference.now }
-{
-    reference.id.len() == 0 && reference.profiles.len() == 0
-}
 
 /// Asks another trader over a connection of its own: writes the query, and reads its reply. An iterator is drained over
 /// the same connection by `next_n(1000)`, with request ids 2, 3 and so on, and then destroyed.
