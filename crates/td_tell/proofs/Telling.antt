@@ -1,14 +1,10 @@
 -- A text on its way to a sink.
-use Rattle.std.proofs.Common.{◌≡◌, inl, inr, ℕ, ◌≤◌, List, [], ◌++◌, take, drop, append_assoc, append-nil, subst}
-use Rattle.std.proofs.Common.{Option, Some, None, refl, sym, ap, ◌∙◌, arith}
-use Rattle.std.specs.Io.KnownBytes.{Appends, Keeps}
+use Rattle.std.proofs.Common.{◌≡◌, inl, inr, ℕ, ◌≤◌, List, ◌++◌, take, drop, append_assoc, Option, Some, None}
+use Rattle.std.proofs.Common.{sym, ap, ◌∙◌, arith}
+use Rattle.std.specs.Io.KnownBytes.{Appends}
 use Rattle.std.proofs.lemmas.List.{take-append-drop}
 use Rattle.td_out.specs.Causes.{Rose}
 use Rattle.td_tell.specs.Texts.{Tells}
-
-pub Appends-nil : (w : Option (List ℕ)) → Appends w w []
-Appends-nil None = tt
-Appends-nil (Some xs) = sym (append-nil xs)
 
 pub Appends-step : (w0 w w1 : Option (List ℕ)) (front piece : List ℕ) → Appends w0 w front → Appends w w1 piece
     → Appends w0 w1 (front ++ piece)
@@ -16,12 +12,6 @@ Appends-step None w w1 front piece a b = tt
 Appends-step (Some xs) None w1 front piece a b = absurd a
 Appends-step (Some xs) (Some ys) None front piece a b = absurd b
 Appends-step (Some xs) (Some ys) (Some zs) front piece a b = b ∙ ap (λ l. l ++ piece) a ∙ append_assoc xs front piece
-
-pub Appends-kept : (w0 w w1 : Option (List ℕ)) (front : List ℕ) → Appends w0 w front → Keeps w w1 → Appends w0 w1 front
-Appends-kept None w w1 front a k = tt
-Appends-kept (Some xs) None w1 front a k = absurd a
-Appends-kept (Some xs) (Some ys) None front a k = absurd k
-Appends-kept (Some xs) (Some ys) (Some zs) front a k = k ∙ a
 
 pub Rose-before : (a b c : ℕ) → a ≤ b → Rose b c → Rose a c
 Rose-before a b c h r = omega (arith, h, r)
@@ -33,9 +23,6 @@ pub record Telling (text rest : List ℕ) (w0 w : Option (List ℕ)) (f0 f : ℕ
   pub gave : Appends w0 w front
   pub later : f0 ≤ f
 
-pub telling-start : (text : List ℕ) (w : Option (List ℕ)) (f : ℕ) → Telling text text w w f f
-telling-start text w f = record { front = []; parts = refl; gave = Appends-nil w; later = omega arith }
-
 pub telling-step : (text rest left : List ℕ) (n : ℕ) (w0 w w1 : Option (List ℕ)) (f0 f f1 : ℕ)
     → Telling text rest w0 w f0 f → left ≡ drop n rest → Appends w w1 (take n rest) → f ≤ f1
     → Telling text left w0 w1 f0 f1
@@ -46,36 +33,6 @@ telling-step text rest left n w0 w w1 f0 f f1 t l a h = record {
       ∙ sym (append_assoc t.front (take n rest) (drop n rest)) ∙ ap (λ x. (t.front ++ take n rest) ++ x) (sym l);
   gave = Appends-step w0 w w1 t.front (take n rest) t.gave a;
   later = omega (arith, t.later, h);
-}
-
-pub telling-fails : (text rest : List ℕ) (w0 w w1 : Option (List ℕ)) (f0 f f1 : ℕ) → Telling text rest w0 w f0 f
-    → Keeps w w1 → f ≤ f1 → Rose f f1 → Tells text w0 w1 f0 f1
-telling-fails text rest w0 w w1 f0 f f1 t k h r = record {
-  told = t.front;
-  untold = rest;
-  parts = t.parts;
-  gave = Appends-kept w0 w w1 t.front t.gave k;
-  whole = inr (Rose-before f0 f f1 t.later r);
-  later = omega (arith, t.later, h);
-}
-
-whole-front : (text front rest : List ℕ) → text ≡ front ++ rest → rest ≡ [] → front ≡ text
-whole-front text front rest p e = sym (append-nil front) ∙ ap (λ x. front ++ x) (sym e) ∙ sym p
-
-pub telling-whole : (text rest : List ℕ) (w0 w : Option (List ℕ)) (f0 f : ℕ) → Telling text rest w0 w f0 f → rest ≡ []
-    → Appends w0 w text
-telling-whole text rest w0 w f0 f t e =
-    subst (λ (x : List ℕ). Appends w0 w x) (whole-front text t.front rest t.parts e) t.gave
-
-pub tells-whole : (text : List ℕ) (w0 w : Option (List ℕ)) (f0 f : ℕ) → Appends w0 w text → f0 ≤ f
-    → Tells text w0 w f0 f
-tells-whole text w0 w f0 f a h = record {
-  told = text;
-  untold = [];
-  parts = sym (append-nil text);
-  gave = a;
-  whole = inl refl;
-  later = h;
 }
 
 -- a text that follows one that was given whole
