@@ -1,5 +1,5 @@
 -- What is noted of a call of a peer, and what comes of it.
-use Rattle.std.proofs.Common.{◌≡◌, ℕ, Bool, true, false, List, [], ◌∷◌, ◌++◌, Option, None, Some, refl, sym, ap}
+use Rattle.std.proofs.Common.{◌≡◌, ℕ, true, false, List, [], ◌∷◌, ◌++◌, Option, None, Some, refl, sym, ap}
 use Rattle.std.proofs.Common.{subst, ◌∙◌, append-nil, Result, Ok, Err, IfOk, is_some}
 use Rattle.td_cdr.specs.declared.memory.Memory.{Memory as Wanting}
 use Rattle.td_codes.specs.declared.code.Any.{Any}
@@ -7,10 +7,9 @@ use Rattle.td_codes.specs.declared.code.TypeCode.{TypeCode}
 use Rattle.td_codes.specs.declared.reference.Ior.{Ior}
 use Rattle.td_fed.proofs.Showing.{shown-call, shown-same}
 use Rattle.td_fed.specs.Calling.{IsPeered, Peered, replied, unreached, unreplied, unvalued, valued}
-use Rattle.td_fed.specs.Entering.{Asks, IsAsked, NotesFault}
+use Rattle.td_fed.specs.Entering.{IsAsked, NotesFault}
 use Rattle.td_fed.specs.Entering.{answered as has-answer}
 use Rattle.td_fed.specs.Trails.{IsShown}
-use Rattle.td_fed.specs.declared.asking.Asking.{Asking}
 use Rattle.td_fed.specs.declared.asking.Asking.TheVariants as asking
 use Rattle.td_ior.specs.Profiles.{iiop_of}
 use Rattle.td_ior.specs.declared.profile.Iiop.{Iiop}

@@ -1,6 +1,6 @@
 -- What is noted of a visit that begins: its mark, if one is made, and how it began.
-use Rattle.std.proofs.Common.{◌≡◌, ℕ, zero, suc, ◌+◌, ◌<◌, Bool, true, false, cond, nat_eq, nat_lt, List, [], ◌∷◌, ◌++◌}
-use Rattle.std.proofs.Common.{Option, None, Some, length, slice_get, slice_set, refl, sym, ap, subst, ◌∙◌, arith}
+use Rattle.std.proofs.Common.{◌≡◌, ℕ, zero, suc, ◌+◌, Bool, true, false, cond, nat_eq, nat_lt, List, [], ◌∷◌, ◌++◌}
+use Rattle.std.proofs.Common.{Some, length, slice_get, slice_set, refl, sym, ap, subst, ◌∙◌, arith}
 use Rattle.std.proofs.Common.{append-nil, ltb-true, ltb-false, Result, Ok, Err, IfOk}
 use Rattle.std.proofs.lemmas.Bool.{eqb-true, eq-eqb}
 use Rattle.td_cdr.specs.Marks.{Marks}
@@ -10,7 +10,7 @@ use Rattle.td_fed.proofs.Points.{begun-rise, watched-length}
 use Rattle.td_fed.specs.Entering.{Asks, Enters, IsAsked, IsEntered, asking_of, begin_item, entry_of}
 use Rattle.td_fed.specs.Entering.{answered as has-answer, begun as has-begun, opens, refused, repeated}
 use Rattle.td_fed.specs.Targets.{inside_group}
-use Rattle.td_fed.specs.Trails.{IsShown, mark_of, marks_of, own_marks_at, own_marks_in}
+use Rattle.td_fed.specs.Trails.{IsShown, marks_of, own_marks_at}
 use Rattle.td_fed.specs.Visiting.{Begins, course, start_of}
 use Rattle.td_fed.specs.declared.entering.Entry.{Entry}
 use Rattle.td_ops.specs.declared.call.Query.{Query}
@@ -19,7 +19,7 @@ use Rattle.td_register.specs.Stores.{Store}
 use Rattle.td_changes.specs.declared.bounds.Bounds.{Bounds}
 use Rattle.td_trader.proofs.Begun.{marks_once}
 use Rattle.td_trader.specs.Beginning.{after_begin, begin_of}
-use Rattle.td_trader.specs.Worlds.{Begun, View, Watches, history_at, number_between, store_seen, with_view}
+use Rattle.td_trader.specs.Worlds.{Begun, View, Watches, history_at, number_between, store_seen}
 use Rattle.td_trader.specs.Worlds.{after_begin as seen_after}
 use Rattle.td_trader.specs.declared.begin.Begin.{Begin}
 use Rattle.td_trader.specs.declared.begin.Begin.TheVariants.{Refused, Repeat, Search, Path}
@@ -27,7 +27,6 @@ use Rattle.td_walk.specs.Peering.{Exchange}
 use Rattle.td_walk.specs.declared.answer.Next.TheVariants.{Forward}
 use Rattle.td_walk.specs.declared.trace.Address.{Address}
 use Rattle.td_walk.specs.declared.trace.TraceItem.{TraceItem}
-use Rattle.td_walk.specs.declared.trace.TraceItem.TheVariants as item
 use Rattle.td_walk_laws.specs.Walks.{passing, searching, shown, visited}
 use Rattle.td_walk_laws.specs.Walks.{refused as walk-refused, repeat as walk-repeat}
 

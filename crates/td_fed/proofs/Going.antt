@@ -1,11 +1,11 @@
 -- The loop of a walk through a group: what was done since it began.
-use Rattle.std.proofs.Common.{◌≡◌, ℕ, ◌<◌, List, [], ◌∷◌, ◌++◌, length, None, Some, refl, sym, ap, subst, ◌∙◌, arith}
+use Rattle.std.proofs.Common.{◌≡◌, ℕ, ◌<◌, List, [], ◌∷◌, length, None, Some, sym, ap, subst, arith}
 use Rattle.td_cdr.specs.Marks.{Marks}
 use Rattle.td_fed.proofs.Measures.{measure_all, most}
 use Rattle.td_fed.proofs.Moving.{draws-after, draws-none, goes-after, goes-none}
 use Rattle.td_fed.proofs.Opening.{entered-read, is-begun}
 use Rattle.td_fed.proofs.Showing.{shown-none, shown-on}
-use Rattle.td_fed.proofs.Turned.{AllRead, Walked, Walking, ended-at-once, first-open, last, less-left, none-left}
+use Rattle.td_fed.proofs.Turned.{AllRead, Walking, ended-at-once, first-open, last, less-left, none-left}
 use Rattle.td_fed.proofs.Turned.{still-read, turned}
 use Rattle.td_fed.specs.Entering.{IsEntered}
 use Rattle.td_fed.specs.Targets.{inside_group}

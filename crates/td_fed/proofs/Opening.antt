@@ -26,11 +26,10 @@ use Rattle.td_store.specs.LinkLists.{link_of}
 use Rattle.td_store.specs.declared.local.Local.{Local}
 use Rattle.td_store.specs.declared.record.LinkRecord.{LinkRecord}
 use Rattle.td_trader.specs.Beginning.{begin_along, begin_here, begin_of, begin_unless, repeated_in, searched_under}
-use Rattle.td_trader.specs.Queries.{first_name, others_cause, parts_cause, parts_of, path_link, preferred_in, refusal}
+use Rattle.td_trader.specs.Queries.{others_cause, parts_cause, parts_of, path_link, preferred_in, refusal}
 use Rattle.td_trader.specs.Queries.{stated_in, unless_fault}
 use Rattle.td_trader.specs.Serving.{local_of, path_of}
 use Rattle.td_trader.specs.Worlds.{View, history_at, store_seen}
-use Rattle.td_trader.specs.declared.begin.Begin.{Begin}
 use Rattle.td_visit.specs.Standing.{Standing as Frame}
 use Rattle.td_walk.specs.Visits.{next_of}
 use Rattle.td_walk.specs.declared.answer.Next.TheVariants.{Forward}

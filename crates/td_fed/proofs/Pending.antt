@@ -6,18 +6,15 @@ use Rattle.td_fed.specs.Entering.{IsEnd, opened}
 use Rattle.td_ops.specs.declared.call.Query.{Query}
 use Rattle.td_store.specs.declared.local.Local.{Local}
 use Rattle.td_walk.specs.Visits.{next_of}
-use Rattle.td_walk_laws.specs.Walks.{Course, Ends, Opens, Start, Step, Steps, Walk, answer_in, with_world}
+use Rattle.td_walk_laws.specs.Walks.{Course, Opens, Start, Step, Steps, Walk, answer_in, with_world}
 use Rattle.td_walk_laws.specs.Walks.{asked, asking, done, visited}
-use Rattle.td_walk.specs.declared.answer.Next.{Next}
-use Rattle.td_walk.specs.declared.answer.Next.TheVariants.{Done, Forward}
+use Rattle.td_walk.specs.declared.answer.Next.TheVariants.{Forward}
 use Rattle.td_walk.specs.declared.answer.StepAnswer.{StepAnswer}
 use Rattle.td_walk.specs.declared.answer.StepAnswer.TheVariants as answer
-use Rattle.td_walk.specs.declared.answer.SubAnswer.{SubAnswer}
 use Rattle.td_visit.specs.Standing.{Standing as Frame}
 use Rattle.td_walk.specs.declared.trace.TraceItem.{TraceItem}
 use Rattle.td_walk.specs.declared.trace.TraceItem.TheVariants as item
 use Rattle.td_walk.specs.declared.trace.Visit.{Visit}
-use Rattle.td_walk.specs.declared.trace.Visit.TheVariants as visit
 
 module _ {World : Type 0} (Begins : World → (trader : ℕ) → Query → Start → World → Type 0)
     (inside : World → (target : Ior) → Option ℕ) where

@@ -1,11 +1,11 @@
 -- The number of the trader of a name, as it is looked for one by one.
 use Rattle.std.proofs.Common.{◌≡◌, ℕ, zero, suc, ◌+◌, ◌<◌, ◌≤◌, List, [], ◌∷◌, length, drop, refl, sym, ap, subst, ◌∙◌}
 use Rattle.std.proofs.Common.{arith, Bool, true, false}
-use Rattle.std.specs.Prelude.{Option, None, Some, slice_get, if◌then◌else◌}
+use Rattle.std.specs.Prelude.{Option, None, Some}
 use Rattle.std.specs.Option.{option_map}
 use Rattle.std.specs.Str.{bytes_eq}
 use Rattle.td_fed.specs.Targets.{place_of}
-use Rattle.td_trader.specs.Worlds.{View, name_at, name_in}
+use Rattle.td_trader.specs.Worlds.{View, name_at}
 
 -- what is left of the traders is looked through, and so many come before
 abbrev pub placed : (before : ℕ) → Option ℕ → Option ℕ

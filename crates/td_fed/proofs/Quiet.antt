@@ -1,5 +1,5 @@
 -- What a call leaves that changes nothing and marks nothing.
-use Rattle.std.proofs.Common.{◌≡◌, ℕ, zero, suc, List, [], ◌∷◌, Option, None, Some, slice_get, slice_set, refl, sym, ap}
+use Rattle.std.proofs.Common.{◌≡◌, ℕ, zero, suc, List, [], ◌∷◌, Some, slice_get, slice_set, refl, sym, ap}
 use Rattle.std.proofs.Common.{◌∙◌}
 use Rattle.td_cdr.specs.Marks.{Marks}
 use Rattle.td_fed.specs.Trails.{IsQuiet, own_at, own_marks_at}

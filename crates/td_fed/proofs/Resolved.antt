@@ -1,8 +1,8 @@
 -- What the names of links lead to, step by step.
 use Rattle.std.proofs.Common.{◌≡◌, ℕ, ◌+◌, ◌<◌, ◌≤◌, Bool, true, false, cond, ◌&&◌, List, [], ◌∷◌, ◌++◌, length}
-use Rattle.std.proofs.Common.{Option, None, Some, Result, Ok, Err, IfOk, OnErr, ◌⊎◌, inl, inr, refl, sym, ap, subst}
+use Rattle.std.proofs.Common.{Option, None, Some, Result, Ok, Err, IfOk, OnErr, inl, inr, refl, sym, ap, subst}
 use Rattle.std.proofs.Common.{◌∙◌}
-use Rattle.std.proofs.Common.{arith, slice_set}
+use Rattle.std.proofs.Common.{arith}
 use Rattle.std.proofs.Common.{length-set, nat_eq, nat_le, append-nil, suc}
 use Rattle.std.specs.Option.{option_map}
 use Rattle.std.specs.Str.{bytes_eq}
@@ -14,20 +14,18 @@ use Rattle.std.specs.List.{list_all}
 use Rattle.td_cdr.specs.Marks.{Marks}
 use Rattle.td_cdr.specs.Names.{word_name}
 use Rattle.td_cdr.specs.declared.memory.Memory.{Memory as Wanting}
-use Rattle.td_changes.specs.Applying.{seek, seen}
-use Rattle.td_changes.specs.Links.{describe_link, linked}
+use Rattle.td_changes.specs.Applying.{seen}
+use Rattle.td_changes.specs.Links.{describe_link}
 use Rattle.td_codes.specs.declared.reference.Ior.{Ior}
 use Rattle.td_exceptions.specs.declared.exception.UserException.{UserException}
 use Rattle.td_exceptions.specs.declared.exception.UserException.TheVariants.{UnknownLinkName, UnknownTraderName}
 use Rattle.td_exceptions.specs.declared.exception.UserException.TheVariants.{IllegalLinkName, IllegalTraderName}
-use Rattle.td_fed.specs.Resolving.{Follows, IsAskedFor, IsGiven, IsUngiven, Leads, LeadsInside, LooksUp, Resolves}
+use Rattle.td_fed.specs.Resolving.{Follows, IsAskedFor, IsGiven, IsUngiven, LeadsInside, LooksUp, Resolves}
 use Rattle.td_fed.specs.Resolving.{followed, given, illegal, inside, is_path, link_register, most_names, named}
 use Rattle.td_fed.specs.Resolving.{outside, register_of_link}
 use Rattle.td_fed.specs.Resolving.{told_register, unfound, ungiven, unknown, wanting, with_outcome}
 use Rattle.td_fed.specs.Targets.{home_key, keyed_in, inside_group, lookup_by, place_of, register_by, register_inside}
 use Rattle.td_fed.specs.Targets.{registered_in}
-use Rattle.td_fed.specs.declared.resolving.Lead.{Lead}
-use Rattle.td_fed.specs.declared.resolving.Lead.TheVariants as lead
 use Rattle.td_fed.specs.declared.resolving.NameAnswer.{NameAnswer}
 use Rattle.td_ops.specs.declared.call.Look.TheVariants as look
 use Rattle.td_ops.specs.declared.outcome.Outcome.{Outcome}

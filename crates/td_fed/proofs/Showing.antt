@@ -1,13 +1,12 @@
 -- What a trace shows, step after step.
 use Rattle.std.proofs.Common.{◌≡◌, ℕ, List, [], ◌∷◌, ◌++◌, length, append_assoc, append-nil, le_refl, refl, sym, ap}
 use Rattle.std.proofs.Common.{◌∙◌, subst}
-use Rattle.std.specs.Prelude.{cond, nat_eq}
 use Rattle.td_fed.proofs.Rising.{flat-append, rises-on}
 use Rattle.td_fed.specs.Trails.{IsShown, Rises, mark_of, marks_of, own_marks_at, point_of, points_of}
 use Rattle.td_trader.specs.Worlds.{View, history_at}
 use Rattle.td_walk.specs.Peering.{Exchange, Given}
 use Rattle.td_walk_laws.proofs.Walked.{given-append, shown-append}
-use Rattle.td_walk_laws.specs.Walks.{Asked, given_in, shown, shown_by}
+use Rattle.td_walk_laws.specs.Walks.{given_in, shown, shown_by}
 use Rattle.td_walk.specs.declared.trace.TraceItem.{TraceItem}
 
 pub marks-append : (k : ℕ) (is js : List TraceItem) → marks_of k (is ++ js) ≡ marks_of k is ++ marks_of k js

@@ -3,7 +3,7 @@ use Rattle.std.proofs.Common.{◌≡◌, ℕ, ◌+◌, ◌^◌, ◌<◌, List, [
 use Rattle.std.proofs.Common.{IfOk, OnOk, refl, sym, ap, subst, ◌∙◌, length-append, arith}
 use Rattle.td_cdr.specs.declared.memory.Memory.{Memory as Wanting}
 use Rattle.td_codes.specs.declared.reference.Ior.{Ior}
-use Rattle.td_fed.specs.Entering.{IsAsked, IsEnd, opened}
+use Rattle.td_fed.specs.Entering.{IsAsked, IsEnd}
 use Rattle.td_fed.specs.Entering.{Asks as Comes, answered as has-answer, begun as has-begun}
 use Rattle.td_fed.specs.Turning.{Asks, Closes, GoesOn, IsTurn, Returns, Takes, answered, begun, ended}
 use Rattle.td_fed.specs.declared.asking.Asking.{Asking}
@@ -12,13 +12,11 @@ use Rattle.td_ops.specs.declared.call.Query.{Query}
 use Rattle.td_visit.specs.Standing.{Standing as Frame}
 use Rattle.td_walk.specs.Visits.{next_of}
 use Rattle.td_walk.specs.declared.answer.Next.{Next}
-use Rattle.td_walk.specs.declared.answer.Next.TheVariants.{Forward}
 use Rattle.td_walk.specs.declared.answer.StepAnswer.{StepAnswer}
-use Rattle.td_walk.specs.declared.answer.StepAnswer.TheVariants as answer
 use Rattle.td_walk.specs.declared.trace.TraceItem.{TraceItem}
 use Rattle.td_walk.specs.declared.trace.TraceItem.TheVariants as item
 use Rattle.td_walk.specs.declared.trace.Visit.{Visit}
-use Rattle.td_walk_laws.specs.Walks.{Course, Start, Step, answer_in}
+use Rattle.td_walk_laws.specs.Walks.{Course, Start}
 
 -- ---- taken from the list and put back
 

@@ -1,6 +1,6 @@
 -- A walk on its way, turn by turn: what was noted and the visits that are open make a walk with whatever comes, and
 -- less is left with each turn.
-use Rattle.std.proofs.Common.{◌≡◌, ℕ, ◌+◌, ◌^◌, ◌<◌, List, [], ◌∷◌, ◌++◌, length, Option, None, Some, refl, sym}
+use Rattle.std.proofs.Common.{◌≡◌, ℕ, ◌+◌, ◌<◌, List, [], ◌∷◌, ◌++◌, length, Option, None, Some, sym}
 use Rattle.std.proofs.Common.{ap, subst, ◌∙◌, append_assoc, length-append, arith}
 use Rattle.std.proofs.lemmas.List.{same_from_push}
 use Rattle.std.specs.List.{AllByRecursion}
@@ -9,9 +9,9 @@ use Rattle.td_fed.proofs.Measures.{falls-answered, falls-back, falls-deeper, mea
 use Rattle.td_fed.proofs.Opening.{IsBegun, goes-less-far}
 use Rattle.td_fed.proofs.Pending.{Pending, Sofar}
 use Rattle.td_fed.proofs.Pending.{answered as asked-on, back as ended-on, began, deeper as begun-on, whole}
-use Rattle.td_fed.specs.Entering.{Enters, IsEnd, IsEntered, opened}
+use Rattle.td_fed.specs.Entering.{Enters, IsEntered, opened}
 use Rattle.td_fed.specs.Entering.{opens, refused, repeated}
-use Rattle.td_fed.specs.Turning.{Asks, GoesOn, IsLast, IsTurn, Takes, answered, begun, ended}
+use Rattle.td_fed.specs.Turning.{Asks, GoesOn, IsTurn, Takes, answered, begun, ended}
 use Rattle.td_fed.specs.declared.entering.Entry.{Entry}
 use Rattle.td_fed.specs.declared.entering.Entry.TheVariants as entry
 use Rattle.td_ops.specs.declared.call.Query.{Query}

@@ -23,12 +23,10 @@ use Rattle.td_changes.specs.declared.bounds.Bounds.{Bounds}
 use Rattle.td_cell.specs.Lists.{grown}
 use Rattle.td_cell.proofs.Chains.{just}
 use Rattle.td_trader.specs.Beginning.{begin_of, after_begin as marks_after}
-use Rattle.td_trader.specs.PlainTraders.{PlainTrader, after_change, after_outcome, store_of}
-use Rattle.td_trader.specs.PlainTraders.{after_begin as trader_after}
-use Rattle.td_trader.specs.Worlds.{Begun, Changes, Looks, Meanwhile, View, Watches, after_begin, after_others}
+use Rattle.td_trader.specs.PlainTraders.{PlainTrader, after_outcome, store_of}
+use Rattle.td_trader.specs.Worlds.{Begun, Changes, Looks, View, Watches, after_begin}
 use Rattle.td_trader.specs.Worlds.{after_own, name_at, name_in, number_between, store_seen, view_of, with_view}
 use Rattle.td_trader.specs.declared.begin.Begin.{Begin}
-use Rattle.td_stall.specs.Acting.{Acts}
 use Rattle.td_group.specs.Seeing.{TurnAt, anything}
 use Rattle.td_stall.specs.declared.stall.Act.{Act}
 use Rattle.td_stall.specs.declared.stall.Act.TheVariants as act

@@ -6,7 +6,7 @@ use Rattle.std.specs.List.{All, AllZip, IsDistinct}
 use Rattle.std.specs.Str.{bytes_eq}
 use Rattle.td_cdr.specs.Marks.{In}
 use Rattle.td_cell.specs.Passes.{knowledge, opened}
-use Rattle.td_cell.specs.Rules.{Before, all_met, first_view}
+use Rattle.td_cell.specs.Rules.{Before, all_met}
 use Rattle.td_cell.specs.declared.book.Book.{Ghosts}
 use Rattle.td_cell.specs.declared.cell.Cell.{Cell}
 use Rattle.td_cell.specs.declared.pass.Pass.{Pass}

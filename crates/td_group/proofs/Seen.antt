@@ -15,7 +15,7 @@ use Rattle.td_cell.specs.declared.pass.View.{View as Knowledge}
 use Rattle.td_cell.proofs.Chains.{just}
 use Rattle.td_trader.specs.Following.{Follows}
 use Rattle.td_trader.specs.PlainTraders.{HasShortReplies, PlainTrader, store_of}
-use Rattle.td_trader.specs.Worlds.{View, after_others, number_between, view_of, with_view}
+use Rattle.td_trader.specs.Worlds.{View, after_others, number_between, view_of}
 use Rattle.td_trader.proofs.Growing.{follows-on, legal-append}
 use Rattle.td_stall.specs.Acting.{Acts}
 use Rattle.td_stall.specs.BookLaws.{acts_follow}

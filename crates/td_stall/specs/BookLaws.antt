@@ -1,5 +1,5 @@
 -- The laws of a trader as the book of a cell.
-use Rattle.std.proofs.Common.{◌≡◌, ℕ, ◌+◌, ◌≤◌, inl, inr, List, [], ◌∷◌, length, length-append, sym, subst, arith}
+use Rattle.std.proofs.Common.{◌≡◌, ◌+◌, ◌≤◌, inl, inr, List, length, length-append, sym, subst, arith}
 use Rattle.td_cdr.specs.Marks.{Marks, Later}
 use Rattle.td_register.specs.declared.history.Accepted.{Accepted}
 use Rattle.td_cell.specs.OwnMarks.{MarksOnce}

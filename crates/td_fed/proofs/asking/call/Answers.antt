@@ -1,9 +1,8 @@
 use Rattle.std.proofs.Common.{refl}
 use Rattle.td_fed.proofs.Called.{is-replied, is-unreplied, shown-fault}
-use Rattle.td_fed.proofs.Showing.{shown-call, shown-same}
+use Rattle.td_fed.proofs.Showing.{shown-same}
 use Rattle.td_fed.proofs.asking.call.Goals as goal
 use Rattle.td_walk.specs.Peering.{Answered, Querying}
-use Rattle.td_walk.specs.declared.trace.TraceItem.TheVariants as item
 
 pub returns-in_err-reserve-clause-shown : goal.returns-in_err-reserve-clause-shown
 returns-in_err-reserve-clause-shown g c = λ w.

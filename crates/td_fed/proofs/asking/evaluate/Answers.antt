@@ -1,9 +1,8 @@
 use Rattle.std.proofs.Common.{refl, rules}
 use Rattle.td_fed.proofs.Called.{is-unreached, is-unvalued, is-valued, shown-fault}
-use Rattle.td_fed.proofs.Showing.{shown-call, shown-item, shown-same}
+use Rattle.td_fed.proofs.Showing.{shown-same}
 use Rattle.td_fed.proofs.asking.evaluate.Goals as goal
 use Rattle.td_walk.specs.Peering.{Evaluating, Evaluated}
-use Rattle.td_walk.specs.declared.trace.TraceItem.TheVariants as item
 
 pub returns-in_err-reserve-clause-shown : goal.returns-in_err-reserve-clause-shown
 returns-in_err-reserve-clause-shown g c = λ w.

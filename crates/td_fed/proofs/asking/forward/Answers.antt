@@ -1,4 +1,4 @@
-use Rattle.std.proofs.Common.{◌≡◌, None, Some, rules, sym, subst, ◌∙◌}
+use Rattle.std.proofs.Common.{◌≡◌, None, Some, rules, sym, subst}
 use Rattle.td_fed.proofs.Called.{outsides, peered-asked}
 use Rattle.td_fed.proofs.Entered.{entered-asked}
 use Rattle.td_fed.proofs.Moving.{goes-none}

@@ -1,11 +1,6 @@
-use Rattle.std.proofs.Common.{[], refl}
 use Rattle.td_fed.proofs.Entered.{entered-if, shown-begun, shown-watched}
 use Rattle.td_fed.proofs.Moving.{goes-begun, goes-none, goes-watched}
-use Rattle.td_fed.proofs.Resolved.{as-many}
-use Rattle.td_fed.proofs.Showing.{shown-same}
 use Rattle.td_fed.proofs.entering.enter.Goals as goal
-use Rattle.td_trader.specs.Beginning.{after_begin as marks_after}
-use Rattle.td_trader.specs.Worlds.{after_begin, store_seen}
 
 pub returns-in_err-begin-clause-shown : goal.returns-in_err-begin-clause-shown
 returns-in_err-begin-clause-shown g c =

@@ -1,4 +1,4 @@
-use Rattle.std.proofs.Common.{◌≡◌, ◌<◌, length, arith, rules}
+use Rattle.std.proofs.Common.{◌<◌, length, arith, rules}
 use Rattle.td_fed.proofs.Moving.{goes-after}
 use Rattle.td_fed.proofs.Resolved.{follows-so, is-inside, other-words, register-inside-within}
 use Rattle.td_fed.proofs.resolving.+follow.Goals as goal

@@ -1,4 +1,4 @@
-use Rattle.std.proofs.Common.{◌≡◌, ◌<◌, ◌∙◌, sym, arith, rules, length, Bool, true, false}
+use Rattle.std.proofs.Common.{◌≡◌, ◌<◌, ◌∙◌, sym, arith, rules, length, true, false}
 use Rattle.std.specs.Str.{bytes_eq}
 use Rattle.td_trader.specs.Worlds.{name_at}
 use Rattle.td_fed.proofs.Places.{placed-behind, placed-here, placed-last}

@@ -1,4 +1,4 @@
-use Rattle.std.proofs.Common.{◌-◌, ◌≡◌, ℕ, ◌≤◌, length, drop}
+use Rattle.std.proofs.Common.{◌-◌, ◌≡◌, ◌≤◌, length, drop}
 use Rattle.td_fed.specs.Targets.{place_of}
 use Rattle.td_fed.proofs.Places.{placed}
 use Rattle.td_fed.proofs.target.place_of.Given as goal

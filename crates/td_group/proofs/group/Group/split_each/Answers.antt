@@ -1,4 +1,4 @@
-use Rattle.std.proofs.Common.{◌≡◌, ◌<◌, ◌++◌, ◌∷◌, [], length, slice_set, sym, subst, arith}
+use Rattle.std.proofs.Common.{slice_set, sym, subst, arith}
 use Rattle.std.proofs.lemmas.List.{nil_from_length}
 use Rattle.td_group.specs.Grouping.{IsOpeningOf, SplitsOff}
 use Rattle.td_group.specs.Rows.{Front}
