@@ -56,7 +56,7 @@ impl<L: Wire> Caller<L> {
         ensures count { self.new.faults ≡ count_after self.old.faults result }
     {
         let answer = call_over(alloc, &mut self.wire, target, call);
-        self.faults = count_call(self.faults, &answer);
+        self.faults = count_after(self.faults, &answer);
         answer
     }
 
@@ -76,26 +76,13 @@ impl<L: Wire> Caller<L> {
         ensures count { self.new.faults ≡ count_after self.old.faults result }
     {
         let answer = ask_over(alloc, &mut self.wire, target, q);
-        self.faults = count_ask(self.faults, &answer);
+        self.faults = count_after(self.faults, &answer);
         answer
     }
 }
 
-/// The count after a call.
-fn count_call(faults: u64, answer: &Result<Answered, PeerFault>) -> u64
-    ensures { result ≡ count_after faults answer.now }
-{
-    match answer {
-        Ok(_) => faults,
-        Err(PeerFault::Memory) => faults,
-        Err(PeerFault::Wire) => faults.saturating_add(1),
-        Err(PeerFault::Grammar) => faults.saturating_add(1),
-        Err(PeerFault::Exception) => faults.saturating_add(1),
-    }
-}
-
-/// The count after a query.
-fn count_ask(faults: u64, answer: &Result<Gathered, PeerFault>) -> u64
+/// The count after a call or a query.
+fn count_after<T>(faults: u64, answer: &Result<T, PeerFault>) -> u64
     ensures { result ≡ count_after faults answer.now }
 {
     match answer {
