@@ -1,6 +1,8 @@
-//! Tests of the client's program over a wire and sinks in memory.
+//! Tests of td_call, td_gather, td_client and the client's program, over a wire and sinks in memory.
 #![tactic(auto)]
 
+#[cfg(test)]
+mod client;
 #[cfg(test)]
 mod messages;
 #[cfg(test)]

@@ -1,5 +1,5 @@
-//! Tests of td_peers, td_file and td_fed: peers that answer by a script, servers' files, and walks through the traders
-//! of a file.
+//! Tests of td_walk, td_visit, td_peers, td_file and td_fed: what a visit passes on, asks and answers, peers that answer
+//! by a script, servers' files, and walks through the traders of a file.
 #![tactic(auto)]
 
 #[cfg(test)]
@@ -24,3 +24,5 @@ mod resolve_tests;
 mod scripts;
 #[cfg(test)]
 mod visit_tests;
+#[cfg(test)]
+mod visits;

@@ -1,6 +1,6 @@
 //! Calls of evalDP: a value, a value of another type, an exception, and a reply that can't be read.
 
-use crate::messages::*;
+use crate::client::messages::*;
 use std::alloc::Global;
 use std::test::Fail;
 use td_call::evaluate_over;

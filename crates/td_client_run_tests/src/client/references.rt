@@ -1,6 +1,6 @@
 //! Calls that give a reference: the register of a Lookup, and what names lead to.
 
-use crate::messages::*;
+use crate::client::messages::*;
 use std::alloc::Global;
 use std::test::Fail;
 use td_cdr::{List, Text};

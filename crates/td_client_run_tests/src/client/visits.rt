@@ -1,7 +1,7 @@
 //! A caller as the peers of a visit: queries and evaluations, whose exceptions are faults; and a plain call.
 
-use crate::messages::*;
-use crate::queries::{Told, offers_told, printers};
+use crate::client::messages::*;
+use crate::client::queries::{Told, offers_told, printers};
 use std::alloc::Global;
 use std::test::Fail;
 use td_cdr::{Boxed, Text};

@@ -1,7 +1,7 @@
 //! The questions of a visit and its answer, with given answers.
 
-use crate::making::{local, nobody, text, two};
-use crate::offering::{links, offers, one};
+use crate::visits::making::{local, nobody, text, two};
+use crate::visits::offering::{links, offers, one};
 use std::alloc::Global;
 use std::process::Abort;
 use std::test::Fail;

@@ -1,6 +1,6 @@
 //! Calls of `_non_existent`: a reply of each status, other messages, cut ones, and calls of the wire that fail.
 
-use crate::messages::*;
+use crate::client::messages::*;
 use std::alloc::Global;
 use std::process::Abort;
 use std::test::Fail;

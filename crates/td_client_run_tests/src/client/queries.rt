@@ -1,7 +1,7 @@
 //! Queries: with and without an iterator, which is drained over the same connection; an exception; an empty batch with
 //! TRUE; and cut replies.
 
-use crate::messages::*;
+use crate::client::messages::*;
 use std::alloc::Global;
 use std::test::Fail;
 use td_cdr::{List, Text};

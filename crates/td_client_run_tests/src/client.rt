@@ -1,0 +1,8 @@
+//! Calls, what is gathered of them, and a client, over a wire in memory.
+
+mod calls;
+mod evaluations;
+mod messages;
+mod queries;
+mod references;
+mod visits;
