@@ -1,48 +1,10 @@
 //! Queries from a few words, and what their walks show.
 
-use crate::scripts::text;
+use crate::words::{policies, text};
 use std::alloc::Global;
-use td_cdr::{Boxed, List, Memory, Text};
+use td_cdr::{Boxed, Memory, Text};
 use td_ops::{Desired, Query};
-use td_policy::{number_policy, octets_policy, rule_policy, texts_policy};
-use td_value::{FollowOption, Policy};
 use td_walk::{Trace, TraceItem, Visit};
-
-/// Names with commas between them.
-pub(crate) fn path(alloc: Global, words: &str) -> Result<List<Text>, Memory> {
-    let mut names = List::new(alloc);
-    for word in words.split(',') {
-        names.push(text(alloc, word)?)?;
-    }
-    Ok(names)
-}
-
-fn start(alloc: Global, words: &str) -> Result<Policy, Memory> {
-    let names = path(alloc, words)?;
-    texts_policy(alloc, b"starting_trader", names.as_slice())
-}
-
-/// A policy as `NAME=VALUE`.
-fn policy(alloc: Global, word: &str) -> Result<Policy, Memory> {
-    let (name, value) = word.split_once('=').unwrap_or((word, ""));
-    match name {
-        "starting_trader" => start(alloc, value),
-        "request_id" => octets_policy(alloc, name.as_bytes(), value.as_bytes()),
-        "link_follow_rule" => rule_policy(alloc, name.as_bytes(), FollowOption::Always),
-        _ => number_policy(alloc, name.as_bytes(), value.parse().unwrap_or(0)),
-    }
-}
-
-/// The policies of these words.
-fn policies(alloc: Global, words: &str) -> Result<List<Policy>, Memory> {
-    let mut policies = List::new(alloc);
-    for word in words.split(' ') {
-        if !word.is_empty() {
-            policies.push(policy(alloc, word)?)?;
-        }
-    }
-    Ok(policies)
-}
 
 /// All properties are desired where nothing is asked of them, and else none.
 fn desired(constraint: &str) -> Desired {

@@ -26,3 +26,5 @@ mod scripts;
 mod visit_tests;
 #[cfg(test)]
 mod visits;
+#[cfg(test)]
+mod words;

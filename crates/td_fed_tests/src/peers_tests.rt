@@ -1,6 +1,7 @@
 //! What calls of peers give by a script: calls from words, and what they give as letters.
 
-use crate::scripts::{object, peers, seven, two};
+use crate::scripts::{object, peers, seven};
+use crate::words::two;
 use std::alloc::Global;
 use std::process::Abort;
 use std::test::Fail;

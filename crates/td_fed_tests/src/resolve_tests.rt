@@ -1,8 +1,8 @@
 //! Names of links in a group of three traders.
 
-use crate::asking::path;
 use crate::making::traders;
-use crate::scripts::{peers, two};
+use crate::scripts::peers;
+use crate::words::{path, two};
 use std::alloc::Global;
 use std::process::Abort;
 use std::test::Fail;

@@ -4,30 +4,13 @@ ghost use Rattle.std.specs.Prelude.{IfOk, OnOk};
 ghost use Rattle.td_peers.specs.Scripts.{IsSmall, AreSmall};
 ghost use Rattle.td_walk.specs.Peering.{IsSmallOffer, HasSmallOffers};
 
+use crate::words::{nobody, text};
 use std::alloc::Global;
-use td_cdr::{Boxed, List, Memory, Octets, Text};
+use td_cdr::{Boxed, List, Memory, Octets};
 use td_ior::make_ior;
 use td_peers::{MemPeers, Scripted};
 use td_value::{Any, Ior, Offer, TypeCode, Value, offer_size};
 use td_walk::SubAnswer;
-
-/// The text of a `&str`.
-pub(crate) fn text(alloc: Global, text: &str) -> Result<Text, Memory> {
-    Text::from_slice(alloc, text.as_bytes())
-}
-
-/// Two parts with `;` between them, the second empty where there is none.
-pub(crate) fn two(words: &str) -> (&str, &str) {
-    words.split_once(';').unwrap_or((words, ""))
-}
-
-/// A reference without an id and without profiles.
-fn nobody(alloc: Global) -> Ior {
-    Ior {
-        id: Text::new(alloc),
-        profiles: List::new(alloc),
-    }
-}
 
 /// The object of a key; without a key a reference without profiles.
 pub(crate) fn object(alloc: Global, key: &str) -> Result<Boxed<Ior>, Memory> {
@@ -79,7 +62,7 @@ fn offered(alloc: Global) -> Result<SubAnswer, Memory>
 }
 
 /// An answer without offers, which this limited.
-fn limited(alloc: Global, limit: &str) -> Result<SubAnswer, Memory>
+pub(crate) fn limited(alloc: Global, limit: &str) -> Result<SubAnswer, Memory>
     ensures { IfOk result HasSmallOffers }
 {
     let mut limits = List::new(alloc);

@@ -2,7 +2,8 @@
 
 use crate::asking::{counts, query, shows};
 use crate::making::traders;
-use crate::scripts::{peers, two};
+use crate::scripts::peers;
+use crate::words::two;
 use std::alloc::Global;
 use std::process::Abort;
 use std::test::Fail;

@@ -1,6 +1,7 @@
 //! Offers and links from words.
 
-use crate::visits::making::{link, nobody, text};
+use crate::visits::making::link;
+use crate::words::{nobody, text};
 use std::alloc::Global;
 use td_cdr::{List, Memory, Order, Reader, Text};
 use td_store::{LinkRecord, OfferRecord, ProxyPart};

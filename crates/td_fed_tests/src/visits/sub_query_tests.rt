@@ -1,6 +1,7 @@
 //! What goes over a link, along a path and to a proxy offer's trader.
 
-use crate::visits::making::{link, local, policies, rule_of, stated, text, two};
+use crate::visits::making::{link, local, stated};
+use crate::words::{policies, rule_of, text, two};
 use std::alloc::Global;
 use std::process::Abort;
 use std::test::Fail;

@@ -1,7 +1,9 @@
 //! The questions of a visit and its answer, with given answers.
 
-use crate::visits::making::{local, nobody, text, two};
+use crate::scripts::limited;
+use crate::visits::making::local;
 use crate::visits::offering::{links, offers, one};
+use crate::words::{nobody, text, two};
 use std::alloc::Global;
 use std::process::Abort;
 use std::test::Fail;
@@ -130,16 +132,6 @@ fn letters(alloc: Global, count: usize) -> Result<Boxed<Any>, Memory> {
             value: Value::Str(Text::from_vec(bytes)),
         },
     )
-}
-
-/// Another trader's answer: no offers, limited by this policy.
-fn limited(alloc: Global, name: &str) -> Result<SubAnswer, Memory> {
-    let mut limits = List::new(alloc);
-    limits.push(text(alloc, name)?)?;
-    Ok(SubAnswer {
-        offers: List::new(alloc),
-        limits,
-    })
 }
 
 /// Another trader's answer: an offer with one property.
