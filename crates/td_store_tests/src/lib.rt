@@ -1,4 +1,4 @@
-//! Tests of td_store.
+//! Tests of td_types, td_policy and td_store: service types, policies and attributes, offers and links.
 #![tactic(auto)]
 
 #[cfg(test)]
@@ -13,3 +13,5 @@ mod offers;
 mod places;
 #[cfg(test)]
 mod support;
+#[cfg(test)]
+mod types;

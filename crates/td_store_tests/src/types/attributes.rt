@@ -1,6 +1,6 @@
 //! The attributes of a new trader.
 
-use crate::support::attributes;
+use crate::types::support::attributes;
 use std::alloc::Global;
 use std::process::Abort;
 use std::test::Fail;

@@ -1,6 +1,6 @@
 //! Worked examples: calls in order, each with its answer.
 
-use crate::calls::answered;
+use crate::types::calls::answered;
 use std::test::Fail;
 
 /// Below Device stands Printer, and Laser below that. A and B are each other's base.

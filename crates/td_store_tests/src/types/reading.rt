@@ -1,6 +1,6 @@
 //! Lists of policies, good and bad.
 
-use crate::support::{policy_of, stated_of};
+use crate::types::support::{policy_of, stated_of};
 use std::alloc::Global;
 use std::process::Abort;
 use std::test::Fail;

@@ -1,6 +1,6 @@
 //! All triples of rules for following links.
 
-use crate::support::{attributes, stated_of};
+use crate::types::support::{attributes, stated_of};
 use std::alloc::Global;
 use std::process::Abort;
 use std::test::Fail;

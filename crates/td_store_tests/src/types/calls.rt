@@ -1,8 +1,8 @@
 //! Calls of a repository from lines of text, and their answers compared.
 
-use crate::many::{add_layers, add_types, with_interface, with_properties};
-use crate::parts::{names, properties, repository, text};
-use crate::telling::{
+use crate::types::many::{add_layers, add_types, with_interface, with_properties};
+use crate::types::parts::{names, properties, repository, text};
+use crate::types::telling::{
     put, put_answer, put_judgement, put_number, put_numbers, put_properties, put_truth,
 };
 use std::alloc::Global;

@@ -1,6 +1,6 @@
 //! The limits on types, and a repository of many layers.
 
-use crate::calls::answered;
+use crate::types::calls::answered;
 use std::test::Fail;
 
 /// 4,096 types and one more. A type that is refused for another cause isn't refused for the limit, and

@@ -1,6 +1,6 @@
 //! Cardinalities and hop counts below, at and above their maxima.
 
-use crate::support::{attributes, number_of, stated_of};
+use crate::types::support::{attributes, number_of, stated_of};
 use std::alloc::Global;
 use std::process::Abort;
 use std::test::Fail;

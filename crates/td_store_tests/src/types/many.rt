@@ -1,6 +1,6 @@
 //! Many types, and large ones.
 
-use crate::parts::{names, text};
+use crate::types::parts::{names, text};
 use std::alloc::Global;
 use td_cdr::{Boxed, List, Memory, Text};
 use td_types::{Types, TypesFault, TypesReply};
