@@ -2,7 +2,7 @@
 
 mod calls;
 mod evaluations;
-mod messages;
+pub(crate) mod messages;
 mod queries;
 mod references;
 mod visits;

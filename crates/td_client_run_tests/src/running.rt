@@ -1,8 +1,9 @@
 //! A use of the program over a wire and sinks in memory.
 
+use crate::client::messages::wire_of;
 use std::alloc::Global;
 use std::test::Fail;
-use td_cdr::{List, Memory, Octets};
+use td_cdr::List;
 use td_client_run::client_run;
 use td_out::MemSink;
 use td_wire::MemWire;
@@ -43,16 +44,10 @@ fn words_of(alloc: Global, words: &[&str]) -> Result<Vec<String>, Fail> {
     Ok(all)
 }
 
-fn wire_of(alloc: Global, given: &[u8], failing: &[u64]) -> Result<MemWire, Memory> {
-    let mut answers = List::new(alloc);
-    answers.push(Octets::from_slice(alloc, given)?)?;
-    Ok(MemWire::new(alloc, answers, List::from_slice(alloc, failing)?))
-}
-
 /// Uses the program.
 pub fn run(alloc: Global, used: &Use) -> Result<Left, Fail> {
     let words = words_of(alloc, used.words)?;
-    let mut wire = wire_of(alloc, used.given, used.wire_failing)?;
+    let mut wire = wire_of(alloc, &[used.given], used.wire_failing)?;
     let mut sink = MemSink::new(alloc, List::from_slice(alloc, used.sink_failing)?);
     let mut faults = MemSink::new(alloc, List::new(alloc));
     let status = client_run(alloc, words.as_slice(), &mut wire, &mut sink, &mut faults);

@@ -1,23 +1,15 @@
 //! Each subcommand: the one request that is written, and the lines that are printed.
 
+use crate::client::messages::has_written;
 use crate::messages::*;
 use crate::running::{Left, Use, is_joined, plain, run};
 use std::alloc::Global;
 use std::test::Fail;
-use td_wire::MemWire;
-
-/// Whether this was written over the first connection, and there was no second one.
-fn has_written(wire: &MemWire, request: &[u8]) -> bool {
-    match wire.written(0) {
-        Some(written) => written == request && wire.written(1).is_none(),
-        None => false,
-    }
-}
 
 /// Whether a use ended with status 0, wrote this request and no more, printed these parts, and told nothing else.
 fn is_done(left: &Left, request: &[u8], printed: &[&str]) -> bool {
     left.status == 0
-        && has_written(&left.wire, request)
+        && has_written(&left.wire, &[request])
         && is_joined(left.sink.written(), printed)
         && left.faults.written().is_empty()
 }
