@@ -5,3 +5,5 @@
 mod sample;
 #[cfg(test)]
 mod sharing;
+#[cfg(test)]
+mod threads;

@@ -14,7 +14,7 @@ use td_group::{Group, Stall};
 use td_trader::{Solo, Traders};
 
 /// The traders of a group; nothing where closing is refused.
-fn closed(group: Group, passes: Vec<Pass<Stall>>) -> Option<Solo>
+pub(crate) fn closed(group: Group, passes: Vec<Pass<Stall>>) -> Option<Solo>
     requires { AreOpening group.cells.items passes.items }
 {
     match group.close(passes) {
