@@ -1,0 +1,14 @@
+use Rattle.std.proofs.Common.{rules}
+use Rattle.td_sessions.proofs.serving.serve_opened.Goals as goal
+
+pub returns-in-Ok-clause-serves : goal.returns-in-Ok-clause-serves
+returns-in-Ok-clause-serves g c = record {
+  end = _;
+  run = rw c.in-Ok.is at c.receive_all-stop.ensures.serves;
+  left = search rules;
+  hands = record {
+    solo = c.hand_on.ensures.solo;
+    closes = c.hand_on.ensures.closes;
+    handed_on = search rules;
+  };
+}

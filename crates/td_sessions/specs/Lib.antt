@@ -1,0 +1,3 @@
+pub mod HallLaws
+pub mod Sessions
+pub mod Whole

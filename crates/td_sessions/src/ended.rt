@@ -1,0 +1,112 @@
+//! Where sessions go that have ended.
+
+ghost use Rattle.std.specs.Prelude.{◌≡◌, [], None, Some, Option, IfOk, OnOk, OnErr, option_map};
+ghost use Rattle.td_sessions.specs.Sessions.{Told, with_group, with_session};
+
+use std::alloc::Global;
+use td_cdr::{List, Memory};
+use td_session::{End, Room};
+use td_trader::Solo;
+
+/// Where sessions go that have ended, and in the end the traders.
+pub trait Ended<V> {
+    /// The sessions that were handed on, in order, and the traders once they were, where it tells.
+    ghost told: { Self → Option (Told V) };
+
+    /// It is the same still: of a borrow, that no other was put in its place.
+    ghost same: { Self → Self → Type 0 };
+
+    /// A session has ended: its number, its visitor, how it ended, and what was kept of it.
+    ///
+    /// # Errors
+    ///
+    /// `Memory` for want of memory alone; the session is then dropped.
+    fn session(&mut self, number: u64, visitor: V, end: End, room: Room) -> Result<(), Memory>
+        ensures same { same self.old self.new }
+        ensures ok { OnOk result
+            (told self.new ≡ option_map (with_session (number, visitor, end, room)) (told self.old)) }
+        ensures err { OnErr result (told self.new ≡ told self.old) };
+
+    /// All sessions have ended.
+    fn group(&mut self, solo: Solo)
+        ensures same { same self.old self.new }
+        ensures told { told self.new ≡ option_map (with_group solo) (told self.old) };
+
+    ghost same_on: { (a b c : Self) → same a b → same b c → same a c };
+}
+
+/// It keeps what it is handed, and tells it.
+#[derive(Drop)]
+pub struct KeepEnded<V> {
+    sessions: List<(u64, V, End, Room)>,
+    closed: Option<Solo>,
+}
+
+impl<V> KeepEnded<V> {
+    /// Nothing was handed to it yet. It keeps the allocator, with which it grows.
+    ///
+    /// # Errors
+    ///
+    /// `Memory` for want of memory alone.
+    pub fn new(alloc: Global) -> Result<KeepEnded<V>, Memory>
+        ensures { IfOk result (λ k. (k.sessions ≡ []) × (k.closed ≡ None)) }
+    {
+        let sessions = List::with_room(alloc, 1)?;
+        Ok(KeepEnded {
+            sessions,
+            closed: None,
+        })
+    }
+
+    /// The sessions, in the order in which they were handed on.
+    pub fn sessions(&self) -> &List<(u64, V, End, Room)>
+        ensures { result.now ≡ self.now.sessions }
+    {
+        &self.sessions
+    }
+
+    /// The traders in the end; none before they were handed on.
+    pub fn closed(&self) -> Option<&Solo>
+        ensures { option_map (λ solo. solo.now) result ≡ self.now.closed }
+    {
+        self.closed.as_ref()
+    }
+}
+
+impl<V: Drop> Ended<V> for KeepEnded<V> {
+    ghost told = { λ k. Some (record { sessions = k.sessions; closed = k.closed }) };
+
+    ghost same = { λ _ _. Unit {0} };
+
+    ghost same_on = { λ _ _ _ _ _. tt };
+
+    fn session(&mut self, number: u64, visitor: V, end: End, room: Room) -> Result<(), Memory> {
+        self.sessions.push((number, visitor, end, room))
+    }
+
+    fn group(&mut self, solo: Solo) {
+        self.closed = Some(solo);
+    }
+}
+
+/// It drops what it is handed, and tells nothing of it.
+#[derive(Clone, Copy, Debug, PartialEq, Eq)]
+pub struct DropEnded;
+
+impl<V: Drop> Ended<V> for DropEnded {
+    ghost told = { λ _. None };
+
+    ghost same = { λ _ _. Unit {0} };
+
+    ghost same_on = { λ _ _ _ _ _. tt };
+
+    fn session(&mut self, _number: u64, visitor: V, _end: End, room: Room) -> Result<(), Memory> {
+        drop(visitor);
+        drop(room);
+        Ok(())
+    }
+
+    fn group(&mut self, solo: Solo) {
+        drop(solo);
+    }
+}

@@ -1,0 +1,116 @@
+//! One session, which a worker serves.
+
+ghost use Rattle.std.specs.Prelude.{◌≡◌, ℕ, length, map};
+ghost use Rattle.td_group.specs.Grouping.{SamePasses};
+ghost use Rattle.td_group.specs.Seeing.{seen_by};
+ghost use Rattle.td_session.specs.Outside.{outside};
+ghost use Rattle.td_session.specs.Rooms.{IsNew};
+ghost use Rattle.td_sessions.specs.Sessions.{Serving, ServesOver};
+
+use std::alloc::Global;
+use std::sync::Wait;
+use td_accept::{Gate, Visitor};
+use td_cdr::Octets;
+use td_client::Caller;
+use td_group::GroupPass;
+use td_out::{Sink, Source, Words};
+use td_session::{End, Room, serve_connection};
+use td_trader::Traders;
+use td_wire::Wire;
+use td_workers::Job;
+
+/// A session that begins.
+#[derive(Drop)]
+pub(crate) struct Session<'g, S, K, L, W, G, R: Wait> {
+    pub(crate) alloc: Global,
+    pub(crate) gate: &'g G,
+    pub(crate) seed: &'g Octets,
+    pub(crate) number: u64,
+    pub(crate) visitor: Visitor<S, K, L, W>,
+    pub(crate) room: Room,
+    pub(crate) pass: GroupPass<'g, R>,
+    ghost seeded: { length seed.now ≡ 32 },
+    ghost no_iterator: { length room.desk.0 ≡ 0 },
+    ghost first: { room.desk.1 ≡ 1 },
+    ghost nothing_noted: { length room.journal.items ≡ 0 },
+}
+
+/// A session that has ended.
+#[derive(Drop)]
+pub(crate) struct Served<'g, S, K, L, W, R: Wait> {
+    pub(crate) visitor: Visitor<S, K, L, W>,
+    pub(crate) end: End,
+    pub(crate) room: Room,
+    pub(crate) pass: GroupPass<'g, R>,
+}
+
+impl<'g, S: Source, K: Sink, L: Wire, W: Words, G: Gate, R: Wait> Job<Served<'g, S, K, L, W, R>>
+    for Session<'g, S, K, L, W, G, R> {
+    ghost does = { λ s e. SamePasses s.pass.passes.items e.pass.passes.items
+        × Serving
+        (λ v. outside (S.left v.source) (S.faults v.source) (K.written v.sink) (K.faults v.sink))
+        (λ v. W.word_after v.words)
+        (record {
+          number = s.number;
+          home = s.room.home;
+          seed = s.seed.now;
+          visitor = s.visitor;
+          first = map seen_by s.pass.passes.items;
+        })
+        (record { visitor = e.visitor; end = e.end; room = e.room; last = map seen_by e.pass.passes.items }) };
+
+    fn work(self) -> Served<'g, S, K, L, W, R> {
+        let Session {
+            alloc,
+            gate,
+            seed,
+            number,
+            mut visitor,
+            mut room,
+            mut pass,
+        } = self;
+        gate.enter(number);
+        let end = serve_visitor(alloc, seed, number, &mut pass, &mut room, &mut visitor);
+        gate.leave(number);
+        Served {
+            visitor,
+            end,
+            room,
+            pass,
+        }
+    }
+}
+
+/// Serves a visitor's session with these traders. Its words are those that come after a seeding with the seed and its
+/// number, and objects outside are called over its wire.
+fn serve_visitor<T: Traders, S: Source, K: Sink, L: Wire, W: Words>(
+    alloc: Global,
+    seed: &Octets,
+    number: u64,
+    traders: &mut T,
+    room: &mut Room,
+    visitor: &mut Visitor<S, K, L, W>,
+) -> End
+    requires seed { length seed.now ≡ 32 }
+    requires new { IsNew room.old }
+    ensures same { T.same traders.old traders.new }
+    ensures serves { ServesOver T.others T.later room.old.home (T.world traders.old)
+        (W.word_after visitor.old.words (record { key = seed.now; stream = number })) room.new.journal.items result
+        (outside (S.left visitor.old.source) (S.faults visitor.old.source) (K.written visitor.old.sink)
+        (K.faults visitor.old.sink))
+        (outside (S.left visitor.new.source) (S.faults visitor.new.source) (K.written visitor.new.sink)
+        (K.faults visitor.new.sink))
+        (T.world traders.new) }
+{
+    visitor.words.seed(seed.as_slice(), number);
+    let mut peers = Caller::new(alloc, &mut visitor.wire);
+    serve_connection(
+        alloc,
+        traders,
+        room,
+        &mut visitor.source,
+        &mut visitor.sink,
+        &mut peers,
+        &mut visitor.words,
+    )
+}
