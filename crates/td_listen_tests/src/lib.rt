@@ -1,0 +1,13 @@
+//! Tests of a server's visitors, each with a session of its own.
+#![tactic(auto)]
+
+#[cfg(test)]
+mod beside;
+#[cfg(test)]
+mod gates;
+#[cfg(test)]
+mod messages;
+#[cfg(test)]
+mod statuses;
+#[cfg(test)]
+mod visitors;
