@@ -36,21 +36,21 @@ fn breaks<R: Threads + Wait + Sync>(rt: &R, alloc: Global, call: u64) -> bool {
     goes(rt, alloc, &case, &NoGate)
 }
 
+/// Whether these words are no command.
+fn are_usage<R: Threads + Wait + Sync>(rt: &R, alloc: Global, words: &[&str]) -> bool {
+    stops(rt, alloc, words, 2, b"usage\n")
+}
+
 /// Other words than `listen` and a name are no command.
 #[test]
 fn other_words_are_usage(rt: HostRuntime) -> Result<(), Fail> {
     let alloc = rt.alloc();
-    let mut good = true;
-    for words in [
-        [].as_slice(),
-        ["listen"].as_slice(),
-        ["pipe", "printers"].as_slice(),
-        ["listens", "printers"].as_slice(),
-        ["printers", "listen"].as_slice(),
-        ["listen", "printers", "printers"].as_slice(),
-    ] {
-        good &= stops(&rt, alloc, words, 2, b"usage\n");
-    }
+    let mut good = are_usage(&rt, alloc, &[]);
+    good &= are_usage(&rt, alloc, &["listen"]);
+    good &= are_usage(&rt, alloc, &["pipe", "printers"]);
+    good &= are_usage(&rt, alloc, &["listens", "printers"]);
+    good &= are_usage(&rt, alloc, &["printers", "listen"]);
+    good &= are_usage(&rt, alloc, &["listen", "printers", "printers"]);
     assert!(rt; good);
     Ok(())
 }

@@ -120,14 +120,17 @@ fn guest(alloc: Global, sends: &[u8]) -> Result<Guest, Memory> {
     })
 }
 
-fn guests(alloc: Global, case: &Case) -> Result<Guests, Memory> {
-    let failing = List::from_slice(alloc, case.accepts_failing)?;
+fn all_guests(alloc: Global, case: &Case) -> Result<List<Guest>, Memory> {
     let mut all = List::new(alloc);
     for before in 0..case.visitors {
-        let visit = case.story.visit(before + 1);
-        all.push(guest(alloc, visit.sends)?)?;
+        all.push(guest(alloc, case.story.visit(before + 1).sends)?)?;
     }
-    Ok(MemAccept::new(alloc, all, failing))
+    Ok(all)
+}
+
+fn guests(alloc: Global, case: &Case) -> Result<Guests, Memory> {
+    let failing = List::from_slice(alloc, case.accepts_failing)?;
+    Ok(MemAccept::new(alloc, all_guests(alloc, case)?, failing))
 }
 
 /// Whether the server does as said through this gate.
@@ -139,13 +142,16 @@ pub fn goes<G: Gate, R: Threads + Wait + Sync>(
 ) -> bool {
     match guests(alloc, case) {
         Ok(mut accept) => {
-            goes_with(rt, alloc, case, gate, &mut accept) && is_bound(&accept) == case.bound
+            let answered = goes_with(rt, alloc, case, gate, &mut accept);
+            let bound = is_bound(&accept);
+            drop(accept);
+            answered && bound == case.bound
         }
         Err(_) => false,
     }
 }
 
-/// The same over this acceptor.
+/// The same over this acceptor, wherever it is bound.
 fn goes_with<G: Gate, R: Threads + Wait + Sync>(
     rt: &R,
     alloc: Global,
@@ -155,7 +161,10 @@ fn goes_with<G: Gate, R: Threads + Wait + Sync>(
 ) -> bool {
     match KeepEnded::new(alloc) {
         Ok(mut ended) => {
-            answers(rt, alloc, case, gate, accept, &mut ended) && has_ended(&ended, case)
+            let answered = answers(rt, alloc, case, gate, accept, &mut ended);
+            let whole = has_ended(&ended, case);
+            drop(ended);
+            answered && whole
         }
         Err(_) => false,
     }
@@ -171,7 +180,11 @@ fn answers<G: Gate, R: Threads + Wait + Sync>(
     ended: &mut KeepEnded<Guest>,
 ) -> bool {
     match words(alloc, case.words) {
-        Ok(args) => answers_words(rt, alloc, case, args.as_slice(), gate, accept, ended),
+        Ok(args) => {
+            let good = answers_words(rt, alloc, case, args.as_slice(), gate, accept, ended);
+            drop(args);
+            good
+        }
         Err(_) => false,
     }
 }
@@ -186,22 +199,36 @@ fn answers_words<G: Gate, R: Threads + Wait + Sync>(
     accept: &mut Guests,
     ended: &mut KeepEnded<Guest>,
 ) -> bool {
-    match (texts(alloc), List::from_slice(alloc, case.writes_failing)) {
-        (Ok(mut files), Ok(failing)) => {
-            let mut faults = MemSink::new(alloc, failing);
-            let status = serve(
-                rt,
-                alloc,
-                args,
-                &mut files,
-                accept,
-                gate,
-                &mut faults,
-                ended,
-            );
-            status == case.status && faults.written() == case.line
+    match texts(alloc) {
+        Ok(mut files) => {
+            let good = answers_over(rt, alloc, case, args, &mut files, gate, accept, ended);
+            drop(files);
+            good
         }
-        _ => false,
+        Err(_) => false,
+    }
+}
+
+/// The same over these files.
+fn answers_over<G: Gate, R: Threads + Wait + Sync>(
+    rt: &R,
+    alloc: Global,
+    case: &Case,
+    args: &[String],
+    files: &mut MemTexts,
+    gate: &G,
+    accept: &mut Guests,
+    ended: &mut KeepEnded<Guest>,
+) -> bool {
+    match List::from_slice(alloc, case.writes_failing) {
+        Ok(failing) => {
+            let mut faults = MemSink::new(alloc, failing);
+            let status = serve(rt, alloc, args, files, accept, gate, &mut faults, ended);
+            let good = status == case.status && faults.written() == case.line;
+            drop(faults);
+            good
+        }
+        Err(_) => false,
     }
 }
 
