@@ -1,0 +1,96 @@
+//! Jobs whose returns are counted.
+
+use std::alloc::Global;
+use std::sync::Wait;
+use std::test::Fail;
+use std::thread::Threads;
+use td_workers::{Hall, Job, Stop, work_all};
+
+/// A job: doubles its number.
+#[derive(Drop)]
+struct Doubling {
+    number: u64,
+}
+
+impl Job<u64> for Doubling {
+    ghost does = { λ _ _. Unit {0} };
+
+    fn work(self) -> u64 {
+        self.number.wrapping_mul(2)
+    }
+}
+
+/// A hall of so many jobs, which counts for each how often its double came back under its number.
+#[derive(Drop)]
+struct Counting {
+    jobs: u64,
+    returns: Vec<u64>,
+}
+
+impl Hall<u64, Doubling> for Counting {
+    ghost goes = { λ _ _. Unit {0} };
+
+    ghost ready = { λ _. Unit {0} };
+
+    ghost waits = { λ _ _. Unit {0} };
+
+    ghost admits = { λ _ _ _ _. Unit {0} };
+
+    ghost closes = { λ _ _. Unit {0} };
+
+    ghost parts = { λ _ _ _ _. Unit {0} };
+
+    ghost stops = { λ _ _ _. Unit {0} };
+
+    ghost goes_itself = { λ _. tt };
+
+    ghost goes_on = { λ _ _ _ _ _. tt };
+
+    ghost stops_on = { λ _ _ _ _ _ _. tt };
+
+    ghost stops_memory = { λ _ _ _. tt };
+
+    fn next(&mut self, number: u64) -> Result<Option<Doubling>, Stop> {
+        if number > self.jobs {
+            return Ok(None);
+        }
+        match self.returns.push(0) {
+            Ok(()) => Ok(Some(Doubling { number })),
+            Err(_) => Err(Stop::Memory),
+        }
+    }
+
+    fn part(&mut self, number: u64, made: u64) -> Result<(), Stop> {
+        if made != number.wrapping_mul(2) {
+            return Err(Stop::Failed);
+        }
+        match self.returns.get_mut(number.wrapping_sub(1) as usize) {
+            None => Err(Stop::Failed),
+            Some(count) => {
+                *count = count.saturating_add(1);
+                Ok(())
+            }
+        }
+    }
+}
+
+/// Whether each of so many jobs comes back once.
+fn all_come_back<R: Threads + Wait>(rt: &R, alloc: Global, jobs: u64) -> bool {
+    let hall = Counting {
+        jobs,
+        returns: Vec::new(alloc),
+    };
+    let (stop, hall) = work_all(rt, alloc, hall);
+    let complete = stop.is_ok() && hall.returns.len() as u64 == jobs;
+    let once = hall.returns.iter().all(|count| *count == 1);
+    drop(hall);
+    complete && once
+}
+
+#[test]
+fn each_job_comes_back_once(rt: HostRuntime) -> Result<(), Fail> {
+    for jobs in [0, 1, 64, 65, 200] {
+        assert!(rt; all_come_back(&rt, rt.alloc(), jobs));
+    }
+    Ok(())
+}
