@@ -4,12 +4,14 @@
        Opens so many connections to 127.0.0.1, keeps so many of the request (a file) on their way over each, and prints
        how many replies of that size came in a second.
    load answer PORT REQUEST_SIZE REPLY
-       Serves whoever connects, each on a thread of its own: for as many bytes as a request has it writes the reply (a
-       file), and looks at none of them. */
+       Serves whoever connects, each on a thread of its own, by the socket calls that tradesrv makes: it reads 8,192
+       bytes at most, and for as many as a request has it writes the reply (a file) by a call of its own. It looks at
+       none of them. */
 
 #include <arpa/inet.h>
 #include <netinet/tcp.h>
 #include <pthread.h>
+#include <signal.h>
 #include <stdio.h>
 #include <stdlib.h>
 #include <string.h>
@@ -21,12 +23,13 @@ struct text {
     size_t size;
 };
 
-/* One end of a connection: until when it goes on (0: to the end), what it sends, and how long what it is sent is. */
+/* One end of a connection: until when it goes on (0: to the end), what it sends, how many at most by one call, how many
+   bytes it reads at most, and how long what it is sent is. */
 struct end {
     int stream;
     double until;
     struct text message;
-    size_t other_size;
+    size_t together, reads, other_size;
     long count;
 };
 
@@ -82,18 +85,18 @@ static struct sockaddr_in loopback(int port) {
 /* For each whole message of the other side that came in, one of ours goes out. */
 static void *exchange(void *argument) {
     struct end *it = argument;
-    struct text many = copies(it->message, 64);
+    struct text many = copies(it->message, it->together);
     char room[1 << 16];
     size_t held = 0;
     while (it->until == 0 || now() < it->until) {
-        ssize_t n = read(it->stream, room, sizeof room);
+        ssize_t n = read(it->stream, room, it->reads);
         if (n <= 0) break;
         held += n;
         size_t whole = held / it->other_size;
         held %= it->other_size;
         it->count += whole;
         while (whole > 0) {
-            size_t some = whole < 64 ? whole : 64;
+            size_t some = whole < it->together ? whole : it->together;
             if (!is_sent(it->stream, many.bytes, some * it->message.size)) return NULL;
             whole -= some;
         }
@@ -114,7 +117,7 @@ static void ask(int port, int connections, int on_their_way, double seconds, str
         if (connect(stream, (struct sockaddr *)&address, sizeof address) < 0) fail("connect");
         at_once(stream);
         if (!is_sent(stream, first.bytes, first.size)) fail("write");
-        ends[i] = (struct end){stream, begin + seconds, request, reply_size, 0};
+        ends[i] = (struct end){stream, begin + seconds, request, 64, 1 << 16, reply_size, 0};
         pthread_create(&threads[i], NULL, exchange, &ends[i]);
     }
     long count = 0;
@@ -138,13 +141,14 @@ static void answer(int port, size_t request_size, struct text reply) {
         struct end *it = malloc(sizeof *it);
         pthread_t thread;
         if (!it) fail("malloc");
-        *it = (struct end){stream, 0, reply, request_size, 0};
+        *it = (struct end){stream, 0, reply, 1, 8192, request_size, 0};
         pthread_create(&thread, NULL, exchange, it);
         pthread_detach(thread);
     }
 }
 
 int main(int count, char **words) {
+    signal(SIGPIPE, SIG_IGN);
     if (count == 8 && strcmp(words[1], "ask") == 0) {
         ask(atoi(words[2]), atoi(words[3]), atoi(words[4]), atof(words[5]), text_of(words[6]), atoi(words[7]));
     } else if (count == 5 && strcmp(words[1], "answer") == 0) {
