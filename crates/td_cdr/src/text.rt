@@ -10,9 +10,16 @@ use std::ops::DerefSlice;
 
 /// A text, as its bytes. It may hold any byte; a call that spells it as a string has the condition
 /// that it holds no NUL.
-#[derive(Debug, Drop)]
+#[derive(Debug)]
 pub struct Text {
     bytes: Vec<u8>,
+}
+
+// By hand, since a derived drop is written out at each exit, and proved again in each crate above.
+impl Drop for Text {
+    fn drop(self) {
+        let Text { bytes: _bytes } = self;
+    }
 }
 
 impl Model for Text {
@@ -56,7 +63,8 @@ impl Text {
     pub fn into_vec(self) -> Vec<u8>
         ensures { result.items ≡ self }
     {
-        self.bytes
+        let Text { bytes } = self;
+        bytes
     }
 
     /// How many bytes there are.

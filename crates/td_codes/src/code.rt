@@ -5,7 +5,6 @@ use td_cdr::{Boxed, List, Text};
 
 /// A member of a structure or of an exception.
 #[cycle(code)]
-#[derive(Drop)]
 pub struct Member {
     pub name: Text,
     pub code: TypeCode,
@@ -13,7 +12,6 @@ pub struct Member {
 
 /// An arm of a union.
 #[cycle(code)]
-#[derive(Drop)]
 pub struct Arm {
     /// The discriminator's value that chooses the arm. The default arm's has no meaning.
     pub label: Value,
@@ -23,7 +21,6 @@ pub struct Arm {
 
 /// The type of a value.
 #[cycle(code)]
-#[derive(Drop)]
 pub enum TypeCode {
     Null,
     Void,
@@ -95,7 +92,6 @@ pub enum TypeCode {
 
 /// A value. Its TypeCode tells the type that it is a value of.
 #[cycle(code)]
-#[derive(Drop)]
 pub enum Value {
     /// The value of null and of void.
     Empty,
@@ -128,8 +124,141 @@ pub enum Value {
 
 /// A value with its type.
 #[cycle(code)]
-#[derive(Drop)]
 pub struct Any {
     pub code: TypeCode,
     pub value: Value,
+}
+
+impl Member {
+    ghost use Rattle.std.specs.Prelude.{◌≡◌};
+
+    /// The arm that has this name and type, under a label.
+    pub(crate) fn labelled(self, label: Value) -> Arm
+        ensures { result ≡ record { label = label; name = self.name; code = self.code } }
+    {
+        let Member { name, code } = self;
+        Arm { label, name, code }
+    }
+}
+
+// By hand, since a derived drop is written out at each exit, and proved again in each crate above.
+impl Drop for Member {
+    #[cycle(letting_go)]
+    fn drop(self) {
+        let Member {
+            name: _name,
+            code: _code,
+        } = self;
+    }
+}
+
+impl Drop for Arm {
+    #[cycle(letting_go)]
+    fn drop(self) {
+        let Arm {
+            label: _label,
+            name: _name,
+            code: _code,
+        } = self;
+    }
+}
+
+impl Drop for Any {
+    #[cycle(letting_go)]
+    fn drop(self) {
+        let Any {
+            code: _code,
+            value: _value,
+        } = self;
+    }
+}
+
+impl Drop for TypeCode {
+    #[cycle(letting_go)]
+    fn drop(self) {
+        match self {
+            TypeCode::Null => (),
+            TypeCode::Void => (),
+            TypeCode::Short => (),
+            TypeCode::Long => (),
+            TypeCode::UShort => (),
+            TypeCode::ULong => (),
+            TypeCode::Boolean => (),
+            TypeCode::Char => (),
+            TypeCode::Octet => (),
+            TypeCode::AnyCode => (),
+            TypeCode::Code => (),
+            TypeCode::LongLong => (),
+            TypeCode::ULongLong => (),
+            TypeCode::Str { bound: _bound } => (),
+            TypeCode::ObjRef {
+                id: _id,
+                name: _name,
+            } => (),
+            TypeCode::Struct {
+                id: _id,
+                name: _name,
+                members: _members,
+            } => (),
+            TypeCode::Union {
+                id: _id,
+                name: _name,
+                switch: _switch,
+                default: _default,
+                arms: _arms,
+            } => (),
+            TypeCode::Enum {
+                id: _id,
+                name: _name,
+                labels: _labels,
+            } => (),
+            TypeCode::Sequence {
+                item: _item,
+                bound: _bound,
+            } => (),
+            TypeCode::Array {
+                item: _item,
+                len: _len,
+            } => (),
+            TypeCode::Alias {
+                id: _id,
+                name: _name,
+                item: _item,
+            } => (),
+            TypeCode::Except {
+                id: _id,
+                name: _name,
+                members: _members,
+            } => (),
+        }
+    }
+}
+
+impl Drop for Value {
+    #[cycle(letting_go)]
+    fn drop(self) {
+        match self {
+            Value::Empty => (),
+            Value::Short(_n) => (),
+            Value::Long(_n) => (),
+            Value::UShort(_n) => (),
+            Value::ULong(_n) => (),
+            Value::Boolean(_n) => (),
+            Value::Char(_n) => (),
+            Value::Octet(_n) => (),
+            Value::LongLong(_n) => (),
+            Value::ULongLong(_n) => (),
+            Value::Str(_text) => (),
+            Value::AnyValue(_any) => (),
+            Value::Code(_code) => (),
+            Value::ObjRef(_reference) => (),
+            Value::Struct(_items) => (),
+            Value::Union {
+                label: _label,
+                arm: _arm,
+            } => (),
+            Value::Enum(_n) => (),
+            Value::Items(_items) => (),
+        }
+    }
 }

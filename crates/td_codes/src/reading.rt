@@ -370,11 +370,7 @@ fn arm_at(alloc: Global, r: &mut Reader, levels: u32, switch: &TypeCode) -> Resu
 {
     let label = label_at(r, levels, switch)?;
     match member_of(alloc, r, levels) {
-        Ok(member) => Ok(Arm {
-            label,
-            name: member.name,
-            code: member.code,
-        }),
+        Ok(member) => Ok(member.labelled(label)),
         Err(fault) => {
             drop(label);
             Err(fault)

@@ -12,7 +12,6 @@ use td_cdr::{
 };
 
 /// How an object may be reached by one protocol. The octets are kept as they came.
-#[derive(Drop)]
 pub struct Profile {
     /// Which protocol: 0 is IIOP.
     pub tag: u32,
@@ -20,11 +19,29 @@ pub struct Profile {
 }
 
 /// An interoperable object reference. The nil reference has an empty id and no profiles.
-#[derive(Drop)]
 pub struct Ior {
     /// The repository id of the object's interface.
     pub id: Text,
     pub profiles: List<Profile>,
+}
+
+// By hand, since a derived drop is written out at each exit, and proved again in each crate above.
+impl Drop for Profile {
+    fn drop(self) {
+        let Profile {
+            tag: _tag,
+            octets: _octets,
+        } = self;
+    }
+}
+
+impl Drop for Ior {
+    fn drop(self) {
+        let Ior {
+            id: _id,
+            profiles: _profiles,
+        } = self;
+    }
 }
 
 impl Twin for Profile {

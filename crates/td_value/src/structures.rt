@@ -14,11 +14,20 @@ use td_cdr::{
 use td_codes::{Any, Ior, TypeCode};
 
 /// A property of an offer.
-#[derive(Drop)]
 pub struct Property {
     /// The property's name.
     pub name: Text,
     pub value: Any,
+}
+
+// By hand, since a derived drop is written out at each exit, and proved again in each crate above.
+impl Drop for Property {
+    fn drop(self) {
+        let Property {
+            name: _name,
+            value: _value,
+        } = self;
+    }
 }
 
 impl Twin for Property {
@@ -52,11 +61,19 @@ impl Spelled for Property {
 }
 
 /// A policy of an importer.
-#[derive(Drop)]
 pub struct Policy {
     /// The policy's name.
     pub name: Text,
     pub value: Any,
+}
+
+impl Drop for Policy {
+    fn drop(self) {
+        let Policy {
+            name: _name,
+            value: _value,
+        } = self;
+    }
 }
 
 impl Twin for Policy {
@@ -90,10 +107,18 @@ impl Spelled for Policy {
 }
 
 /// The number that a type gets when it is added, in two halves.
-#[derive(Drop)]
 pub struct IncarnationNumber {
     pub high: u32,
     pub low: u32,
+}
+
+impl Drop for IncarnationNumber {
+    fn drop(self) {
+        let IncarnationNumber {
+            high: _high,
+            low: _low,
+        } = self;
+    }
 }
 
 impl Twin for IncarnationNumber {
@@ -127,12 +152,21 @@ impl Spelled for IncarnationNumber {
 }
 
 /// A property as a service type declares it.
-#[derive(Drop)]
 pub struct PropStruct {
     /// The property's name.
     pub name: Text,
     pub value_type: TypeCode,
     pub mode: PropertyMode,
+}
+
+impl Drop for PropStruct {
+    fn drop(self) {
+        let PropStruct {
+            name: _name,
+            value_type: _value_type,
+            mode: _mode,
+        } = self;
+    }
 }
 
 impl Twin for PropStruct {
@@ -168,10 +202,18 @@ impl Spelled for PropStruct {
 }
 
 /// An offer as an importer sees it.
-#[derive(Drop)]
 pub struct Offer {
     pub reference: Ior,
     pub properties: List<Property>,
+}
+
+impl Drop for Offer {
+    fn drop(self) {
+        let Offer {
+            reference: _reference,
+            properties: _properties,
+        } = self;
+    }
 }
 
 impl Twin for Offer {
@@ -205,12 +247,21 @@ impl Spelled for Offer {
 }
 
 /// An offer as its exporter sees it.
-#[derive(Drop)]
 pub struct OfferInfo {
     pub reference: Ior,
     /// The name of the service type.
     pub service_type: Text,
     pub properties: List<Property>,
+}
+
+impl Drop for OfferInfo {
+    fn drop(self) {
+        let OfferInfo {
+            reference: _reference,
+            service_type: _service_type,
+            properties: _properties,
+        } = self;
+    }
 }
 
 impl Twin for OfferInfo {
@@ -304,7 +355,6 @@ impl Spelled for LinkInfo {
 }
 
 /// A proxy offer.
-#[derive(Drop)]
 pub struct ProxyInfo {
     /// The name of the service type.
     pub service_type: Text,
@@ -314,6 +364,19 @@ pub struct ProxyInfo {
     pub if_match_all: bool,
     pub recipe: Text,
     pub policies_to_pass_on: List<Policy>,
+}
+
+impl Drop for ProxyInfo {
+    fn drop(self) {
+        let ProxyInfo {
+            service_type: _service_type,
+            target: _target,
+            properties: _properties,
+            if_match_all: _if_match_all,
+            recipe: _recipe,
+            policies_to_pass_on: _policies_to_pass_on,
+        } = self;
+    }
 }
 
 impl Twin for ProxyInfo {
@@ -419,12 +482,21 @@ impl Spelled for TypeStruct {
 }
 
 /// A property that is evaluated when it is asked for.
-#[derive(Drop)]
 pub struct DynamicProp {
     /// The object that evaluates the property.
     pub eval_if: Ior,
     pub returned_type: TypeCode,
     pub extra_info: Any,
+}
+
+impl Drop for DynamicProp {
+    fn drop(self) {
+        let DynamicProp {
+            eval_if: _eval_if,
+            returned_type: _returned_type,
+            extra_info: _extra_info,
+        } = self;
+    }
 }
 
 impl Twin for DynamicProp {

@@ -10,11 +10,21 @@ use std::alloc::Global;
 use td_cdr::{List, Memory, Reader, Spelled, Text, Twin, ValueFault, Writer, put_two};
 
 /// The properties that an importer asks for.
-#[derive(Drop)]
 pub enum SpecifiedProps {
     None,
     Some(List<Text>),
     All,
+}
+
+// By hand, since a derived drop is written out at each exit, and proved again in each crate above.
+impl Drop for SpecifiedProps {
+    fn drop(self) {
+        match self {
+            SpecifiedProps::None => (),
+            SpecifiedProps::Some(_inner) => (),
+            SpecifiedProps::All => (),
+        }
+    }
 }
 
 impl Twin for SpecifiedProps {
@@ -54,11 +64,19 @@ impl Spelled for SpecifiedProps {
 }
 
 /// The service types that are listed.
-#[derive(Drop)]
 pub enum SpecifiedServiceTypes {
     All,
     /// Those of this incarnation or a later one.
     Since(IncarnationNumber),
+}
+
+impl Drop for SpecifiedServiceTypes {
+    fn drop(self) {
+        match self {
+            SpecifiedServiceTypes::All => (),
+            SpecifiedServiceTypes::Since(_inner) => (),
+        }
+    }
 }
 
 impl Twin for SpecifiedServiceTypes {
