@@ -126,8 +126,8 @@ pub fn write_locate_reply(w: &mut Writer, id: u32, status: u32) -> Result<(), Me
     w.u32(status)
 }
 
-/// Writes a message that is a header alone: a CloseConnection or a MessageError. The writer is empty. No program of this
-/// repository sends one.
+/// Writes a message that is a header alone: a CloseConnection or a MessageError. The writer is empty. No program of
+/// this repository sends one.
 ///
 /// # Errors
 ///

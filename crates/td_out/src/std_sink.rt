@@ -74,7 +74,11 @@ fn write_through<W: Write>(writer: &mut W, piece: &[u8]) -> Result<usize, Failed
 }
 
 /// One write, which is tried again where a signal interrupted it.
-fn write_some<W: Write>(writer: &mut W, piece: &[u8]) -> Result<usize, Failed>
+///
+/// # Errors
+///
+/// `Failed` where the writer fails, or takes nothing of a piece that isn't empty.
+pub fn write_some<W: Write>(writer: &mut W, piece: &[u8]) -> Result<usize, Failed>
     ensures some { Takes result piece.now }
     ensures bytes { IfOk result (λ n. Appends (W.contents writer.old) (W.contents writer.new) (take n piece.now)) }
 {

@@ -62,7 +62,11 @@ impl<R: Read> Source for StdSource<R> {
 }
 
 /// One read, which is tried again where a signal interrupted it.
-pub(crate) fn read_some<R: Read>(reader: &mut R, into: &mut [u8]) -> Result<usize, Failed>
+///
+/// # Errors
+///
+/// `Failed` where the reader fails.
+pub fn read_some<R: Read>(reader: &mut R, into: &mut [u8]) -> Result<usize, Failed>
     ensures bound { ReadsAtMost result into.new }
     ensures bytes { ReadConsumes (R.remaining reader.old) (R.remaining reader.new) result into.new }
 {

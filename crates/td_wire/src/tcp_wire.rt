@@ -1,15 +1,16 @@
 //! A wire over TCP.
 
-ghost use Rattle.std.specs.Prelude.{◌≡◌, ◌≤◌, None};
+ghost use Rattle.std.specs.Prelude.{◌≡◌, ◌≤◌, None, IfNone};
 ghost use Rattle.std.specs.Io.{ReadsAtMost};
+ghost use Rattle.std.specs.Result.{IsErr};
 ghost use Rattle.td_out.specs.Causes.{raised, Takes};
 
 use crate::wire::Wire;
-use std::io::{ErrorKind, Read, Write};
+use std::io::{Read, Write};
 use std::marker::Model;
 use std::net::{Net, OpenStream, SocketAddr, TcpStream, ToSocketAddrs};
 use std::time::Duration;
-use td_out::Failed;
+use td_out::{Failed, read_some, write_some};
 
 /// How long a connection may take to be made, in seconds.
 const CONNECT_LIMIT: u64 = 10;
@@ -139,47 +140,24 @@ fn open_at<R: Net>(rt: &R, address: &SocketAddr) -> Result<R::Stream, Failed> {
     }
 }
 
-/// One read, which is tried again where a signal interrupted it.
+/// One read of the stream. Where none stands, it fails.
 fn read_from<S: Read>(stream: &mut Option<S>, into: &mut [u8]) -> Result<usize, Failed>
-    ensures { ReadsAtMost result into.new }
+    ensures bound { ReadsAtMost result into.new }
+    ensures none { IfNone stream.old (IsErr result) }
 {
-    let Some(stream) = stream else {
-        return Err(Failed);
-    };
-    for _ in 0..u64::MAX {
-        match stream.read(into) {
-            Ok(size) => return Ok(size),
-            Err(e) => {
-                if e.kind() != ErrorKind::Interrupted {
-                    return Err(Failed);
-                }
-            }
-        }
+    match stream {
+        Some(stream) => read_some(stream, into),
+        None => Err(Failed),
     }
-    Err(Failed)
 }
 
-/// One write, which is tried again where a signal interrupted it. One that takes nothing is a fault.
+/// One write to the stream. Where none stands, it fails.
 fn write_to<S: Write>(stream: &mut Option<S>, piece: &[u8]) -> Result<usize, Failed>
-    ensures { Takes result piece.now }
+    ensures some { Takes result piece.now }
+    ensures none { IfNone stream.old (IsErr result) }
 {
-    let Some(stream) = stream else {
-        return Err(Failed);
-    };
-    for _ in 0..u64::MAX {
-        match stream.write(piece) {
-            Ok(size) => {
-                if size == 0 && !piece.is_empty() {
-                    return Err(Failed);
-                }
-                return Ok(size);
-            }
-            Err(e) => {
-                if e.kind() != ErrorKind::Interrupted {
-                    return Err(Failed);
-                }
-            }
-        }
+    match stream {
+        Some(stream) => write_some(stream, piece),
+        None => Err(Failed),
     }
-    Err(Failed)
 }
