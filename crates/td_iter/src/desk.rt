@@ -38,10 +38,19 @@ impl Entry {
 
 /// The iterators of a connection, oldest first: at most 256, whose places are taken at once. A new one
 /// drops the oldest. Contracts see the list of them, and the number that the next one gets.
-#[derive(Drop)]
 pub struct Desk {
     entries: Vec<Entry>,
     next: u64,
+}
+
+// By hand, since a derived drop is written out at each exit, and proved again in each crate above.
+impl Drop for Desk {
+    fn drop(self) {
+        let Desk {
+            entries: _entries,
+            next: _next,
+        } = self;
+    }
 }
 
 impl Model for Desk {

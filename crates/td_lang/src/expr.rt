@@ -39,15 +39,25 @@ pub enum Expr {
 }
 
 /// What an importer asks of an offer.
-#[derive(Debug, Drop)]
+#[derive(Debug)]
 pub enum Constraint {
     /// Nothing is asked.
     Empty,
     Is(Expr),
 }
 
+// By hand, since a derived drop is written out at each exit, and proved again in each crate above.
+impl Drop for Constraint {
+    fn drop(self) {
+        match self {
+            Constraint::Empty => (),
+            Constraint::Is(_inner) => (),
+        }
+    }
+}
+
 /// In which order an importer wants offers.
-#[derive(Debug, Drop)]
+#[derive(Debug)]
 pub enum Preference {
     /// Means the same as `First`.
     Empty,
@@ -56,6 +66,19 @@ pub enum Preference {
     Min(Expr),
     Max(Expr),
     With(Expr),
+}
+
+impl Drop for Preference {
+    fn drop(self) {
+        match self {
+            Preference::Empty => (),
+            Preference::First => (),
+            Preference::Random => (),
+            Preference::Min(_inner) => (),
+            Preference::Max(_inner) => (),
+            Preference::With(_inner) => (),
+        }
+    }
 }
 
 /// A part of a recipe.
@@ -69,7 +92,13 @@ pub enum Part {
 }
 
 /// How a proxy offer makes the constraint that it passes on.
-#[derive(Debug, Drop)]
+#[derive(Debug)]
 pub struct Recipe {
     pub parts: List<Part>,
+}
+
+impl Drop for Recipe {
+    fn drop(self) {
+        let Recipe { parts: _parts } = self;
+    }
 }

@@ -133,7 +133,6 @@ pub enum IterCall {
 }
 
 /// The parameters of `query`.
-#[derive(Drop)]
 pub struct Query {
     pub service_type: Text,
     pub constraint: Text,
@@ -143,6 +142,20 @@ pub struct Query {
     pub desired: SpecifiedProps,
     /// The number of offers that the answer itself may have; the others come by the iterator.
     pub how_many: u32,
+}
+
+// By hand, since a derived drop is written out at each exit, and proved again in each crate above.
+impl Drop for Query {
+    fn drop(self) {
+        let Query {
+            service_type: _service_type,
+            constraint: _constraint,
+            preference: _preference,
+            policies: _policies,
+            desired: _desired,
+            how_many: _how_many,
+        } = self;
+    }
 }
 
 /// The parameters of `add_link`.

@@ -9,7 +9,6 @@ use td_value::{FollowOption, Ior};
 
 /// The attributes of a trader, each by its name in the standard. What a trader's type repository
 /// tells of itself (incarnation) isn't among them.
-#[derive(Drop)]
 pub struct Attributes {
     /// The trader's own Lookup.
     pub lookup_if: Ior,
@@ -52,6 +51,36 @@ pub struct Attributes {
     pub max_link_follow_policy: FollowOption,
     /// How the identifiers begin that the trader gives to queries without one.
     pub request_id_stem: Octets,
+}
+
+// By hand, since a derived drop is written out at each exit, and proved again in each crate above.
+impl Drop for Attributes {
+    fn drop(self) {
+        let Attributes {
+            lookup_if: _lookup_if,
+            register_if: _register_if,
+            link_if: _link_if,
+            proxy_if: _proxy_if,
+            admin_if: _admin_if,
+            supports_modifiable_properties: _supports_modifiable_properties,
+            supports_dynamic_properties: _supports_dynamic_properties,
+            supports_proxy_offers: _supports_proxy_offers,
+            type_repos: _type_repos,
+            def_search_card: _def_search_card,
+            max_search_card: _max_search_card,
+            def_match_card: _def_match_card,
+            max_match_card: _max_match_card,
+            def_return_card: _def_return_card,
+            max_return_card: _max_return_card,
+            max_list: _max_list,
+            def_hop_count: _def_hop_count,
+            max_hop_count: _max_hop_count,
+            def_follow_policy: _def_follow_policy,
+            max_follow_policy: _max_follow_policy,
+            max_link_follow_policy: _max_link_follow_policy,
+            request_id_stem: _request_id_stem,
+        } = self;
+    }
 }
 
 impl Attributes {

@@ -11,7 +11,6 @@ use td_cdr::{List, Memory, Text, Twin};
 use td_value::FollowOption;
 
 /// The cardinalities and the hop count that a query is served with.
-#[derive(Drop)]
 pub struct Effective {
     /// Over how many links the query goes at most.
     pub hops: u32,
@@ -24,6 +23,19 @@ pub struct Effective {
     /// The names of the policies whose stated value is above the trader's maximum, in the order
     /// hop_count, link_follow_rule, match_card, return_card, search_card.
     pub over: List<Text>,
+}
+
+// By hand, since a derived drop is written out at each exit, and proved again in each crate above.
+impl Drop for Effective {
+    fn drop(self) {
+        let Effective {
+            hops: _hops,
+            match_card: _match_card,
+            return_card: _return_card,
+            search_card: _search_card,
+            over: _over,
+        } = self;
+    }
 }
 
 impl Twin for Effective {

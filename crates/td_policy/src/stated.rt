@@ -6,7 +6,6 @@ use td_cdr::{List, Memory, Octets, Text, Twin};
 use td_value::FollowOption;
 
 /// The values of an importer's policies, each absent where it isn't stated.
-#[derive(Drop)]
 pub struct Stated {
     /// Whether subtypes are left out (exact_type_match).
     pub exact: Option<bool>,
@@ -30,6 +29,25 @@ pub struct Stated {
     pub use_proxy: Option<bool>,
     /// The identifier of the query (request_id).
     pub request_id: Option<Octets>,
+}
+
+// By hand, since a derived drop is written out at each exit, and proved again in each crate above.
+impl Drop for Stated {
+    fn drop(self) {
+        let Stated {
+            exact: _exact,
+            hops: _hops,
+            follow: _follow,
+            match_card: _match_card,
+            return_card: _return_card,
+            search_card: _search_card,
+            start: _start,
+            use_dynamic: _use_dynamic,
+            use_modifiable: _use_modifiable,
+            use_proxy: _use_proxy,
+            request_id: _request_id,
+        } = self;
+    }
 }
 
 impl Twin for Stated {

@@ -16,9 +16,15 @@ use td_value::FollowOption;
 const MOST_LINKS: usize = 1024;
 
 /// The links in the order of adding, each found by its name.
-#[derive(Drop)]
 pub struct Links {
     named: IndexMap<Vec<u8>, LinkRecord>,
+}
+
+// By hand, since a derived drop is written out at each exit, and proved again in each crate above.
+impl Drop for Links {
+    fn drop(self) {
+        let Links { named: _named } = self;
+    }
 }
 
 impl Model for Links {

@@ -9,7 +9,6 @@ use td_policy::{Attributes, Effective, Stated};
 /// What a query is searched with at one trader, all of it as it stood at one point of the trader's
 /// history (interface CosTrading::Lookup, query). With a path the mark is 0, and there are no
 /// candidates and no links.
-#[derive(Drop)]
 pub struct Local {
     /// How many changes the trader had accepted.
     pub point: u64,
@@ -29,4 +28,24 @@ pub struct Local {
     pub candidates: List<OfferRecord>,
     /// The links in the order of adding.
     pub links: List<LinkRecord>,
+}
+
+// By hand, since a derived drop is written out at each exit, and proved again in each crate above.
+impl Drop for Local {
+    fn drop(self) {
+        let Local {
+            point: _point,
+            mark: _mark,
+            path: _path,
+            query: _query,
+            identifier: _identifier,
+            stated: _stated,
+            effective: _effective,
+            attributes: _attributes,
+            constraint: _constraint,
+            preference: _preference,
+            candidates: _candidates,
+            links: _links,
+        } = self;
+    }
 }

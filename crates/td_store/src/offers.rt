@@ -31,7 +31,6 @@ const MOST_OFFERS: usize = 1000000;
 
 /// The offers by rising number. Each stands on the chain of its type's incarnation and on that of its
 /// kind, ordinary or proxy.
-#[derive(Drop)]
 pub struct Offers {
     slab: Slab<OfferRecord>,
     /// From an offer's number to its place.
@@ -42,6 +41,19 @@ pub struct Offers {
     ordinary: u32,
     /// The chain of the proxy offers.
     proxies: u32,
+}
+
+// By hand, since a derived drop is written out at each exit, and proved again in each crate above.
+impl Drop for Offers {
+    fn drop(self) {
+        let Offers {
+            slab: _slab,
+            numbers: _numbers,
+            chains: _chains,
+            ordinary: _ordinary,
+            proxies: _proxies,
+        } = self;
+    }
 }
 
 impl Model for Offers {

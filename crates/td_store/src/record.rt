@@ -8,7 +8,6 @@ use td_value::{FollowOption, Ior, Policy, Property};
 
 /// An offer with its number, and the incarnation that its type had when it was exported (module
 /// CosTrading, interface Register).
-#[derive(Drop)]
 pub struct OfferRecord {
     /// The offer's number at this trader.
     pub number: u32,
@@ -21,6 +20,20 @@ pub struct OfferRecord {
     pub proxy: Option<ProxyPart>,
 }
 
+// By hand, since a derived drop is written out at each exit, and proved again in each crate above.
+impl Drop for OfferRecord {
+    fn drop(self) {
+        let OfferRecord {
+            number: _number,
+            reference: _reference,
+            service_type: _service_type,
+            incarnation: _incarnation,
+            properties: _properties,
+            proxy: _proxy,
+        } = self;
+    }
+}
+
 /// What a proxy offer has besides an offer (module CosTrading, interface Proxy).
 #[derive(Drop)]
 pub struct ProxyPart {
@@ -30,7 +43,6 @@ pub struct ProxyPart {
 }
 
 /// A link to another trader (module CosTrading, interface Link).
-#[derive(Drop)]
 pub struct LinkRecord {
     pub name: Text,
     /// The Lookup of the other trader.
@@ -39,6 +51,35 @@ pub struct LinkRecord {
     pub register: Ior,
     pub def_pass_on: FollowOption,
     pub limiting: FollowOption,
+}
+
+impl Drop for LinkRecord {
+    fn drop(self) {
+        let LinkRecord {
+            name: _name,
+            target: _target,
+            register: _register,
+            def_pass_on: _def_pass_on,
+            limiting: _limiting,
+        } = self;
+    }
+}
+
+impl OfferRecord {
+    /// The object that is offered.
+    pub fn into_reference(self) -> Ior
+        ensures { result ≡ self.reference }
+    {
+        let OfferRecord {
+            number: _number,
+            reference,
+            service_type: _service_type,
+            incarnation: _incarnation,
+            properties: _properties,
+            proxy: _proxy,
+        } = self;
+        reference
+    }
 }
 
 impl Twin for OfferRecord {

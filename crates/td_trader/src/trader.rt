@@ -24,7 +24,6 @@ use td_store::Store;
 
 /// A trader: its store, the changes that it accepted since it was opened, with their replies, and the marks of
 /// the queries that it searched.
-#[derive(Drop)]
 pub struct Trader {
     alloc: Global,
     name: Text,
@@ -35,6 +34,22 @@ pub struct Trader {
     ring: Ring,
     /// There is room for one more entry of the history.
     reserved: bool,
+}
+
+// By hand, since a derived drop is written out at each exit, and proved again in each crate above.
+impl Drop for Trader {
+    fn drop(self) {
+        let Trader {
+            alloc: _alloc,
+            name: _name,
+            bounds: _bounds,
+            opening: _opening,
+            store: _store,
+            history: _history,
+            ring: _ring,
+            reserved: _reserved,
+        } = self;
+    }
 }
 
 impl Model for Trader {

@@ -12,13 +12,24 @@ use td_cdr::{List, Memory, Text};
 
 /// A repository of service types, with the declared interfaces (interface
 /// CosTradingRepos::ServiceTypeRepository).
-#[derive(Drop)]
 pub struct Types {
     pub(crate) alloc: Global,
     pub(crate) interfaces: Interfaces,
     pub(crate) entries: Entries,
     /// The last incarnation given, 0 before the first.
     pub(crate) last: u64,
+}
+
+// By hand, since a derived drop is written out at each exit, and proved again in each crate above.
+impl Drop for Types {
+    fn drop(self) {
+        let Types {
+            alloc: _alloc,
+            interfaces: _interfaces,
+            entries: _entries,
+            last: _last,
+        } = self;
+    }
 }
 
 impl Model for Types {

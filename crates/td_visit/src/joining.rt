@@ -22,7 +22,7 @@ fn offer_of(alloc: Global, one: Found) -> Result<Offer, Memory>
     let Found { offer, made } = one;
     let properties = resolved(alloc, made.as_slice(), offer.properties.as_slice())?;
     Ok(Offer {
-        reference: offer.reference,
+        reference: offer.into_reference(),
         properties,
     })
 }

@@ -25,7 +25,6 @@ pub enum Visit {
 }
 
 /// An item of a visit. Traders are counted from 0, a point is the number of changes that a trader had accepted.
-#[derive(Drop)]
 pub enum TraceItem {
     /// A search began, with this mark.
     Search {
@@ -61,8 +60,44 @@ pub enum TraceItem {
     Leave,
 }
 
+// By hand, since a derived drop is written out at each exit, and proved again in each crate above.
+impl Drop for TraceItem {
+    fn drop(self) {
+        match self {
+            TraceItem::Search {
+                trader: _trader,
+                point: _point,
+                mark: _mark,
+            } => (),
+            TraceItem::Repeat {
+                trader: _trader,
+                point: _point,
+                mark: _mark,
+            } => (),
+            TraceItem::Refused {
+                trader: _trader,
+                point: _point,
+            } => (),
+            TraceItem::Path {
+                trader: _trader,
+                point: _point,
+            } => (),
+            TraceItem::Evaluated(_inner) => (),
+            TraceItem::Unreachable => (),
+            TraceItem::Outside(_inner) => (),
+            TraceItem::Failed(_inner) => (),
+            TraceItem::Leave => (),
+        }
+    }
+}
+
 /// The items of a visit, and of all visits in it, in order.
-#[derive(Drop)]
 pub struct Trace {
     pub items: List<TraceItem>,
+}
+
+impl Drop for Trace {
+    fn drop(self) {
+        let Trace { items: _items } = self;
+    }
 }

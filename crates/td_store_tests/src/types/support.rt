@@ -2,7 +2,7 @@
 
 use std::alloc::Global;
 use std::test::Fail;
-use td_cdr::{Boxed, List, Memory, Octets, Text};
+use td_cdr::{Boxed, List, Memory, Octets, Text, Twin};
 use td_policy::{
     Attributes, OwnReferences, Stated, default_attributes, number_policy, octets_policy,
     read_policies, rule_policy, texts_policy, truth_policy,
@@ -14,7 +14,7 @@ use td_value::{Any, FollowOption, Ior, Policy, TypeCode};
 pub(crate) fn policy_of(alloc: Global, word: &str) -> Result<Policy, Memory> {
     let (name, kind) = word.split_once(':').unwrap_or((word, "number"));
     match kind.strip_prefix("alias-") {
-        Some(kind) => aliased(alloc, plain_policy(alloc, name.as_bytes(), kind)?),
+        Some(kind) => aliased(alloc, &plain_policy(alloc, name.as_bytes(), kind)?),
         None => plain_policy(alloc, name.as_bytes(), kind),
     }
 }
@@ -34,26 +34,23 @@ fn plain_policy(alloc: Global, name: &[u8], kind: &str) -> Result<Policy, Memory
 }
 
 /// The same policy, its TypeCode behind an alias.
-fn aliased(alloc: Global, policy: Policy) -> Result<Policy, Memory> {
-    let Policy { name, value } = policy;
-    let Any { code, value } = value;
-    match Boxed::new(alloc, code) {
-        Ok(item) => Ok(Policy {
-            name,
-            value: Any {
-                code: TypeCode::Alias {
-                    id: Text::new(alloc),
-                    name: Text::new(alloc),
-                    item,
-                },
-                value,
-            },
-        }),
-        Err(memory) => {
-            drop(value);
-            Err(memory)
-        }
-    }
+fn aliased(alloc: Global, policy: &Policy) -> Result<Policy, Memory> {
+    Ok(Policy {
+        name: policy.name.copy(alloc)?,
+        value: with_alias(alloc, &policy.value)?,
+    })
+}
+
+fn with_alias(alloc: Global, any: &Any) -> Result<Any, Memory> {
+    let item = Boxed::new(alloc, any.code.copy(alloc)?)?;
+    Ok(Any {
+        value: any.value.copy(alloc)?,
+        code: TypeCode::Alias {
+            id: Text::new(alloc),
+            name: Text::new(alloc),
+            item,
+        },
+    })
 }
 
 /// The decimal number, or 1.

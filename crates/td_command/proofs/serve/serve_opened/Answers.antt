@@ -13,5 +13,5 @@ returns g c =
     c.in-Ok.ensures.new.desk
     (ap (λ (n : List Note). peers_seen (exchanges n) c.new-peers.result.faults) c.new-peers.ensures.notes
     ∙ ap (λ (k : ℕ). peers_seen [] k) c.new-peers.ensures.faults)
-    (λ k. c.seed-2.ensures.words k ∙ ap (λ (s : List ℕ). seeded (record { key = s; stream = 0 }) k) c.as_slice.ensures)
+    (λ k. c.seed.ensures.words k ∙ ap (λ (s : List ℕ). seeded (record { key = s; stream = 0 }) k) c.as_slice.ensures)
     c.serve_connection-end.ensures.serves

@@ -3,5 +3,5 @@ use Rattle.td_drill.proofs.drilling.drill.Goals as goal
 
 pub returns : goal.returns
 returns g c =
-    drills-after (g.W.Words.word_after c.args.words.now) _ _ _ _ _ _ c.as_slice.ensures c.seed-2.ensures.words
+    drills-after (g.W.Words.word_after c.args.words.now) _ _ _ _ _ _ c.as_slice.ensures c.seed.ensures.words
     c.drill_group.ensures
