@@ -7,13 +7,12 @@ use Rattle.std.specs.List.{list_any}
 use Rattle.std.specs.Str.{bytes_eq}
 use Rattle.td_cdr.specs.Names.{identifier}
 use Rattle.td_cdr.specs.declared.order.Order.TheVariants.{Big}
+use Rattle.td_codes.specs.Labels.{Held}
 use Rattle.td_codes.specs.Same.{same, shape}
+use Rattle.td_codes.specs.Values.{code_in}
 use Rattle.td_codes.specs.declared.code.Any.{Any}
-use Rattle.td_codes.specs.declared.code.Arm.{Arm}
-use Rattle.td_codes.specs.declared.code.Member.{Member}
 use Rattle.td_codes.specs.declared.code.TypeCode.{TypeCode}
 use Rattle.td_codes.specs.declared.code.TypeCode.TheOpen as c
-use Rattle.td_codes.specs.declared.code.TypeCode.TheOpen.{Value-F}
 use Rattle.td_codes.specs.declared.code.Value.{Value, out-Value}
 use Rattle.td_codes.specs.declared.reference.Ior.{Ior}
 use Rattle.td_exceptions.specs.declared.exception.UserException.TheVariants.{IllegalPropertyName, DuplicatePropertyName}
@@ -40,19 +39,12 @@ carries properties name = list_any (λ p. bytes_eq p.name name) properties
 abbrev pub is_dynamic : Any → Bool
 is_dynamic a = dynamic_shape (shape a.code)
 
-abbrev pub Layer : Type 0
-Layer = Value-F TypeCode Value Any Arm Member
-
-abbrev pub code_in : Layer → Option TypeCode
-code_in (c.Value::Code code) = Some code
-code_in l = None
-
 abbrev pub second_code : List Value → Option TypeCode
 second_code [] = None
 second_code (v ∷ []) = None
 second_code (v ∷ w ∷ ws) = code_in (out-Value w)
 
-abbrev pub members_code : Layer → Option TypeCode
+abbrev pub members_code : Held → Option TypeCode
 members_code (c.Value::Struct vs) = second_code vs
 members_code l = None
 

@@ -2,9 +2,10 @@
 //! DynamicProp of module CosTradingDynamic).
 
 ghost use Rattle.std.specs.Prelude.{◌≡◌, option_copied};
+ghost use Rattle.td_codes.specs.Values.{code_in};
 ghost use Rattle.td_codes.specs.declared.code.Value.{out-Value};
 ghost use Rattle.td_types.specs.Properties.{property_named};
-ghost use Rattle.td_register.specs.Properties.{code_in, has_type, is_dynamic, is_typed, mode_of, returned_type};
+ghost use Rattle.td_register.specs.Properties.{has_type, is_dynamic, is_typed, mode_of, returned_type};
 ghost use Rattle.td_register.specs.Properties.{second_code};
 
 use td_value::{Any, PropStruct, PropertyMode, TypeCode, Value, same_type};

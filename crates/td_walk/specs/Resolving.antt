@@ -7,7 +7,7 @@ use Rattle.std.specs.Str.{bytes_eq}
 use Rattle.td_cdr.specs.declared.order.Order.TheVariants.{Big}
 use Rattle.td_codes.specs.Labels.{Held}
 use Rattle.td_codes.specs.Same.{same, shape}
-use Rattle.td_codes.specs.Values.{any_value}
+use Rattle.td_codes.specs.Values.{any_in, any_value, code_in, reference_in}
 use Rattle.td_codes.specs.declared.code.Any.{Any}
 use Rattle.td_codes.specs.declared.code.TypeCode.{TypeCode}
 use Rattle.td_codes.specs.declared.code.TypeCode.TheOpen as c
@@ -24,18 +24,6 @@ use Rattle.td_walk.specs.declared.answer.StepAnswer.TheVariants as answer
 use Rattle.td_walk.specs.declared.evaluation.Evaluation.{Evaluation}
 
 -- ---- dynamic properties
-
-abbrev pub reference_in : Held → Option Ior
-reference_in (c.Value::ObjRef r) = Some r
-reference_in l = None
-
-abbrev pub code_in : Held → Option TypeCode
-code_in (c.Value::Code t) = Some t
-code_in l = None
-
-abbrev pub any_in : Held → Option Any
-any_in (c.AnyValue a) = Some a
-any_in l = None
 
 abbrev pub members_in : Held → List Value
 members_in (c.Value::Struct members) = members

@@ -1,12 +1,13 @@
 //! Dynamic properties (OMG's Trading Object Service, module CosTradingDynamic).
 
 ghost use Rattle.std.specs.Prelude.{◌≡◌, IfOk, is_some, option_map, option_copied};
+ghost use Rattle.td_codes.specs.Values.{any_in, code_in, reference_in};
 ghost use Rattle.td_codes.specs.declared.code.Value.{out-Value};
 ghost use Rattle.td_eval.specs.Properties.{property};
 ghost use Rattle.td_ior.specs.Profiles.{iiop_of};
 ghost use Rattle.td_walk.specs.Lent.{lent};
 ghost use Rattle.td_walk.specs.Resolving.{dynamic_of, dynamic_named, dynamic_among, dynamic_from};
-ghost use Rattle.td_walk.specs.Resolving.{reference_in, code_in, any_in, may_stand, value_from};
+ghost use Rattle.td_walk.specs.Resolving.{may_stand, value_from};
 
 use crate::answer::StepAnswer;
 use std::alloc::Global;
