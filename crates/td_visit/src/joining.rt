@@ -1,8 +1,9 @@
 //! What a visit answers (OMG's Trading Object Service, interface Lookup, query, limits_applied).
 
-ghost use Rattle.std.specs.Prelude.{◌≡◌, ℕ, [], ◌∷◌, ◌++◌, ◌+◌, take, IfOk, OnOk, OnErr};
+ghost use Rattle.std.specs.Prelude.{◌≡◌, ℕ, ◌++◌, ◌+◌, take, IfOk, OnOk, OnErr};
 ghost use Rattle.std.specs.List.{flat_map, list_any};
-ghost use Rattle.td_walk.specs.Answers.{offer_of, own_offers, joined, is_among, is_limit, limit, limits_applied};
+ghost use Rattle.td_cdr.specs.Seen.{is_among};
+ghost use Rattle.td_walk.specs.Answers.{offer_of, own_offers, joined, is_limit, limit, limits_applied};
 ghost use Rattle.td_walk.specs.Answers.{drawn_by, IsRankedAnswer};
 ghost use Rattle.td_walk.specs.Resolving.{resolved};
 
@@ -62,7 +63,7 @@ fn joined(alloc: Global, gathered: Gathered) -> Result<List<Offer>, Memory>
 
 /// Whether another trader names the limit.
 fn is_given(given: &[SubAnswer], name: &[u8]) -> bool
-    ensures { result ≡ list_any (λ a. is_among a.limits name.now) given.now }
+    ensures { result ≡ list_any (λ a. is_among name.now a.limits) given.now }
 {
     given
         .iter()

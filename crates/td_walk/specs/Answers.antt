@@ -2,7 +2,7 @@
 use Rattle.std.specs.Prelude.{◌≡◌, ℕ, ◌+◌, Bool, ◌||◌, List, [], ◌∷◌, ◌++◌, map, filter, take, length, codes, Ok, Err}
 use Rattle.std.specs.Prelude.{if◌then◌else◌}
 use Rattle.std.specs.List.{flat_map, list_any}
-use Rattle.std.specs.Str.{bytes_eq}
+use Rattle.td_cdr.specs.Seen.{is_among}
 use Rattle.td_eval.specs.Ranking.{IsRanked, draw_count}
 use Rattle.td_store.specs.declared.local.Local.{Local}
 use Rattle.td_value.specs.declared.structures.Offer.{Offer}
@@ -24,12 +24,9 @@ own_offers found = map offer_of (filter (λ f. is_ordinary f.offer) found)
 abbrev pub joined : Gathered → List Offer
 joined g = own_offers g.found ++ flat_map (λ a. a.offers) g.given
 
-abbrev pub is_among : List (List ℕ) → List ℕ → Bool
-is_among names name = list_any (bytes_eq name) names
-
 -- the policy is stated above this trader's maximum, or another trader names it
 abbrev pub is_limit : (over : List (List ℕ)) → List SubAnswer → (name : List ℕ) → Bool
-is_limit over given name = is_among over name || list_any (λ a. is_among a.limits name) given
+is_limit over given name = is_among name over || list_any (λ a. is_among name a.limits) given
 
 abbrev pub limit : (over : List (List ℕ)) → List SubAnswer → (name : List ℕ) → List (List ℕ)
 limit over given name = if is_limit over given name then name ∷ [] else []

@@ -1,7 +1,7 @@
 -- The queries that a trader passes on: along a path, over a link, and to a proxy offer's trader (OMG's Trading Object
 -- Service, "Link Follow Behavior", starting_trader and interface Proxy).
-use Rattle.std.specs.Prelude.{ℕ, zero, suc, nat_le, nat_lt, Bool, true, false, ◌&&◌, ◌||◌, if◌then◌else◌, List, [], ◌∷◌}
-use Rattle.std.specs.Prelude.{length, drop, Option, None, Some, option_map, option_and_then, codes, ◌++◌}
+use Rattle.std.specs.Prelude.{ℕ, zero, suc, nat_le, nat_lt, Bool, true, false, ◌&&◌, if◌then◌else◌, List, [], ◌∷◌}
+use Rattle.std.specs.Prelude.{length, drop, Option, None, Some, option_map, option_and_then, codes}
 use Rattle.td_eval.specs.Expansion.{expansion}
 use Rattle.td_lang.specs.Recipes.{part_in_front}
 use Rattle.td_lang.specs.declared.expr.Part.{Part}

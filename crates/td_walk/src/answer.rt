@@ -1,7 +1,5 @@
 //! The questions of a visit, and their answers.
 
-ghost use Rattle.std.specs.Prelude.{◌≡◌};
-
 use std::alloc::Global;
 use td_cdr::{Boxed, List, Memory, Text, Twin};
 use td_ops::Query;

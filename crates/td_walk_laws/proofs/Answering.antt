@@ -2,12 +2,13 @@
 use Rattle.std.proofs.Common.{◌≡◌, ℕ, Bool, false, ◌||◌, List, [], ◌∷◌, ◌++◌, Ok, Err, refl, sym, ap, ◌∙◌, codes}
 use Rattle.std.proofs.Common.{if◌then◌else◌, take}
 use Rattle.std.specs.List.{flat_map, list_any}
+use Rattle.td_cdr.specs.Seen.{is_among}
 use Rattle.td_eval.specs.Ranking.{IsArranged, IsRanked}
 use Rattle.td_lang.specs.declared.expr.Preference.{Preference}
 use Rattle.td_lang.specs.declared.expr.Preference.TheVariants as preference
 use Rattle.td_store.specs.declared.local.Local.{Local}
 use Rattle.td_value.specs.declared.structures.Offer.{Offer}
-use Rattle.td_walk.specs.Answers.{joined, own_offers, is_among, limit, limits_applied, IsRankedAnswer}
+use Rattle.td_walk.specs.Answers.{joined, own_offers, limit, limits_applied, IsRankedAnswer}
 use Rattle.td_walk.specs.Answers.{AnswersGathered, IsAnswer}
 use Rattle.td_walk.specs.Visits.{Reads, visit_of}
 use Rattle.td_walk.specs.declared.answer.StepAnswer.{StepAnswer}
@@ -39,8 +40,8 @@ same-test f none (a ∷ before) after = ap (λ (b : Bool). f a || b) (same-test 
 same-limit : (over : List (List ℕ)) (before after : List SubAnswer) (name : List ℕ)
     → limit over (before ++ nothing_given ∷ after) name ≡ limit over (before ++ after) name
 same-limit over before after name =
-    ap (λ (b : Bool). if is_among over name || b then name ∷ [] else [])
-    (same-test (λ (a : SubAnswer). is_among a.limits name) refl before after)
+    ap (λ (b : Bool). if is_among name over || b then name ∷ [] else [])
+    (same-test (λ (a : SubAnswer). is_among name a.limits) refl before after)
 
 pub no_limits : (over : List (List ℕ)) (before after : List SubAnswer)
     → limits_applied over (before ++ nothing_given ∷ after) ≡ limits_applied over (before ++ after)
