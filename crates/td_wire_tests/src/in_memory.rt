@@ -1,13 +1,11 @@
 //! A wire in memory: what each connection gives, what was written over each, and calls that fail.
 
+use crate::support::goes_along;
 use std::alloc::Global;
 use std::test::Fail;
 use td_cdr::{List, Octets};
 use td_out::Failed;
 use td_wire::{MemWire, Wire};
-
-/// A value that may go to another thread.
-fn goes_along<T: Send>(_value: &T) {}
 
 /// Whether a read into room for four bytes answers so, and leaves these bytes there.
 fn reads<L: Wire>(wire: &mut L, answer: Result<usize, Failed>, bytes: [u8; 4]) -> bool {

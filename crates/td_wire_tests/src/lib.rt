@@ -1,6 +1,11 @@
-//! Tests of td_out, td_wire, td_giop and td_marks: what is outside, connections, messages, and marks.
+//! Tests of td_out, td_wire, td_giop, td_marks, td_cell, td_accept and td_workers: what is outside, connections,
+//! messages, marks, turns on what threads share, visitors, and jobs on threads.
 #![tactic(auto)]
 
+#[cfg(test)]
+mod accept;
+#[cfg(test)]
+mod cell;
 #[cfg(test)]
 mod fake_files;
 #[cfg(test)]
@@ -19,3 +24,7 @@ mod outside;
 mod over_tcp;
 #[cfg(test)]
 mod ring;
+#[cfg(test)]
+mod support;
+#[cfg(test)]
+mod workers;

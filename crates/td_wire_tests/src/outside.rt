@@ -1,5 +1,6 @@
 //! Each public call once with ample memory, and the adapters over `std` once.
 
+use crate::support::goes_along;
 use std::alloc::Global;
 use std::test::Fail;
 use std::{fs, io, process};
@@ -14,9 +15,6 @@ fn reads<S: Source>(source: &mut S, answer: Result<usize, Failed>, bytes: [u8; 4
     let mut room = [0; 4];
     source.read(&mut room) == answer && room == bytes
 }
-
-/// A value that may go to another thread.
-fn goes_along<T: Send>(_value: &T) {}
 
 /// Whether the texts answer so for this name.
 fn gives<L: Texts>(

@@ -1,15 +1,13 @@
 //! A wire over TCP: one request over loopback to a listener of the test, and a peer that isn't there.
 
+use crate::support::goes_along;
 use std::io::{Read, Write};
 use std::net::{Ipv4Addr, Net, SocketAddr, TcpListener, TcpStream};
 use std::test::Fail;
 use td_out::Failed;
 use td_wire::{TcpWire, Wire};
 
-/// A value that may go to another thread.
-fn goes_along<T: Send>(_value: &T) {}
-
-/// The same of a wire over the system's sockets.
+/// A wire over the system's sockets may go to another thread.
 fn wire_goes_along<R: Net<Listener = TcpListener, Stream = TcpStream> + Sync>(
     wire: &TcpWire<'_, R>,
 ) {

@@ -3,7 +3,7 @@
 ghost use Rattle.std.specs.Prelude.{◌≡◌, IfOk, IfErr};
 ghost use Rattle.td_cell.specs.Passes.{knowledge, Belongs, SameCell, SameNumbers, IsOpening};
 
-use crate::tally::Tally;
+use crate::cell::tally::Tally;
 use std::alloc::Global;
 use std::process::Abort;
 use std::sync::Wait;

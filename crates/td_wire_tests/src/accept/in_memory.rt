@@ -2,6 +2,7 @@
 
 ghost use Rattle.std.specs.Prelude.{◌≡◌, true};
 
+use crate::support::goes_along;
 use std::alloc::Global;
 use std::test::Fail;
 use td_accept::{Accept, Gate, MemAccept, NoGate, Visitor};
@@ -11,9 +12,6 @@ use td_wire::MemWire;
 
 /// A visitor that lies in memory.
 type Guest = Visitor<MemSource, MemSink, MemWire, MemWords>;
-
-/// A value that may go to another thread.
-fn goes_along<T: Send>(_value: &T) {}
 
 /// A visitor who says this byte alone, and whose words begin with it.
 fn guest(alloc: Global, byte: u8) -> Result<Guest, Memory> {

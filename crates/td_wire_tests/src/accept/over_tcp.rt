@@ -2,14 +2,12 @@
 
 ghost use Rattle.std.specs.Prelude.{◌≡◌, true};
 
+use crate::support::goes_along;
 use std::net::{Ipv4Addr, Net, SocketAddr, TcpListener, TcpStream};
 use std::test::Fail;
 use td_accept::{Accept, TcpAccept, Visitor};
 use td_out::{ChaChaWords, Sink, Source, Words};
 use td_wire::{TcpWire, Wire};
-
-/// A value that may go to another thread.
-fn goes_along<T: Send>(_value: &T) {}
 
 /// Whether the wire's bytes come to the visitor, and the reply to them goes back.
 fn talks<S: Source, K: Sink, L, W: Words, C: Wire>(

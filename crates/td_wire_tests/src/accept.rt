@@ -1,0 +1,4 @@
+//! Where visitors come from.
+
+mod in_memory;
+mod over_tcp;

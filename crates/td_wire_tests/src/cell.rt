@@ -1,0 +1,4 @@
+//! Turns on a book that threads share.
+
+mod tally;
+mod turn_tests;
