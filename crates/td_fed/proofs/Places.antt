@@ -1,5 +1,5 @@
 -- The number of the trader of a name, as it is looked for one by one.
-use Rattle.std.proofs.Common.{◌≡◌, ℕ, zero, suc, ◌+◌, ◌<◌, ◌≤◌, List, [], ◌∷◌, length, drop, refl, sym, ap, subst, ◌∙◌}
+use Rattle.std.proofs.Common.{◌≡◌, ℕ, zero, suc, ◌+◌, ◌<◌, ◌≤◌, List, [], ◌∷◌, length, drop, refl, ap, subst, ◌∙◌}
 use Rattle.std.proofs.Common.{arith, Bool, true, false}
 use Rattle.std.specs.Prelude.{Option, None, Some}
 use Rattle.std.specs.Option.{option_map}
@@ -11,17 +11,9 @@ use Rattle.td_trader.specs.Worlds.{View, name_at}
 abbrev pub placed : (before : ℕ) → Option ℕ → Option ℕ
 placed n found = option_map (λ k. n + k) found
 
-placed-none : (o : Option ℕ) → placed 0 o ≡ o
-placed-none None = refl
-placed-none (Some k) = let e : 0 + k ≡ k = omega arith in ap Some e
-
 placed-more : (n : ℕ) (o : Option ℕ) → placed n (option_map suc o) ≡ placed (n + 1) o
 placed-more n None = refl
 placed-more n (Some k) = let e : n + suc k ≡ n + 1 + k = omega arith in ap Some e
-
--- at the beginning
-pub placed-first : (w : List View) (name : List ℕ) → place_of w name ≡ placed 0 (place_of (drop 0 w) name)
-placed-first w name = sym (placed-none (place_of w name))
 
 -- the trader of this number has the name, or is passed over
 found-by : (v : View) (vs : List View) (name : List ℕ) (n : ℕ) (b : Bool) → bytes_eq v.name name ≡ b → b ≡ true

@@ -24,12 +24,6 @@ marks-kept (x ∷ w) zero v u is e (suc j) = refl
 marks-kept (x ∷ w) (suc k) v u is e zero = refl
 marks-kept (x ∷ w) (suc k) v u is e (suc j) = marks-kept w k v u is e j
 
-pub quiet-none : (w : List View) → IsQuiet w w
-quiet-none w = record { own = λ k. refl; own_marks = λ k. refl }
-
-pub quiet-on : (w u v : List View) → IsQuiet w u → IsQuiet u v → IsQuiet w v
-quiet-on w u v p q = record { own = λ k. q.own k ∙ p.own k; own_marks = λ k. q.own_marks k ∙ p.own_marks k }
-
 module _ (others : List Accepted → Type 0) (later : Marks → Marks → Type 0) (w u : List View) (k : ℕ) where
   seen-quiet : (seen : View) → Meanwhile others later w k seen → u ≡ with_view w k seen → IsQuiet w u
   seen-quiet seen m is = record {

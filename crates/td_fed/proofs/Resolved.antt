@@ -1,15 +1,15 @@
 -- What the names of links lead to, step by step.
-use Rattle.std.proofs.Common.{◌≡◌, ℕ, ◌+◌, ◌<◌, ◌≤◌, Bool, true, false, cond, ◌&&◌, List, [], ◌∷◌, ◌++◌, length}
-use Rattle.std.proofs.Common.{Option, None, Some, Result, Ok, Err, IfOk, OnErr, inl, inr, refl, sym, ap, subst}
+use Rattle.std.proofs.Common.{◌≡◌, ℕ, ◌+◌, ◌<◌, Bool, true, false, cond, ◌&&◌, List, [], ◌∷◌, ◌++◌, length}
+use Rattle.std.proofs.Common.{Option, None, Some, Result, Ok, Err, IfOk, inl, inr, refl, sym, ap, subst}
 use Rattle.std.proofs.Common.{◌∙◌}
 use Rattle.std.proofs.Common.{arith}
-use Rattle.std.proofs.Common.{length-set, nat_eq, nat_le, append-nil, suc}
+use Rattle.std.proofs.Common.{length-set, nat_eq, nat_le, suc}
 use Rattle.std.specs.Option.{option_map}
 use Rattle.std.specs.Str.{bytes_eq}
 use Rattle.td_value.specs.declared.key.Kind.{Kind}
 use Rattle.td_value.specs.declared.key.Kind.TheVariants as kind
 use Rattle.td_value.specs.declared.key.ObjectKey.{ObjectKey}
-use Rattle.std.proofs.lemmas.Bool.{eqb-true, lt-leb, le-leb}
+use Rattle.std.proofs.lemmas.Bool.{eqb-true, lt-leb}
 use Rattle.std.specs.List.{list_all}
 use Rattle.td_cdr.specs.Marks.{Marks}
 use Rattle.td_cdr.specs.Names.{word_name}
@@ -21,7 +21,7 @@ use Rattle.td_exceptions.specs.declared.exception.UserException.{UserException}
 use Rattle.td_exceptions.specs.declared.exception.UserException.TheVariants.{UnknownLinkName, UnknownTraderName}
 use Rattle.td_exceptions.specs.declared.exception.UserException.TheVariants.{IllegalLinkName, IllegalTraderName}
 use Rattle.td_fed.specs.Resolving.{Follows, IsAskedFor, IsGiven, IsUngiven, LeadsInside, LooksUp, Resolves}
-use Rattle.td_fed.specs.Resolving.{followed, given, illegal, inside, is_path, link_register, most_names, named}
+use Rattle.td_fed.specs.Resolving.{followed, given, illegal, inside, is_path, most_names, named}
 use Rattle.td_fed.specs.Resolving.{outside, register_of_link}
 use Rattle.td_fed.specs.Resolving.{told_register, unfound, ungiven, unknown, wanting, with_outcome}
 use Rattle.td_fed.specs.Targets.{home_key, keyed_in, inside_group, lookup_by, place_of, register_by, register_inside}
@@ -30,7 +30,6 @@ use Rattle.td_fed.specs.declared.resolving.NameAnswer.{NameAnswer}
 use Rattle.td_ops.specs.declared.call.Look.TheVariants as look
 use Rattle.td_ops.specs.declared.outcome.Outcome.{Outcome}
 use Rattle.td_ops.specs.declared.outcome.Outcome.TheVariants.{Done, User}
-use Rattle.td_ops.specs.declared.outcome.Reply.{Reply}
 use Rattle.td_ops.specs.declared.outcome.Reply.TheVariants as reply
 use Rattle.td_ops.specs.declared.outcome.SystemKind.TheVariants.{NoMemory}
 use Rattle.td_register.specs.Causes.{raise, system, tells, there}
@@ -40,7 +39,6 @@ use Rattle.td_store.specs.LinkLists.{link_of}
 use Rattle.td_store.specs.Stores.{link_info_of}
 use Rattle.td_store.specs.declared.record.LinkRecord.{LinkRecord}
 use Rattle.td_trader.specs.Worlds.{Looks, View, history_at, store_seen, with_view}
-use Rattle.td_value.specs.declared.structures.LinkInfo.{LinkInfo}
 use Rattle.td_walk.specs.Peering.{Exchange, Given, Failed, IsNoted, Referred, Resolving, exchange, is_memory}
 use Rattle.td_walk.specs.declared.fault.PeerFault.{PeerFault}
 use Rattle.td_walk.specs.declared.fault.PeerFault.TheVariants as fault
@@ -52,20 +50,10 @@ both : (a b : Bool) → a && b ≡ true → (a ≡ true) × (b ≡ true)
 both true b h = (refl, h)
 both false b h = absurd (let bad : ⊥ = cc in bad)
 
-pub is-some : (names : List (List ℕ)) → is_path names ≡ true → 0 < length names
-is-some [] h = absurd (let bad : ⊥ = cc in bad)
-is-some (name ∷ names) h = omega arith
-
 pub all-words : (names : List (List ℕ)) → is_path names ≡ true → list_all word_name names ≡ true
 all-words [] h = refl
 all-words (name ∷ names) h =
     (both (nat_le (length (name ∷ names)) most_names) (list_all word_name (name ∷ names)) h).1
-
-pub first-word : (names rest : List (List ℕ)) (name : List ℕ) → names ≡ name ∷ rest → list_all word_name names ≡ true
-    → word_name name ≡ true
-first-word names rest name is h =
-    (both (word_name name) (list_all word_name rest)
-    (subst (λ (ns : List (List ℕ)). list_all word_name ns ≡ true) is h)).0
 
 pub other-words : (names rest : List (List ℕ)) (name : List ℕ) → names ≡ name ∷ rest → list_all word_name names ≡ true
     → list_all word_name rest ≡ true
@@ -77,19 +65,10 @@ pub none-left : (names : List (List ℕ)) → nat_eq (length names) 0 ≡ true �
 none-left [] h = refl
 none-left (name ∷ names) h = absurd (let e = eqb-true (length (name ∷ names)) 0 h in omega (arith, e))
 
-pub no-names : (names : List (List ℕ)) → names ≡ [] → false ≡ is_path names
-no-names names is = ap is_path (sym is)
-
 pub too-many : (names : List (List ℕ)) → most_names < length names → false ≡ is_path names
 too-many [] h = refl
 too-many (name ∷ names) h =
     sym (ap (λ b. b && list_all word_name (name ∷ names)) (lt-leb (length (name ∷ names)) most_names h))
-
-pub words-decide : (names : List (List ℕ)) → 0 < length names → length names ≤ most_names
-    → list_all word_name names ≡ is_path names
-words-decide [] h few = absurd (omega (arith, h))
-words-decide (name ∷ names) h few =
-    sym (ap (λ b. b && list_all word_name (name ∷ names)) (le-leb (length (name ∷ names)) most_names few))
 
 -- ---- a look at a link
 
@@ -108,26 +87,6 @@ described : (s : Store) (name : List ℕ) → word_name name ≡ true
 unfolding seen describe_link
 described s name h =
     told-linked (word_name name) (link_of s.links name) (UnknownLinkName name) (IllegalLinkName name) h
-
--- no other reply tells a register
-pub not-link : (r : Reply) → ((i : LinkInfo) → r ≡ reply.Link i → ⊥) → ◌≡◌ {A = Option Ior} None (link_register r)
-not-link reply.Nothing h = refl
-not-link (reply.Id x) h = refl
-not-link (reply.Number x) h = refl
-not-link (reply.Truth x) h = refl
-not-link (reply.Reference x) h = refl
-not-link (reply.Follow x) h = refl
-not-link (reply.Stem x) h = refl
-not-link (reply.Incarnation x) h = refl
-not-link (reply.Names x) h = refl
-not-link (reply.Offer x) h = refl
-not-link (reply.Link i) h = absurd (h i refl)
-not-link (reply.Proxy x) h = refl
-not-link (reply.Typed x) h = refl
-not-link (reply.Found x y z) h = refl
-not-link (reply.Ids x y) h = refl
-not-link (reply.Batch x y) h = refl
-not-link (reply.IdBatch x y) h = refl
 
 -- ---- numbers of traders
 
@@ -256,13 +215,6 @@ module _ (others : List Accepted → Type 0) (later : Marks → Marks → Type 0
 
 -- ---- a register outside
 
-unasked-by : (gives : Ior → Given) (register : Ior) (rest : List (List ℕ)) (f : PeerFault) → is_memory f ≡ true
-    → exchange gives (Resolving register rest) (Err f) ≡ []
-unasked-by gives register rest fault.Memory h = refl
-unasked-by gives register rest fault.Wire h = absurd (let bad : ⊥ = cc in bad)
-unasked-by gives register rest fault.Grammar h = absurd (let bad : ⊥ = cc in bad)
-unasked-by gives register rest fault.Exception h = absurd (let bad : ⊥ = cc in bad)
-
 asked-by : (gives : Ior → Given) (register : Ior) (rest : List (List ℕ)) (f : PeerFault) → is_memory f ≡ false
     → exchange gives (Resolving register rest) (Err f)
     ≡ record { call = Resolving register rest; gave = Failed f } ∷ []
@@ -270,12 +222,6 @@ asked-by gives register rest fault.Memory h = absurd (let bad : ⊥ = cc in bad)
 asked-by gives register rest fault.Wire h = refl
 asked-by gives register rest fault.Grammar h = refl
 asked-by gives register rest fault.Exception h = refl
-
-pub not-memory : (f : PeerFault) → (f ≡ fault.Memory → ⊥) → is_memory f ≡ false
-not-memory fault.Memory h = absurd (h refl)
-not-memory fault.Wire h = refl
-not-memory fault.Grammar h = refl
-not-memory fault.Exception h = refl
 
 module _ (point : ℕ) (whole rest : List (List ℕ)) (register : Ior) (calls now : List Exchange) (faults later : ℕ) where
   pub was-given : (r : Ior) (a : NameAnswer)
@@ -299,13 +245,6 @@ module _ (point : ℕ) (whole rest : List (List ℕ)) (register : Ior) (calls no
       (sym (noted.calls ∙ ap (λ t. calls ++ t) (asked-by (λ x. Referred x) register rest f h.0)))
       (ungiven f h.0))
   was-ungiven f (Err e) noted h = tt
-
-  pub nothing-asked : (f : PeerFault) (res : Result NameAnswer Wanting)
-      → IsNoted {X = Ior} (λ x. Referred x) (Resolving register rest) calls now faults later (Err f)
-      → IsUngiven point f whole res → OnErr res (now ≡ calls)
-  nothing-asked f (Ok a) noted h = tt
-  nothing-asked f (Err e) noted h =
-      noted.calls ∙ (ap (λ t. calls ++ t) (unasked-by (λ x. Referred x) register rest f h) ∙ append-nil calls)
 
 -- ---- in all
 

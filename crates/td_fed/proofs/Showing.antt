@@ -80,23 +80,6 @@ shown-same w calls now x y same kept = record {
   asked = refl;
 }
 
--- an item that shows no mark, no point and no call
-pub shown-item : (w : List View) (calls now : List Exchange) (x z y : List TraceItem) (i : TraceItem) → now ≡ calls
-    → z ≡ x → y ≡ z ++ i ∷ [] → ((k : ℕ) → mark_of k i ≡ []) → ((k : ℕ) → point_of k i ≡ []) → shown_by i ≡ []
-    → IsShown w calls x y w now
-shown-item w calls now x z y i same kept noted unmarked unplaced unseen = record {
-  items = i ∷ [];
-  notes = noted ∙ ap (λ t. t ++ i ∷ []) kept;
-  marks = λ k.
-      sym (append-nil (own_marks_at w k)) ∙ ap (λ (t : List ℕ). own_marks_at w k ++ (t ++ [])) (sym (unmarked k));
-  points = λ k.
-      subst (λ (t : List ℕ). Rises (length (history_at w k)) (t ++ []) (length (history_at w k))) (sym (unplaced k))
-      (le_refl (length (history_at w k)));
-  made = [];
-  calls_are = same ∙ sym (append-nil calls);
-  asked = ap (λ (t : List Given). t ++ []) (sym unseen);
-}
-
 -- an item that shows one call, and no mark and no point
 pub shown-call : (w : List View) (calls now : List Exchange) (e : Exchange) (x z y : List TraceItem) (i : TraceItem)
     → now ≡ calls ++ e ∷ [] → z ≡ x → y ≡ z ++ i ∷ [] → ((k : ℕ) → mark_of k i ≡ [])

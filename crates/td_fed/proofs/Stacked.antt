@@ -5,12 +5,11 @@ use Rattle.td_cdr.specs.declared.memory.Memory.{Memory as Wanting}
 use Rattle.td_codes.specs.declared.reference.Ior.{Ior}
 use Rattle.td_fed.specs.Entering.{IsAsked, IsEnd}
 use Rattle.td_fed.specs.Entering.{Asks as Comes, answered as has-answer, begun as has-begun}
-use Rattle.td_fed.specs.Turning.{Asks, Closes, GoesOn, IsTurn, Returns, Takes, answered, begun, ended}
+use Rattle.td_fed.specs.Turning.{Asks, Closes, GoesOn, IsTurn, Takes, answered, begun, ended}
 use Rattle.td_fed.specs.declared.asking.Asking.{Asking}
 use Rattle.td_fed.specs.declared.asking.Asking.TheVariants as asking
 use Rattle.td_ops.specs.declared.call.Query.{Query}
 use Rattle.td_visit.specs.Standing.{Standing as Frame}
-use Rattle.td_walk.specs.Visits.{next_of}
 use Rattle.td_walk.specs.declared.answer.Next.{Next}
 use Rattle.td_walk.specs.declared.answer.StepAnswer.{StepAnswer}
 use Rattle.td_walk.specs.declared.trace.TraceItem.{TraceItem}
@@ -18,51 +17,11 @@ use Rattle.td_walk.specs.declared.trace.TraceItem.TheVariants as item
 use Rattle.td_walk.specs.declared.trace.Visit.{Visit}
 use Rattle.td_walk_laws.specs.Walks.{Course, Start}
 
--- ---- taken from the list and put back
-
-pub kept-by : (before middle after : List Frame) (top new : Frame) → before ≡ middle ++ top ∷ [] → new ≡ top
-    → after ≡ middle ++ new ∷ [] → after ≡ before
-kept-by before middle after top new taken same put =
-    put ∙ (ap (λ (f : Frame). middle ++ f ∷ []) same ∙ sym taken)
-
-pub asks-if : (before middle : List Frame) (top : Frame) (r : Result Next Wanting) → before ≡ middle ++ top ∷ []
-    → IfOk r (λ q. q ≡ next_of top.local top.answers) → IfOk r (λ q. Asks before q)
-asks-if before middle top (Ok q) taken is = record { waiting = middle; top = top; is = taken; question_is = is }
-asks-if before middle top (Err e) taken is = tt
-
-pub takes-if : {X : Type 0} (before middle after : List Frame) (top new : Frame) (a : StepAnswer) (r : Result X Wanting)
-    → before ≡ middle ++ top ∷ [] → OnOk r (new ≡ record { local = top.local; answers = top.answers ++ a ∷ [] })
-    → after ≡ middle ++ new ∷ [] → length top.answers < 2 ^ 64 → OnOk r (Takes before a after)
-takes-if before middle after top new a (Ok x) taken is put room = record {
-  waiting = middle;
-  top = top;
-  is = taken;
-  room = room;
-  after_is = put ∙ ap (λ (f : Frame). middle ++ f ∷ []) is;
-}
-takes-if before middle after top new a (Err e) taken is put room = tt
-
-pub closes-if : {World : Type 0} (s u : Course World) (before middle after : List Frame) (top : Frame) (v : Visit)
-    (r : Result (Option Visit) Wanting) → before ≡ middle ++ top ∷ [] → IsEnd s top v u
-    → IfOk r (λ x. Returns v middle x after) → IfOk r (λ x. Closes s before x after u)
-closes-if s u before middle after top v (Ok x) taken e h = record {
-  waiting = middle;
-  top = top;
-  visit = v;
-  is = taken;
-  end = e;
-  returns = h;
-}
-closes-if s u before middle after top v (Err m) taken e h = tt
-
 -- there is one, where a question is asked
 pub one-asks : (stack : List Frame) (q : Next) → Asks stack q → 0 < length stack
 one-asks stack q a =
     let n = ap (λ (fs : List Frame). length fs) a.is ∙ length-append a.waiting (a.top ∷ []) in
     omega (arith, n)
-
-pub asks-same : (stack other : List Frame) (q : Next) → other ≡ stack → Asks stack q → Asks other q
-asks-same stack other q same a = subst (λ (fs : List Frame). Asks fs q) (sym same) a
 
 module _ {World : Type 0} (Begins : World → (trader : ℕ) → Query → Start → World → Type 0)
     (inside : World → (target : Ior) → Option ℕ) (s : Course World) where
@@ -132,10 +91,3 @@ module _ {World : Type 0} (Begins : World → (trader : ℕ) → Query → Start
         → OnOk res (IsTurn Begins inside s stack None after before now u)
     turn-opened f u before now after (Ok x) a few put = open-so f u before now after a few put
     turn-opened f u before now after (Err m) a few put = tt
-
-  -- of the same open visits
-  pub turn-same : (u : Course World) (stack other after : List Frame) (v : Option Visit) (before now : List TraceItem)
-      → other ≡ stack → IsTurn Begins inside s other v after before now u
-      → IsTurn Begins inside s stack v after before now u
-  turn-same u stack other after v before now same t =
-      subst (λ (fs : List Frame). IsTurn Begins inside s fs v after before now u) same t

@@ -1,5 +1,5 @@
 -- What add_link is answered with.
-use Rattle.std.proofs.Common.{◌≡◌, ◌⊎◌, inl, inr, ℕ, ◌<◌, false, List, length, refl, sym, ap, subst, ◌∙◌, IfOk, OnErr}
+use Rattle.std.proofs.Common.{◌≡◌, ◌⊎◌, inl, inr, ℕ, ◌<◌, false, List, length, refl, sym, ap, subst, ◌∙◌, IfOk}
 use Rattle.std.proofs.Common.{Option, Some, None}
 use Rattle.std.specs.Prelude.{IfErr, Result, Ok, Err}
 use Rattle.td_cdr.specs.Marks.{Marks}
@@ -13,7 +13,7 @@ use Rattle.td_ops.specs.declared.call.AddLink.{AddLink}
 use Rattle.td_ops.specs.declared.call.Change.{Change}
 use Rattle.td_ops.specs.declared.outcome.Outcome.{Outcome}
 use Rattle.td_register.specs.declared.history.Accepted.{Accepted}
-use Rattle.td_trader.specs.Worlds.{Changes, View, Watches, history_at, name_at}
+use Rattle.td_trader.specs.Worlds.{Changes, View, history_at, name_at}
 use Rattle.td_walk.specs.Peering.{IsNoted, Referred, RegisterOf, is_memory}
 use Rattle.td_walk.specs.declared.trace.Address.{Address}
 use Rattle.td_reply.proofs.Seen.{changed_point}
@@ -28,7 +28,7 @@ use Rattle.td_reply.specs.declared.answer.ReplyBody.TheVariants as reply_body
 use Rattle.td_reply.specs.declared.entry.Entry.{Entry}
 use Rattle.td_reply.specs.declared.entry.Entry.TheVariants.{Asked}
 use Rattle.td_reply.specs.declared.target.Target.{Target}
-use Rattle.td_reply.specs.declared.target.Target.TheVariants.{Inside, Outside, Unreachable}
+use Rattle.td_reply.specs.declared.target.Target.TheVariants.{Inside, Outside}
 
 -- ---- a target inside is a trader of the group
 
@@ -113,44 +113,6 @@ module _ (others : List Accepted → Type 0) (later : Marks → Marks → Type 0
       ⊎ AskedInVain others later home w k l before after o e u) a
 
   module _ (home : Address) (w u : List View) (k : ℕ) (l : AddLink) (r : Result Answer Memory) where
-    pub by_inside : (seen : PeersSeen) (j : ℕ) → target_of home w l.target ≡ Inside j
-        → IfOk r (λ a. IsToldPlainly (λ (o : Outcome) (e : Entry). ChangeComes others later w k
-        (link_change l (Some (register_reference home (name_at w j)))) o e u) a)
-        → IfOk r (λ a. LinkTold home w u k l seen seen a)
-    by_inside seen j is h = from r h
-      where
-        from : (x : Result Answer Memory)
-            → IfOk x (λ a. IsToldPlainly (λ (o : Outcome) (e : Entry). ChangeComes others later w k
-            (link_change l (Some (register_reference home (name_at w j)))) o e u) a)
-            → IfOk x (λ a. LinkTold home w u k l seen seen a)
-        from (Ok a) g = record {
-          outcome = g.outcome;
-          comes =
-              inl (subst (λ (t : Target). AddLinkBy others later t home w k l seen seen g.outcome a.entry u) (sym is)
-              (g.comes, refl));
-          told = g.told;
-        }
-        from (Err m) g = tt
-
-    pub by_unreachable : (seen : PeersSeen) → target_of home w l.target ≡ Unreachable
-        → IfOk r (λ a. IsToldPlainly (λ (o : Outcome) (e : Entry). ChangeComes others later w k (link_change l None) o e
-        u) a)
-        → IfOk r (λ a. LinkTold home w u k l seen seen a)
-    by_unreachable seen is h = from r h
-      where
-        from : (x : Result Answer Memory)
-            → IfOk x (λ a. IsToldPlainly (λ (o : Outcome) (e : Entry). ChangeComes others later w k (link_change l None)
-            o e u) a)
-            → IfOk x (λ a. LinkTold home w u k l seen seen a)
-        from (Ok a) g = record {
-          outcome = g.outcome;
-          comes =
-              inl (subst (λ (t : Target). AddLinkBy others later t home w k l seen seen g.outcome a.entry u) (sym is)
-              (g.comes, refl));
-          told = g.told;
-        }
-        from (Err m) g = tt
-
     outside_comes : (before after : PeersSeen) (o : Outcome) (e : Entry) → target_of home w l.target ≡ Outside
         → (RegisterAsked others later w k l before after o e u ⊎ AskedInVain others later home w k l before after o e u)
         → (AddLinkComes others later home w k l before after o e u
@@ -187,8 +149,3 @@ module _ (others : List Accepted → Type 0) (later : Marks → Marks → Type 0
       made ∙ ap (λ (x : List ℕ). register_reference home x) named in
       subst (λ (x : Change). IfOk r (λ a. IsToldPlainly (λ (o : Outcome) (e : Entry). ChangeComes others later w k x o e
       u) a)) (is ∙ ap (λ (x : Ior). link_change l (Some x)) same) h
-
-  pub rests_watched : (w u : List View) (k : ℕ) (r : Result Answer Memory)
-      → OnErr r (Watches others later w k u) → OnErr r (Rests others later w k u)
-  rests_watched w u k (Ok a) h = tt
-  rests_watched w u k (Err m) h = inr h

@@ -73,11 +73,5 @@ pub none_at : (w : List View) (d : Live) (octets : List ℕ) → key_of octets �
 unfolding object_at
 none_at w d octets is = rw is refl
 
-pub object_named : (w : List View) (d : Live) (octets : List ℕ) (x : Object) → object_at w d octets ≡ Some x
-    → IsNamed w x.trader
-unfolding object_at
-object_named w d octets x e =
-    let key = bind-Some (key_of octets) (object_keyed w d) x e in keyed_named w d octets key.0 x key.1 key.2
-
 pub place_within : (w : List View) (name : List ℕ) (k : ℕ) → place_of w name ≡ Some k → k < length w
 place_within w name k e = (placed_at w name k e).within
