@@ -87,7 +87,11 @@ pub fn start<R: Env + Files + Net + AllocGlobal, I: Read + Drop, O: Write + Drop
 }
 
 /// The words behind the program's name.
-fn arguments<R: Env + AllocGlobal>(rt: &R) -> io::Result<Vec<String>> {
+///
+/// # Errors
+///
+/// An error of kind `OutOfMemory` for want of memory, and another where one of them isn't text.
+pub fn arguments<R: Env + AllocGlobal>(rt: &R) -> io::Result<Vec<String>> {
     let mut args = Vec::new(rt.alloc());
     for word in env::args(rt)?.skip(1) {
         args.push(word)?;

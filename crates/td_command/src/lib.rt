@@ -14,5 +14,5 @@ mod verb;
 
 pub use command::run;
 pub use ended::Ended;
-pub use exit::{run_program, start};
+pub use exit::{arguments, run_program, start};
 pub use reporting::{report, write_numbered};

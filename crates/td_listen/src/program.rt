@@ -2,14 +2,14 @@
 
 use crate::listen::serve;
 use std::alloc::Global;
-use std::env;
-use std::io::{self, Read, Write};
+use std::io::{Read, Write};
 use std::net::{Net, TcpListener, TcpStream};
 use std::process::ExitCode;
 use std::rt::{Env, Files};
 use std::sync::Wait;
 use std::thread::Threads;
 use td_accept::{NoGate, TcpAccept};
+use td_command::arguments;
 use td_out::{FileTexts, StdSink};
 use td_sessions::DropEnded;
 
@@ -69,13 +69,4 @@ fn listen<
         &mut faults,
         &mut ended,
     ))
-}
-
-/// The words behind the program's name.
-fn arguments<R: Env + AllocGlobal>(rt: &R) -> io::Result<Vec<String>> {
-    let mut args = Vec::new(rt.alloc());
-    for word in env::args(rt)?.skip(1) {
-        args.push(word)?;
-    }
-    Ok(args)
 }
