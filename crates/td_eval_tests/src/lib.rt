@@ -1,6 +1,8 @@
-//! Tests of what the languages say over properties, and of random words.
+//! Tests of the trading service's languages, of what they say over properties, and of random words.
 #![tactic(auto)]
 
+#[cfg(test)]
+mod lang;
 #[cfg(test)]
 mod making;
 #[cfg(test)]

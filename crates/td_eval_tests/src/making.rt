@@ -9,11 +9,6 @@ pub fn text(alloc: Global, text: &str) -> Result<Text, Memory> {
     Text::from_slice(alloc, text.as_bytes())
 }
 
-/// What stands before and behind the first ` => ` of a line.
-pub fn cut(line: &str) -> (&str, &str) {
-    line.split_once(" => ").unwrap_or((line, ""))
-}
-
 fn narrow(text: &str) -> i16 {
     text.parse().unwrap_or(0)
 }

@@ -1,6 +1,7 @@
 //! The order in which offers are wanted.
 
-use crate::making::{cut, names, offers};
+use crate::lang::support::cut;
+use crate::making::{names, offers};
 use std::alloc::Global;
 use std::test::Fail;
 use td_cdr::{Boxed, List, Text};

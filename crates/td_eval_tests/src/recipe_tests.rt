@@ -1,6 +1,7 @@
 //! What recipes make.
 
-use crate::making::{cut, properties, text};
+use crate::lang::support::cut;
+use crate::making::{properties, text};
 use std::alloc::Global;
 use std::test::Fail;
 use td_cdr::{List, Text};

@@ -1,12 +1,13 @@
 //! Values of expressions, and which constraints match.
 
-use crate::making::{cut, properties};
+use crate::lang::support::{constraint_of, cut};
+use crate::making::properties;
 use std::alloc::Global;
 use std::process::Abort;
 use std::test::Fail;
 use td_cdr::{Boxed, List, Memory, Text};
 use td_eval::{Simple, matches, names_asked, value_of};
-use td_lang::{Constraint, Expr, read_constraint, read_preference};
+use td_lang::{Constraint, Expr, read_preference};
 use td_value::Property;
 
 /// The properties that the tables speak of.
@@ -57,15 +58,11 @@ fn is_valued(alloc: Global, e: &Expr, map: &List<Property>, wanted: &str) -> Res
     Ok(is_value(&value, wanted))
 }
 
-fn constraint_of(alloc: Global, text: &str) -> Result<Boxed<Constraint>, Fail> {
-    Ok(Boxed::new(alloc, read_constraint(alloc, text.as_bytes())?)?)
-}
-
 /// Whether the expression of a line has the value of that line.
 fn has_value(alloc: Global, line: &str) -> Result<bool, Fail> {
     let (expression, wanted) = cut(line);
     let map = properties(alloc, MAP)?;
-    let constraint = constraint_of(alloc, expression)?;
+    let constraint = constraint_of(alloc, expression.as_bytes())?;
     match constraint.get() {
         Constraint::Empty => Ok(false),
         Constraint::Is(e) => Ok(is_valued(alloc, e, &map, wanted)?),
@@ -279,7 +276,7 @@ fn lists_hold_items_of_one_kind(rt: HostRuntime) -> Result<(), Fail> {
 
 fn is_match(alloc: Global, constraint: &str, map: &str) -> Result<bool, Fail> {
     let map = properties(alloc, map)?;
-    let constraint = constraint_of(alloc, constraint)?;
+    let constraint = constraint_of(alloc, constraint.as_bytes())?;
     Ok(matches(constraint.get(), &map)?)
 }
 
@@ -316,7 +313,7 @@ fn are_names(alloc: Global, names: &List<Text>, wanted: &[u8]) -> Result<bool, M
 }
 
 fn asks_in_order(alloc: Global) -> Result<bool, Fail> {
-    let constraint = constraint_of(alloc, "B > 1 and exist A or C in D and B < 'E'")?;
+    let constraint = constraint_of(alloc, b"B > 1 and exist A or C in D and B < 'E'")?;
     let preference = Boxed::new(alloc, read_preference(alloc, b"max A + F")?)?;
     let names = names_asked(alloc, constraint.get(), preference.get())?;
     Ok(are_names(alloc, &names, b"BACDF")?)

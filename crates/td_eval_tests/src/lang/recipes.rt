@@ -1,6 +1,6 @@
 //! Recipes and their parts, and texts that are none.
 
-use crate::support::{cut, fault_of, long_text, put};
+use crate::lang::support::{cut, fault_of, long_text, put};
 use std::alloc::{AllocError, Global};
 use std::process::Abort;
 use std::test::Fail;

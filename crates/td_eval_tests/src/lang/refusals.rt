@@ -1,6 +1,6 @@
 //! Texts that are no constraints, with their first faults.
 
-use crate::support::{constraint_fault, cut, fault_of, long_text};
+use crate::lang::support::{constraint_fault, cut, fault_of, long_text};
 use std::alloc::Global;
 use std::process::Abort;
 use std::test::Fail;

@@ -1,6 +1,6 @@
 //! Constraints and the trees that they are read as.
 
-use crate::support::{constraint_fault, constraint_of, copy_of, cut, has_tree, long_text};
+use crate::lang::support::{constraint_fault, constraint_of, copy_of, cut, has_tree, long_text};
 use std::alloc::Global;
 use std::process::Abort;
 use std::test::Fail;

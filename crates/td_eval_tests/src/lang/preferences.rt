@@ -1,6 +1,6 @@
 //! Preferences as they are read and printed, and texts that are none.
 
-use crate::support::{cut, fault_of, long_text, put_tree};
+use crate::lang::support::{cut, fault_of, long_text, put_tree};
 use std::alloc::{AllocError, Global};
 use std::process::Abort;
 use std::test::Fail;

@@ -1,6 +1,6 @@
 //! Printed constraints, with the parentheses that they need.
 
-use crate::support::{constraint_fault, constraint_of, cut};
+use crate::lang::support::{constraint_fault, constraint_of, cut};
 use std::alloc::Global;
 use std::process::Abort;
 use std::test::Fail;

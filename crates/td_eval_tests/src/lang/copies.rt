@@ -1,6 +1,6 @@
 //! Copies of trees and of their parts: with ample memory each is made, and equal.
 
-use crate::support::{constraint_of, copy_of, cut, put_tree, repeated};
+use crate::lang::support::{constraint_of, copy_of, cut, put_tree, repeated};
 use std::alloc::Global;
 use std::process::Abort;
 use std::test::Fail;
