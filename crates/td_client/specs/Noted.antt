@@ -37,9 +37,12 @@ failed c fault.Grammar = record { call = c; gave = Failed fault.Grammar } ∷ []
 failed c fault.Exception = record { call = c; gave = Failed fault.Exception } ∷ []
 
 -- the caller's own count goes up by a fault other than want of memory
+abbrev pub count_fault : (count : ℕ) → PeerFault → ℕ
+count_fault count fault.Memory = count
+count_fault count fault.Wire = raised count
+count_fault count fault.Grammar = raised count
+count_fault count fault.Exception = raised count
+
 abbrev pub count_after : {A : Type 0} → (count : ℕ) → Result A PeerFault → ℕ
 count_after count (Ok a) = count
-count_after count (Err fault.Memory) = count
-count_after count (Err fault.Wire) = raised count
-count_after count (Err fault.Grammar) = raised count
-count_after count (Err fault.Exception) = raised count
+count_after count (Err f) = count_fault count f

@@ -4,7 +4,7 @@ ghost use Rattle.std.specs.Prelude.{◌≡◌, ◌<◌, ◌≤◌, ◌++◌, ◌
 ghost use Rattle.td_cdr.specs.Format.{Unless};
 ghost use Rattle.td_out.specs.Causes.{raised, Rose};
 ghost use Rattle.td_walk.specs.Peering.{IsNoted, Answered, Evaluated, Referred, is_memory};
-ghost use Rattle.td_client.specs.Noted.{call_of, exchanges, failed};
+ghost use Rattle.td_client.specs.Noted.{call_of, count_after, count_fault, exchanges, failed};
 ghost use Rattle.td_client.specs.declared.note.GaveNote.TheVariants.{Failed as failed_note};
 
 use crate::note::{CallNote, GaveNote, Note};
@@ -34,6 +34,7 @@ fn note_fault(notes: &mut Vec<Note>, faults: &mut u64, call: CallNote, fault: Pe
     ensures noted { exchanges notes.new.items ≡ exchanges notes.old.items ++ failed (call_of call) fault }
     ensures later { faults.old ≤ faults.new }
     ensures cause { Unless (is_memory fault) (Rose faults.old faults.new) }
+    ensures counted { faults.new ≡ count_fault faults.old fault }
 {
     match fault {
         PeerFault::Memory => drop(call),
@@ -52,8 +53,9 @@ pub(crate) fn note_offers(
     answer: &Result<SubAnswer, PeerFault>,
 )
     requires { vec_len notes.old < vec_capacity notes.old }
-    ensures { IsNoted (λ a. Answered a) (call_of call) (exchanges notes.old.items) (exchanges notes.new.items)
+    ensures noted { IsNoted (λ a. Answered a) (call_of call) (exchanges notes.old.items) (exchanges notes.new.items)
         faults.old faults.new answer.now }
+    ensures counted { faults.new ≡ count_after faults.old answer.now }
 {
     match answer {
         Ok(offers) => notes.push_reserved(Note {
@@ -73,8 +75,9 @@ pub(crate) fn note_value(
     answer: &Result<Boxed<Any>, PeerFault>,
 )
     requires { vec_len notes.old < vec_capacity notes.old }
-    ensures { IsNoted (λ v. Evaluated v) (call_of call) (exchanges notes.old.items) (exchanges notes.new.items)
+    ensures noted { IsNoted (λ v. Evaluated v) (call_of call) (exchanges notes.old.items) (exchanges notes.new.items)
         faults.old faults.new answer.now }
+    ensures counted { faults.new ≡ count_after faults.old answer.now }
 {
     match answer {
         Ok(value) => notes.push_reserved(Note {
@@ -94,8 +97,9 @@ pub(crate) fn note_reference(
     answer: &Result<Ior, PeerFault>,
 )
     requires { vec_len notes.old < vec_capacity notes.old }
-    ensures { IsNoted (λ r. Referred r) (call_of call) (exchanges notes.old.items) (exchanges notes.new.items)
+    ensures noted { IsNoted (λ r. Referred r) (call_of call) (exchanges notes.old.items) (exchanges notes.new.items)
         faults.old faults.new answer.now }
+    ensures counted { faults.new ≡ count_after faults.old answer.now }
 {
     match answer {
         Ok(reference) => notes.push_reserved(Note {

@@ -6,7 +6,7 @@ ghost use Rattle.td_call.specs.Readings.{outcome_told, evaluation_told};
 ghost use Rattle.td_call.specs.Requests.{request_of, evaluation_of};
 ghost use Rattle.td_client.specs.Meanings.{offers_meant, reference_meant, register_call, resolve_call, value_meant};
 ghost use Rattle.td_client.specs.Meanings.{with_meaning};
-ghost use Rattle.td_client.specs.Noted.{exchanges};
+ghost use Rattle.td_client.specs.Noted.{count_after, exchanges};
 ghost use Rattle.td_codes.specs.declared.code.Any.{Any};
 ghost use Rattle.td_gather.specs.Asking.{Asks};
 ghost use Rattle.td_gather.specs.declared.gathered.Gathered.{Gathered as Given};
@@ -44,6 +44,7 @@ impl<L: Wire> Peers for Caller<L> {
     /// What the reply says, and what the iterator gives over the same connection; an exception is a fault.
     fn query(&mut self, alloc: Global, target: &Ior, q: &Query) -> Result<SubAnswer, PeerFault>
         ensures same { L.same self.old.wire self.new.wire }
+        ensures count { self.new.faults ≡ count_after self.old.faults result }
         ensures noted { IsNoted (λ a. Answered a) (Querying target.now q.now) (exchanges self.old.notes.items)
             (exchanges self.new.notes.items) self.old.faults self.new.faults result }
         ensures small { IfOk result (λ a. HasSmallOffers a) }
@@ -74,6 +75,7 @@ impl<L: Wire> Peers for Caller<L> {
         extra: &Any,
     ) -> Result<Boxed<Any>, PeerFault>
         ensures same { L.same self.old.wire self.new.wire }
+        ensures count { self.new.faults ≡ count_after self.old.faults result }
         ensures noted { IsNoted (λ v. Evaluated v) (Evaluating evaluator.now name.now returned.now extra.now)
             (exchanges self.old.notes.items) (exchanges self.new.notes.items) self.old.faults self.new.faults result }
         ensures exact { (r : Result (Option Any) PeerFault) × Called (evaluation_told returned.now)
@@ -106,6 +108,7 @@ impl<L: Wire> Peers for Caller<L> {
     /// One Request for the attribute `register_if` is written, and its reply read; an exception is a fault.
     fn register_of(&mut self, alloc: Global, lookup: &Ior) -> Result<Ior, PeerFault>
         ensures same { L.same self.old.wire self.new.wire }
+        ensures count { self.new.faults ≡ count_after self.old.faults result }
         ensures noted { IsNoted (λ r. Referred r) (RegisterOf lookup.now) (exchanges self.old.notes.items)
             (exchanges self.new.notes.items) self.old.faults self.new.faults result }
         ensures exact { (r : Result Told PeerFault) × Called (outcome_told register_call)
@@ -132,6 +135,7 @@ impl<L: Wire> Peers for Caller<L> {
         name: &List<Text>,
     ) -> Result<Ior, PeerFault>
         ensures same { L.same self.old.wire self.new.wire }
+        ensures count { self.new.faults ≡ count_after self.old.faults result }
         ensures noted { IsNoted (λ r. Referred r) (Resolving register.now name.now) (exchanges self.old.notes.items)
             (exchanges self.new.notes.items) self.old.faults self.new.faults result }
         ensures exact { (r : Result Told PeerFault) × Called (outcome_told (resolve_call name.now))
