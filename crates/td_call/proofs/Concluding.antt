@@ -144,7 +144,7 @@ called_then reads request p s before mid after held_after f0 f1 f2 r made later 
 pub unconnected : {A : Type 0} (reads : Reading A) (request : List ℕ) (p : Iiop)
     (before after : Option Traffic) (f0 f1 : ℕ) (e : PeerFault) → Connected p before after f0 f1 (Err e)
     → CalledAt {A = A} reads request p before after f0 f1 (Err e)
-unconnected reads request p before after f0 f1 fault.Wire rose = inl rose
+unconnected reads request p before after f0 f1 fault.Wire failed = inl failed.0
 unconnected reads request p before after f0 f1 fault.Grammar no_way = absurd no_way
 unconnected reads request p before after f0 f1 fault.Exception no_way = absurd no_way
 unconnected reads request p before after f0 f1 fault.Memory wanted = tt

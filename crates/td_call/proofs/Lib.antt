@@ -2,4 +2,5 @@ pub mod Bodies
 pub mod Concluding
 pub mod Holding
 pub mod Judging
+pub mod Moving
 pub mod Requesting

@@ -9,6 +9,7 @@ use Rattle.td_out.specs.Causes.{Rose}
 use Rattle.td_walk.specs.declared.fault.PeerFault.{PeerFault}
 use Rattle.td_walk.specs.declared.fault.PeerFault.TheVariants as fault
 use Rattle.td_wire.specs.Connections.{Traffic, first_or_none, opened, with_left, wrote}
+use Rattle.td_call.specs.Moving.{Unopened}
 use Rattle.td_call.specs.Replies.{Reading, told, strange, short, replied, reply_limit}
 
 -- the id of the first request over a connection
@@ -23,13 +24,13 @@ next_given t = first_or_none t.answers
 abbrev pub fresh_stream : Stream
 fresh_stream = record { start = 0; rest = []; limit = reply_limit }
 
--- a connection to where a profile says
+-- a connection to where a profile says; want of memory is met once it stands
 abbrev pub Connected : Iiop → (before after : Option Traffic) → (f0 f1 : ℕ) → Result Stream PeerFault → Type 0
 Connected p before after f0 f1 (Ok s) = (s ≡ fresh_stream) × (after ≡ option_map (opened p.host p.port) before)
-Connected p before after f0 f1 (Err fault.Wire) = Rose f0 f1
+Connected p before after f0 f1 (Err fault.Wire) = Rose f0 f1 × Unopened before after
 Connected p before after f0 f1 (Err fault.Grammar) = ⊥
 Connected p before after f0 f1 (Err fault.Exception) = ⊥
-Connected p before after f0 f1 (Err fault.Memory) = ⊤
+Connected p before after f0 f1 (Err fault.Memory) = after ≡ option_map (opened p.host p.port) before
 
 -- The reply is what the bytes come to that the new connection gives, and over it the request was written and no more.
 pub record Answers {A : Type 0} (reads : Reading A) (request : List ℕ) (p : Iiop) (t : Traffic) (after : Option Traffic)

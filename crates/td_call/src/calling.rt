@@ -4,6 +4,7 @@ ghost use Rattle.std.specs.Prelude.{◌≡◌, ◌≤◌};
 ghost use Rattle.td_ior.specs.Profiles.{iiop_of};
 ghost use Rattle.td_call.specs.Calling.{Called, CalledAt, Connected, first_id};
 ghost use Rattle.td_call.specs.Fetching.{IsRead};
+ghost use Rattle.td_call.specs.Moving.{Leaves, LeavesAt};
 ghost use Rattle.td_call.specs.Readings.{outcome_told, evaluation_told};
 ghost use Rattle.td_call.specs.Requests.{request_of, evaluation_of};
 
@@ -56,7 +57,8 @@ pub fn connect<L: Wire>(alloc: Global, wire: &mut L, profile: &Iiop) -> Result<F
     }
 }
 
-/// Calls an object over a connection of its own: writes one Request, and reads its reply.
+/// Calls an object over a connection of its own: writes one Request, and reads its reply. It isn't tried again:
+/// whatever comes of it, no more than one connection was made, and no more than the one Request written over it.
 ///
 /// # Errors
 ///
@@ -72,6 +74,7 @@ pub fn call_over<L: Wire>(
     ensures same { L.same wire.old wire.new }
     ensures called { Called (outcome_told call.now) (λ key. request_of first_id key call.now) target.now
         (L.told wire.old) (L.told wire.new) (L.faults wire.old) (L.faults wire.new) result }
+    ensures leaves { Leaves (λ key. request_of first_id key call.now) target.now (L.told wire.old) (L.told wire.new) }
     ensures later { L.faults wire.old ≤ L.faults wire.new }
 {
     match profile_of(alloc, target) {
@@ -90,6 +93,8 @@ fn call_at<L: Wire>(
     ensures same { L.same wire.old wire.new }
     ensures called { CalledAt (outcome_told call.now) (request_of first_id profile.now.key call.now) profile.now
         (L.told wire.old) (L.told wire.new) (L.faults wire.old) (L.faults wire.new) result }
+    ensures leaves { LeavesAt (request_of first_id profile.now.key call.now) profile.now (L.told wire.old)
+        (L.told wire.new) }
     ensures later { L.faults wire.old ≤ L.faults wire.new }
 {
     match connect(alloc, wire, profile) {
@@ -120,6 +125,8 @@ pub fn evaluate_over<L: Wire>(
     ensures called { Called (evaluation_told returned.now)
         (λ key. evaluation_of first_id key name.now returned.now extra.now) evaluator.now
         (L.told wire.old) (L.told wire.new) (L.faults wire.old) (L.faults wire.new) result }
+    ensures leaves { Leaves (λ key. evaluation_of first_id key name.now returned.now extra.now) evaluator.now
+        (L.told wire.old) (L.told wire.new) }
     ensures later { L.faults wire.old ≤ L.faults wire.new }
 {
     match profile_of(alloc, evaluator) {
@@ -129,6 +136,7 @@ pub fn evaluate_over<L: Wire>(
 }
 
 /// Has a dynamic property evaluated by an object that is reached there.
+#[tactic(auto, using(crate::proofs::Moving::leaves_uncalled))]
 fn evaluate_at<L: Wire>(
     alloc: Global,
     wire: &mut L,
@@ -141,6 +149,8 @@ fn evaluate_at<L: Wire>(
     ensures called { CalledAt (evaluation_told returned.now)
         (evaluation_of first_id profile.now.key name.now returned.now extra.now) profile.now
         (L.told wire.old) (L.told wire.new) (L.faults wire.old) (L.faults wire.new) result }
+    ensures leaves { LeavesAt (evaluation_of first_id profile.now.key name.now returned.now extra.now) profile.now
+        (L.told wire.old) (L.told wire.new) }
     ensures later { L.faults wire.old ≤ L.faults wire.new }
 {
     let key = profile.key.as_slice();
@@ -161,6 +171,7 @@ fn ask_at<L: Wire>(
     ensures same { L.same wire.old wire.new }
     ensures called { CalledAt (evaluation_told returned.now) request.now profile.now
         (L.told wire.old) (L.told wire.new) (L.faults wire.old) (L.faults wire.new) result }
+    ensures leaves { LeavesAt request.now profile.now (L.told wire.old) (L.told wire.new) }
     ensures later { L.faults wire.old ≤ L.faults wire.new }
 {
     match connect(alloc, wire, profile) {

@@ -2,6 +2,7 @@
 
 ghost use Rattle.std.specs.Prelude.{◌≡◌, ◌+◌, ◌<◌, ◌≤◌, ◌^◌, length, option_map};
 ghost use Rattle.td_call.specs.Fetching.{Exchanges, Fetches};
+ghost use Rattle.td_call.specs.Moving.{Moves};
 ghost use Rattle.td_call.specs.Readings.{outcome_told, evaluation_told};
 ghost use Rattle.td_call.specs.Replies.{reply_limit};
 ghost use Rattle.td_call.specs.Requests.{request_of};
@@ -24,12 +25,14 @@ use td_wire::Wire;
 /// # Errors
 ///
 /// As `fetch`.
+#[tactic(auto, using(crate::proofs::Moving::moves_sent, crate::proofs::Moving::moves_heard))]
 fn send<L: Wire>(wire: &mut L, framer: &mut Framer, request: &[u8]) -> Result<(), PeerFault>
     requires limit { framer.old.limit ≡ reply_limit }
     requires room { framer.old.start + length framer.old.rest + 2 ^ 27 < 2 ^ 64 }
     ensures same { L.same wire.old wire.new }
     ensures fetches { Fetches framer.old framer.new (option_map (wrote request.now) (L.told wire.old)) (L.told wire.new)
         (L.faults wire.old) (L.faults wire.new) result }
+    ensures moves { Moves request.now (L.told wire.old) (L.told wire.new) }
     ensures later { L.faults wire.old ≤ L.faults wire.new }
     ensures grows { framer.new.start + length framer.new.rest
         ≤ framer.old.start + length framer.old.rest + 2 ^ 27 }
@@ -59,6 +62,7 @@ fn exchange_outcome<L: Wire>(
     ensures same { L.same wire.old wire.new }
     ensures exchanges { Exchanges (outcome_told call.now) id request.now framer.old.rest framer.new.rest
         (L.told wire.old) (L.told wire.new) (L.faults wire.old) (L.faults wire.new) result }
+    ensures moves { Moves request.now (L.told wire.old) (L.told wire.new) }
     ensures later { L.faults wire.old ≤ L.faults wire.new }
     ensures grows { framer.new.start + length framer.new.rest
         ≤ framer.old.start + length framer.old.rest + 2 ^ 27 }
@@ -81,6 +85,7 @@ fn exchange_outcome<L: Wire>(
 ///
 /// `Wire` where the wire failed, or its bytes ended before a message was whole; `Grammar` where they are another
 /// message or one that can't be read; and `Memory`.
+#[tactic(auto, using(crate::proofs::Moving::moves_none))]
 pub fn exchange_call<L: Wire>(
     alloc: Global,
     wire: &mut L,
@@ -94,6 +99,7 @@ pub fn exchange_call<L: Wire>(
     ensures same { L.same wire.old wire.new }
     ensures exchanges { Exchanges (outcome_told call.now) id (request_of id key.now call.now) framer.old.rest
         framer.new.rest (L.told wire.old) (L.told wire.new) (L.faults wire.old) (L.faults wire.new) result }
+    ensures moves { Moves (request_of id key.now call.now) (L.told wire.old) (L.told wire.new) }
     ensures later { L.faults wire.old ≤ L.faults wire.new }
     ensures grows { framer.new.start + length framer.new.rest
         ≤ framer.old.start + length framer.old.rest + 2 ^ 27 }
@@ -123,6 +129,7 @@ pub(crate) fn exchange_evaluation<L: Wire>(
     ensures same { L.same wire.old wire.new }
     ensures exchanges { Exchanges (evaluation_told returned.now) id request.now framer.old.rest framer.new.rest
         (L.told wire.old) (L.told wire.new) (L.faults wire.old) (L.faults wire.new) result }
+    ensures moves { Moves request.now (L.told wire.old) (L.told wire.new) }
     ensures later { L.faults wire.old ≤ L.faults wire.new }
 {
     match send(wire, framer, request) {

@@ -5,6 +5,7 @@ ghost use Rattle.std.specs.Prelude.{MatchBool, MatchResult};
 ghost use Rattle.td_giop.specs.Stream.{first_at};
 ghost use Rattle.td_call.specs.Replies.{reply_limit};
 ghost use Rattle.td_call.specs.Fetching.{Fetches, IsWhole, Tries, piece_size};
+ghost use Rattle.td_call.specs.Moving.{Draws};
 
 use td_giop::{FrameFault, Framer};
 use td_walk::PeerFault;
@@ -37,6 +38,7 @@ fn is_whole(framer: &mut Framer) -> Result<bool, FrameFault>
 /// # Errors
 ///
 /// `Wire` where the wire failed, and `Memory`; the framer is then unchanged.
+#[tactic(auto, using(crate::proofs::Moving::draws_kept, crate::proofs::Moving::draws_piece))]
 fn take_piece<L: Wire>(wire: &mut L, framer: &mut Framer) -> Result<bool, PeerFault>
     requires { framer.old.start + (length framer.old.rest + piece_size) < 2 ^ 64 }
     ensures same { L.same wire.old wire.new }
@@ -44,6 +46,7 @@ fn take_piece<L: Wire>(wire: &mut L, framer: &mut Framer) -> Result<bool, PeerFa
         (L.faults wire.new) result }
     ensures later { L.faults wire.old ≤ L.faults wire.new }
     ensures kept { OnErr result (framer.new ≡ framer.old) }
+    ensures draws { Draws (L.told wire.old) (L.told wire.new) }
 {
     let mut buffer = [0u8; PIECE_SIZE];
     match wire.read(&mut buffer) {
@@ -61,6 +64,7 @@ fn take_piece<L: Wire>(wire: &mut L, framer: &mut Framer) -> Result<bool, PeerFa
 /// # Errors
 ///
 /// `Wire` where the wire failed or gave no more, `Grammar` at a bad header, and `Memory`.
+#[tactic(auto, using(crate::proofs::Moving::draws_held))]
 pub(crate) fn fetch<L: Wire>(wire: &mut L, framer: &mut Framer) -> Result<(), PeerFault>
     requires limit { framer.old.limit ≡ reply_limit }
     requires room { framer.old.start + length framer.old.rest + 2 ^ 27 < 2 ^ 64 }
@@ -71,6 +75,7 @@ pub(crate) fn fetch<L: Wire>(wire: &mut L, framer: &mut Framer) -> Result<(), Pe
     ensures grows { framer.new.start + length framer.new.rest
         ≤ framer.old.start + length framer.old.rest + 2 ^ 27 }
     ensures kept { framer.new.limit ≡ framer.old.limit }
+    ensures draws { Draws (L.told wire.old) (L.told wire.new) }
 {
     loop {
         match is_whole(framer) {

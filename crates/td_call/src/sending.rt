@@ -3,6 +3,7 @@
 ghost use Rattle.std.specs.Prelude.{◌≡◌, ◌≤◌, option_map, OnOk, OnErr};
 ghost use Rattle.td_out.specs.Causes.{Rose};
 ghost use Rattle.td_wire.specs.Connections.{wrote};
+ghost use Rattle.td_call.specs.Moving.{Sends};
 
 use td_out::Failed;
 use td_wire::Wire;
@@ -11,11 +12,13 @@ use td_wire::Wire;
 ///
 /// # Errors
 ///
-/// The wire's fault.
+/// The wire's fault; a front of the piece was then written.
+#[tactic(auto, using(crate::proofs::Moving::sends_kept))]
 pub(crate) fn write_all<L: Wire>(wire: &mut L, piece: &[u8]) -> Result<(), Failed>
     ensures same { L.same wire.old wire.new }
     ensures bytes { OnOk result (L.told wire.new ≡ option_map (wrote piece.now) (L.told wire.old)) }
     ensures later { L.faults wire.old ≤ L.faults wire.new }
+    ensures sends { Sends piece.now (L.told wire.old) (L.told wire.new) }
     ensures failed { OnErr result (Rose (L.faults wire.old) (L.faults wire.new)) }
 {
     let mut rest = piece;

@@ -2,6 +2,7 @@
 
 ghost use Rattle.std.specs.Prelude.{◌≡◌, ◌≤◌, [], IfOk};
 ghost use Rattle.td_call.specs.Calling.{Called, first_id};
+ghost use Rattle.td_call.specs.Moving.{Leaves};
 ghost use Rattle.td_call.specs.Readings.{outcome_told};
 ghost use Rattle.td_call.specs.Requests.{request_of};
 ghost use Rattle.td_client.specs.Noted.{count_after};
@@ -39,7 +40,7 @@ impl<L: Wire> Caller<L> {
         }
     }
 
-    /// Calls an object: connects, writes one Request, and reads its reply.
+    /// Calls an object: connects, writes one Request, and reads its reply. It isn't tried again, whatever comes of it.
     ///
     /// # Errors
     ///
@@ -52,6 +53,8 @@ impl<L: Wire> Caller<L> {
         ensures same { L.same self.old.wire self.new.wire }
         ensures called { Called (outcome_told call.now) (λ key. request_of first_id key call.now) target.now
             (L.told self.old.wire) (L.told self.new.wire) (L.faults self.old.wire) (L.faults self.new.wire) result }
+        ensures leaves { Leaves (λ key. request_of first_id key call.now) target.now (L.told self.old.wire)
+            (L.told self.new.wire) }
         ensures notes { self.new.notes ≡ self.old.notes }
         ensures count { self.new.faults ≡ count_after self.old.faults result }
     {

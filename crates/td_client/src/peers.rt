@@ -2,6 +2,7 @@
 
 ghost use Rattle.std.specs.Prelude.{◌≡◌, ℕ, List, Option, Result, IfOk};
 ghost use Rattle.td_call.specs.Calling.{Called, first_id};
+ghost use Rattle.td_call.specs.Moving.{Leaves};
 ghost use Rattle.td_call.specs.Readings.{outcome_told, evaluation_told};
 ghost use Rattle.td_call.specs.Requests.{request_of, evaluation_of};
 ghost use Rattle.td_client.specs.Meanings.{offers_meant, reference_meant, register_call, resolve_call, value_meant};
@@ -66,6 +67,7 @@ impl<L: Wire> Peers for Caller<L> {
     }
 
     /// One Request for `evalDP` is written, and its reply read; an exception is a fault.
+    #[tactic(auto, using(td_call::proofs::Moving::left_untouched))]
     fn eval_dp(
         &mut self,
         alloc: Global,
@@ -82,6 +84,8 @@ impl<L: Wire> Peers for Caller<L> {
             (λ key. evaluation_of first_id key name.now returned.now extra.now) evaluator.now (L.told self.old.wire)
             (L.told self.new.wire) (L.faults self.old.wire) (L.faults self.new.wire) r
             × (result ≡ with_meaning value_meant r) }
+        ensures leaves { Leaves (λ key. evaluation_of first_id key name.now returned.now extra.now) evaluator.now
+            (L.told self.old.wire) (L.told self.new.wire) }
     {
         match self.notes.reserve(1) {
             Err(_) => return Err(PeerFault::Memory),
@@ -106,6 +110,7 @@ impl<L: Wire> Peers for Caller<L> {
     }
 
     /// One Request for the attribute `register_if` is written, and its reply read; an exception is a fault.
+    #[tactic(auto, using(td_call::proofs::Moving::left_untouched))]
     fn register_of(&mut self, alloc: Global, lookup: &Ior) -> Result<Ior, PeerFault>
         ensures same { L.same self.old.wire self.new.wire }
         ensures count { self.new.faults ≡ count_after self.old.faults result }
@@ -114,6 +119,8 @@ impl<L: Wire> Peers for Caller<L> {
         ensures exact { (r : Result Told PeerFault) × Called (outcome_told register_call)
             (λ key. request_of first_id key register_call) lookup.now (L.told self.old.wire) (L.told self.new.wire)
             (L.faults self.old.wire) (L.faults self.new.wire) r × (result ≡ with_meaning reference_meant r) }
+        ensures leaves { Leaves (λ key. request_of first_id key register_call) lookup.now (L.told self.old.wire)
+            (L.told self.new.wire) }
     {
         match self.notes.reserve(1) {
             Err(_) => return Err(PeerFault::Memory),
@@ -128,6 +135,7 @@ impl<L: Wire> Peers for Caller<L> {
     }
 
     /// One Request for `resolve` is written, and its reply read; an exception is a fault.
+    #[tactic(auto, using(td_call::proofs::Moving::left_untouched))]
     fn resolve(
         &mut self,
         alloc: Global,
@@ -142,6 +150,8 @@ impl<L: Wire> Peers for Caller<L> {
             (λ key. request_of first_id key (resolve_call name.now)) register.now (L.told self.old.wire)
             (L.told self.new.wire) (L.faults self.old.wire) (L.faults self.new.wire) r
             × (result ≡ with_meaning reference_meant r) }
+        ensures leaves { Leaves (λ key. request_of first_id key (resolve_call name.now)) register.now
+            (L.told self.old.wire) (L.told self.new.wire) }
     {
         match self.notes.reserve(1) {
             Err(_) => return Err(PeerFault::Memory),

@@ -2,6 +2,7 @@
 
 ghost use Rattle.std.specs.Prelude.{◌≡◌};
 ghost use Rattle.td_call.specs.Calling.{Called, first_id};
+ghost use Rattle.td_call.specs.Moving.{Leaves};
 ghost use Rattle.td_call.specs.Readings.{outcome_told};
 ghost use Rattle.td_call.specs.Requests.{request_of};
 ghost use Rattle.td_client.specs.Meanings.{register_call, resolve_call};
@@ -27,6 +28,8 @@ pub(crate) fn ask_register<L: Wire>(
     ensures same { L.same wire.old wire.new }
     ensures called { Called (outcome_told register_call) (λ key. request_of first_id key register_call) lookup.now
         (L.told wire.old) (L.told wire.new) (L.faults wire.old) (L.faults wire.new) result }
+    ensures leaves { Leaves (λ key. request_of first_id key register_call) lookup.now (L.told wire.old)
+        (L.told wire.new) }
 {
     let request = Call::Look(Look::Get(Attribute::Reference(ReferenceAttribute::RegisterIf)));
     let answer = call_over(alloc, wire, lookup, &request);
@@ -39,6 +42,7 @@ pub(crate) fn ask_register<L: Wire>(
 /// # Errors
 ///
 /// As `call_over`.
+#[tactic(auto, using(td_call::proofs::Moving::left_untouched))]
 pub(crate) fn ask_to_resolve<L: Wire>(
     alloc: Global,
     wire: &mut L,
@@ -49,6 +53,8 @@ pub(crate) fn ask_to_resolve<L: Wire>(
     ensures called { Called (outcome_told (resolve_call name.now))
         (λ key. request_of first_id key (resolve_call name.now)) register.now (L.told wire.old) (L.told wire.new)
         (L.faults wire.old) (L.faults wire.new) result }
+    ensures leaves { Leaves (λ key. request_of first_id key (resolve_call name.now)) register.now (L.told wire.old)
+        (L.told wire.new) }
 {
     match name.copy(alloc) {
         Err(_) => Err(PeerFault::Memory),

@@ -151,7 +151,7 @@ asks_then p c s before mid after f0 f1 f2 r made later x =
 
 pub unconnected : (p : Iiop) (c : Call) (before after : Option Traffic) (f0 f1 : ℕ) (e : PeerFault)
     → Connected p before after f0 f1 (Err e) → AsksAt p c before after f0 f1 (Err e)
-unconnected p c before after f0 f1 fault.Wire rose = inl rose
+unconnected p c before after f0 f1 fault.Wire failed = inl failed.0
 unconnected p c before after f0 f1 fault.Grammar no_way = absurd no_way
 unconnected p c before after f0 f1 fault.Exception no_way = absurd no_way
 unconnected p c before after f0 f1 fault.Memory wanted = tt

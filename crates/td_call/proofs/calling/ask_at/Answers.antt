@@ -1,5 +1,6 @@
 use Rattle.td_call.specs.Readings.{evaluation_told}
 use Rattle.td_call.proofs.Concluding.{called_then, unconnected}
+use Rattle.td_call.proofs.Moving.{leaves_over, leaves_unconnected}
 use Rattle.td_call.proofs.calling.ask_at.Goals as goal
 
 pub returns-in-Err-clause-called : goal.returns-in-Err-clause-called
@@ -16,3 +17,16 @@ returns-in-Ok-clause-called g c =
     c.exchange_evaluation.new.framer.rest (g.L.Wire.faults c.args.wire.now) (g.L.Wire.faults c.connect.new.wire)
     (g.L.Wire.faults c.exchange_evaluation.new.wire) c.exchange_evaluation.result c.in-Ok.ensures.connected
     c.in-Ok.ensures.later c.exchange_evaluation.ensures.exchanges
+
+pub returns-in-Err-clause-leaves : goal.returns-in-Err-clause-leaves
+returns-in-Err-clause-leaves g c =
+    leaves_unconnected c.args.request.now c.args.profile.now
+    (g.L.Wire.told c.args.wire.now) (g.L.Wire.told c.connect.new.wire) (g.L.Wire.faults c.args.wire.now)
+    (g.L.Wire.faults c.connect.new.wire) c.in-Err.fault c.in-Err.ensures.connected
+
+pub returns-in-Ok-clause-leaves : goal.returns-in-Ok-clause-leaves
+returns-in-Ok-clause-leaves g c =
+    leaves_over c.args.request.now c.args.profile.now c.in-Ok.framer
+    (g.L.Wire.told c.args.wire.now) (g.L.Wire.told c.connect.new.wire) (g.L.Wire.told c.exchange_evaluation.new.wire)
+    (g.L.Wire.faults c.args.wire.now) (g.L.Wire.faults c.connect.new.wire) c.in-Ok.ensures.connected
+    c.exchange_evaluation.ensures.moves

@@ -2,6 +2,7 @@ use Rattle.td_call.specs.Calling.{first_id}
 use Rattle.td_call.specs.Readings.{outcome_told}
 use Rattle.td_call.specs.Requests.{request_of}
 use Rattle.td_call.proofs.Concluding.{called_then, unconnected}
+use Rattle.td_call.proofs.Moving.{leaves_over, leaves_unconnected}
 use Rattle.td_call.proofs.calling.call_at.Goals as goal
 
 pub returns-in-Err-clause-called : goal.returns-in-Err-clause-called
@@ -19,3 +20,16 @@ returns-in-Ok-clause-called g c =
     (g.L.Wire.faults c.connect.new.wire) (g.L.Wire.faults c.exchange_call.new.wire) c.exchange_call.result
     c.in-Ok.ensures.connected c.in-Ok.ensures.later
     (rw c.as_slice-key.ensures at c.exchange_call.ensures.exchanges)
+
+pub returns-in-Err-clause-leaves : goal.returns-in-Err-clause-leaves
+returns-in-Err-clause-leaves g c =
+    leaves_unconnected (request_of first_id c.args.profile.now.key c.args.call.now) c.args.profile.now
+    (g.L.Wire.told c.args.wire.now) (g.L.Wire.told c.connect.new.wire) (g.L.Wire.faults c.args.wire.now)
+    (g.L.Wire.faults c.connect.new.wire) c.in-Err.fault c.in-Err.ensures.connected
+
+pub returns-in-Ok-clause-leaves : goal.returns-in-Ok-clause-leaves
+returns-in-Ok-clause-leaves g c =
+    leaves_over (request_of first_id c.args.profile.now.key c.args.call.now) c.args.profile.now c.in-Ok.framer
+    (g.L.Wire.told c.args.wire.now) (g.L.Wire.told c.connect.new.wire) (g.L.Wire.told c.exchange_call.new.wire)
+    (g.L.Wire.faults c.args.wire.now) (g.L.Wire.faults c.connect.new.wire) c.in-Ok.ensures.connected
+    (rw c.as_slice-key.ensures at c.exchange_call.ensures.moves)

@@ -1,4 +1,6 @@
+use Rattle.std.proofs.Common.{refl}
 use Rattle.td_call.specs.Calling.{first_id}
+use Rattle.td_call.specs.Moving.{reached, untouched}
 use Rattle.td_call.specs.Readings.{outcome_told}
 use Rattle.td_call.specs.Requests.{request_of}
 use Rattle.td_call.proofs.Concluding.{called_of, uncalled}
@@ -18,3 +20,9 @@ returns-in-Ok-clause-called g c =
     c.args.target.now c.in-Ok.profile (g.L.Wire.told c.args.wire.now) (g.L.Wire.told c.call_at.new.wire)
     (g.L.Wire.faults c.args.wire.now) (g.L.Wire.faults c.call_at.new.wire) c.call_at.result c.in-Ok.ensures
     c.call_at.ensures.called
+
+pub returns-in-Err-clause-leaves : goal.returns-in-Err-clause-leaves
+returns-in-Err-clause-leaves g c = untouched refl
+
+pub returns-in-Ok-clause-leaves : goal.returns-in-Ok-clause-leaves
+returns-in-Ok-clause-leaves g c = reached c.in-Ok.profile c.in-Ok.ensures c.call_at.ensures.leaves

@@ -1,4 +1,6 @@
+use Rattle.std.proofs.Common.{refl}
 use Rattle.td_call.specs.Calling.{first_id}
+use Rattle.td_call.specs.Moving.{reached, untouched}
 use Rattle.td_call.specs.Readings.{evaluation_told}
 use Rattle.td_call.specs.Requests.{evaluation_of}
 use Rattle.td_call.proofs.Concluding.{called_of, uncalled}
@@ -19,3 +21,9 @@ returns-in-Ok-clause-called g c =
     c.args.evaluator.now c.in-Ok.profile (g.L.Wire.told c.args.wire.now) (g.L.Wire.told c.evaluate_at.new.wire)
     (g.L.Wire.faults c.args.wire.now) (g.L.Wire.faults c.evaluate_at.new.wire) c.evaluate_at.result c.in-Ok.ensures
     c.evaluate_at.ensures.called
+
+pub returns-in-Err-clause-leaves : goal.returns-in-Err-clause-leaves
+returns-in-Err-clause-leaves g c = untouched refl
+
+pub returns-in-Ok-clause-leaves : goal.returns-in-Ok-clause-leaves
+returns-in-Ok-clause-leaves g c = reached c.in-Ok.profile c.in-Ok.ensures c.evaluate_at.ensures.leaves

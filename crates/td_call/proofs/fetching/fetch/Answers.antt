@@ -1,5 +1,6 @@
 use Rattle.std.proofs.Common.{◌∙◌}
 use Rattle.td_call.proofs.Holding.{fetched_bad, grows_kept, limit_kept, held_closer, held_more, none_whole, tried_more}
+use Rattle.td_call.proofs.Moving.{draws_last}
 use Rattle.td_call.proofs.fetching.fetch.Goals as goal
 
 pub returns-in-Err-clause-fetches : goal.returns-in-Err-clause-fetches
@@ -37,3 +38,15 @@ loop-wire-preserved g c = record {
       c.in-Ok-true-take_piece.field-0 c.is_whole.ensures.framer
       c.in-Ok-true-take_piece.field-0-test c.in-Ok-true-take_piece.ensures.tries);
 }
+
+pub returns-in-Err-take_piece-clause-draws : goal.returns-in-Err-take_piece-clause-draws
+returns-in-Err-take_piece-clause-draws g c =
+    draws_last c.args.framer.now c.loop-wire.framer (g.L.Wire.told c.args.wire.now) (g.L.Wire.told c.loop-wire.wire)
+    (g.L.Wire.told c.take_piece.new.wire) (g.L.Wire.faults c.args.wire.now) (g.L.Wire.faults c.loop-wire.wire)
+    c.loop-wire.invariant.held c.take_piece.ensures.draws
+
+pub returns-in-Ok-false-take_piece-clause-draws : goal.returns-in-Ok-false-take_piece-clause-draws
+returns-in-Ok-false-take_piece-clause-draws g c =
+    draws_last c.args.framer.now c.loop-wire.framer (g.L.Wire.told c.args.wire.now) (g.L.Wire.told c.loop-wire.wire)
+    (g.L.Wire.told c.take_piece.new.wire) (g.L.Wire.faults c.args.wire.now) (g.L.Wire.faults c.loop-wire.wire)
+    c.loop-wire.invariant.held c.take_piece.ensures.draws

@@ -1,5 +1,6 @@
 use Rattle.std.proofs.Common.{◌≡◌, ◌≤◌, length, option_map}
 use Rattle.td_wire.specs.Connections.{wrote}
+use Rattle.td_call.specs.Moving.{Sends}
 use Rattle.td_call.proofs.sending.write_all.Given as goal
 
 -- with what is left written, all is
@@ -8,6 +9,7 @@ invariant-loop-rest g l = record {
   same : g.L.Wire.same l.initial.wire l.wire;
   whole :
       option_map (wrote l.rest) (g.L.Wire.told l.wire) ≡ option_map (wrote l.piece) (g.L.Wire.told l.initial.wire);
+  sent : (s : Sends l.piece (g.L.Wire.told l.initial.wire) (g.L.Wire.told l.wire)) × (s.unwritten ≡ l.rest);
   later : g.L.Wire.faults l.initial.wire ≤ g.L.Wire.faults l.wire;
 }
 

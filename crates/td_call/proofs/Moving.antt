@@ -1,0 +1,120 @@
+-- What is moved over the wire on the way to an answer.
+use Rattle.std.proofs.Common.{◌≡◌, ◌∙◌, inl, ℕ, List, [], ◌++◌, take, drop, Option, Some, None, option_map}
+use Rattle.std.proofs.Common.{Ok, Err, refl, sym, ap, subst, append_assoc}
+use Rattle.std.proofs.lemmas.List.{take-append-drop}
+use Rattle.td_codes.specs.declared.reference.Ior.{Ior}
+use Rattle.td_giop.specs.Stream.{Stream}
+use Rattle.td_ior.specs.declared.profile.Iiop.{Iiop}
+use Rattle.td_walk.specs.declared.fault.PeerFault.{PeerFault}
+use Rattle.td_walk.specs.declared.fault.PeerFault.TheVariants as fault
+use Rattle.td_wire.specs.Connections.{Connection, Traffic, Gives, opened, written_on, wrote}
+use Rattle.td_wire.proofs.Steps.{gives_more, gives_none, nothing_written}
+use Rattle.td_call.specs.Calling.{Connected}
+use Rattle.td_call.specs.Moving.{Draws, Leaves, LeavesAt, Moves, Sends, sent, heard, over, unopened, untouched}
+use Rattle.td_call.proofs.Holding.{Held}
+
+-- ---- bytes that are written
+
+pub sends_none : (request : List ℕ) (t : Option Traffic) → (s : Sends request t t) × (s.unwritten ≡ request)
+sends_none request t =
+    (record { written = []; unwritten = request; front = refl; wire = sym (nothing_written t) }, refl)
+
+wrote_both : (a b : List ℕ) (t : Option Traffic)
+    → option_map (wrote b) (option_map (wrote a) t) ≡ option_map (wrote (a ++ b)) t
+wrote_both a b None = refl
+wrote_both a b (Some t) = go t.current
+  where
+    go : (c : Option Connection)
+        → Some (record t { current = option_map (written_on b) (option_map (written_on a) c) })
+        ≡ Some (record t { current = option_map (written_on (a ++ b)) c })
+    go None = refl
+    go (Some c) =
+        ap (λ (w : List ℕ). Some (record t { current = Some (record c { written = w }) }))
+        (append_assoc c.written a b)
+
+-- the first bytes of what was unwritten
+pub sends_more : (request rest left : List ℕ) (n : ℕ) (before mid after : Option Traffic)
+    → (s : Sends request before mid) × (s.unwritten ≡ rest) → left ≡ drop n rest
+    → after ≡ option_map (wrote (take n rest)) mid
+    → (s : Sends request before after) × (s.unwritten ≡ left)
+sends_more request rest left n before mid after s is written =
+    let parts : take n rest ++ left ≡ s.0.unwritten =
+    ap (λ (x : List ℕ). take n rest ++ x) is ∙ take-append-drop n rest ∙ sym s.1 in (
+      record {
+        written = s.0.written ++ take n rest;
+        unwritten = left;
+        front =
+            s.0.front ∙ ap (λ (x : List ℕ). s.0.written ++ x) (sym parts)
+            ∙ sym (append_assoc s.0.written (take n rest) left);
+        wire =
+            written ∙ ap (option_map (wrote (take n rest))) s.0.wire
+            ∙ wrote_both s.0.written (take n rest) before;
+      },
+      refl,
+    )
+
+-- a write failed
+pub sends_kept : (request : List ℕ) (before mid after : Option Traffic) → Sends request before mid → after ≡ mid
+    → Sends request before after
+sends_kept request before mid after s is =
+    record { written = s.written; unwritten = s.unwritten; front = s.front; wire = is ∙ s.wire }
+
+-- ---- bytes that are given
+
+pub draws_none : (t : Option Traffic) → Draws t t
+draws_none t = record { piece = []; gives = gives_none t }
+
+pub draws_kept : (before after : Option Traffic) → after ≡ before → Draws before after
+draws_kept before after is = subst (λ (x : Option Traffic). Draws before x) (sym is) (draws_none before)
+
+pub draws_piece : (piece : List ℕ) (before after : Option Traffic) → Gives piece before after → Draws before after
+draws_piece piece before after g = record { piece = piece; gives = g }
+
+-- what came so far
+pub draws_held : (old now : Stream) (before after : Option Traffic) (f0 f1 : ℕ) → Held old now before after f0 f1
+    → Draws before after
+draws_held old now before after f0 f1 held = draws_piece held.brought.piece before after held.brought.gives
+
+pub draws_last : (old now : Stream) (before mid after : Option Traffic) (f0 f1 : ℕ) → Held old now before mid f0 f1
+    → Draws mid after → Draws before after
+draws_last old now before mid after f0 f1 held d =
+    record {
+      piece = held.brought.piece ++ d.piece;
+      gives = gives_more held.brought.piece d.piece before mid after held.brought.gives d.gives;
+    }
+
+-- ---- a request, and what is fetched behind it
+
+pub moves_none : (request : List ℕ) (t : Option Traffic) → Moves request t t
+moves_none request t = sent (sends_none request t).0
+
+pub moves_sent : (request : List ℕ) (before after : Option Traffic) → Sends request before after
+    → Moves request before after
+moves_sent request before after s = sent s
+
+pub moves_heard : (request : List ℕ) (before mid after : Option Traffic) → mid ≡ option_map (wrote request) before
+    → Draws mid after → Moves request before after
+moves_heard request before mid after written d =
+    heard (subst (λ (x : Option Traffic). Draws x after) written d)
+
+-- ---- a call
+
+pub leaves_unconnected : (request : List ℕ) (p : Iiop) (before after : Option Traffic) (f0 f1 : ℕ) (e : PeerFault)
+    → Connected p before after f0 f1 (Err e) → LeavesAt request p before after
+leaves_unconnected request p before after f0 f1 fault.Wire made = unopened made.1
+leaves_unconnected request p before after f0 f1 fault.Grammar no_way = absurd no_way
+leaves_unconnected request p before after f0 f1 fault.Exception no_way = absurd no_way
+leaves_unconnected request p before after f0 f1 fault.Memory made =
+    over (subst (λ (x : Option Traffic). Moves request x after) made (moves_none request after))
+
+pub leaves_uncalled : (request : List ℕ) (p : Iiop) (t : Option Traffic) → LeavesAt request p t t
+leaves_uncalled request p t = unopened (inl refl)
+
+pub leaves_over : (request : List ℕ) (p : Iiop) (s : Stream) (before mid after : Option Traffic) (f0 f1 : ℕ)
+    → Connected p before mid f0 f1 (Ok s) → Moves request mid after → LeavesAt request p before after
+leaves_over request p s before mid after f0 f1 made m =
+    over (subst (λ (x : Option Traffic). Moves request x after) made.1 m)
+
+-- an object that isn't called
+pub left_untouched : (request : (key : List ℕ) → List ℕ) (target : Ior) (t : Option Traffic) → Leaves request target t t
+left_untouched request target t = untouched refl

@@ -1,0 +1,12 @@
+use Rattle.std.proofs.Common.{subst}
+use Rattle.td_call.specs.Calling.{first_id}
+use Rattle.td_call.specs.Moving.{Leaves}
+use Rattle.td_call.specs.Requests.{request_of}
+use Rattle.td_client.specs.Meanings.{resolve_call}
+use Rattle.td_client.proofs.references.ask_to_resolve.Goals as goal
+
+pub returns-in-Ok-clause-leaves : goal.returns-in-Ok-clause-leaves
+returns-in-Ok-clause-leaves g c =
+    subst (λ name. Leaves (λ key. request_of first_id key (resolve_call name)) c.args.register.now
+    (g.L.Wire.told c.args.wire.now) (g.L.Wire.told c.call_over-answer.new.wire)) c.in-Ok.ensures
+    c.call_over-answer.ensures.leaves
