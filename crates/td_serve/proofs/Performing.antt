@@ -87,21 +87,6 @@ module _ (others : List Accepted → Type 0) (later : Marks → Marks → Type 0
     taken_back = λ long. absurd (let bad : ⊥ = cc in bad);
   }
 
-  -- with a writer that was begun
-  pub begun_performed : (order : Order) (id room : ℕ) (b : ReplyBody) (e : Entry) (begun started written : Draft)
-      → begun ≡ record { bytes = []; order = order; room = room }
-      → started.bytes ≡ begun.bytes ++ reply_start begun.order id 0 → started.order ≡ begun.order
-      → Performs others later home j k started s b e written t
-      → Performed others later home order id j k s b e written t
-  begun_performed order id room b e begun started written new bytes same performs = record {
-    draft = started;
-    begun = record {
-      bytes = bytes ∙ ap (λ (d : Draft). d.bytes ++ reply_start d.order id 0) new;
-      is_in = same ∙ ap (λ (d : Draft). d.order) new;
-    };
-    performs = performs;
-  }
-
   -- with one for whose beginning memory was wanted
   pub unbegun_performed : (order : Order) (id : ℕ) (written : Draft) → Unserved others later j s (wanting Plain) Plain t
       → Performed others later home order id j k s (reply_body.Outcome no_memory) Plain written t

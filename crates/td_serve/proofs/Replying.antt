@@ -1,5 +1,5 @@
 -- A Request that was performed and whose reply was settled is served.
-use Rattle.std.proofs.Common.{◌≡◌, ◌⊎◌, inl, inr, ℕ, ◌<◌, Bool, true, false, cond, List, [], ◌++◌, length, refl, sym}
+use Rattle.std.proofs.Common.{◌≡◌, ◌⊎◌, inl, inr, ℕ, Bool, true, false, cond, List, [], ◌++◌, length, refl, sym}
 use Rattle.std.proofs.Common.{ap, subst, ◌∙◌, arith, length-append}
 use Rattle.td_cdr.specs.Marks.{Marks}
 use Rattle.td_cdr.specs.Writing.{Draft}
@@ -12,14 +12,13 @@ use Rattle.td_lookup.specs.Unserved.{Unserved, wanting}
 use Rattle.td_ops.specs.Outcomes.{outcome_piece, outcome_status}
 use Rattle.td_ops.specs.declared.outcome.Outcome.{Outcome}
 use Rattle.td_register.specs.declared.history.Accepted.{Accepted}
-use Rattle.td_reply.specs.Answers.{IfLong, no_memory}
+use Rattle.td_reply.specs.Answers.{no_memory}
 use Rattle.td_reply.specs.declared.answer.ReplyBody.{ReplyBody}
 use Rattle.td_reply.specs.declared.answer.ReplyBody.TheVariants as reply_body
 use Rattle.td_reply.specs.declared.entry.Entry.{Entry}
 use Rattle.td_reply.specs.declared.entry.Entry.TheVariants.{Plain}
 use Rattle.td_reply.specs.declared.judging.Judged.{Judged}
 use Rattle.td_reply.specs.declared.judging.Judged.TheVariants.{Refused}
-use Rattle.td_serve.proofs.Performing.{long_from}
 use Rattle.td_serve.proofs.Wanting.{nothing_done}
 use Rattle.td_serve.specs.ReplyBytes.{BeginsReply, outcome_reply, reply_for}
 use Rattle.td_serve.specs.Requests.{Answers, Served}
@@ -133,11 +132,6 @@ module _ (others : List Accepted → Type 0) (later : Marks → Marks → Type 0
     (j : Judged) (k : ℕ) (s t : Scene) (b : ReplyBody) (e : Entry) (written : Draft) where
   pub performed_head : Performed others later home order id j k s b e written t → HasHead b written
   performed_head p = head_before b p.performs.outcome order id p.draft written p.begun p.performs.body
-
-  pub performed_within : Performed others later home order id j k s b e written t
-      → IfLong b (k < length t.world)
-  performed_within p =
-      long_from b (MayBeRefused others later j k s e t) (k < length t.world) (λ back. back.within) p.performs.taken_back
 
 -- ---- no call
 

@@ -1,6 +1,5 @@
 -- What the message in front of a stream tells, and what becomes of it.
-use Rattle.std.proofs.Common.{◌≡◌, ℕ, ◌<◌, Bool, true, false, List, [], ◌∷◌, ◌++◌, take, length, Option, None}
-use Rattle.std.proofs.Common.{Some}
+use Rattle.std.proofs.Common.{◌≡◌, ℕ, Bool, true, false, List, [], ◌∷◌, ◌++◌, Option, None, Some}
 use Rattle.std.proofs.Common.{Ok, refl, sym, ap, subst, ◌∙◌, arith}
 use Rattle.std.proofs.lemmas.List.{append-nil}
 use Rattle.std.specs.Io.KnownBytes.{Appends}
@@ -16,7 +15,6 @@ use Rattle.td_giop.proofs.Judged.{only_told}
 use Rattle.td_giop.proofs.Cuts.{raw_front, raw_good}
 use Rattle.td_iter.specs.Desks.{Live}
 use Rattle.td_lookup.specs.Scenes.{scene}
-use Rattle.td_out.specs.Causes.{Rose}
 use Rattle.td_register.specs.declared.history.Accepted.{Accepted}
 use Rattle.td_reply.specs.Linking.{PeersSeen}
 use Rattle.td_reply.specs.declared.entry.Entry.{Entry}
@@ -31,7 +29,7 @@ use Rattle.td_session.specs.declared.front.Front.TheVariants.{Full as NoRoom}
 use Rattle.td_session.specs.declared.front.Prepared.{Prepared}
 use Rattle.td_session.specs.declared.front.Prepared.TheVariants.{Answer, Close, Break, Full}
 use Rattle.td_session.specs.Prepared.{IsMessage, IsPrepared, NotesHead, Passes, Prepares}
-use Rattle.td_session.specs.Responses.{Finds, Misses, Responds, Sends}
+use Rattle.td_session.specs.Responses.{Finds, Responds, Sends}
 use Rattle.td_session.specs.Stages.{Stage, stage, turn_of}
 use Rattle.td_session.proofs.ByType.{not_request}
 
@@ -133,20 +131,6 @@ module _ (others : List Accepted → Type 0) (later : Marks → Marks → Type 0
       → Prepares others later home s u message asked reply → Appends w0 w1 reply
       → Sends others later home s u message asked w0 w1
   sends s u message reply asked w0 w1 p gave = record { reply = reply; prepares = p; gave = gave }
-
-  pub misses : (s u : Stage) (message reply : List ℕ) (asked : Bool) (w0 w1 : Option (List ℕ)) (f0 f1 : ℕ)
-      → Prepares others later home s u message asked reply
-      → (sent : ℕ) × (sent < length reply) × Appends w0 w1 (take sent reply) → Rose f0 f1
-      → Misses others later home s u message w0 w1 f0 f1
-  misses s u message reply asked w0 w1 f0 f1 p front rose = record {
-    asked = asked;
-    reply = reply;
-    prepares = p;
-    sent = front.0;
-    short = front.1;
-    gave = front.2;
-    rose = rose;
-  }
 
   -- what became of the message in front is what was found there
   pub finds : (s u : Stage) (f : Stream) (m : Raw) (result : Fronted) (w0 w1 : Option (List ℕ)) (f0 f1 : ℕ)
