@@ -6,11 +6,12 @@ use Rattle.td_group_tests.proofs.threads.begin_each.Goals as goal
 pub loop-init : goal.loop-init
 loop-init g c = (
   c.requires,
-  none_out (λ x. x.passes.items) c.args.passes.now.items c.in_ok-sessions.sessions.items (nil_from_length c.in_ok-sessions.sessions.items (omega (
-    arith,
-    c.in_ok-sessions.ensures.len,
-    c.in_ok-sessions.sessions.ok.0,
-  ))),
+  none_out (λ x. x.passes.items) c.args.passes.now.items c.in_ok-sessions.sessions.items
+      (nil_from_length c.in_ok-sessions.sessions.items (omega (
+        arith,
+        c.in_ok-sessions.ensures.len,
+        c.in_ok-sessions.sessions.ok.0,
+      ))),
 )
 
 pub loop-preserved : goal.loop-preserved

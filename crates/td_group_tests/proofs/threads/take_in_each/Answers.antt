@@ -3,8 +3,8 @@ use Rattle.td_group_tests.proofs.threads.take_in_each.Goals as goal
 
 pub take_in-requires-clause-out : goal.take_in-requires-clause-out
 take_in-requires-clause-out g c =
-    (each_less (λ x. x.passes.items) c.loop-session.passes.items c.loop-session.sessions.items c.pop.new.self.items c.in-Some.session
-    c.in-Some.ensures.items c.loop-session.invariant.1).1
+    (each_less (λ x. x.passes.items) c.loop-session.passes.items c.loop-session.sessions.items
+    c.pop.new.self.items c.in-Some.session c.in-Some.ensures.items c.loop-session.invariant.1).1
 
 pub loop-session-preserved : goal.loop-session-preserved
 loop-session-preserved g c = (
