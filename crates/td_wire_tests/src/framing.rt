@@ -48,7 +48,8 @@ fn message_of(kind: u8, flag: u8) -> [u8; 16] {
 fn feeds(framer: &mut Framer, piece: &[u8]) -> bool
     requires held { framer.old.start + length framer.old.rest ≤ 100 }
     requires short { length piece.now ≤ 16 }
-    ensures { framer.new.start + length framer.new.rest ≤ framer.old.start + (length framer.old.rest + length piece.now) }
+    ensures { framer.new.start + length framer.new.rest
+        ≤ framer.old.start + (length framer.old.rest + length piece.now) }
 {
     framer.feed(piece).is_ok()
 }
