@@ -1,7 +1,8 @@
 //! An acceptor over TCP.
 
-ghost use Rattle.std.specs.Prelude.{◌≡◌, ◌≤◌, None, true, false};
-ghost use Rattle.td_out.specs.Causes.{raised};
+ghost use Rattle.std.specs.Prelude.{◌≡◌, ◌≤◌, None, true, false, IfOk, is_some};
+ghost use Rattle.td_accept.specs.Doors.{Gives};
+ghost use Rattle.td_out.specs.Causes.{raised, HasCause};
 
 use crate::accept::Accept;
 use crate::visitor::Visitor;
@@ -94,7 +95,14 @@ where
     ) -> Result<
         Option<Visitor<StdSource<R::Stream>, StdSink<R::Stream>, TcpWire<'a, R>, ChaChaWords>>,
         Failed,
-    > {
+    >
+        requires { self.old.bound ≡ true }
+        ensures same { Unit {0} }
+        ensures bound { self.new.bound ≡ true }
+        ensures told { Gives None None result }
+        ensures cause { HasCause self.old.faults self.new.faults result }
+        ensures endless { IfOk result (λ visitor. is_some visitor ≡ true) }
+    {
         match connect(&self.listener) {
             Ok((stream, twin)) => Ok(Some(Visitor {
                 source: StdSource::new(stream),
