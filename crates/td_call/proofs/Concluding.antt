@@ -4,7 +4,6 @@ use Rattle.std.proofs.Common.{option_map, Result, Ok, Err, sym, ap, subst, appen
 use Rattle.std.proofs.lemmas.List.{drop-append-le}
 use Rattle.td_codes.specs.declared.reference.Ior.{Ior}
 use Rattle.td_giop.specs.Stream.{Stream, dropped, first_at}
-use Rattle.td_giop.specs.declared.fault.FrameFault.{FrameFault}
 use Rattle.td_giop.proofs.Framing.{whole}
 use Rattle.td_ior.specs.declared.profile.Iiop.{Iiop}
 use Rattle.td_ior.specs.Profiles.{iiop_of}
@@ -46,11 +45,6 @@ all_ahead : (old mid : Stream) (request : List ℕ) (t : Traffic) (after : Optio
     (b : Brought old mid (Some (wrote request t)) after) → old.rest ++ left_of t ≡ mid.rest ++ b.gives.0
 all_ahead old mid request t after b =
     ap (λ (x : List ℕ). old.rest ++ x) (sym (left_wrote request t)) ∙ all_given old mid (wrote request t) after b
-
-pub dropped_limit : (s new : Stream) (r : Result (Option ℕ) FrameFault) → new ≡ dropped s r → new.limit ≡ s.limit
-dropped_limit s new (Ok (Some size)) e = ap (λ (x : Stream). x.limit) e
-dropped_limit s new (Ok None) e = ap (λ (x : Stream). x.limit) e
-dropped_limit s new (Err f) e = ap (λ (x : Stream). x.limit) e
 
 -- what is left of a stream without its first message
 rest_dropped : (mid new : Stream) (size : ℕ) → mid.limit ≡ reply_limit

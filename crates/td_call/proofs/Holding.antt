@@ -1,7 +1,7 @@
 -- Bytes that come in pieces, until a whole message is held.
-use Rattle.std.proofs.Common.{◌≡◌, ◌∙◌, inl, inr, ℕ, ◌+◌, ◌-◌, ◌<◌, ◌≤◌, ◌^◌, Bool, true, false, cond, ltb}
-use Rattle.std.proofs.Common.{ltb-true, List, [], ◌++◌, length, Option, Some, None, IfSome, Result, Ok, Err, refl}
-use Rattle.std.proofs.Common.{sym, ap, subst, arith, append-nil, append_assoc, length-append, take, MatchBool}
+use Rattle.std.proofs.Common.{◌≡◌, ◌∙◌, ℕ, ◌+◌, ◌-◌, ◌<◌, ◌≤◌, ◌^◌, Bool, true, false, cond, ltb}
+use Rattle.std.proofs.Common.{ltb-true, List, ◌++◌, length, Option, Some, None, Result, Ok, Err, refl}
+use Rattle.std.proofs.Common.{sym, ap, subst, arith, append_assoc, length-append, take, MatchBool}
 use Rattle.std.proofs.lemmas.List.{length-take-le}
 use Rattle.td_giop.specs.Header.{Judged, header_at}
 use Rattle.td_giop.specs.Stream.{Stream, first_at, whole_within}
@@ -9,11 +9,9 @@ use Rattle.td_giop.specs.declared.fault.FrameFault.{FrameFault}
 use Rattle.td_giop.specs.declared.header.Header.{Header}
 use Rattle.td_giop.proofs.Framing.{bad-append}
 use Rattle.td_giop.proofs.Judged.{judged}
-use Rattle.td_out.proofs.Steps.{Rose-later}
-use Rattle.td_walk.specs.declared.fault.PeerFault.{PeerFault}
 use Rattle.td_walk.specs.declared.fault.PeerFault.TheVariants as fault
-use Rattle.td_wire.specs.Connections.{Traffic, Gives, left_of, with_left}
-use Rattle.td_wire.proofs.Steps.{gives_none, gives_more, left_with}
+use Rattle.td_wire.specs.Connections.{Traffic, Gives, left_of}
+use Rattle.td_wire.proofs.Steps.{gives_more}
 use Rattle.td_call.specs.Replies.{reply_limit}
 use Rattle.td_call.specs.Fetching.{Brought, Tries, Fetches, IsWhole, piece_size}
 
@@ -29,13 +27,6 @@ pub record Held (old now : Stream) (before after : Option Traffic) (f0 f1 : ℕ)
   pub brought : Brought old now before after
   pub later : f0 ≤ f1
   pub room : length now.rest ≤ length old.rest + most_held
-
-pub held_none : (s : Stream) (t : Option Traffic) (f : ℕ) → Held s s t t f f
-held_none s t f = record {
-  brought = record { piece = []; held = ap (with_rest s) (sym (append-nil s.rest)); gives = gives_none t };
-  later = omega arith;
-  room = omega arith;
-}
 
 -- ---- where no message is whole, fewer bytes are held than one may have
 
@@ -132,10 +123,6 @@ all_given old now t mid b =
     ap (λ (x : List ℕ). old.rest ++ x) b.gives.1 ∙ sym (append_assoc old.rest b.piece b.gives.0)
     ∙ ap (λ (x : List ℕ). x ++ b.gives.0) (sym (rest_of old now b.piece b.held))
 
-pub fetched_whole : (old now : Stream) (before mid : Option Traffic) (f0 f1 : ℕ) (u : Unit {0})
-    → Held old now before mid f0 f1 → IsWhole now.rest → Fetches old now before mid f0 f1 (Ok u)
-fetched_whole old now before mid f0 f1 u held whole = (held.brought, whole)
-
 pub fetched_bad : (old now : Stream) (before mid : Option Traffic) (f0 f1 : ℕ) (f : FrameFault)
     → Held old now before mid f0 f1 → first_at reply_limit now.rest ≡ Err f
     → Fetches old now before mid f0 f1 (Err fault.Grammar)
@@ -145,29 +132,6 @@ fetched_bad old now (Some t) mid f0 f1 f held bad = (
   ap (first_at reply_limit) (all_given old now t mid held.brought)
       ∙ bad-append reply_limit now.rest held.brought.gives.0 f bad,
 )
-
--- the bytes ended
-pub fetched_end : (old now new : Stream) (before mid after : Option Traffic) (f0 f1 f2 : ℕ)
-    → Held old now before mid f0 f1 → first_at reply_limit now.rest ≡ Ok None
-    → Tries now new mid after f1 f2 (Ok false) → Fetches old new before after f0 f2 (Err fault.Wire)
-fetched_end old now new None mid after f0 f1 f2 held not_whole tried = inr tt
-fetched_end old now new (Some t) mid after f0 f1 f2 held not_whole tried =
-    let b = held.brought in
-    let none : left_of (with_left b.gives.0 t) ≡ [] =
-    subst (λ (x : Option Traffic). IfSome x (λ (u : Traffic). left_of u ≡ [])) b.gives.2 tried.1 in
-    let rest : b.gives.0 ≡ [] = sym (left_with t b.piece b.gives.0 b.gives.1) ∙ none in
-    let all : old.rest ++ left_of t ≡ now.rest =
-    all_given old now t mid b ∙ ap (λ (x : List ℕ). now.rest ++ x) rest ∙ append-nil now.rest in
-    inr (ap (first_at reply_limit) all ∙ not_whole)
-
--- the wire failed, or memory was wanted
-pub fetched_fault : (old now new : Stream) (before mid after : Option Traffic) (f0 f1 f2 : ℕ) (e : PeerFault)
-    → Held old now before mid f0 f1 → Tries now new mid after f1 f2 (Err e) → Fetches old new before after f0 f2 (Err e)
-fetched_fault old now new before mid after f0 f1 f2 fault.Wire held rose =
-    let later = held.later in inl (Rose-later f0 f1 f2 later rose)
-fetched_fault old now new before mid after f0 f1 f2 fault.Grammar held no_way = absurd no_way
-fetched_fault old now new before mid after f0 f1 f2 fault.Exception held no_way = absurd no_way
-fetched_fault old now new before mid after f0 f1 f2 fault.Memory held wanted = tt
 
 -- no more bytes came than one message may have, and a piece
 pub grows_kept : (old now new : Stream) (before mid : Option Traffic) (f0 f1 : ℕ) → Held old now before mid f0 f1

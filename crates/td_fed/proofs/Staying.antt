@@ -4,14 +4,13 @@ use Rattle.std.proofs.Common.{slice_get, slice_set, append_assoc, append-nil, re
 use Rattle.td_cdr.specs.Marks.{Marks}
 use Rattle.td_changes.specs.Histories.{Legal, LegalFrom, after_all}
 use Rattle.td_changes.specs.declared.bounds.Bounds.{Bounds}
-use Rattle.td_fed.specs.Trails.{Goes, stays, began, watched, own_at, own_in}
+use Rattle.td_fed.specs.Trails.{Goes, stays, began, watched}
 use Rattle.td_register.specs.Stores.{Store}
 use Rattle.td_register.specs.declared.history.Accepted.{Accepted}
 use Rattle.td_trader.proofs.Growing.{after-append, legal-append, legal-none}
 use Rattle.td_trader.specs.Beginning.{after_begin as marks_after}
-use Rattle.td_trader.specs.PlainTraders.{HasShortReplies}
-use Rattle.td_trader.specs.Worlds.{AdmittedAt, AdmittedIn, LegalAt, LegalIn, Meanwhile, View, after_begin, history_at}
-use Rattle.td_trader.specs.Worlds.{history_in, name_at, name_in, store_seen, with_view}
+use Rattle.td_trader.specs.Worlds.{LegalIn, Meanwhile, View, after_begin}
+use Rattle.td_trader.specs.Worlds.{name_at, name_in, store_seen, with_view}
 
 -- ---- of one trader
 
@@ -161,42 +160,17 @@ same-in f h None (Some u) s = absurd s
 same-in f h (Some v) None s = absurd s
 same-in f h (Some v) (Some u) s = h v u s
 
-longer-in : (o p : Option View) → KeptIn o p → (more : List Accepted) × (history_in p ≡ history_in o ++ more)
-longer-in None None s = ([], refl)
-longer-in None (Some u) s = absurd s
-longer-in (Some v) None s = absurd s
-longer-in (Some v) (Some u) s = (s.more, s.history)
-
 legal-in : (o p : Option View) → KeptIn o p → LegalIn o → LegalIn p
 legal-in None None s h = h
 legal-in None (Some u) s h = absurd s
 legal-in (Some v) None s h = absurd s
 legal-in (Some v) (Some u) s h = still-legal v u s h
 
-admitted-in : (o p : Option View) → KeptIn o p → AdmittedIn o → AdmittedIn p
-admitted-in None None s h = h
-admitted-in None (Some u) s h = absurd s
-admitted-in (Some v) None s h = absurd s
-admitted-in (Some v) (Some u) s h = subst HasShortReplies (sym s.opening) h
-
 module _ (others : List Accepted → Type 0) (later : Marks → Marks → Type 0) (w u : List View)
     (goes : Goes others later w u) where
   pub goes-many : length u ≡ length w
   goes-many = (goes-kept others later w u goes).many
 
-  pub goes-own : (k : ℕ) → own_at u k ≡ own_at w k
-  goes-own k =
-      same-in own_in (λ v x s. s.own) (slice_get w k) (slice_get u k) ((goes-kept others later w u goes).each k)
-
   pub goes-name : (k : ℕ) → name_at u k ≡ name_at w k
   goes-name k =
       same-in name_in (λ v x s. s.name) (slice_get w k) (slice_get u k) ((goes-kept others later w u goes).each k)
-
-  pub goes-history : (k : ℕ) → (more : List Accepted) × (history_at u k ≡ history_at w k ++ more)
-  goes-history k = longer-in (slice_get w k) (slice_get u k) ((goes-kept others later w u goes).each k)
-
-  pub goes-legal : (k : ℕ) → LegalAt w k → LegalAt u k
-  goes-legal k = legal-in (slice_get w k) (slice_get u k) ((goes-kept others later w u goes).each k)
-
-  pub goes-admitted : (k : ℕ) → AdmittedAt w k → AdmittedAt u k
-  goes-admitted k = admitted-in (slice_get w k) (slice_get u k) ((goes-kept others later w u goes).each k)

@@ -1,5 +1,5 @@
 -- The entries of a trader, one by one.
-use Rattle.std.proofs.Common.{◌≡◌, List, ◌∷◌, Result, Ok, sym, ap, ◌∙◌}
+use Rattle.std.proofs.Common.{◌≡◌, List, ◌∷◌, Result, sym, ap, ◌∙◌}
 use Rattle.td_cdr.specs.Reading.{◌>>=◌}
 use Rattle.td_lines.specs.declared.entry.Home.{Home}
 use Rattle.td_lines.specs.declared.entry.Numbered.{Numbered}
@@ -21,14 +21,6 @@ pub refused_as : {A : Type 0} (told other : Result A Refused) (fault : FileFault
     → Refuses other fault
 refused_as told other (Line n cause) e h = sym e ∙ h
 refused_as told other Memory e h = tt
-
--- one entry more is done
-pub entry_done : (home : Home) (s new : Store) (one : Numbered) (before after : List Numbered)
-    (whole : Result Store Refused) → before ≡ one ∷ after → behind home s one ≡ Ok new
-    → store_after home s before ≡ whole → store_after home new after ≡ whole
-entry_done home s new one before after whole e done_is same =
-    sym (ap (λ (told : Result Store Refused). told >>= λ more. store_after home more after) done_is)
-    ∙ sym (ap (store_after home s) e) ∙ same
 
 -- one entry more is refused
 pub entry_refused : (home : Home) (s : Store) (one : Numbered) (before after : List Numbered)

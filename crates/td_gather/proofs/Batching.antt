@@ -1,7 +1,7 @@
 -- One batch of an iterator.
 use Rattle.std.proofs.Common.{◌≡◌, ◌∙◌, inl, inr, ℕ, ◌+◌, ◌<◌, ◌≤◌, Bool, true, false, cond}
 use Rattle.std.proofs.Common.{List, [], ◌∷◌, ◌++◌, length, Option, Some, None, Result, Ok, Err, refl, sym}
-use Rattle.std.proofs.Common.{ap, subst, arith, leb-true, length-append, nat_le}
+use Rattle.std.proofs.Common.{ap, arith, leb-true, length-append, nat_le}
 use Rattle.td_giop.proofs.Cond.{both_true}
 use Rattle.std.specs.List.{list_all}
 use Rattle.std.specs.Prelude.{◌↔◌, IsTrue}
@@ -33,11 +33,6 @@ few_join count offers e =
 
 choice : (b : Bool) (x : Ended (List Offer)) → b ≡ true → cond b x unclear ≡ x
 choice b x e = ap (λ (v : Bool). cond v x unclear) e
-
-pub refused_batch : (count : ℕ) (more : Bool) (offers : List Offer) (last next : Ended (List Offer))
-    → may_join count offers ≡ false → batch_ends count more offers last next ≡ unclear
-refused_batch count more offers last next e =
-    ap (λ (v : Bool). cond v (behind offers (behind_batch more offers last next)) unclear) e
 
 pub last_batch : (count : ℕ) (offers : List Offer) (last next : Ended (List Offer)) → may_join count offers ≡ true
     → batch_ends count false offers last next ≡ behind offers last
@@ -74,11 +69,6 @@ none_there false offers h e = absurd cc
 pub some_there : (b : Bool) (offers : List Offer) → (IsTrue b ↔ (offers ≡ [])) → b ≡ false → offers ≡ [] → ⊥
 some_there true offers h e none = cc
 some_there false offers h e none = let t : false ≡ true = h.1 none in cc
-
--- what was tried of a list that is the same
-pub may_as : (b may : Bool) (n m : ℕ) (xs ys : List Offer) → m ≡ n → ys ≡ xs → may ≡ may_join m ys → may ≡ b
-    → may_join n xs ≡ b
-may_as b may n m xs ys same offers is e = (λ i. may_join (sym same i) (sym offers i)) ∙ sym is ∙ e
 
 pub takes_batch : (more : Bool) (offers old new : List Offer) (r : Result Turn PeerFault)
     → Joins more offers old new r → Takes (Done (Batch more offers)) old new r

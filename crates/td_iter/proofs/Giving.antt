@@ -53,10 +53,6 @@ module _ {X : Type 0} (head : List X → Bool → Piece) (left slice all : List 
       more_is = ap (nat_lt (given + k)) l ∙ sym (some-left (given + k) all);
     }
 
-    pub still-within : slice ≡ drop given all → PutsBatch head slice n old new k → given ≤ length all
-        → given + k ≤ length all
-    still-within s p g = (let there = p.is_batch.there in omega (arith, there, g, ap length s, length-drop given all g))
-
     pub moves-on : slice ≡ drop given all → drop given all ≡ left → PutsBatch head slice n old new k
         → given ≤ length all → (0 < length left → FitsMessage head left old 1) → 0 < n → 0 < length left
         → length (drop (given + k) all) < length left

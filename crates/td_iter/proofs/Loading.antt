@@ -3,7 +3,7 @@ use Rattle.std.proofs.Common.{◌≡◌, ℕ, zero, suc, ◌+◌, ◌^◌, ◌�
 use Rattle.std.proofs.Common.{inr, List, [], ◌∷◌, ◌++◌, length, map, take, drop, get_or, min, nat_le, nat_lt, refl, sym}
 use Rattle.std.proofs.Common.{ap, subst, ◌∙◌, arith, length-append, append_assoc}
 use Rattle.std.proofs.lemmas.Bool.{both_ways}
-use Rattle.std.proofs.lemmas.List.{take_at, append-nil}
+use Rattle.std.proofs.lemmas.List.{take_at}
 use Rattle.td_cdr.specs.declared.order.Order.{Order}
 use Rattle.td_cdr.specs.Format.{Piece, row}
 use Rattle.td_cdr.specs.Writing.{Draft}
@@ -81,19 +81,6 @@ module _ {X : Type 0} (write : X → Piece) (tail : Tail) (items : List X) (old 
     pub fits : FitsTail (rows write) tail items old count
     pub longest : (j : ℕ) → j ≤ i → FitsTail (rows write) tail items old j → j ≤ count
     pub ends_there : end ≡ end_of (rows write) tail items old count
-
-  pub so_far-start : length old.bytes ≤ 64 → tail.more ≤ 2 ^ 16 → tail.done ≤ 2 ^ 16 → SoFar old 0 0 (length old.bytes)
-  so_far-start few more done = record {
-    bytes = sym (append-nil old.bytes);
-    order = refl;
-    within = omega arith;
-    fits = small (is_some items);
-    longest = λ j le f. le;
-    ends_there = omega arith;
-  } where
-    small : (b : Bool) → reach (length old.bytes + 0) (behind tail b) ≤ LARGEST_MESSAGE
-    small true = omega (arith, few, more)
-    small false = omega (arith, few, done)
 
   end-length : (now : Draft) (i : ℕ)
       → now.bytes ≡ old.bytes ++ row (map write (take i items)) old.order (length old.bytes)

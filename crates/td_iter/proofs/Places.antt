@@ -4,7 +4,7 @@ use Rattle.std.proofs.Common.{length, set, drop, find, get_or, nat_lt, Option, S
 use Rattle.std.proofs.Common.{ap, ◌∙◌, arith}
 use Rattle.std.specs.List.{list_any}
 use Rattle.std.proofs.lemmas.Bool.{both_ways}
-use Rattle.std.proofs.lemmas.List.{drop_more, drop_all}
+use Rattle.std.proofs.lemmas.List.{drop_more}
 use Rattle.td_cdr.specs.Format.{upwards}
 use Rattle.td_iter.specs.declared.desk.Entry.{Entry}
 use Rattle.td_iter.specs.declared.item.Item.{Item}
@@ -43,9 +43,6 @@ module _ (trader : List ℕ) (number : ℕ) where
   place-step es i e lt is = ap (place_of trader number) (drop_more es i e lt
       ∙ ap (λ (x : Entry). x ∷ drop (i + 1) es) (sym is))
 
-  pub place-end : (es : List Entry) (i : ℕ) → length es ≤ i → place_of trader number (drop i es) ≡ 0
-  place-end es i le = ap (place_of trader number) (drop_all i es le)
-
   -- ---- a walk over the entries
 
   stepped : (b : Bool) (n place whole : ℕ) → b ≡ false → place + (if b then 0 else suc n) ≡ whole
@@ -71,10 +68,6 @@ module _ (trader : List ℕ) (number : ℕ) where
     pub walked-to : is_called trader number e ≡ true → place ≡ place_of trader number es
     walked-to f = found (is_called trader number e) (place_of trader number (drop (i + 1) es)) place
         (place_of trader number es) f here
-
-  pub walked-out : (es : List Entry) (i place : ℕ) → length es ≤ i
-      → place + place_of trader number (drop i es) ≡ place_of trader number es → place ≡ place_of trader number es
-  walked-out es i place le same = omega (arith, place-end es i le, same)
 
 pub set-item : (es : List Entry) (place : ℕ) (e : Entry) (item : Item) → place < length es → e ≡ get_or es place e
     → set es place (record e { item = item }) ≡ with_item_at es place item

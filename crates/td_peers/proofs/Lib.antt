@@ -1,3 +1,2 @@
 pub mod Playing
-pub mod Positions
 pub mod Smallness

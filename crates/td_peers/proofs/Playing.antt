@@ -6,9 +6,8 @@ use Rattle.td_codes.specs.declared.reference.Ior.{Ior}
 use Rattle.td_out.specs.Causes.{raised, Rose}
 use Rattle.td_peers.specs.Noted.{exchange_of, exchanges}
 use Rattle.td_peers.specs.Scripts.{Played, IsPlayed, after, entry_at, faults_after, gives, is_given, next_entry}
-use Rattle.td_peers.specs.Scripts.{place_for, with_call, without}
+use Rattle.td_peers.specs.Scripts.{with_call}
 use Rattle.td_peers.specs.declared.note.Note.{Note}
-use Rattle.td_peers.specs.declared.scripted.Scripted.{Scripted}
 use Rattle.td_walk.specs.Peering.{PeerCall, Given, Failed, IsNoted, Exchange}
 use Rattle.td_walk.specs.declared.fault.PeerFault.{PeerFault}
 use Rattle.td_walk.specs.declared.fault.PeerFault.TheVariants as fault
@@ -27,19 +26,6 @@ counted notes = length-map notes exchange_of
 -- ---- a call is noted, and then its entry taken out
 
 module _ (call : PeerCall) (target : Ior) (place : Option ℕ) (old mid : Played) where
-  pub entry_next : (entry : Option Scripted) → place ≡ place_for old target
-      → mid ≡ with_call old call (gives call (entry_at old.script place)) → entry ≡ entry_at mid.script place
-      → entry ≡ next_entry old target
-  entry_next entry at is given =
-      given ∙ (ap (λ (p : Played). entry_at p.script place) is ∙ ap (entry_at old.script) at)
-
-  pub left_after : (new : Played) → place ≡ place_for old target
-      → mid ≡ with_call old call (gives call (entry_at old.script place)) → new ≡ without mid place
-      → new ≡ after old target call
-  left_after new at is left =
-      left ∙ (ap (λ (p : Played). without p place) is
-      ∙ ap (λ (i : Option ℕ). without (with_call old call (gives call (entry_at old.script i))) i) at)
-
   pub still_within : mid ≡ with_call old call (gives call (entry_at old.script place))
       → IfSome place (λ i. i < length old.script) → IfSome place (λ i. i < length mid.script)
   still_within is within = subst (λ (p : Played). IfSome place (λ i. i < length p.script)) (sym is) within
@@ -77,19 +63,3 @@ module _ (call : PeerCall) (target : Ior) (old new : Played) where
     later = later;
     cause = tt;
   }
-
-  -- by what the entry in hand gives
-  pub noted_wire : {X : Type 0} (given : X → Given) (entry : Option Scripted) → gives call entry ≡ Failed fault.Wire
-      → entry ≡ next_entry old target → new ≡ after old target call → old.faults ≤ new.faults
-      → IsNoted given call old.calls new.calls old.faults new.faults (Err fault.Wire)
-  noted_wire given entry is next left later =
-      noted given (Err fault.Wire) (ap (gives call) (sym next) ∙ is, left) later
-
-  pub noted_given : {X : Type 0} (given : X → Given) (entry : Option Scripted) (x : X) → gives call entry ≡ given x
-      → entry ≡ next_entry old target → new ≡ after old target call → old.faults ≤ new.faults
-      → IsNoted given call old.calls new.calls old.faults new.faults (Ok x)
-  noted_given given entry x is next left later = noted given (Ok x) (ap (gives call) (sym next) ∙ is, left) later
-
-  pub noted_memory : {X : Type 0} (given : X → Given) → new ≡ old → old.faults ≤ new.faults
-      → IsNoted given call old.calls new.calls old.faults new.faults (Err fault.Memory)
-  noted_memory given kept later = noted given (Err fault.Memory) kept later

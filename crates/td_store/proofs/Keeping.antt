@@ -4,7 +4,7 @@ use Rattle.std.proofs.Common.{◌∷◌, ◌++◌, length, set, get_or, map, Opt
 use Rattle.std.specs.List.{range_with_len}
 use Rattle.std.specs.Option.{is_some, IsSome}
 use Rattle.std.proofs.lemmas.List.{get_or-map, map-set, length-map, get_or-set_same, get_or-set_other, get_or_past}
-use Rattle.std.proofs.lemmas.List.{length-set, length_push, get_or_append_left}
+use Rattle.std.proofs.lemmas.List.{length-set}
 use Rattle.std.proofs.lemmas.List.Sums.{sum_by-set, sum_by_push}
 use Rattle.std.proofs.lemmas.List.FromFn.{length-map-range_with_len, get_or-map-range_with_len, map-range_with_len_more}
 use Rattle.std.proofs.lemmas.Bool.{cases_eq, cases_lt, ne_eqb, eq-eqb, le-ltb, both_ways}
@@ -19,12 +19,6 @@ use Rattle.td_store.specs.Kept.{place_of, slab_of, has, IsSlab}
 use Rattle.td_store.proofs.Core.{either, without-other}
 
 -- ---- links and places
-
-pub first_link : (p : ℕ) → IsLink (3 * p + 1)
-first_link p = omega arith
-
-pub second_link : (p : ℕ) → IsLink (3 * p + 2)
-second_link p = omega arith
 
 pub first-place : (p : ℕ) → place_of (3 * p + 1) ≡ p
 first-place p = omega arith
@@ -78,15 +72,6 @@ module _ {T : Type 0} where
       (λ (l : p < length slots). l)
       (λ (l : length slots ≤ p).
       let gone : false ≡ true = sym (ap is_some (get_or_past slots p None l)) ∙ h in absurd (cc))
-
-  pub has-push_other : (slots : List (Option T)) (o : Option T) (q : ℕ) → q ≢ length slots
-      → has (slots ++ o ∷ []) q ≡ has slots q
-  has-push_other slots o q n =
-      either (cases_lt q (length slots))
-      (λ (l : q < length slots). ap is_some (get_or_append_left slots (o ∷ []) None q l))
-      (λ (l : length slots ≤ q).
-      let past : length (slots ++ o ∷ []) ≤ q = omega (arith, length_push slots o) in
-      ap is_some (get_or_past (slots ++ o ∷ []) q None past ∙ sym (get_or_past slots q None l)))
 
   pub held-set : (slots : List (Option T)) (p : ℕ) (o : Option T) → p < length slots
       → held (set slots p o) + cond (has slots p) 1 0 ≡ held slots + cond (is_some o) 1 0

@@ -76,10 +76,6 @@ module _ (old new : Slab OfferRecord) (numbers after : List (ℕ × ℕ)) (chain
     proxies_is = h.proxies_is;
   })
 
-  pub unchanged-shows : offers_in new after ≡ offers_in old numbers
-  unchanged-shows =
-      ap (offers_in new) same ∙ ap (λ (v : ℕ → Option OfferRecord). offers_at v numbers) (fun_ext b.values)
-
 -- ---- one more
 
 module _ (old new : Slab OfferRecord) (numbers after : List (ℕ × ℕ)) (chains : BTreeMap ℕ ℕ)
@@ -325,38 +321,3 @@ pub kind-is : (b : Bool) (ordinary proxies : ℕ) → ordinary ≡ kind_chain fa
     → cond b proxies ordinary ≡ kind_chain b
 kind-is true ordinary proxies o p = p
 kind-is false ordinary proxies o p = o
-
--- ---- none yet
-
-sorted-none : IsStrictlySortedBy nat_cmp []
-unfolding IsStrictlySortedBy
-sorted-none = tt
-
-pub none-hold : (slab : Slab OfferRecord) (chains : BTreeMap ℕ ℕ) → slab.slots ≡ [] → slab.chains ≡ [] ∷ [] ∷ []
-    → ((i : ℕ) → get nat_cmp chains i ≡ None) → HoldsOffers slab [] chains 0 1
-none-hold slab chains s c none =
-    record {
-      homes = record {
-        numbered = tt;
-        sorted = sorted-none;
-        homed = λ p o e. absurd (none-some o (sym (ap (λ (xs : List (Option OfferRecord)). value_at xs p) s) ∙ e));
-        of_types =
-            λ i. ap (λ (k : Option ℕ). offers_on (value_at slab.slots) (places_of (chain_of slab.chains) k)) (none i);
-        of_kinds =
-            λ k. ap (λ (cs : List (List ℕ)). offers_on (value_at slab.slots) (chain_of cs (kind_chain k))) c
-            ∙ empty-kind (value_at slab.slots) k;
-      };
-      chains_are = record {
-        kinds = omega (arith, ap length c);
-        within = λ i k e. absurd (none-some k (sym (none i) ∙ e));
-        apart = λ i j k e f. absurd (none-some k (sym (none i) ∙ e));
-      };
-      held_are = ap held s;
-      ordinary_is = refl;
-      proxies_is = refl;
-    }
-  where
-    empty-kind : (value : ℕ → Option OfferRecord) (k : Bool)
-        → offers_on value (chain_of ([] ∷ [] ∷ []) (kind_chain k)) ≡ []
-    empty-kind value true = refl
-    empty-kind value false = refl

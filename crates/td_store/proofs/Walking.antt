@@ -38,10 +38,6 @@ is_in-middle (x ∷ front) back p = ap (λ b. eqb x p || b) (is_in-middle front 
 pub on : (chain : List ℕ) (i p : ℕ) → Some p ≡ first_of (drop i chain) → is_in p chain ≡ true
 on chain i p e = ap (is_in p) (parted chain i p e) ∙ is_in-middle (take i chain) (drop (i + 1) chain) p
 
-pub left-falls : (chain : List ℕ) (i p : ℕ) → Some p ≡ first_of (drop i chain)
-    → length (drop (i + 1) chain) + 1 ≡ length (drop i chain)
-left-falls chain i p e = omega (arith, ap length (at_first chain i p e))
-
 kept : {T : Type 0} (slots : List (Option T)) (p : ℕ) (value : T) (ps : List ℕ) → Some value ≡ value_at slots p
     → values_on slots (p ∷ ps) ≡ value ∷ values_on slots ps
 kept slots p value ps e = rw (← e) refl

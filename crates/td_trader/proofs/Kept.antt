@@ -1,26 +1,23 @@
 -- What a trader keeps through a change.
-use Rattle.std.proofs.Common.{◌≡◌, ◌≤◌, ℕ, Bool, true, false, List, [], length, Result, Ok, Err, cond, if◌then◌else◌}
+use Rattle.std.proofs.Common.{◌≡◌, ◌≤◌, ℕ, Bool, false, List, [], length, Result, Ok, Err, cond, if◌then◌else◌}
 use Rattle.std.proofs.Common.{refl, sym}
 use Rattle.std.proofs.Common.{ap, subst, ◌∙◌}
 use Rattle.td_cdr.specs.declared.memory.Memory.{Memory as Wanting}
 use Rattle.td_ops.specs.declared.call.Change.{Change}
 use Rattle.td_ops.specs.declared.outcome.Outcome.{Outcome}
-use Rattle.td_ops.specs.declared.outcome.Outcome.TheVariants.{Done, User, System}
 use Rattle.td_ops.specs.declared.outcome.Reply.{Reply}
 use Rattle.td_changes.specs.Applying.{apply, comes_to, counted, is_at_limit}
-use Rattle.td_changes.specs.Barring.{barred, barred_outcome}
 use Rattle.td_register.specs.Causes.{Applied, Comes, applied}
-use Rattle.td_changes.specs.Histories.{Legal, after_all, is_done, noted}
+use Rattle.td_changes.specs.Histories.{Legal, after_all, noted}
 use Rattle.td_changes.specs.Laws.{Extends, applied_after}
 use Rattle.td_changes.specs.Numbering.{AreNumbered}
-use Rattle.td_trader.specs.PlainTraders.{HasShortReplies, IsKept, PlainTrader, after_change, after_outcome}
-use Rattle.td_trader.specs.PlainTraders.{outcome_of, store_of}
+use Rattle.td_trader.specs.PlainTraders.{HasShortReplies, IsKept}
 use Rattle.td_changes.specs.Recording.{Records}
 use Rattle.td_register.specs.Registers.{last_number}
 use Rattle.td_register.specs.Stores.{Store}
 use Rattle.td_changes.specs.declared.bounds.Bounds.{Bounds}
 use Rattle.td_register.specs.declared.history.Accepted.{Accepted}
-use Rattle.td_register.specs.declared.refusal.Refusal.TheVariants.{Raised, NotSupported, Limit}
+use Rattle.td_register.specs.declared.refusal.Refusal.TheVariants.{Limit}
 use Rattle.td_changes.proofs.Acceptances.{accepted}
 use Rattle.td_changes.proofs.Extending.{extended, legal-empty}
 
@@ -43,24 +40,12 @@ pub counted-below : (b : Bounds) (n : ℕ) (r : Comes) → is_at_limit b n ≡ f
 counted-below b n (Ok a) e = ap (λ (full : Bool). limited full a) e
 counted-below b n (Err f) e = refl
 
-pub counted-full : (b : Bounds) (n : ℕ) (r : Comes) → is_at_limit b n ≡ true → counted b n r ≡ barred r
-counted-full b n (Ok a) e = ap (λ (full : Bool). limited full a) e
-counted-full b n (Err f) e = refl
-
 -- below the limit a change comes to what it would come to with no count
 pub after-below : (b : Bounds) (opening store : Store) (h : List Accepted) (c : Change) → store ≡ after_all opening h →
     is_at_limit b (length h) ≡ false → applied_after b opening h c ≡ apply store c
 after-below b opening store h c e full =
     ap (applied (after_all opening h)) (counted-below b (length h) (comes_to (after_all opening h) c) full)
     ∙ ap (λ (s : Store). apply s c) (sym e)
-
--- at the limit it is refused
-pub after-full : (b : Bounds) (opening store : Store) (h : List Accepted) (c : Change) → store ≡ after_all opening h →
-    is_at_limit b (length h) ≡ true → (applied_after b opening h c).outcome ≡ barred_outcome store (comes_to store c)
-after-full b opening store h c e full =
-    ap (λ (r : Comes). (applied (after_all opening h) r).outcome) (counted-full b (length h) (comes_to (after_all
-    opening h) c) full)
-    ∙ ap (λ (s : Store). barred_outcome s (comes_to s c)) (sym e)
 
 -- ---- what is kept
 
@@ -109,35 +94,3 @@ short-opening o s stem e h last =
     (record { stem = subst (λ (x : List ℕ). length x ≤ 64) h.0 h.1; last_offer = last })
 
 -- ---- the trader's value
-
-pub value-after : (t : PlainTrader) (store after : Store) (k : List Accepted) (q : Bool) (c : Change) (o : Outcome) →
-    store ≡ store_of t → is_at_limit t.bounds (length t.history) ≡ false →
-    Records c store after t.history k t.reserved q (Ok o) →
-    (o ≡ outcome_of t c) × (record t { history = k; reserved = q } ≡ after_change t c)
-value-after t store after k q c o e full rec =
-    let out : o ≡ outcome_of t c =
-    sym rec.0 ∙ sym (ap (λ (a : Applied). a.outcome) (after-below t.bounds t.opening store t.history c e full)) in (
-      out,
-      by_outcome o k q rec.2 rec.3 ∙ ap (after_outcome t c) out,
-    )
-  where
-    by_outcome : (x : Outcome) (k : List Accepted) (q : Bool) → k ≡ noted t.history c x → q ≡ (if is_done x then false
-        else t.reserved) → record t { history = k; reserved = q } ≡ after_outcome t c x
-    by_outcome (Done told) k q u v = rw (u, v) refl
-    by_outcome (User f) k q u v = rw (u, v) refl
-    by_outcome (System kind minor completion) k q u v = rw (u, v) refl
-
-barred-same : (t : PlainTrader) (c : Change) (s : Store) (r : Comes) → after_outcome t c (barred_outcome s r) ≡ t
-barred-same t c s (Ok a) = refl
-barred-same t c s (Err (Raised f)) = refl
-barred-same t c s (Err NotSupported) = refl
-barred-same t c s (Err Limit) = refl
-
-pub value-full : (t : PlainTrader) (store : Store) (c : Change) (o : Outcome) → store ≡ store_of t →
-    is_at_limit t.bounds (length t.history) ≡ true → barred_outcome store (comes_to store c) ≡ o →
-    (o ≡ outcome_of t c) × (t ≡ after_change t c)
-value-full t store c o e full h =
-    let out : o ≡ outcome_of t c = sym h ∙ sym (after-full t.bounds t.opening store t.history c e full) in (
-      out,
-      sym (barred-same t c store (comes_to store c)) ∙ (ap (after_outcome t c) h ∙ ap (after_outcome t c) out),
-    )

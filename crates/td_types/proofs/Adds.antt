@@ -299,18 +299,6 @@ add_fault_last es interfaces a b name if_name props ss =
     (inherited_definitions (repository es interfaces b) ss)))))
     (supers_last es interfaces a b name if_name [] ss)
 
-pub fails_first : (a b c d : Option RepoFault) (f : RepoFault) → a ≡ Some f
-    → or_else a (or_else b (or_else c d)) ≡ Some f
-fails_first a b c d f h = rw h refl
-
-pub fails_second : (a b c d : Option RepoFault) (f : RepoFault) → a ≡ None → b ≡ Some f
-    → or_else a (or_else b (or_else c d)) ≡ Some f
-fails_second a b c d f p h = rw (p, h) refl
-
-pub fails_third : (a b c d : Option RepoFault) (f : RepoFault) → a ≡ None → b ≡ None → c ≡ Some f
-    → or_else a (or_else b (or_else c d)) ≡ Some f
-fails_third a b c d f p q h = rw (p, q, h) refl
-
 pub fails_fourth : (a b c d e : Option RepoFault) (f : RepoFault) → a ≡ None → b ≡ None → c ≡ None → d ≡ e → e ≡ Some f
     → or_else a (or_else b (or_else c d)) ≡ Some f
 fails_fourth a b c d e f p q r same h = rw (p, q, r, same, h) refl

@@ -8,7 +8,7 @@ use Rattle.td_value.specs.declared.enumerations.PropertyMode.{PropertyMode}
 use Rattle.td_value.specs.declared.enumerations.PropertyMode.TheVariants.{Normal, Readonly, Mandatory}
 use Rattle.td_value.specs.declared.enumerations.PropertyMode.TheVariants.{MandatoryReadonly}
 use Rattle.td_value.specs.declared.structures.PropStruct.{PropStruct}
-use Rattle.td_types.proofs.Equal.{bytes_same, bytes_eq-sym}
+use Rattle.td_types.proofs.Equal.{bytes_eq-sym}
 use Rattle.td_types.proofs.Redefined.{entries_of}
 use Rattle.td_types.proofs.Rest.{rest}
 use Rattle.td_types.specs.Adding.{most_properties}
@@ -69,23 +69,6 @@ joined_when : (b : Bool) (m p rest : PropertyMode)
     → join m (cond b (join p rest) rest) ≡ join (cond b (join m p) m) rest
 joined_when true m p rest = sym (join_assoc m p rest)
 joined_when false m p rest = refl
-
-pub mode_on : (props : List PropStruct) (i : ℕ) (p : PropStruct) (name : List ℕ) (m total : PropertyMode)
-    → i < length props → p ≡ get_or props i p → bytes_eq p.name name ≡ true
-    → join m (joined_mode (drop i props) name) ≡ total
-    → join (join m p.mode) (joined_mode (drop (i + 1) props) name) ≡ total
-mode_on props i p name m total lt is called h =
-    let one : join m (joined_mode (drop i props) name) ≡ join (join m p.mode) (joined_mode (drop (i + 1) props) name) =
-    rw (rest props i p lt is, called) (sym (join_assoc m p.mode (joined_mode (drop (i + 1) props) name))) in
-    sym one ∙ h
-
-pub mode_past : (props : List PropStruct) (i : ℕ) (p : PropStruct) (name : List ℕ) (m total : PropertyMode)
-    → i < length props → p ≡ get_or props i p → bytes_eq p.name name ≡ false
-    → join m (joined_mode (drop i props) name) ≡ total → join m (joined_mode (drop (i + 1) props) name) ≡ total
-mode_past props i p name m total lt is called h =
-    let one : join m (joined_mode (drop i props) name) ≡ join m (joined_mode (drop (i + 1) props) name) =
-    rw (rest props i p lt is, called) refl in
-    sym one ∙ h
 
 joined_head : (b : Bool) (p xs ys : PropertyMode)
     → cond b (join p (join xs ys)) (join xs ys) ≡ join (cond b (join p xs) xs) ys
@@ -149,10 +132,6 @@ pushed inh own new later p h e =
     (λ name. has_last own p (strengthened inh p) name refl) in
     rw (e, same, h) (append_assoc own (strengthened inh p ∷ []) (map (strengthened inh) (newcomers (p ∷ own) later)))
 
-pub too_many : (inh own later : List PropStruct) (p : PropStruct) → has_property own p.name ≡ false
-    → most_properties ≤ length own → most_properties < length (extended inh own (p ∷ later))
-too_many inh own later p h many = rw (h, length-append) (omega (arith, many))
-
 pub one_longer : (own new : List PropStruct) (p : PropStruct) → new ≡ own ++ p ∷ [] → length own < most_properties
     → length new ≤ most_properties
 one_longer own new p e lt = rw (e, length-append) (omega (arith, lt))
@@ -167,13 +146,6 @@ already : (b old new m : Bool) → new ≡ (b || old) → old ≡ m → (b ≡ t
 already true old new m e h k = e ∙ (sym (k refl) ∙ h)
 already false old new m e h k = e ∙ h
 
-pub met_already : (seen new : BTreeSet (Bor (List ℕ))) (met : List (List ℕ)) (name : List ℕ) → HaveSeen seen met
-    → has_seen seen name ≡ true → ((other : List ℕ) → has_seen new other ≡ (bytes_eq name other || has_seen seen other))
-    → HaveSeen new met
-met_already seen new met name h among added other =
-    already (bytes_eq name other) (has_seen seen other) (has_seen new other) (is_among other met) (added other)
-    (h other) (λ e. ap (λ (n : List ℕ). has_seen seen n) (sym (bytes_same name other e)) ∙ among)
-
 pub met_anew : (seen new : BTreeSet (Bor (List ℕ))) (met : List (List ℕ)) (name : List ℕ) → HaveSeen seen met
     → ((other : List ℕ) → has_seen new other ≡ (bytes_eq name other || has_seen seen other))
     → HaveSeen new (met ++ name ∷ [])
@@ -181,20 +153,9 @@ met_anew seen new met name h added other =
     added other ∙ (rw (h other, list_any-append (bytes_eq other) met (name ∷ []), bytes_eq-sym name other)
     (sym (turned (is_among other met) (bytes_eq other name))))
 
-pub kept_once : (met : List (List ℕ)) (name : List ℕ) → is_among name met ≡ true → met ≡ add_once met name
-kept_once met name h = rw h refl
-
 pub added_once : (met new : List (List ℕ)) (name : List ℕ) → is_among name met ≡ false → new ≡ met ++ name ∷ []
     → new ≡ add_once met name
 added_once met new name h e = rw (h, e) refl
-
-pub names_on : (met : List (List ℕ)) (names : List (List ℕ)) (i : ℕ) (name : List ℕ) (new total : List (List ℕ))
-    → i < length names → name ≡ get_or names i name → new ≡ add_once met name → once met (drop i names) ≡ total
-    → once new (drop (i + 1) names) ≡ total
-names_on met names i name new total lt is e h =
-    let one : once met (drop i names) ≡ once (add_once met name) (drop (i + 1) names) =
-    rw (rest names i name lt is) refl in
-    rw e (sym one ∙ h)
 
 pub bases_on : (bases : List (Bor Entry)) (i : ℕ) (b : Bor Entry) (met new last total : List (List ℕ))
     → i < length bases → b ≡ get_or bases i b → new ≡ add_once met b.now.service_type.name

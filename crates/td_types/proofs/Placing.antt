@@ -6,7 +6,7 @@ use Rattle.std.specs.Str.{bytes_eq}
 use Rattle.std.proofs.lemmas.Bool.{false≢true, cases_order, cases_lt, lt-ltb, le-ltb, eq-eqb, ne_eqb, and_from}
 use Rattle.std.proofs.lemmas.Bool.{and_right, or_left, or_right, or_cases}
 use Rattle.std.proofs.lemmas.List.Folds.{list_any-append}
-use Rattle.std.proofs.lemmas.List.{get_or_read, get_or_append_left, get_or_push, get_or_past, length_push}
+use Rattle.std.proofs.lemmas.List.{get_or_past}
 use Rattle.td_types.specs.Repository.{Declared, is_among}
 use Rattle.td_types.specs.Reaching.{declares, is_in, ArePlaces, AreLinks, id_at, bases_at, links_at}
 use Rattle.td_types.proofs.Chains.{same-bytes}
@@ -106,10 +106,6 @@ one_more test n place h =
           ]
     ]
 
-pub placed_none : (declared : Declared) (ids : List (List ℕ)) → Placed declared ids [] 0
-placed_none declared ids place =
-    sym (ap (λ (b : Bool). b && declares declared ids place) (le-ltb place 0 (omega arith)))
-
 pub placed_skip : (declared : Declared) (ids : List (List ℕ)) (places : List ℕ) (n : ℕ)
     → declares declared ids n ≡ false → Placed declared ids places n → Placed declared ids places (n + 1)
 placed_skip declared ids places n h p place = p place ∙ none_more (declares declared ids) n place h
@@ -165,40 +161,11 @@ none_before_all declared id n h before place =
       | inr past ↦ declares-past declared (id ∷ []) place (omega (arith, h, past))
     ]
 
-pub found_here : (declared : Declared) (id : List ℕ) (n : ℕ) (entry : List ℕ × List (List ℕ)) (known : List ℕ)
-    (answer : Bool)
-    → n < length declared → entry ≡ get_or declared n entry → known ≡ entry.0 → answer ≡ bytes_eq known id
-    → answer ≡ true → id_at declared n ≡ id
-found_here declared id n entry known answer h r i a t =
-    ap (λ (e : List ℕ × List (List ℕ)). e.0) (sym (get_or_read declared n entry h r ([], [])))
-    ∙ (sym i ∙ same-bytes known id (sym a ∙ t))
-
 -- ---- a loop that finds the links of each declaration
 
 pub record Linked (declared : Declared) (links : List (List ℕ)) (n : ℕ) : Type 0 where
   pub count : length links ≡ n
   pub each : (place : ℕ) → place < n → ArePlaces declared (bases_at declared place) (links_at links place)
-
-pub linked_none : (declared : Declared) → Linked declared [] 0
-linked_none declared = record { count = refl; each = λ place b. absurd (omega (arith, b)) }
-
-pub linked_push : (declared : Declared) (links : List (List ℕ)) (n : ℕ) (entry : List ℕ × List (List ℕ))
-    (ids : List (List ℕ)) (places : List ℕ)
-    → n < length declared → entry ≡ get_or declared n entry → ids ≡ entry.1 → ArePlaces declared ids places
-    → Linked declared links n → Linked declared (links ++ places ∷ []) (n + 1)
-linked_push declared links n entry ids places h r i p l = record {
-  count = length_push links places ∙ ap (λ (k : ℕ). k + 1) l.count;
-  each = λ place b. elim (cases_lt place n) [
-    | inl earlier ↦ rw (get_or_append_left links (places ∷ []) [] place (omega (arith, earlier, l.count)))
-        (l.each place earlier)
-    | inr here ↦
-        let e : place ≡ n = omega (arith, b, here) in
-        let read : ids ≡ bases_at declared n =
-        i ∙ ap (λ (x : List ℕ × List (List ℕ)). x.1) (get_or_read declared n entry h r ([], [])) in
-        let last : links_at (links ++ places ∷ []) n ≡ places = get_or_push links places [] n l.count in
-        rw (e, last, ← read) p
-  ];
-}
 
 pub linked_all : (declared : Declared) (links : List (List ℕ)) (n : ℕ) → n ≡ length declared → Linked declared links n
     → AreLinks declared links

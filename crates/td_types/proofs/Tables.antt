@@ -1,12 +1,11 @@
 -- What the marks of a walk say of the interfaces.
 use Rattle.std.proofs.Common.{◌≡◌, ℕ, zero, suc, ◌+◌, ◌<◌, Bool, true, false, ◌&&◌, ◌||◌, ◌⊎◌, inl, inr, List, [], ◌∷◌}
-use Rattle.std.proofs.Common.{◌++◌, length, get_or, refl, sym, ap, subst, ◌∙◌, arith}
+use Rattle.std.proofs.Common.{◌++◌, length, get_or, refl, sym, subst, ◌∙◌, arith}
 use Rattle.std.specs.Str.{bytes_eq}
-use Rattle.std.proofs.lemmas.Bool.{false≢true, both_ways, cases_lt, or_cases, or_left, or_right, and_parts, and_from}
-use Rattle.std.proofs.lemmas.List.{get_or_append_left, get_or_push, length_push}
+use Rattle.std.proofs.lemmas.Bool.{false≢true, both_ways, or_cases, or_left, or_right, and_parts, and_from}
 use Rattle.td_types.specs.Repository.{Declared, is_among}
 use Rattle.td_types.specs.Interfaces.{is_base, IsChain, leads_within}
-use Rattle.td_types.specs.Reaching.{declares, is_in, is_marked, ArePlaces, AreLinks, IsLeast, Reaches, AllReach, id_at}
+use Rattle.td_types.specs.Reaching.{declares, is_in, is_marked, ArePlaces, AreLinks, IsLeast, Reaches, id_at}
 use Rattle.td_types.specs.Reaching.{bases_at, links_at, named}
 use Rattle.td_types.proofs.Chains.{same-bytes, bytes-same, joined, leads-within, chain-from_within, within-reflexive}
 use Rattle.td_types.proofs.Placing.{among-one, declares-among, declares-one_of, declares-within}
@@ -170,28 +169,3 @@ undeclared-leads declared first last none =
 pub record Reached (declared : Declared) (reached : List (List Bool)) (n : ℕ) : Type 0 where
   pub count : length reached ≡ n
   pub each : (place : ℕ) → place < n → Reaches declared (id_at declared place) (get_or reached place [])
-
-pub reached_none : (declared : Declared) → Reached declared [] 0
-reached_none declared = record { count = refl; each = λ place b. absurd (omega (arith, b)) }
-
-pub reached_push : (declared : Declared) (reached : List (List Bool)) (n : ℕ) (id : List ℕ) (marks : List Bool)
-    → id ≡ id_at declared n → Reaches declared id marks → Reached declared reached n
-    → Reached declared (reached ++ marks ∷ []) (n + 1)
-reached_push declared reached n id marks i h r = record {
-  count = length_push reached marks ∙ ap (λ (k : ℕ). k + 1) r.count;
-  each = λ place b. elim (cases_lt place n) [
-    | inl earlier ↦ rw (get_or_append_left reached (marks ∷ []) [] place (omega (arith, earlier, r.count)))
-        (r.each place earlier)
-    | inr here ↦
-        let e : place ≡ n = omega (arith, b, here) in
-        let last : get_or (reached ++ marks ∷ []) n [] ≡ marks = get_or_push reached marks [] n r.count in
-        rw (e, last, ← i) h
-  ];
-}
-
-pub reached_all : (declared : Declared) (reached : List (List Bool)) (n : ℕ) → n ≡ length declared
-    → Reached declared reached n → AllReach declared reached
-reached_all declared reached n h r = record {
-  count = r.count ∙ h;
-  each = λ place b. r.each place (omega (arith, b, h));
-}

@@ -74,19 +74,6 @@ unmarked-set (mark ∷ marks) (suc p) h e = let i = unmarked-set marks p (omega 
 
 -- ---- places that are marked in turn
 
-pub marks_none : (marks : List Bool) (queue : List ℕ) → Marks [] marks queue marks queue
-marks_none marks queue = record {
-  count = refl;
-  kept = λ place h. h;
-  all = λ place h. absurd (false≢true h);
-  only = λ place h. inl h;
-  longer = refl;
-  grows = omega arith;
-  front = λ i h. refl;
-  are_marked = λ h. h;
-  are_queued = λ h. h;
-}
-
 pub marks_skip : (places : List ℕ) (p : ℕ) (marks : List Bool) (queue : List ℕ) (marked : List Bool) (queued : List ℕ)
     → is_marked marked p ≡ true → Marks places marks queue marked queued
     → Marks (places ++ p ∷ []) marks queue marked queued
@@ -154,21 +141,6 @@ none-marked : (n place : ℕ) → is_marked (replicate n false) place ≡ true �
 none-marked zero place h = false≢true h
 none-marked (suc n) zero h = false≢true h
 none-marked (suc n) (suc place) h = none-marked n place h
-
-pub walked_start : (links : List (List ℕ)) (starts : List ℕ) (n : ℕ) (marks : List Bool) (queue : List ℕ)
-    → length (replicate n false) ≡ length links → Marks starts (replicate n false) [] marks queue
-    → Walked links starts marks queue 0
-walked_start links starts n marks queue l s = record {
-  count = s.count ∙ l;
-  within = omega arith;
-  holds_starts = s.all;
-  looked = λ i b. absurd (omega (arith, b));
-  are_queued = s.are_queued (λ place m. absurd (none-marked n place m));
-  are_marked = s.are_marked (λ i b. absurd (omega (arith, b)));
-  least =
-      λ test t c place m. elim (s.only place m)
-      [ inl was ↦ absurd (none-marked n place was) | inr start ↦ t place start ];
-}
 
 pub walked_more : (links : List (List ℕ)) (starts : List ℕ) (marks : List Bool) (queue : List ℕ) (next : ℕ)
     (marked : List Bool) (queued : List ℕ)
