@@ -44,7 +44,8 @@ returns-then-is_some-2-clause-place c =
     let stop =
     link_asks c.args.local.now c.args.found.now c.loop-link.others c.args.answers.now c.pass-question.new.given
     c.link-item.result c.in_ok-step.step c.pass-question.result
-    (sym c.is_some-in-loop-link.ensures ∙ c.if-is_some-2.true) c.loop-link.invariant.0 at c.in_ok-step.ensures c.pass-question.ensures c.loop-link.invariant.2 in
+    (sym c.is_some-in-loop-link.ensures ∙ c.if-is_some-2.true) c.loop-link.invariant.0 at c.in_ok-step.ensures
+    c.pass-question.ensures c.loop-link.invariant.2 in
     stop.place
 
 pub returns-then-is_some-2-clause-within : goal.returns-then-is_some-2-clause-within
@@ -62,7 +63,8 @@ returns-then-is_some-2-clause-passes c =
     let stop =
     link_asks c.args.local.now c.args.found.now c.loop-link.others c.args.answers.now c.pass-question.new.given
     c.link-item.result c.in_ok-step.step c.pass-question.result
-    (sym c.is_some-in-loop-link.ensures ∙ c.if-is_some-2.true) c.loop-link.invariant.0 at c.in_ok-step.ensures c.pass-question.ensures c.loop-link.invariant.2 in
+    (sym c.is_some-in-loop-link.ensures ∙ c.if-is_some-2.true) c.loop-link.invariant.0 at c.in_ok-step.ensures
+    c.pass-question.ensures c.loop-link.invariant.2 in
     stop.passes
 
 pub returns-clause-passes : goal.returns-clause-passes
