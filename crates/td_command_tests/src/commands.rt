@@ -153,7 +153,7 @@ fn source(alloc: Global, command: &Command) -> Result<MemSource, Memory> {
     Ok(MemSource::new(Octets::from_vec(input), List::new(alloc), failing))
 }
 
-/// Whether a command over these texts does as said.
+/// Whether a command over these texts does as said. None of them calls anybody.
 pub fn does_with(
     alloc: Global,
     files: &mut MemTexts,
@@ -179,7 +179,8 @@ pub fn does_with(
     Ok(
         status == expected.status
             && sink.written().strip_prefix(expected.written) == Some(expected.then)
-            && faults.written() == expected.line,
+            && faults.written() == expected.line
+            && wire.written(0).is_none(),
     )
 }
 

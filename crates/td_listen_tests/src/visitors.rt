@@ -240,16 +240,17 @@ fn is_bound(accept: &Guests) -> bool {
     }
 }
 
-/// Whether all that is to be was handed on: each session and the traders where the status is 0, and no traders
-/// otherwise.
+/// Whether all that is to be was handed on: each session and the traders where the status is 0, and otherwise no
+/// traders. Each session that was handed on was served, whatever came behind it.
 fn has_ended(ended: &KeepEnded<Guest>, case: &Case) -> bool {
     let sessions = ended.sessions().as_slice();
+    if !were_served(sessions, case.story) {
+        return false;
+    }
     if case.status != 0 {
         return ended.closed().is_none();
     }
-    are_numbered(sessions, case.visitors)
-        && were_served(sessions, case.story)
-        && have_come_to(ended.closed(), case.story)
+    are_numbered(sessions, case.visitors) && have_come_to(ended.closed(), case.story)
 }
 
 /// Whether there is a session of each number up to this one, and no other.
