@@ -8,7 +8,7 @@ ghost use Rattle.td_changes.specs.Barring.{barred, barred_outcome, Bars, IsBarre
 ghost use Rattle.td_register.specs.Causes.{Comes};
 ghost use Rattle.td_register.specs.Judged.{Judges, Tells};
 ghost use Rattle.td_changes.specs.Kinds.{is_free};
-ghost use Rattle.td_changes.specs.Links.{add_link, modify_link, modify_link_cause, remove_link};
+ghost use Rattle.td_changes.specs.Links.{add_link, modify_link, remove_link};
 ghost use Rattle.td_register.specs.Proxies.{export_proxy, withdraw_proxy};
 ghost use Rattle.td_register.specs.Registers.{export, modify, modify_cause, withdraw, withdraw_using_constraint};
 ghost use Rattle.td_changes.specs.Repositories.{add_type, mask_type, remove_type, unmask_type};
@@ -157,31 +157,24 @@ fn bar_add_link(
     or_limit(check_link(alloc, store, name, target, def_pass_on, limiting, register))
 }
 
-/// Refuses to give a link other rules.
-fn judge_modify_link(
-    store: &Store,
-    name: Text,
-    def_pass_on: FollowOption,
-    limiting: FollowOption,
-) -> Result<(), Fault>
-    ensures { Judges (modify_link_cause store.now name def_pass_on limiting) result }
-{
-    match ruled_name(store, name, def_pass_on, limiting) {
-        Ok(_) => Ok(()),
-        Err(fault) => Err(fault),
-    }
-}
-
 /// What refuses to give a link other rules.
+#[tactic(auto, unfolding(crate::specs::Links::modify_link))]
 fn bar_modify_link(
     store: &Store,
     name: Text,
     def_pass_on: FollowOption,
     limiting: FollowOption,
-) -> Result<Refusal, Memory>
-    ensures { IsBarredBy (modify_link store.now name def_pass_on limiting) result }
+) -> Refusal
+    ensures { barred (modify_link store.now name def_pass_on limiting) ≡ Err result }
 {
-    or_limit(judge_modify_link(store, name, def_pass_on, limiting))
+    match ruled_name(store, name, def_pass_on, limiting) {
+        Ok(name) => {
+            drop(name);
+            Refusal::Limit
+        }
+        Err(Fault::Refused(refusal)) => refusal,
+        Err(Fault::Memory) => unreachable!(),
+    }
 }
 
 /// What refuses to remove a link.
@@ -326,7 +319,7 @@ fn bar(alloc: Global, store: &Store, c: Change) -> Result<Refusal, Memory>
             name,
             def_pass_on,
             limiting,
-        } => bar_modify_link(store, name, def_pass_on, limiting),
+        } => Ok(bar_modify_link(store, name, def_pass_on, limiting)),
         Change::ExportProxy {
             target,
             service_type,
