@@ -1,8 +1,8 @@
 //! What the words ask for, or why they are refused.
 
-ghost use Rattle.std.specs.Prelude.{◌≡◌, ◌≢◌, ◌⊎◌, map, string_bytes, IfOk, IfErr};
+ghost use Rattle.std.specs.Prelude.{◌≡◌, ◌≢◌, ◌⊎◌, [], map, string_bytes, IfOk, IfErr, OnOk};
 ghost use Rattle.clap.specs.Words.{kind_of, subcommand_rows_of};
-ghost use Rattle.td_tool.specs.Answers.{IsAnswer, IsRefusal, asked_of};
+ghost use Rattle.td_tool.specs.Answers.{IsAnswer, IsRefusal, asked_of, refusals};
 ghost use Rattle.td_tool.specs.Matches.{read_matches};
 ghost use Rattle.td_tool.specs.declared.asking.Refusal.TheVariants as refusal;
 
@@ -36,8 +36,8 @@ impl From<AllocError> for Refusal {
 ///
 /// # Errors
 ///
-/// `Words` only where clap refuses the words, which it does of no documented ones; `Form` where they ask for nothing;
-/// `Memory` for want of memory.
+/// `Words` only where clap refuses the words, which it does of no documented ones; `Form` where it doesn't, and they
+/// ask for nothing; `Memory` for want of memory.
 pub fn ask<'a>(alloc: Global, words: &'a [String]) -> Result<Wanted<'a>, Refusal>
     ensures { IsAnswer (map string_bytes words.now) result }
 {
@@ -51,6 +51,7 @@ pub fn ask<'a>(alloc: Global, words: &'a [String]) -> Result<Wanted<'a>, Refusal
 /// What clap reads of the words.
 fn parse<'a>(alloc: Global, words: &'a [String]) -> Result<ArgMatches<'a>, Refusal>
     ensures ok { IfOk result (λ m. read_matches (subcommand_rows_of m) ≡ asked_of (map string_bytes words.now)) }
+    ensures taken { OnOk result (refusals (map string_bytes words.now) ≡ []) }
     ensures err { IfErr result (IsRefusal (map string_bytes words.now)) }
 {
     let command = tool(alloc)?;

@@ -1,6 +1,7 @@
-use Rattle.std.proofs.Common.{◌∙◌, ap, subst, map}
+use Rattle.std.proofs.Common.{◌≡◌, ◌∙◌, [], ap, subst, map}
 use Rattle.std.specs.Prelude.{string_bytes}
 use Rattle.clap.specs.Words.{App, HasMatchesOf, HasKind, fault_of, takes, is_simple_and_free}
+use Rattle.td_tool.specs.Answers.{refusals}
 use Rattle.td_tool.proofs.Answering.{matched, refused}
 use Rattle.td_tool.proofs.asking.parse.Goals as goal
 
@@ -9,6 +10,13 @@ returns-in-Ok-clause-ok c =
     matched _ c.in-Ok.matches
     (subst (λ (a : App). HasMatchesOf a (map string_bytes c.args.words.now) c.in-Ok.matches)
     c.in_ok-command.ensures.app c.in-Ok.ensures.matches)
+
+pub returns-in-Ok-clause-taken : goal.returns-in-Ok-clause-taken
+unfolding refusals
+returns-in-Ok-clause-taken c =
+    let is = c.in_ok-command.ensures.app in
+    subst (λ (a : App). fault_of a (map string_bytes c.args.words.now) ≡ []) is
+    (c.in-Ok.ensures.kinds (ap is_simple_and_free is))
 
 pub returns-in-Err-clause-err : goal.returns-in-Err-clause-err
 returns-in-Err-clause-err c =
