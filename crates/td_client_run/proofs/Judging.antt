@@ -1,6 +1,6 @@
 -- Words that are refused.
-use Rattle.std.proofs.Common.{◌≡◌, ◌∙◌, ◌||◌, ap, true, false, Bool, List, [], ◌∷◌, map, Option, Some, None, cond}
-use Rattle.std.proofs.Common.{refl}
+use Rattle.std.proofs.Common.{◌≡◌, ◌∙◌, ◌||◌, ap, inl, inr, true, false, Bool, List, [], ◌∷◌, map, Option, Some, None}
+use Rattle.std.proofs.Common.{cond, refl}
 use Rattle.std.specs.Prelude.{Result, Ok, Err}
 use Rattle.std.specs.List.{list_any}
 use Rattle.clap.specs.Words.{Text}
@@ -8,7 +8,7 @@ use Rattle.td_asking.specs.Askings.{asking_of}
 use Rattle.td_asking.specs.declared.making.Asking.{Asking}
 use Rattle.td_cdr.specs.Text.{has_nul}
 use Rattle.td_ior.specs.Keys.{◌>>=◌}
-use Rattle.td_tool.specs.Answers.{IsRefusal, asked_of}
+use Rattle.td_tool.specs.Answers.{IsRefusal, asked_of, refusals}
 use Rattle.td_tool.specs.Wishes.{Asked}
 use Rattle.td_tool.specs.declared.asking.Refusal.{Refusal}
 use Rattle.td_tool.specs.declared.asking.Refusal.TheVariants as refusal
@@ -25,9 +25,12 @@ cond_none true x e = refl
 cond_none false x e = e
 
 -- a word has a NUL
-pub with_nul : (words : List Text) → list_any has_nul words ≡ true → asking_in words ≡ None
+none_with_nul : (words : List Text) → list_any has_nul words ≡ true → asking_in words ≡ None
 unfolding asking_in
-with_nul words nul = rw nul refl
+none_with_nul words nul = rw nul refl
+
+pub with_nul : (words : List Text) → list_any has_nul words ≡ true → IsRefused words refusal.Form
+with_nul words nul = (none_with_nul words nul, inl nul)
 
 -- what clap reads of words without a NUL, by what it asks for
 pub read : (words : List Text) (asked : Asked) → list_any has_nul words ≡ false → asked_of words ≡ Some asked
@@ -35,19 +38,23 @@ pub read : (words : List Text) (asked : Asked) → list_any has_nul words ≡ fa
 unfolding asking_in
 read words asked plain is = rw (plain, is) refl
 
--- clap refuses the words, or reads nothing
-pub unread : (words : List Text) (r : Refusal) → IsRefusal words r → IsRefused words r
+-- clap reads nothing
+none_read : (words : List Text) → asked_of words ≡ None → asking_in words ≡ None
 unfolding asking_in
-unread words refusal.Memory is = tt
-unread words (refusal.Words e) is = is.0
-unread words refusal.Form is =
+none_read words is =
     cond_none (list_any has_nul words) (asked_of words >>= asking_of)
     (ap (λ (o : Option Asked). o >>= asking_of) is)
 
+-- clap refuses the words, or reads nothing
+pub unread : (words : List Text) (r : Refusal) → IsRefusal words r → IsRefused words r
+unread words refusal.Memory is = tt
+unread words (refusal.Words e) is = is
+unread words refusal.Form is = (none_read words is.0, inr is.1)
+
 -- what is made of the words that clap reads
 pub made : (words : List Text) (asked : Asked) (r : Result Asking Refusal) → list_any has_nul words ≡ false
-    → asked_of words ≡ Some asked → Makes (asking_of asked) r → Reads words r
-made words asked (Ok asking) plain is m = read words asked plain is ∙ m
+    → (asked_of words ≡ Some asked) × (refusals words ≡ []) → Makes (asking_of asked) r → Reads words r
+made words asked (Ok asking) plain is m = read words asked plain is.0 ∙ m
 made words asked (Err refusal.Memory) plain is m = tt
 made words asked (Err (refusal.Words e)) plain is m = absurd m
-made words asked (Err refusal.Form) plain is m = read words asked plain is ∙ m
+made words asked (Err refusal.Form) plain is m = (read words asked plain is.0 ∙ m, inr is.1)

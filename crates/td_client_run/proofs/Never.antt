@@ -62,9 +62,9 @@ performs_not_two asking v w a b n (failed f v' w' a' sends) two = fault_not_two 
 refusal_not_two : (words : List Text) (asking : Asking) (r : Refusal) (f g : Sunk) (n : ℕ) → is_taken words ≡ true
     → asking_in words ≡ Some asking → Refuses r f g n → IsRefused words r → n ≢ 2
 refusal_not_two words asking r f g n taken is (by_clap e text f' g' tells) why two =
-    absurd (true≢false (sym taken ∙ why))
+    absurd (true≢false (sym taken ∙ why.0))
 refusal_not_two words asking r f g n taken is (by_form f' g' tells) why two =
-    absurd (true≢false (ap (λ (o : Option Asking). is_some o) (sym is ∙ why)))
+    absurd (true≢false (ap (λ (o : Option Asking). is_some o) (sym is ∙ why.0)))
 refusal_not_two words asking r f g n taken is (no_memory r' f') why two = absurd (omega (arith, two))
 
 runs_not_two : (words : List Text) (asking : Asking) (v w : Line) (a b f g : Sunk) (n : ℕ) → is_taken words ≡ true

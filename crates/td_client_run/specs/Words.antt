@@ -1,12 +1,13 @@
 -- What the words ask an object for, or why they are refused.
-use Rattle.std.specs.Prelude.{◌≡◌, false, List, if◌then◌else◌, MatchResult, Option, Some, None, Result, Ok, Err, ⊤}
+use Rattle.std.specs.Prelude.{◌≡◌, ◌⊎◌, true, false, List, [], if◌then◌else◌, MatchResult, Option, Some, None, Result}
+use Rattle.std.specs.Prelude.{Ok, Err, ⊤}
 use Rattle.std.specs.List.{list_any}
-use Rattle.clap.specs.Words.{Text}
+use Rattle.clap.specs.Words.{IsAmong, Text, kind_of}
 use Rattle.td_asking.specs.Askings.{asking_of}
 use Rattle.td_asking.specs.declared.making.Asking.{Asking}
 use Rattle.td_cdr.specs.Text.{has_nul}
 use Rattle.td_ior.specs.Keys.{◌>>=◌}
-use Rattle.td_tool.specs.Answers.{asked_of, is_taken}
+use Rattle.td_tool.specs.Answers.{asked_of, is_taken, refusals}
 use Rattle.td_tool.specs.declared.asking.Refusal.{Refusal}
 use Rattle.td_tool.specs.declared.asking.Refusal.TheVariants as refusal
 
@@ -14,11 +15,13 @@ use Rattle.td_tool.specs.declared.asking.Refusal.TheVariants as refusal
 unfoldable pub asking_in : List Text → Option Asking
 asking_in words = if list_any has_nul words then None else (asked_of words >>= asking_of)
 
--- clap refuses them for another cause than want of memory, or a word isn't in its form
+-- clap refuses them, by one of the kinds that it gives at these words; or a word isn't in its form, and either one has
+-- a NUL or clap has no kind to refuse them by
 abbrev pub IsRefused : List Text → Refusal → Type 0
 IsRefused words refusal.Memory = ⊤
-IsRefused words (refusal.Words e) = is_taken words ≡ false
-IsRefused words refusal.Form = asking_in words ≡ None
+IsRefused words (refusal.Words e) = (is_taken words ≡ false) × IsAmong (kind_of e) (refusals words)
+IsRefused words refusal.Form =
+    (asking_in words ≡ None) × ((list_any has_nul words ≡ true) ⊎ (refusals words ≡ []))
 
 -- what the words ask for, or why they are refused
 abbrev pub Reads : List Text → Result Asking Refusal → Type 0
