@@ -1,9 +1,9 @@
 -- From what a number of traders comes to, to the command that names it.
-use Rattle.std.proofs.Common.{◌≡◌, ℕ, List, Option, Some, None, option_map, sym, ap, subst, ◌∙◌}
+use Rattle.std.proofs.Common.{◌≡◌, ℕ, false, List, Option, Some, None, option_map, sym, ap, subst, ◌∙◌}
 use Rattle.td_make.specs.Generated.{generated}
 use Rattle.td_session.specs.Outside.{Outside}
-use Rattle.td_command.specs.Commands.{Command, Drill, Make, command_by, command_in, command_of, two_words}
-use Rattle.td_command.specs.Commands.{verb_named}
+use Rattle.td_command.specs.Commands.{Command, Drill, Make, command_by, command_in, command_of, is_pipe}
+use Rattle.td_command.specs.Commands.{two_words, verb_named}
 use Rattle.td_command.specs.Printing.{DrillsWith, IsUnread, Prints, PrintsOf, sink_of}
 use Rattle.td_command.specs.Runs.{IsUnasked, Obeys, Seeded, Shelves}
 use Rattle.td_command.specs.declared.ended.Ended.{Ended}
@@ -42,3 +42,11 @@ by_words words word operand read found texts seeded ended before after are is sa
     subst (λ (o : Option (List ℕ × List ℕ)). Obeys (command_in o) texts seeded ended before after) are
     (subst (λ (v : Option Verb). Obeys (command_by v operand) texts seeded ended before after)
     (is ∙ ap verb_named same) obeys)
+
+-- words that serve no session are those whose verb serves none
+pub not_pipe : (words : List (List ℕ)) (word operand read : List ℕ) (found : Option Verb)
+    → Some (word, operand) ≡ two_words words → found ≡ verb_named read → read ≡ word
+    → is_pipe (command_of words) ≡ false → is_pipe (command_by found operand) ≡ false
+not_pipe words word operand read found are is same h =
+    ap (λ (v : Option Verb). is_pipe (command_by v operand)) (is ∙ ap verb_named same)
+    ∙ (ap (λ (o : Option (List ℕ × List ℕ)). is_pipe (command_in o)) are ∙ h)

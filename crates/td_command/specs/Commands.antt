@@ -1,5 +1,5 @@
 -- The words of a command.
-use Rattle.std.specs.Prelude.{ℕ, nat_eq, List, [], ◌∷◌, codes, if◌then◌else◌, Option, Some, None, option_map}
+use Rattle.std.specs.Prelude.{ℕ, nat_eq, Bool, true, false, List, [], ◌∷◌, codes, if◌then◌else◌, Option, Some, None, option_map}
 use Rattle.td_cdr.specs.Format.{value_named}
 use Rattle.td_ior.specs.Keys.{◌>>=◌}
 use Rattle.td_ior.specs.Number.{number_below}
@@ -13,6 +13,11 @@ pub data Command : Type 0 where
   Check : (name : List ℕ) → Command
   Make : (count : ℕ) → Command
   Drill : (count : ℕ) → Command
+
+-- only a session may call objects outside
+abbrev pub is_pipe : Option Command → Bool
+is_pipe (Some (Pipe name)) = true
+is_pipe other = false
 
 abbrev pub verb_name : Verb → List ℕ
 verb_name verb.Pipe = codes "pipe"

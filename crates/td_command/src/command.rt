@@ -1,9 +1,9 @@
 //! A command of the program.
 
-ghost use Rattle.std.specs.Prelude.{◌≡◌, map, string_bytes};
+ghost use Rattle.std.specs.Prelude.{◌≡◌, false, map, string_bytes};
 ghost use Rattle.std.specs.Option.{option_map};
 ghost use Rattle.td_session.specs.Outside.{outside};
-ghost use Rattle.td_command.specs.Commands.{command_by, command_of, two_words};
+ghost use Rattle.td_command.specs.Commands.{command_by, command_of, is_pipe, two_words};
 ghost use Rattle.td_command.specs.Completeness.{Completes};
 ghost use Rattle.td_command.specs.Runs.{Obeys, Runs, shelves};
 
@@ -23,7 +23,8 @@ use td_wire::Wire;
 /// - `pipe FILE` serves one session over the source and the sink with the traders that the text of that name opens.
 ///   Objects outside are called over the wire: traders behind links, evaluators of dynamic properties, and the
 ///   registers of other traders. What each of them gave is told by the session's journal, in the entry of the Request
-///   for which it was asked; what is written over the wire has no clause of its own here.
+///   for which it was asked; what is written over the wire has no clause of its own here. No other command calls over
+///   the wire, nor do words that are no command.
 /// - `check FILE` prints what that text opens: of each trader its name, how many types, offers and links it has, and
 ///   the references of its objects.
 /// - `make N` prints the file of a ring of N traders, N from 1 to 64.
@@ -55,6 +56,8 @@ pub fn run<F: Texts, S: Source, K: Sink, E: Sink, L: Wire, W: Words>(
         (shelves (F.told files.old) (F.faults files.old) (F.faults files.new)) (W.word_after words.old)
         (outside (S.left source.old) (S.faults source.old) (K.written sink.old) (K.faults sink.old))
         (outside (S.left source.new) (S.faults source.new) (K.written sink.new) (K.faults sink.new)) result }
+    ensures uncalled { is_pipe (command_of (map string_bytes args.now)) ≡ false
+        → (L.told wire.new ≡ L.told wire.old) × (L.faults wire.new ≡ L.faults wire.old) }
 {
     let ended = obey(alloc, args, files, source, sink, wire, words);
     report(faults, ended);
@@ -62,7 +65,7 @@ pub fn run<F: Texts, S: Source, K: Sink, E: Sink, L: Wire, W: Words>(
 }
 
 /// Does what the arguments say, without the report.
-#[tactic(auto, using(crate::proofs::Obey::by_words))]
+#[tactic(auto, using(crate::proofs::Obey::by_words, crate::proofs::Obey::not_pipe))]
 fn obey<F: Texts, S: Source, K: Sink, L: Wire, W: Words>(
     alloc: Global,
     args: &[String],
@@ -72,10 +75,12 @@ fn obey<F: Texts, S: Source, K: Sink, L: Wire, W: Words>(
     wire: &mut L,
     words: &mut W,
 ) -> Ended
-    ensures { Obeys (command_of (map string_bytes args.now))
+    ensures obeys { Obeys (command_of (map string_bytes args.now))
         (shelves (F.told files.old) (F.faults files.old) (F.faults files.new)) (W.word_after words.old) result
         (outside (S.left source.old) (S.faults source.old) (K.written sink.old) (K.faults sink.old))
         (outside (S.left source.new) (S.faults source.new) (K.written sink.new) (K.faults sink.new)) }
+    ensures uncalled { is_pipe (command_of (map string_bytes args.now)) ≡ false
+        → (L.told wire.new ≡ L.told wire.old) × (L.faults wire.new ≡ L.faults wire.old) }
 {
     match two_words(args) {
         Some((word, operand)) => {
@@ -108,10 +113,12 @@ fn obey_verb<F: Texts, S: Source, K: Sink, L: Wire, W: Words>(
     wire: &mut L,
     words: &mut W,
 ) -> Ended
-    ensures { Obeys (command_by verb operand.now)
+    ensures obeys { Obeys (command_by verb operand.now)
         (shelves (F.told files.old) (F.faults files.old) (F.faults files.new)) (W.word_after words.old) result
         (outside (S.left source.old) (S.faults source.old) (K.written sink.old) (K.faults sink.old))
         (outside (S.left source.new) (S.faults source.new) (K.written sink.new) (K.faults sink.new)) }
+    ensures uncalled { is_pipe (command_by verb operand.now) ≡ false
+        → (L.told wire.new ≡ L.told wire.old) × (L.faults wire.new ≡ L.faults wire.old) }
 {
     match verb {
         Some(Verb::Pipe) => serve_file(alloc, operand, files, source, sink, wire, words),

@@ -1,8 +1,9 @@
 //! The program over a runtime, and the status of its process.
 
-ghost use Rattle.std.specs.Prelude.{◌≡◌, map, string_bytes};
+ghost use Rattle.std.specs.Prelude.{◌≡◌, false, map, string_bytes};
 ghost use Rattle.std.specs.Process.{exit_status};
 ghost use Rattle.td_session.specs.Outside.{outside};
+ghost use Rattle.td_command.specs.Commands.{command_of, is_pipe};
 ghost use Rattle.td_command.specs.Completeness.{Completes};
 ghost use Rattle.td_command.specs.Reports.{line_of};
 ghost use Rattle.td_command.specs.Runs.{Runs, shelves};
@@ -42,6 +43,8 @@ pub fn run_program<F: Texts, S: Source, K: Sink, E: Sink, L: Wire, W: Words>(
         (outside (S.left source.old) (S.faults source.old) (K.written sink.old) (K.faults sink.old))
         (outside (S.left source.new) (S.faults source.new) (K.written sink.new) (K.faults sink.new))
         (exit_status result) }
+    ensures uncalled { is_pipe (command_of (map string_bytes args.now)) ≡ false
+        → (L.told wire.new ≡ L.told wire.old) × (L.faults wire.new ≡ L.faults wire.old) }
 {
     ExitCode::from(run(alloc, args, files, source, sink, faults, wire, words))
 }
