@@ -109,17 +109,17 @@ pub fn check_export(
 }
 
 /// The incarnation that the type of a name has, 0 where there is none.
-fn incarnation_now(store: &Store, type_name: &Text) -> u64
+pub(crate) fn incarnation_now(store: &Store, type_name: &Text) -> u64
     ensures { result ≡ incarnation_now store.now type_name.now }
 {
-    store
-        .types
-        .incarnation_of(type_name.as_slice())
-        .unwrap_or(0)
+    match store.types.incarnation_of(type_name.as_slice()) {
+        Some(incarnation) => incarnation,
+        None => 0,
+    }
 }
 
 /// The offer that is exported, as the store keeps it.
-pub(crate) fn new_offer(
+fn new_offer(
     alloc: Global,
     store: &Store,
     reference: &Ior,

@@ -29,22 +29,6 @@ use td_store::{OfferRecord, Store};
 use td_types::{is_mandatory, is_readonly};
 use td_value::{PropStruct, Property};
 
-fn unknown_property(alloc: Global, name: &Text) -> Result<Fault, Memory>
-    ensures { IfOk result (λ f. f ≡ fault.Refused (refusal.Raised (user.UnknownPropertyName name.now))) }
-{
-    Ok(raised(UserException::UnknownPropertyName {
-        name: name.copy(alloc)?,
-    }))
-}
-
-fn mandatory_property(alloc: Global, service_type: &Text, name: &Text) -> Result<Fault, Memory>
-    ensures { IfOk result (λ f.
-        f ≡ fault.Refused (refusal.Raised (user.MandatoryProperty service_type.now name.now))) }
-{
-    let (service_type, name) = copy_two(alloc, service_type, name)?;
-    Ok(raised(UserException::MandatoryProperty { service_type, name }))
-}
-
 fn readonly_property(alloc: Global, service_type: &Text, name: &Text) -> Result<Fault, Memory>
     ensures { IfOk result (λ f.
         f ≡ fault.Refused (refusal.Raised (user.ReadonlyProperty service_type.now name.now))) }
@@ -63,11 +47,14 @@ fn check_deletion(
     ensures { Judges (deletion_cause demanded.now offer.now name.now) result }
 {
     if !carries(offer.properties.as_slice(), name.as_slice()) {
-        return Err(unknown_property(alloc, name)?);
+        return Err(raised(UserException::UnknownPropertyName {
+            name: name.copy(alloc)?,
+        }));
     }
     let mode = mode_of(demanded, name.as_slice());
     if is_mandatory(mode) {
-        return Err(mandatory_property(alloc, &offer.service_type, name)?);
+        let (service_type, name) = copy_two(alloc, &offer.service_type, name)?;
+        return Err(raised(UserException::MandatoryProperty { service_type, name }));
     }
     if is_readonly(mode) {
         return Err(readonly_property(alloc, &offer.service_type, name)?);

@@ -1,50 +1,21 @@
 //! Service types by their names, as the operations on offers look for them (OMG's Trading Object Service,
 //! the exceptions IllegalServiceType and UnknownServiceType of module CosTrading).
 
-ghost use Rattle.std.specs.Prelude.{◌≡◌, is_some, IfOk};
+ghost use Rattle.std.specs.Prelude.{◌≡◌, is_some};
 ghost use Rattle.td_exceptions.specs.declared.exception.UserException.TheVariants as user;
 ghost use Rattle.td_types.specs.Repository.{type_named};
 ghost use Rattle.td_register.specs.Causes.{given, there};
 ghost use Rattle.td_register.specs.Judged.{Judges};
 ghost use Rattle.td_register.specs.Named.{demanded, open_type, unmasked};
 ghost use Rattle.td_register.specs.Registers.{interface_cause, no_more};
-ghost use Rattle.td_register.specs.declared.refusal.Fault.TheVariants as fault;
-ghost use Rattle.td_register.specs.declared.refusal.Refusal.TheVariants as refusal;
 
-use crate::refusal::{Fault, raised};
+use crate::refusal::{Fault, illegal_type, raised, unknown_type};
 use std::alloc::Global;
-use td_cdr::{Memory, Text, Twin, copy_two, is_word_name};
+use td_cdr::{Text, Twin, copy_two, is_word_name};
 use td_exceptions::UserException;
 use td_store::{OfferRecord, Store, belongs};
 use td_types::Types;
 use td_value::{Ior, PropStruct};
-
-fn illegal_type(alloc: Global, name: &Text) -> Result<Fault, Memory>
-    ensures { IfOk result (λ f. f ≡ fault.Refused (refusal.Raised (user.IllegalServiceType name.now))) }
-{
-    Ok(raised(UserException::IllegalServiceType {
-        service_type: name.copy(alloc)?,
-    }))
-}
-
-fn unknown_type(alloc: Global, name: &Text) -> Result<Fault, Memory>
-    ensures { IfOk result (λ f. f ≡ fault.Refused (refusal.Raised (user.UnknownServiceType name.now))) }
-{
-    Ok(raised(UserException::UnknownServiceType {
-        service_type: name.copy(alloc)?,
-    }))
-}
-
-fn interface_mismatch(alloc: Global, name: &Text, reference: &Ior) -> Result<Fault, Memory>
-    ensures { IfOk result (λ f.
-        f ≡ fault.Refused (refusal.Raised (user.InterfaceTypeMismatch name.now reference.now))) }
-{
-    let (service_type, reference) = copy_two(alloc, name, reference)?;
-    Ok(raised(UserException::InterfaceTypeMismatch {
-        service_type,
-        reference,
-    }))
-}
 
 /// Whether a type has the name and isn't masked.
 #[tactic(auto, using(crate::proofs::Otherwise::is_unmasked, crate::proofs::Otherwise::is_nowhere))]
@@ -63,10 +34,10 @@ pub(crate) fn check_open(alloc: Global, types: &Types, name: &Text) -> Result<()
     ensures { Judges (given (open_type types.now.types name.now) no_more) result }
 {
     if !is_word_name(name.as_slice()) {
-        return Err(illegal_type(alloc, name)?);
+        return Err(illegal_type(name.copy(alloc)?));
     }
     if !is_open(types, name.as_slice()) {
-        return Err(unknown_type(alloc, name)?);
+        return Err(unknown_type(name.copy(alloc)?));
     }
     Ok(())
 }
@@ -83,13 +54,17 @@ pub(crate) fn check_interface(
         (interface_cause store.now name.now reference.now)) result }
 {
     let Some(if_name) = store.types.interface_of(name.as_slice()) else {
-        return Err(unknown_type(alloc, name)?);
+        return Err(unknown_type(name.copy(alloc)?));
     };
     if !store
         .types
         .interface_conforms(reference.id.as_slice(), if_name.as_slice())
     {
-        return Err(interface_mismatch(alloc, name, reference)?);
+        let (service_type, reference) = copy_two(alloc, name, reference)?;
+        return Err(raised(UserException::InterfaceTypeMismatch {
+            service_type,
+            reference,
+        }));
     }
     Ok(())
 }

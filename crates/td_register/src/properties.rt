@@ -1,14 +1,11 @@
 //! What is asked of an offer's properties (OMG's Trading Object Service, interface Register, export).
 
-ghost use Rattle.std.specs.Prelude.{◌≡◌, List, ℕ, [], ◌∷◌, ◌++◌, IfOk, OnOk, option_copied};
+ghost use Rattle.std.specs.Prelude.{◌≡◌, List, ℕ, [], ◌∷◌, ◌++◌, OnOk, option_copied};
 ghost use Rattle.td_cdr.specs.Seen.{HaveSeen};
-ghost use Rattle.td_exceptions.specs.declared.exception.UserException.TheVariants as user;
 ghost use Rattle.td_register.specs.Causes.{limit_if};
 ghost use Rattle.td_register.specs.Judged.{Judges};
 ghost use Rattle.td_register.specs.Properties.{carries, is_too_large, mismatches, missing, missing_cause, name_cause};
 ghost use Rattle.td_register.specs.Properties.{properties_cause, value_cause};
-ghost use Rattle.td_register.specs.declared.refusal.Fault.TheVariants as fault;
-ghost use Rattle.td_register.specs.declared.refusal.Refusal.TheVariants as refusal;
 
 use crate::refusal::{Fault, Refusal, raised};
 use crate::typing::{is_dynamic, is_typed, mode_of, property_named};
@@ -71,25 +68,6 @@ fn mismatches(supported: bool, demanded: &[PropStruct], property: &Property) -> 
     (is_dynamic(&property.value) && !supported) || !is_typed(declared, &property.value)
 }
 
-fn type_mismatch(alloc: Global, service_type: &Text, property: &Property) -> Result<Fault, Memory>
-    ensures { IfOk result (λ f.
-        f ≡ fault.Refused (refusal.Raised (user.PropertyTypeMismatch service_type.now property.now))) }
-{
-    let (service_type, property) = copy_two(alloc, service_type, property)?;
-    Ok(raised(UserException::PropertyTypeMismatch {
-        service_type,
-        property,
-    }))
-}
-
-fn readonly_dynamic(alloc: Global, service_type: &Text, name: &Text) -> Result<Fault, Memory>
-    ensures { IfOk result (λ f.
-        f ≡ fault.Refused (refusal.Raised (user.ReadonlyDynamicProperty service_type.now name.now))) }
-{
-    let (service_type, name) = copy_two(alloc, service_type, name)?;
-    Ok(raised(UserException::ReadonlyDynamicProperty { service_type, name }))
-}
-
 /// Refuses a value that the type doesn't let stand there.
 pub(crate) fn check_value(
     alloc: Global,
@@ -101,10 +79,15 @@ pub(crate) fn check_value(
     ensures { Judges (value_cause supported type_name.now demanded.now property.now) result }
 {
     if mismatches(supported, demanded, property) {
-        return Err(type_mismatch(alloc, type_name, property)?);
+        let (service_type, property) = copy_two(alloc, type_name, property)?;
+        return Err(raised(UserException::PropertyTypeMismatch {
+            service_type,
+            property,
+        }));
     }
     if is_dynamic(&property.value) && is_readonly(mode_of(demanded, property.name.as_slice())) {
-        return Err(readonly_dynamic(alloc, type_name, &property.name)?);
+        let (service_type, name) = copy_two(alloc, type_name, &property.name)?;
+        return Err(raised(UserException::ReadonlyDynamicProperty { service_type, name }));
     }
     Ok(())
 }
@@ -139,14 +122,6 @@ fn missing<'a>(demanded: &'a [PropStruct], properties: &[Property]) -> Option<&'
     None
 }
 
-fn missing_mandatory(alloc: Global, service_type: &Text, name: &Text) -> Result<Fault, Memory>
-    ensures { IfOk result (λ f.
-        f ≡ fault.Refused (refusal.Raised (user.MissingMandatoryProperty service_type.now name.now))) }
-{
-    let (service_type, name) = copy_two(alloc, service_type, name)?;
-    Ok(raised(UserException::MissingMandatoryProperty { service_type, name }))
-}
-
 /// Refuses an offer that lacks a mandatory property.
 pub(crate) fn check_missing(
     alloc: Global,
@@ -158,7 +133,10 @@ pub(crate) fn check_missing(
 {
     match missing(demanded, properties) {
         None => Ok(()),
-        Some(declared) => Err(missing_mandatory(alloc, type_name, &declared.name)?),
+        Some(declared) => {
+            let (service_type, name) = copy_two(alloc, type_name, &declared.name)?;
+            Err(raised(UserException::MissingMandatoryProperty { service_type, name }))
+        }
     }
 }
 

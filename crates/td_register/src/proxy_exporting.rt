@@ -11,15 +11,13 @@ ghost use Rattle.td_register.specs.Judged.{Accepts, Judges, Yields, later_proxy_
 ghost use Rattle.td_register.specs.Judged.{told};
 ghost use Rattle.td_register.specs.Proxies.{export_proxy, exported_proxy, is_recipe, policies_cause};
 ghost use Rattle.td_register.specs.Registers.{last_number};
-ghost use Rattle.td_register.specs.declared.refusal.Fault.TheVariants as fault;
-ghost use Rattle.td_register.specs.declared.refusal.Refusal.TheVariants as refusal;
 
-use crate::exporting::{add_offer, check_limits, check_offer, new_offer};
+use crate::exporting::{add_offer, check_limits, check_offer, incarnation_now};
 use crate::history::{Accepted, entry_of};
 use crate::named::check_open;
 use crate::refusal::{Fault, Refusal, invalid_lookup, raised};
 use std::alloc::Global;
-use td_cdr::{List, Memory, Text, Twin, nothing_seen, see};
+use td_cdr::{List, Memory, Text, Twin, copy_four, nothing_seen, see};
 use td_exceptions::UserException;
 use td_ior::{IorFault, iiop_of};
 use td_lang::{LangFault, read_recipe};
@@ -60,22 +58,6 @@ fn is_recipe(alloc: Global, text: &[u8]) -> Result<bool, Memory>
     }
 }
 
-fn illegal_recipe(alloc: Global, recipe: &Text) -> Result<Fault, Memory>
-    ensures { IfOk result (λ f. f ≡ fault.Refused (refusal.Raised (user.IllegalRecipe recipe.now))) }
-{
-    Ok(raised(UserException::IllegalRecipe {
-        recipe: recipe.copy(alloc)?,
-    }))
-}
-
-fn duplicate_policy(alloc: Global, name: &Text) -> Result<Fault, Memory>
-    ensures { IfOk result (λ f. f ≡ fault.Refused (refusal.Raised (user.DuplicatePolicyName name.now))) }
-{
-    Ok(raised(UserException::DuplicatePolicyName {
-        name: name.copy(alloc)?,
-    }))
-}
-
 /// Refuses proxy offers where they aren't supported.
 fn check_supported(supported: bool) -> Result<(), Fault>
     ensures { Judges (unless_supported supported) result }
@@ -102,7 +84,9 @@ fn check_recipe(alloc: Global, recipe: &Text) -> Result<(), Fault>
     ensures { Judges (raise_if (not (is_recipe recipe.now)) (user.IllegalRecipe recipe.now)) result }
 {
     if !is_recipe(alloc, recipe.as_slice())? {
-        return Err(illegal_recipe(alloc, recipe)?);
+        return Err(raised(UserException::IllegalRecipe {
+            recipe: recipe.copy(alloc)?,
+        }));
     }
     Ok(())
 }
@@ -114,7 +98,9 @@ fn check_policies(alloc: Global, policies: &[Policy]) -> Result<(), Fault>
     let mut seen = nothing_seen(alloc);
     for policy in policies {
         if !see(&mut seen, policy.name.as_slice())? {
-            return Err(duplicate_policy(alloc, &policy.name)?);
+            return Err(raised(UserException::DuplicatePolicyName {
+                name: policy.name.copy(alloc)?,
+            }));
         }
     }
     Ok(())
@@ -177,17 +163,18 @@ fn new_proxy(
     ensures { IfOk result (λ o.
         o ≡ exported_proxy store.now target.now type_name.now properties.now part.now) }
 {
-    let mut offer = new_offer(alloc, store, target, type_name, properties)?;
-    match part.copy(alloc) {
-        Ok(part) => {
-            offer.proxy = Some(part);
-            Ok(offer)
-        }
-        Err(memory) => {
-            drop(offer);
-            Err(memory)
-        }
-    }
+    let (reference, (service_type, (properties, part))) = copy_four(
+        alloc, target, type_name, properties, part,
+    )?;
+    let incarnation = incarnation_now(store, &service_type);
+    Ok(OfferRecord {
+        number: store.last_offer + 1,
+        reference,
+        service_type,
+        incarnation,
+        properties,
+        proxy: Some(part),
+    })
 }
 
 /// The proxy offer that is exported, where nothing is at fault with it.
