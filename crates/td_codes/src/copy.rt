@@ -6,7 +6,7 @@ ghost use Rattle.td_codes.specs.declared.code.Value.TheVariants as variant;
 
 use crate::code::{Any, Arm, Member, TypeCode, Value};
 use std::alloc::Global;
-use td_cdr::{Boxed, List, Memory, Text, Twin};
+use td_cdr::{Boxed, List, Memory, Text, Twin, copy_three, copy_two};
 
 impl Twin for Member {
     #[cycle(copy)]
@@ -61,13 +61,11 @@ impl Twin for TypeCode {
                 switch,
                 default,
                 arms,
-            } => Ok(TypeCode::Union {
-                id: id.copy(alloc)?,
-                name: name.copy(alloc)?,
-                switch: copy_boxed(alloc, switch.get())?,
-                default: *default,
-                arms: copy_arms(alloc, arms.as_slice())?,
-            }),
+            } => {
+                let switch = copy_boxed(alloc, switch.get())?;
+                let arms = copy_arms(alloc, arms.as_slice())?;
+                copy_union(alloc, id, name, switch, *default, arms)
+            }
             TypeCode::Enum { id, name, labels } => copy_enum(alloc, id, name, labels),
             TypeCode::Sequence { item, bound } => Ok(TypeCode::Sequence {
                 item: copy_boxed(alloc, item.get())?,
@@ -96,19 +94,35 @@ fn copy_boxed(alloc: Global, code: &TypeCode) -> Result<Boxed<TypeCode>, Memory>
 fn copy_object(alloc: Global, id: &Text, name: &Text) -> Result<TypeCode, Memory>
     ensures { IfOk result (λ twin. twin ≡ code.ObjRef id.now name.now) }
 {
-    Ok(TypeCode::ObjRef {
-        id: id.copy(alloc)?,
-        name: name.copy(alloc)?,
-    })
+    let (id, name) = copy_two(alloc, id, name)?;
+    Ok(TypeCode::ObjRef { id, name })
 }
 
 fn copy_enum(alloc: Global, id: &Text, name: &Text, labels: &List<Text>) -> Result<TypeCode, Memory>
     ensures { IfOk result (λ twin. twin ≡ code.Enum id.now name.now labels.now) }
 {
-    Ok(TypeCode::Enum {
-        id: id.copy(alloc)?,
-        name: name.copy(alloc)?,
-        labels: labels.copy(alloc)?,
+    let (id, (name, labels)) = copy_three(alloc, id, name, labels)?;
+    Ok(TypeCode::Enum { id, name, labels })
+}
+
+/// A union's TypeCode, of the copies of its discriminator's type and of its arms.
+fn copy_union(
+    alloc: Global,
+    id: &Text,
+    name: &Text,
+    switch: Boxed<TypeCode>,
+    default: i32,
+    arms: List<Arm>,
+) -> Result<TypeCode, Memory>
+    ensures { IfOk result (λ twin. twin ≡ code.Union id.now name.now switch default arms) }
+{
+    let (id, name) = copy_two(alloc, id, name)?;
+    Ok(TypeCode::Union {
+        id,
+        name,
+        switch,
+        default,
+        arms,
     })
 }
 
@@ -121,11 +135,9 @@ fn copy_struct(
 ) -> Result<TypeCode, Memory>
     ensures { IfOk result (λ twin. twin ≡ code.Struct id.now name.now members.now) }
 {
-    Ok(TypeCode::Struct {
-        id: id.copy(alloc)?,
-        name: name.copy(alloc)?,
-        members: copy_members(alloc, members)?,
-    })
+    let members = copy_members(alloc, members)?;
+    let (id, name) = copy_two(alloc, id, name)?;
+    Ok(TypeCode::Struct { id, name, members })
 }
 
 #[cycle(copy)]
@@ -137,22 +149,18 @@ fn copy_except(
 ) -> Result<TypeCode, Memory>
     ensures { IfOk result (λ twin. twin ≡ code.Except id.now name.now members.now) }
 {
-    Ok(TypeCode::Except {
-        id: id.copy(alloc)?,
-        name: name.copy(alloc)?,
-        members: copy_members(alloc, members)?,
-    })
+    let members = copy_members(alloc, members)?;
+    let (id, name) = copy_two(alloc, id, name)?;
+    Ok(TypeCode::Except { id, name, members })
 }
 
 #[cycle(copy)]
 fn copy_alias(alloc: Global, id: &Text, name: &Text, item: &TypeCode) -> Result<TypeCode, Memory>
     ensures { IfOk result (λ twin. twin ≡ code.Alias id.now name.now item.now) }
 {
-    Ok(TypeCode::Alias {
-        id: id.copy(alloc)?,
-        name: name.copy(alloc)?,
-        item: copy_boxed(alloc, item)?,
-    })
+    let item = copy_boxed(alloc, item)?;
+    let (id, name) = copy_two(alloc, id, name)?;
+    Ok(TypeCode::Alias { id, name, item })
 }
 
 #[cycle(copy)]
