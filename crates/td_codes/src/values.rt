@@ -2,14 +2,18 @@
 
 ghost use Rattle.std.specs.Prelude.{◌≡◌, ◌≤◌, option_copied};
 ghost use Rattle.td_cdr.specs.Format.{Gives};
-ghost use Rattle.td_cdr.specs.Sound.{array};
+ghost use Rattle.std.proofs.Common.{ap};
+ghost use Rattle.td_cdr.specs.Sound.{array, variant};
 ghost use Rattle.td_cdr.specs.ValueFaults.{is_memory};
+ghost use Rattle.td_codes.specs.declared.code.Value.{out-Value};
+ghost use Rattle.td_codes.specs.declared.code.Value.TheVariants as value;
 ghost use Rattle.td_codes.specs.declared.mode.Mode.TheVariants.{Outer};
 ghost use Rattle.td_codes.specs.Codes.{codes};
 ghost use Rattle.td_codes.specs.Labels.{labels};
+ghost use Rattle.td_codes.specs.Layers.{value-any, value-str};
 ghost use Rattle.td_codes.specs.Values.{anys, values, each, branch, branch_of, bounded_text, count_within};
 ghost use Rattle.td_codes.specs.Values.{struct_value, union_value, sequence_value, array_value, index_of, is_default};
-ghost use Rattle.td_codes.specs.Values.{is_chosen, default_arm};
+ghost use Rattle.td_codes.specs.Values.{is_chosen, default_arm, any_in, text_in};
 
 use crate::code::{Any, Arm, Member, TypeCode, Value};
 use crate::kinds::CodeKind;
@@ -46,14 +50,17 @@ pub fn any_at(alloc: Global, r: &mut Reader, levels: u32) -> Result<Any, ValueFa
     }
 }
 
-/// An any of at most so many levels, in a block of its own.
+/// A value that is an any of at most so many levels.
 #[cycle(values)]
-fn boxed_any_at(alloc: Global, r: &mut Reader, levels: u32) -> Result<Boxed<Any>, ValueFault>
+fn inner_any_at(alloc: Global, r: &mut Reader, levels: u32) -> Result<Value, ValueFault>
     requires few { levels ≤ 16 }
-    ensures { Gives is_memory r.new result ((anys levels).format.reads r.old) }
+    ensures { Gives is_memory r.new result
+        ((variant (λ a. value.AnyValue a) (λ v. any_in (out-Value v)) (λ a. ap any_in (value-any a))
+        (anys levels)).format.reads
+        r.old) }
 {
     let any = any_at(alloc, r, levels)?;
-    Ok(Boxed::new(alloc, any)?)
+    Ok(Value::AnyValue(Boxed::new(alloc, any)?))
 }
 
 /// A value under a TypeCode of at most `depth` levels, in which an any may have `levels` more.
@@ -87,9 +94,9 @@ fn value_at(
         TypeCode::Octet => octet_at(r),
         TypeCode::LongLong => longlong_at(r),
         TypeCode::ULongLong => ulonglong_at(r),
-        TypeCode::AnyCode => Ok(Value::AnyValue(boxed_any_at(alloc, r, levels)?)),
+        TypeCode::AnyCode => inner_any_at(alloc, r, levels),
         TypeCode::Code => Ok(Value::Code(boxed_at(alloc, r, levels, Mode::Outer)?)),
-        TypeCode::Str { bound } => Ok(Value::Str(bounded_text_at(alloc, r, *bound)?)),
+        TypeCode::Str { bound } => string_at(alloc, r, *bound),
         TypeCode::ObjRef { .. } => Ok(Value::ObjRef(Ior::read(alloc, r)?)),
         TypeCode::Struct { members, .. } => {
             struct_at(alloc, r, levels, depth, members.as_slice())
@@ -119,15 +126,18 @@ fn value_at(
 }
 
 /// A string of at most `bound` bytes, 0 being no bound.
-fn bounded_text_at(alloc: Global, r: &mut Reader, bound: u32) -> Result<Text, ValueFault>
-    ensures { Gives is_memory r.new result ((bounded_text bound).format.reads r.old) }
+fn string_at(alloc: Global, r: &mut Reader, bound: u32) -> Result<Value, ValueFault>
+    ensures { Gives is_memory r.new result
+        ((variant (λ t. value.Str t) (λ v. text_in (out-Value v)) (λ t. ap text_in (value-str t))
+        (bounded_text bound)).format.reads
+        r.old) }
 {
     let place = r.aligned();
     let text = Text::read(alloc, r)?;
     if bound != 0 && (bound as usize) < text.len() {
         return Err(ValueFault::BadValue(place));
     }
-    Ok(text)
+    Ok(Value::Str(text))
 }
 
 /// A count of at most `bound` items, 0 being no bound.

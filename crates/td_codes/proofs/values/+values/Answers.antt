@@ -9,7 +9,7 @@ use Rattle.td_codes.specs.declared.code.TypeCode.TheOpen as layer_of
 use Rattle.td_codes.specs.Codes.{codes}
 use Rattle.td_codes.specs.Layers.{code-null, code-void, code-short, code-long, code-ushort, code-ulong, code-boolean}
 use Rattle.td_codes.specs.Layers.{code-char, code-octet, code-longlong, code-ulonglong, code-struct, code-union}
-use Rattle.td_codes.specs.Layers.{code-enum, code-sequence, code-array, code-alias}
+use Rattle.td_codes.specs.Layers.{code-enum, code-sequence, code-array, code-alias, code-any, code-str}
 use Rattle.td_codes.specs.Values.{anys, values}
 use Rattle.td_codes.proofs.AtLayers.{values-reads, any-fails}
 use Rattle.td_codes.proofs.values.+values.Goals as goal
@@ -212,3 +212,21 @@ value_at-returns-in-Alias t c =
       ← c.get-in-Alias.ensures,
     )
     c.value_at.ensures
+
+pub value_at-returns-in-AnyCode : goal.value_at-returns-in-AnyCode
+value_at-returns-in-AnyCode t c =
+    rw (
+      c.in-AnyCode.is,
+      values-reads (anys c.args.levels) (codes c.args.levels Outer) c.args.depth code.AnyCode layer_of.AnyCode
+          c.if-depth-eq0.false code-any c.args.r.now,
+    )
+    c.inner_any_at.ensures
+
+pub value_at-returns-in-Str : goal.value_at-returns-in-Str
+value_at-returns-in-Str t c =
+    rw (
+      c.in-Str.is,
+      values-reads (anys c.args.levels) (codes c.args.levels Outer) c.args.depth (code.Str c.in-Str.bound)
+          (layer_of.TypeCode::Str c.in-Str.bound) c.if-depth-eq0.false (code-str c.in-Str.bound) c.args.r.now,
+    )
+    c.string_at.ensures

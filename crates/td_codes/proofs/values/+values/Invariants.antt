@@ -12,8 +12,8 @@ decreases-any_at l = 100 * l.levels + 0
 abbrev pub decreases-value_at : goal.decreases-value_at
 decreases-value_at l = 100 * l.levels + 4 * l.depth + 1
 
-abbrev pub decreases-boxed_any_at : goal.decreases-boxed_any_at
-decreases-boxed_any_at l = 100 * l.levels + 1
+abbrev pub decreases-inner_any_at : goal.decreases-inner_any_at
+decreases-inner_any_at l = 100 * l.levels + 1
 
 abbrev pub decreases-boxed_value_at : goal.decreases-boxed_value_at
 decreases-boxed_value_at l = 100 * l.levels + 4 * l.depth + 2
