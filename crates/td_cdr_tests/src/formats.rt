@@ -1,7 +1,6 @@
 //! Values that are written whole and read whole, behind one octet that shows their alignment.
 
 use std::alloc::Global;
-use std::test::Fail;
 use td_cdr::{
     Boxed, CdrFault, List, Memory, Octets, Order, Reader, Spelled, Text, Twin, ValueFault, Writer,
     copy_four, copy_three, copy_two, put_five, put_four, put_six, put_three, put_two, read_whole,
@@ -97,24 +96,44 @@ fn are_long_numbers(alloc: Global) -> bool {
     ) && is_spelled(alloc, LITTLE, &i64::MIN, "09000000000000000000000000000080")
 }
 
-#[test]
-fn texts_and_octets(rt: HostRuntime) -> Result<(), Fail> {
-    let alloc = rt.alloc();
-    let text = Text::from_slice(alloc, b"hi")?;
-    assert!(rt; is_spelled(alloc, BIG, &text, "0900000000000003686900"));
-    let octets = Octets::from_slice(alloc, &[7, 0])?;
-    assert!(rt; is_spelled(alloc, LITTLE, &octets, "09000000020000000700"));
-    Ok(())
+/// Whether the value was made, and is spelled so.
+fn is_made<T: Spelled + Drop>(
+    alloc: Global,
+    order: Order,
+    made: Result<T, Memory>,
+    digits: &str,
+) -> bool {
+    match made {
+        Ok(value) => is_spelled(alloc, order, &value, digits),
+        Err(_) => false,
+    }
 }
 
 #[test]
-fn lists_and_pairs(rt: HostRuntime) -> Result<(), Fail> {
+fn texts_and_octets(rt: HostRuntime) {
     let alloc = rt.alloc();
-    let numbers = List::from_slice(alloc, &[5_u16, 6, 7])?;
-    assert!(rt; is_spelled(alloc, BIG, &numbers, "0900000000000003000500060007"));
-    let pair = (true, 1_u32);
-    assert!(rt; is_spelled(alloc, BIG, &pair, "0901000000000001"));
-    Ok(())
+    assert!(rt; is_text(alloc) && are_octets(alloc));
+}
+
+fn is_text(alloc: Global) -> bool {
+    let text = Text::from_slice(alloc, b"hi");
+    is_made(alloc, BIG, text, "0900000000000003686900")
+}
+
+fn are_octets(alloc: Global) -> bool {
+    let octets = Octets::from_slice(alloc, &[7, 0]);
+    is_made(alloc, LITTLE, octets, "09000000020000000700")
+}
+
+#[test]
+fn lists_and_pairs(rt: HostRuntime) {
+    let alloc = rt.alloc();
+    assert!(rt; is_list(alloc) && is_spelled(alloc, BIG, &(true, 1_u32), "0901000000000001"));
+}
+
+fn is_list(alloc: Global) -> bool {
+    let numbers = List::from_slice(alloc, &[5_u16, 6, 7]);
+    is_made(alloc, BIG, numbers, "0900000000000003000500060007")
 }
 
 #[test]
@@ -132,18 +151,36 @@ fn are_refused(alloc: Global) -> bool {
 }
 
 #[test]
-fn many_octets(rt: HostRuntime) -> Result<(), Fail> {
+fn many_octets(rt: HostRuntime) {
     let alloc = rt.alloc();
+    assert!(rt; are_many(alloc) == Ok(true));
+}
+
+fn are_many(alloc: Global) -> Result<bool, Memory> {
     let octets: Octets = List::from_vec(vec![in alloc; 7_u8; 8192]?);
+    are_written(alloc, &octets)
+}
+
+/// Whether the octets are written behind their number, and read so again.
+fn are_written(alloc: Global, octets: &Octets) -> Result<bool, Memory> {
     let mut writer = Writer::new(alloc, BIG);
-    write_whole(alloc, &mut writer, &octets)?;
-    assert_eq!(rt; writer.len(), 8196);
-    assert!(rt; &writer.bytes()[..5] == [0, 0, 32, 0, 7].as_slice());
-    let mut reader = Reader::new(writer.bytes(), 0, BIG);
-    let read: Octets = read_whole(alloc, &mut reader)?;
-    assert_eq!(rt; reader.place(), 8196);
-    assert!(rt; read.as_slice() == octets.as_slice());
-    Ok(())
+    write_whole(alloc, &mut writer, octets)?;
+    Ok(are_read(alloc, writer.bytes(), octets.as_slice()))
+}
+
+fn are_read(alloc: Global, bytes: &[u8], octets: &[u8]) -> bool {
+    if bytes.len() != 8196 {
+        return false;
+    }
+    let mut reader = Reader::new(bytes, 0, BIG);
+    match read_whole::<Octets>(alloc, &mut reader) {
+        Ok(read) => {
+            &bytes[..5] == [0, 0, 32, 0, 7].as_slice()
+                && reader.place() == 8196
+                && read.as_slice() == octets
+        }
+        Err(_) => false,
+    }
 }
 
 /// Rows of two to six values, one behind another.
@@ -157,18 +194,27 @@ fn rows(alloc: Global, writer: &mut Writer) -> Result<(), Memory> {
     )
 }
 
+/// Whether the bytes are those of these digits.
+fn are_digits(alloc: Global, bytes: &[u8], digits: &str) -> bool {
+    match hex::decode(alloc, digits.as_bytes()) {
+        Ok(want) => bytes == want.as_slice(),
+        Err(_) => false,
+    }
+}
+
+fn are_rows(alloc: Global, digits: &str) -> Result<bool, Memory> {
+    let mut writer = Writer::new(alloc, BIG);
+    rows(alloc, &mut writer)?;
+    Ok(are_digits(alloc, writer.bytes(), digits))
+}
+
+const ROWS: &str =
+    "01000001010000020000000301000004000500000000000601000007000800090100000a000b000c0001";
+
 #[test]
-fn rows_in_order(rt: HostRuntime) -> Result<(), Fail> {
-    let mut writer = Writer::new(rt.alloc(), BIG);
-    rows(rt.alloc(), &mut writer)?;
-    let front = [
-        1, 0, 0, 1, 1, 0, 0, 2, 0, 0, 0, 3, 1, 0, 0, 4, 0, 5, 0, 0, 0, 0, 0, 6,
-    ];
-    let back = [1, 0, 0, 7, 0, 8, 0, 9, 1, 0, 0, 10, 0, 11, 0, 12, 0, 1];
-    assert_eq!(rt; writer.len(), 42);
-    assert!(rt; &writer.bytes()[..24] == front.as_slice());
-    assert!(rt; &writer.bytes()[24..] == back.as_slice());
-    Ok(())
+fn rows_in_order(rt: HostRuntime) {
+    let alloc = rt.alloc();
+    assert!(rt; are_rows(alloc, ROWS) == Ok(true));
 }
 
 /// Whether a copy of a box's text has the same bytes.
@@ -177,17 +223,25 @@ fn copied(alloc: Global, boxed: &Boxed<Text>) -> Result<bool, Memory> {
     Ok(twin.get().as_slice() == boxed.get().as_slice())
 }
 
+fn is_copied(alloc: Global) -> Result<bool, Memory> {
+    let boxed = Boxed::new(alloc, Text::from_slice(alloc, b"twin")?)?;
+    copied(alloc, &boxed)
+}
+
 #[test]
-fn copies(rt: HostRuntime) -> Result<(), Fail> {
-    let boxed = Boxed::new(rt.alloc(), Text::from_slice(rt.alloc(), b"twin")?)?;
-    assert_eq!(rt; copied(rt.alloc(), &boxed), Ok(true));
-    Ok(())
+fn copies(rt: HostRuntime) {
+    let alloc = rt.alloc();
+    assert!(rt; is_copied(alloc) == Ok(true));
 }
 
 #[test]
 fn values_copied_one_after_another(rt: HostRuntime) {
     let alloc = rt.alloc();
-    assert!(rt; copy_two(alloc, &1u32, &true) == Ok((1, true)));
-    assert!(rt; copy_three(alloc, &1u32, &2u32, &false) == Ok((1, (2, false))));
-    assert!(rt; copy_four(alloc, &1u32, &2u32, &3u32, &4u32) == Ok((1, (2, (3, 4)))));
+    assert!(rt; are_copied(alloc));
+}
+
+fn are_copied(alloc: Global) -> bool {
+    copy_two(alloc, &1u32, &true) == Ok((1, true))
+        && copy_three(alloc, &1u32, &2u32, &false) == Ok((1, (2, false)))
+        && copy_four(alloc, &1u32, &2u32, &3u32, &4u32) == Ok((1, (2, (3, 4))))
 }

@@ -1,11 +1,11 @@
 //! Spellings that were worked out by hand from the rules of CORBA's common data representation.
 
-ghost use Rattle.std.specs.Prelude.{◌≤◌, ◌<◌, ◌^◌, length};
+ghost use Rattle.td_cdr.specs.Writing.{BeginsWithOrder};
 
 use std::alloc::Global;
-use std::test::Fail;
+use std::process::Abort;
 use td_cdr::{
-    Boxed, CdrFault, List, Octets, Order, Reader, Text, Twin, Writer, is_identifier,
+    Boxed, CdrFault, List, Memory, Octets, Order, Reader, Text, Twin, Writer, is_identifier,
     is_trader_name, is_word_name,
 };
 
@@ -50,6 +50,11 @@ fn number_of(reader: &mut Reader, kind: &str) -> Result<i128, CdrFault> {
     }
 }
 
+/// What stands before and behind the first blank.
+fn cut(line: &str) -> (&str, &str) {
+    line.split_once(' ').unwrap_or((line, ""))
+}
+
 /// The number that a word of decimal digits names.
 fn named(word: &str) -> u32 {
     word.parse::<u32>().unwrap_or(0)
@@ -75,207 +80,212 @@ fn wanted(word: &str) -> Result<i128, CdrFault> {
     }
 }
 
-/// Whether this number is read from this place on, and where the reader then stands.
-fn is_number(bytes: &[u8], place: u32, order: Order, kind: &str, told: &str) -> bool {
-    if place as usize > bytes.len() || bytes.len() >= 100 {
-        return false;
+/// Whether this number or fault is read, and where the reader then stands.
+fn is_number(reader: &mut Reader, kind: &str, told: &str) -> bool {
+    let (word, end) = cut(told);
+    number_of(reader, kind) == wanted(word) && reader.place() == named(end)
+}
+
+/// Whether the bytes are those of these digits.
+fn are_digits(alloc: Global, bytes: &[u8], digits: &str) -> bool {
+    match hex::decode(alloc, digits.as_bytes()) {
+        Ok(want) => bytes == want.as_slice(),
+        Err(_) => false,
     }
-    let (word, end) = told.split_once(' ').unwrap_or((told, ""));
-    let mut reader = Reader::new(bytes, place, order);
-    number_of(&mut reader, kind) == wanted(word) && reader.place() == named(end)
 }
-
-fn is_number_so(alloc: Global, line: &str) -> Result<bool, Fail> {
-    let (asked, told) = line.split_once(" => ").ok_or("a number")?;
-    let (kind, rest) = asked.split_once(' ').ok_or("an order")?;
-    let (order, rest) = rest.split_once(' ').ok_or("a place")?;
-    let (place, digits) = rest.split_once(' ').ok_or("bytes")?;
-    let bytes = hex::decode(alloc, digits.as_bytes())?;
-    Ok(is_number(bytes.as_slice(), named(place), order_of(order), kind, told))
-}
-
-#[test]
-fn numbers(rt: HostRuntime) -> Result<(), Fail> {
-    let alloc = rt.alloc();
-    for line in NUMBERS.lines() {
-        assert!(rt; is_number_so(alloc, line)?, "{line}");
-    }
-    Ok(())
-}
-
-/// Strings and sequences of octets of a message in big order: the place and the message, and what is read.
-const BYTES: &str = "string 0 0000000368690009 => 6869
-string 1 07090909000000026100 => 61
-string 0 0000000100 =>
-string 0 00000000 =>
-string 0 000000026869 => BadString:0
-string 1 0709090900000003680000 => BadString:4
-string 0 000000096869 => TooLong:0
-string 0 000000 => Short:0
-octets 0 000000020008 => 0008
-octets 0 00000000 =>
-octets 2 07070707000000030102 => TooLong:4";
 
 /// Whether these bytes are read, or a fault, which leaves the reader where it is.
-fn are_bytes(bytes: &[u8], place: u32, kind: &str, want: &[u8], fault: Option<CdrFault>) -> bool {
-    if place as usize > bytes.len() || bytes.len() >= 100 {
-        return false;
-    }
-    let mut reader = Reader::new(bytes, place, BIG);
+fn are_bytes(alloc: Global, reader: &mut Reader, kind: &str, told: &str) -> bool {
+    let place = reader.place();
     let found = match kind {
         "string" => reader.string(),
         _ => reader.octets(),
     };
     match found {
-        Ok(found) => fault.is_none() && found == want,
-        Err(found) => fault == Some(found) && reader.place() == place,
+        Ok(found) => are_digits(alloc, found, told),
+        Err(found) => fault_of(told) == Some(found) && reader.place() == place,
     }
 }
 
-fn are_bytes_so(alloc: Global, line: &str) -> Result<bool, Fail> {
-    let (asked, told) = line.split_once(" =>").ok_or("bytes")?;
-    let (kind, rest) = asked.split_once(' ').ok_or("a place")?;
-    let (place, digits) = rest.split_once(' ').ok_or("a message")?;
-    let bytes = hex::decode(alloc, digits.as_bytes())?;
-    let told = told.trim();
-    let fault = fault_of(told);
-    let want = hex::decode(
-        alloc,
-        if fault.is_some() {
-            b""
-        } else {
-            told.as_bytes()
-        },
-    )?;
-    Ok(are_bytes(bytes.as_slice(), named(place), kind, want.as_slice(), fault))
-}
-
-#[test]
-fn strings_and_octets(rt: HostRuntime) -> Result<(), Fail> {
-    let alloc = rt.alloc();
-    for line in BYTES.lines() {
-        assert!(rt; are_bytes_so(alloc, line)?, "{line}");
-    }
-    Ok(())
-}
-
-/// Encapsulations of a message in big order: the place and the message; and an unsigned long long inside, with where the
-/// reader inside and the one outside then stand.
-const INSIDE: &str = "0 000000100109090909090909050000000000000007 => 5 20 20
-0 00000012000909090909090900000000000000060707 => 6 20 22
-2 0303030300000000 => Short:4
-2 03030303000000020200 => BadBoolean:8
-2 030303030000000201 => TooLong:4
-2 03030303000000020101 => Short:16";
-
-fn inside(bytes: &[u8], place: u32) -> Result<(u64, u32, u32), CdrFault>
-    requires within { place ≤ length bytes.now }
-    requires short { length bytes.now < 2 ^ 32 }
-{
-    let mut reader = Reader::new(bytes, place, BIG);
+fn inside(reader: &mut Reader) -> Result<(u64, u32, u32), CdrFault> {
     let mut inner = reader.encapsulation()?;
     let value = inner.u64()?;
     Ok((value, inner.place(), reader.place()))
 }
 
 /// Whether this is read inside, or a fault.
-fn is_inside(bytes: &[u8], place: u32, told: &str) -> bool {
-    if place as usize > bytes.len() || bytes.len() >= 100 {
-        return false;
-    }
-    match inside(bytes, place) {
+fn is_inside(reader: &mut Reader, told: &str) -> bool {
+    match inside(reader) {
         Ok((value, inner, outer)) => are_places(value, inner, outer, told),
         Err(fault) => fault_of(told) == Some(fault),
     }
 }
 
 fn are_places(value: u64, inner: u32, outer: u32, told: &str) -> bool {
-    let (number, places) = told.split_once(' ').unwrap_or((told, ""));
-    let (first, second) = places.split_once(' ').unwrap_or((places, ""));
-    number.parse::<u64>() == Ok(value) && named(first) == inner && named(second) == outer
+    let (number, places) = cut(told);
+    let (first, second) = cut(places);
+    wanted(number) == Ok(i128::from(value)) && named(first) == inner && named(second) == outer
 }
 
-fn is_inside_so(alloc: Global, line: &str) -> Result<bool, Fail> {
-    let (asked, told) = line.split_once(" => ").ok_or("a number")?;
-    let (place, digits) = asked.split_once(' ').ok_or("a message")?;
-    let bytes = hex::decode(alloc, digits.as_bytes())?;
-    Ok(is_inside(bytes.as_slice(), named(place), told))
-}
-
-#[test]
-fn encapsulations(rt: HostRuntime) -> Result<(), Fail> {
-    let alloc = rt.alloc();
-    for line in INSIDE.lines() {
-        assert!(rt; is_inside_so(alloc, line)?, "{line}");
+/// Whether what is read from this place on is as it is told.
+fn is_told(alloc: Global, bytes: &[u8], place: u32, asked: (Order, &str), told: &str) -> bool {
+    if place as usize > bytes.len() || bytes.len() >= 100 {
+        return false;
     }
-    Ok(())
+    let (order, kind) = asked;
+    let mut reader = Reader::new(bytes, place, order);
+    match kind {
+        "string" | "octets" => are_bytes(alloc, &mut reader, kind, told),
+        "inside" => is_inside(&mut reader, told),
+        _ => is_number(&mut reader, kind, told),
+    }
+}
+
+/// Whether it is read so as a line says.
+fn is_so(alloc: Global, line: &str) -> bool {
+    let (asked, told) = line.split_once(" =>").unwrap_or((line, ""));
+    let (kind, rest) = cut(asked);
+    let (order, rest) = cut(rest);
+    let (place, digits) = cut(rest);
+    match hex::decode(alloc, digits.as_bytes()) {
+        Ok(bytes) => {
+            let asked = (order_of(order), kind);
+            is_told(alloc, bytes.as_slice(), named(place), asked, told.trim())
+        }
+        Err(_) => false,
+    }
+}
+
+fn are_so(rt: &impl Abort, alloc: Global, table: &str) {
+    for line in table.lines() {
+        assert!(rt; is_so(alloc, line), "{line}");
+    }
 }
 
 #[test]
-fn nested_encapsulations(rt: HostRuntime) -> Result<(), Fail> {
-    let bytes = [0, 0, 0, 14, 1, 9, 9, 9, 6, 0, 0, 0, 0, 9, 0, 3, 2, 1];
-    let mut reader = Reader::new(&bytes, 0, BIG);
+fn numbers(rt: HostRuntime) {
+    are_so(&rt, rt.alloc(), NUMBERS);
+}
+
+/// Strings and sequences of octets: the kind, the order, the place and the message; and what is read.
+const BYTES: &str = "string big 0 0000000368690009 => 6869
+string big 1 07090909000000026100 => 61
+string big 0 0000000100 =>
+string big 0 00000000 =>
+string big 0 000000026869 => BadString:0
+string big 1 0709090900000003680000 => BadString:4
+string big 0 000000096869 => TooLong:0
+string big 0 000000 => Short:0
+octets big 0 000000020008 => 0008
+octets big 0 00000000 =>
+octets big 2 07070707000000030102 => TooLong:4";
+
+#[test]
+fn strings_and_octets(rt: HostRuntime) {
+    are_so(&rt, rt.alloc(), BYTES);
+}
+
+/// Encapsulations: the order, the place and the message; and an unsigned long long inside, with where the reader
+/// inside and the one outside then stand.
+const INSIDE: &str = "inside big 0 000000100109090909090909050000000000000007 => 5 20 20
+inside big 0 00000012000909090909090900000000000000060707 => 6 20 22
+inside big 2 0303030300000000 => Short:4
+inside big 2 03030303000000020200 => BadBoolean:8
+inside big 2 030303030000000201 => TooLong:4
+inside big 2 03030303000000020101 => Short:16";
+
+#[test]
+fn encapsulations(rt: HostRuntime) {
+    are_so(&rt, rt.alloc(), INSIDE);
+}
+
+/// Whether the number of an encapsulation in another is read, and one behind its end is not.
+fn is_nested(reader: &mut Reader) -> Result<bool, CdrFault> {
     let mut outer = reader.encapsulation()?;
     let mut inner = outer.encapsulation()?;
-    assert_eq!(rt; inner.u16()?, 3);
-    assert_eq!(rt; inner.copied().u16(), Ok(513));
-    assert_eq!(rt; inner.u32(), Err(CdrFault::Short(16)));
-    assert_eq!(rt;
-        (inner.place(), outer.place(), reader.place()),
-        (16, 18, 18)
-    );
-    assert_eq!(rt; outer.aligned(), 20);
-    Ok(())
+    let number = inner.u16()?;
+    let next = inner.copied().u16() == Ok(513) && inner.u32() == Err(CdrFault::Short(16));
+    let places = (inner.place(), outer.place(), reader.place()) == (16, 18, 18);
+    Ok(number == 3 && next && places && outer.aligned() == 20)
 }
 
 #[test]
-fn written(rt: HostRuntime) -> Result<(), Fail> {
-    let mut writer = Writer::new(rt.alloc(), BIG);
+fn nested_encapsulations(rt: HostRuntime) {
+    let bytes = [0, 0, 0, 14, 1, 9, 9, 9, 6, 0, 0, 0, 0, 9, 0, 3, 2, 1];
+    assert!(rt; is_nested(&mut Reader::new(&bytes, 0, BIG)) == Ok(true));
+}
+
+/// One value of each kind behind another.
+fn put_each(writer: &mut Writer) -> Result<(), Memory> {
     writer.reserve(100)?;
     writer.octet(1)?;
     writer.u32(2)?;
     writer.u16(3)?;
     writer.u64(4)?;
     writer.string(b"")?;
-    writer.octets(&[7, 8])?;
-    let numbers = [
-        1, 0, 0, 0, 0, 0, 0, 2, 0, 3, 0, 0, 0, 0, 0, 0, 0, 0, 0, 0, 0, 0, 0, 4,
-    ];
-    let rest = [0, 0, 0, 1, 0, 0, 0, 0, 0, 0, 0, 2, 7, 8];
-    assert_eq!(rt; writer.len(), 38);
-    assert!(rt; &writer.bytes()[..24] == numbers.as_slice());
-    assert!(rt; &writer.bytes()[24..] == rest.as_slice());
+    writer.octets(&[7, 8])
+}
+
+const EACH: &str = "0100000000000002000300000000000000000000000000040000000100000000000000020708";
+
+fn is_cut(writer: &mut Writer) -> bool {
+    if writer.len() < 8 {
+        return false;
+    }
     writer.cut(8);
     writer.set_u32(4, 258);
-    assert!(rt; writer.bytes() == [1, 0, 0, 0, 0, 0, 1, 2].as_slice());
+    writer.bytes() == [1, 0, 0, 0, 0, 0, 1, 2].as_slice()
+}
+
+fn is_restarted(writer: &mut Writer) -> Result<bool, Memory> {
     writer.clear();
-    assert_eq!(rt; writer.len(), 0);
+    let empty = writer.len() == 0;
     writer.restart(LITTLE);
     writer.append(&[5, 6])?;
     writer.u32(1)?;
-    assert!(rt; writer.bytes() == [5, 6, 0, 0, 1, 0, 0, 0].as_slice());
-    Ok(())
+    Ok(empty && writer.bytes() == [5, 6, 0, 0, 1, 0, 0, 0].as_slice())
+}
+
+fn is_written(alloc: Global) -> Result<bool, Memory> {
+    let mut writer = Writer::new(alloc, BIG);
+    put_each(&mut writer)?;
+    let whole = writer.len() == 38 && are_digits(alloc, writer.bytes(), EACH);
+    Ok(whole && is_cut(&mut writer) && is_restarted(&mut writer) == Ok(true))
 }
 
 #[test]
-fn written_inside(rt: HostRuntime) -> Result<(), Fail> {
-    let mut writer = Writer::new(rt.alloc(), BIG);
-    let mut inner = Writer::inside(rt.alloc(), LITTLE)?;
-    inner.u32(7)?;
-    inner.string(b"hi")?;
-    assert!(rt; inner.order() == LITTLE);
-    writer.octet(9)?;
-    writer.encapsulate(&inner)?;
-    let whole = [
-        9, 0, 0, 0, 0, 0, 0, 15, 1, 0, 0, 0, 7, 0, 0, 0, 3, 0, 0, 0, b'h', b'i', 0,
-    ];
-    assert!(rt; writer.bytes() == whole.as_slice());
-    Ok(())
+fn written(rt: HostRuntime) {
+    let alloc = rt.alloc();
+    assert!(rt; is_written(alloc) == Ok(true));
 }
 
-/// Names as `TEXT*COUNT` or once, `-` for none, with `+` for a blank and `?` for the octet 127; and whether they are
+/// Whether what is inside is encapsulated as these digits, behind an octet.
+fn is_encapsulated(alloc: Global, inner: &Writer, digits: &str) -> Result<bool, Memory>
+    requires { BeginsWithOrder inner.now }
+{
+    let mut writer = Writer::new(alloc, BIG);
+    writer.octet(9)?;
+    writer.encapsulate(inner)?;
+    Ok(are_digits(alloc, writer.bytes(), digits))
+}
+
+fn is_written_inside(alloc: Global, digits: &str) -> Result<bool, Memory> {
+    let mut inner = Writer::inside(alloc, LITTLE)?;
+    inner.u32(7)?;
+    inner.string(b"hi")?;
+    Ok(inner.order() == LITTLE && is_encapsulated(alloc, &inner, digits) == Ok(true))
+}
+
+#[test]
+fn written_inside(rt: HostRuntime) {
+    let alloc = rt.alloc();
+    let digits = "090000000000000f010000000700000003000000686900";
+    assert!(rt; is_written_inside(alloc, digits) == Ok(true));
+}
+
+/// Names as `TEXT*COUNT` or once, with `+` for a blank and `?` for the octet 127; and whether they are
 /// words, identifiers and names of traders.
-const NAMES: &str = "- no no no
+const NAMES: &str = "a*0 no no no
 a yes yes yes
 Cpu_9 yes yes yes
 9pins yes no yes
@@ -290,7 +300,7 @@ a*256 yes yes no
 a*257 no no no";
 
 /// The octets of a name.
-fn name_of(alloc: Global, word: &str) -> Result<Vec<u8>, Fail> {
+fn name_of(alloc: Global, word: &str) -> Result<Vec<u8>, Memory> {
     let mut name = Vec::new(alloc);
     let (text, count) = word.split_once('*').unwrap_or((word, "1"));
     for _ in 0..named(count) {
@@ -310,51 +320,67 @@ fn octet_of(letter: u8) -> u8 {
 }
 
 fn is_named(name: &[u8], told: &str) -> bool {
-    let (word, rest) = told.split_once(' ').unwrap_or((told, ""));
-    let (identifier, trader) = rest.split_once(' ').unwrap_or((rest, ""));
+    let (word, rest) = cut(told);
+    let (identifier, trader) = cut(rest);
     is_word_name(name) == (word == "yes")
         && is_identifier(name) == (identifier == "yes")
         && is_trader_name(name) == (trader == "yes")
 }
 
-fn is_named_so(alloc: Global, line: &str) -> Result<bool, Fail> {
-    let (word, told) = line.split_once(' ').ok_or("a name")?;
-    if word == "-" {
-        return Ok(is_named(b"", told));
+fn is_named_so(alloc: Global, line: &str) -> bool {
+    let (word, told) = cut(line);
+    match name_of(alloc, word) {
+        Ok(name) => is_named(name.as_slice(), told),
+        Err(_) => false,
     }
-    let name = name_of(alloc, word)?;
-    Ok(is_named(name.as_slice(), told))
 }
 
 #[test]
-fn names(rt: HostRuntime) -> Result<(), Fail> {
+fn names(rt: HostRuntime) {
     let alloc = rt.alloc();
     for line in NAMES.lines() {
-        assert!(rt; is_named_so(alloc, line)?, "{line}");
+        assert!(rt; is_named_so(alloc, line), "{line}");
     }
-    Ok(())
 }
 
-#[test]
-fn lists(rt: HostRuntime) -> Result<(), Fail> {
-    let alloc = rt.alloc();
-    let mut list = List::new(alloc);
-    assert!(rt; list.is_empty());
-    list.push(Text::from_slice(alloc, b"first")?)?;
+fn is_twin(alloc: Global, list: &List<Text>) -> Result<bool, Memory> {
     let twin = list.copy(alloc)?;
-    assert_eq!(rt; twin.len(), 1);
-    assert!(rt; twin.get(0).ok_or("an element")?.as_slice() == b"first".as_slice());
-    Ok(())
+    Ok(is_first(twin.as_slice()))
+}
+
+fn is_first(texts: &[Text]) -> bool {
+    match texts {
+        [text] => text.as_slice() == b"first".as_slice(),
+        _ => false,
+    }
+}
+
+fn is_list(alloc: Global) -> Result<bool, Memory> {
+    let mut list = List::new(alloc);
+    let empty = list.is_empty();
+    list.push(Text::from_slice(alloc, b"first")?)?;
+    Ok(empty && is_twin(alloc, &list) == Ok(true))
 }
 
 #[test]
-fn octets_and_boxes(rt: HostRuntime) -> Result<(), Fail> {
+fn lists(rt: HostRuntime) {
     let alloc = rt.alloc();
+    assert!(rt; is_list(alloc) == Ok(true));
+}
+
+fn are_popped(alloc: Global) -> Result<bool, Memory> {
     let mut octets = Octets::from_slice(alloc, &[1, 2])?;
-    assert_eq!(rt; octets.pop(), Some(2));
-    assert_eq!(rt; octets.pop(), Some(1));
-    assert_eq!(rt; octets.pop(), None);
+    Ok(octets.pop() == Some(2) && octets.pop() == Some(1) && octets.pop().is_none())
+}
+
+fn is_boxed(alloc: Global) -> Result<bool, Memory> {
     let boxed = Boxed::new(alloc, 7_u32)?;
-    assert_eq!(rt; boxed.copy(alloc)?.into_inner(), 7);
-    Ok(())
+    let twin = boxed.copy(alloc)?;
+    Ok(twin.into_inner() == 7)
+}
+
+#[test]
+fn octets_and_boxes(rt: HostRuntime) {
+    let alloc = rt.alloc();
+    assert!(rt; are_popped(alloc) == Ok(true) && is_boxed(alloc) == Ok(true));
 }
