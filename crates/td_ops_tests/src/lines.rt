@@ -1,6 +1,6 @@
 //! Lines of vectors.
 
-use std::alloc::{AllocError, Global};
+use std::alloc::Global;
 use std::test::Fail;
 use td_cdr::{Boxed, Order, Reader};
 use td_ops::{Call, OpsFault, read_call};
@@ -19,12 +19,11 @@ pub fn kind_of(word: &str) -> Kind {
     }
 }
 
-/// The bytes of hexadecimal digits; a dash is none.
-pub fn bytes_of(alloc: Global, digits: &str) -> Result<Vec<u8>, Fail> {
-    if digits == "-" {
-        return Ok(Vec::new(alloc));
-    }
-    Ok(hex::decode(alloc, digits.as_bytes())?)
+/// The bytes of hexadecimal digits, where a dash is none, between those of others.
+pub fn bytes_of(alloc: Global, front: &str, digits: &str, back: &str) -> Result<Vec<u8>, Fail> {
+    let digits = if digits == "-" { "" } else { digits };
+    let all = format!(in alloc; "{front}{digits}{back}")?;
+    Ok(hex::decode(alloc, all.as_bytes())?)
 }
 
 /// The first word of a line, and what stands behind it.
@@ -32,15 +31,21 @@ pub fn cut(line: &str) -> (&str, &str) {
     line.split_once(' ').unwrap_or((line, ""))
 }
 
+/// The digits of a body: the big order's come first.
+pub fn body_in(bodies: &str, order: Order) -> &str {
+    let (big, little) = cut(bodies);
+    if order == Order::Big { big } else { little }
+}
+
 /// The number of decimal digits.
 pub fn number_of(digits: &str) -> u32 {
     digits.parse::<u32>().unwrap_or(0)
 }
 
-/// The call in front of the bytes, and the place behind it.
+/// The call of an object in front of the bytes, and the place behind it.
 pub fn call_in(
     alloc: Global,
-    kind: Kind,
+    kind: &str,
     name: &str,
     bytes: &[u8],
     order: Order,
@@ -49,34 +54,16 @@ pub fn call_in(
         return Err("too long".into());
     }
     let mut reader = Reader::new(bytes, 0, order);
-    let call = Boxed::new(
-        alloc,
-        read_call(alloc, &kind, name.as_bytes(), &mut reader)?,
-    )?;
-    Ok((call, reader.place()))
+    let call = read_call(alloc, &kind_of(kind), name.as_bytes(), &mut reader)?;
+    Ok((Boxed::new(alloc, call)?, reader.place()))
 }
 
-fn joined(alloc: Global, front: &[u8], back: &[u8]) -> Result<Vec<u8>, AllocError> {
-    let mut bytes = Vec::from_slice(alloc, front)?;
-    bytes.extend_from_slice(back)?;
-    Ok(bytes)
-}
-
-/// The body with bytes behind its last value.
-pub fn with_more(alloc: Global, body: &[u8]) -> Result<Vec<u8>, AllocError> {
-    joined(alloc, body, b"\xff\x00\xff")
-}
-
-/// Eight bytes and the body.
-pub fn behind_eight(alloc: Global, body: &[u8]) -> Result<Vec<u8>, AllocError> {
-    joined(alloc, b"\x00\x00\x00\x00\x00\x00\x00\x00", body)
-}
-
-/// The fault that a word names, at a place.
-pub fn fault_of(word: &str, place: u32) -> OpsFault {
-    match word {
+/// Whether this fault, which a word names, was found at a place, and the reader is at byte 8.
+pub fn is_fault(found: (Option<OpsFault>, u32), word: &str, place: u32) -> bool {
+    let fault = match word {
         "BadOperation" => OpsFault::BadOperation,
         "NoImplement" => OpsFault::NoImplement,
         _ => OpsFault::Marshal(place),
-    }
+    };
+    found == (Some(fault), 8)
 }
