@@ -1,10 +1,10 @@
 //! What is answered, in words.
 
-use crate::values::{counted, two};
-use td_cdr::{Memory, Text};
+use crate::values::counted;
+use td_cdr::{Memory, Octets, Text};
 use td_exceptions::{UserException, user_id};
 use td_ops::{Outcome, Reply, SystemKind};
-use td_store::{LinkRecord, Local};
+use td_store::Local;
 use td_trader::Begin;
 use td_value::{FollowOption, IncarnationNumber, LinkInfo, OfferInfo, Property, ProxyInfo};
 
@@ -29,76 +29,35 @@ fn is_system(kind: SystemKind, told: &str) -> bool {
 /// Behind the id of InvalidPolicyValue stands the policy's name.
 fn is_raised(exception: &UserException, told: &str) -> bool {
     let (id, name) = told.split_once(' ').unwrap_or((told, ""));
-    is_behind(user_id(exception), id) && is_of(exception, name)
-}
-
-fn is_behind(id: &[u8], told: &str) -> bool {
-    match id.strip_prefix(b"IDL:omg.org/CosTrading") {
-        Some(rest) => rest == told.as_bytes(),
-        None => false,
-    }
-}
-
-fn is_of(exception: &UserException, name: &str) -> bool {
-    match exception {
-        UserException::InvalidPolicyValue { policy } => policy.name.as_slice() == name.as_bytes(),
-        _ => name.is_empty(),
-    }
+    let policy = match exception {
+        UserException::InvalidPolicyValue { policy } => policy.name.as_slice(),
+        _ => b"".as_slice(),
+    };
+    let behind = user_id(exception).strip_prefix(b"IDL:omg.org/CosTrading");
+    behind.unwrap_or(b"") == id.as_bytes() && policy == name.as_bytes()
 }
 
 /// Whether a reply is this: a word for its kind and what it holds, or a word alone.
 pub fn is_reply(reply: &Reply, told: &str) -> bool {
-    match told.split_once(' ') {
-        Some((word, rest)) => word == kind_of(reply) && holds(reply, rest),
-        None => is_word(reply, told),
-    }
-}
-
-fn is_word(reply: &Reply, word: &str) -> bool {
-    match reply {
-        Reply::Nothing => word == "done",
-        Reply::Truth(true) => word == "TRUE",
-        Reply::Truth(false) => word == "FALSE",
-        Reply::Follow(rule) => word == rule_name(*rule),
-        Reply::Names(names) => word == "none" && names.is_empty(),
-        _ => false,
-    }
-}
-
-fn kind_of(reply: &Reply) -> &'static str {
-    match reply {
-        Reply::Id(_) => "id",
-        Reply::Number(_) => "number",
-        Reply::Stem(_) => "stem",
-        Reply::Incarnation(_) => "incarnation",
-        Reply::Names(_) => "names",
-        Reply::Ids { .. } => "ids",
-        Reply::Offer(_) => "offer",
-        Reply::Proxy(_) => "proxy",
-        Reply::Link(_) => "rules",
-        Reply::Typed(_) => "type",
-        _ => "",
-    }
-}
-
-fn holds(reply: &Reply, told: &str) -> bool {
-    match reply {
-        Reply::Id(id) => is_text(id, told),
-        Reply::Number(number) => is_number(*number, told),
-        Reply::Stem(octets) => are_octets(octets.as_slice(), told),
-        Reply::Incarnation(number) => is_incarnation(number, told),
-        Reply::Names(names) => are_names(names.as_slice(), told),
-        Reply::Ids { ids, .. } => are_names(ids.as_slice(), told),
-        Reply::Offer(info) => is_offer(info, told),
-        Reply::Proxy(info) => is_proxy(info, told),
-        Reply::Link(info) => has_rules(info, told),
-        Reply::Typed(described) => is_text(&described.if_name, told),
-        _ => false,
-    }
-}
-
-fn is_text(text: &Text, told: &str) -> bool {
-    text.as_slice() == told.as_bytes()
+    let (word, rest) = told.split_once(' ').unwrap_or((told, ""));
+    let (kind, is_held) = match reply {
+        Reply::Nothing => ("done", rest.is_empty()),
+        Reply::Truth(true) => ("TRUE", rest.is_empty()),
+        Reply::Truth(false) => ("FALSE", rest.is_empty()),
+        Reply::Follow(rule) => (rule_name(*rule), rest.is_empty()),
+        Reply::Id(id) => ("id", id.as_slice() == rest.as_bytes()),
+        Reply::Number(number) => ("number", is_number(*number, rest)),
+        Reply::Stem(octets) => ("stem", are_octets(octets.as_slice(), rest)),
+        Reply::Incarnation(number) => ("incarnation", is_incarnation(number, rest)),
+        Reply::Names(names) => ("names", are_names(names.as_slice(), rest)),
+        Reply::Ids { ids, .. } => ("ids", are_names(ids.as_slice(), rest)),
+        Reply::Offer(info) => ("offer", is_offer(info, rest)),
+        Reply::Proxy(info) => ("proxy", is_proxy(info, rest)),
+        Reply::Link(info) => ("rules", has_rules(info, rest)),
+        Reply::Typed(described) => ("type", described.if_name.as_slice() == rest.as_bytes()),
+        _ => ("", false),
+    };
+    kind == word && is_held
 }
 
 fn is_number(number: u32, told: &str) -> bool {
@@ -128,10 +87,13 @@ fn are_octets(octets: &[u8], word: &str) -> bool {
 }
 
 fn is_incarnation(number: &IncarnationNumber, low: &str) -> bool {
-    number.high == 0 && low.parse::<u32>() == Ok(number.low)
+    number.high == 0 && is_number(number.low, low)
 }
 
 fn are_names(names: &[Text], words: &str) -> bool {
+    if words.is_empty() {
+        return names.is_empty();
+    }
     let mut left = words.split(' ');
     for name in names {
         if name.as_slice() != left.next().unwrap_or("").as_bytes() {
@@ -156,14 +118,14 @@ fn have_names(properties: &[Property], words: &str) -> bool {
 
 /// `TYPE;PROPERTIES`
 fn is_offer(info: &OfferInfo, told: &str) -> bool {
-    let (service_type, properties) = two(told);
+    let (service_type, properties) = told.split_once(';').unwrap_or((told, ""));
     info.service_type.as_slice() == service_type.as_bytes()
         && have_names(info.properties.as_slice(), properties)
 }
 
 /// `TYPE;RECIPE` of one that matches whatever is asked.
 fn is_proxy(info: &ProxyInfo, told: &str) -> bool {
-    let (service_type, recipe) = two(told);
+    let (service_type, recipe) = told.split_once(';').unwrap_or((told, ""));
     info.service_type.as_slice() == service_type.as_bytes()
         && info.recipe.as_slice() == recipe.as_bytes()
         && info.if_match_all
@@ -189,30 +151,32 @@ pub fn is_begun(answer: Result<Begin, Memory>, told: &str) -> bool {
 }
 
 fn begins_so(begin: &Begin, told: &str) -> bool {
+    let (word, rest) = told.split_once(' ').unwrap_or((told, ""));
     match begin {
         Begin::Refused(outcome) => is_outcome(outcome, told),
-        Begin::Repeat(mark) => is_repeat(*mark, told.strip_prefix("repeat ")),
-        Begin::Search(local) => is_search(local, told.strip_prefix("search ")),
-        Begin::Path(local) => is_path(local, told.strip_prefix("path ")),
+        Begin::Repeat(mark) => word == "repeat" && rest.parse::<u64>() == Ok(*mark),
+        Begin::Search(local) => word == "search" && is_search(local, rest),
+        Begin::Path(local) => word == "path" && is_path(local, rest),
     }
 }
 
-fn is_repeat(mark: u64, told: Option<&str>) -> bool {
-    match told {
-        Some(told) => told.parse::<u64>() == Ok(mark),
-        None => false,
-    }
+/// The identifier, the mark, the point, and how many offers and links are searched and policies above their maximum.
+fn is_search(local: &Local, told: &str) -> bool {
+    let (identifier, numbers) = told.split_once(' ').unwrap_or((told, ""));
+    has_identifier(&local.identifier, identifier)
+        && local.path.is_none()
+        && are_numbers(local, numbers)
 }
 
-fn is_search(local: &Local, told: Option<&str>) -> bool {
-    let (identifier, numbers) = told.unwrap_or("").split_once(' ').unwrap_or(("", ""));
-    has_identifier(local, identifier) && local.path.is_none() && are_numbers(local, numbers)
-}
-
-/// The mark, the point, and how many offers and links are searched and policies above their maximum.
 fn are_numbers(local: &Local, told: &str) -> bool {
     let mut words = told.split(' ');
-    for number in numbers_of(local) {
+    for number in [
+        local.mark,
+        local.point,
+        local.candidates.len() as u64,
+        local.links.len() as u64,
+        local.effective.over.len() as u64,
+    ] {
         if words.next().unwrap_or("").parse::<u64>() != Ok(number) {
             return false;
         }
@@ -220,45 +184,25 @@ fn are_numbers(local: &Local, told: &str) -> bool {
     words.next().is_none()
 }
 
-fn numbers_of(local: &Local) -> [u64; 5] {
-    [
-        local.mark,
-        local.point,
-        local.candidates.len() as u64,
-        local.links.len() as u64,
-        local.effective.over.len() as u64,
-    ]
-}
-
-/// A path is neither marked nor searched.
-fn is_path(local: &Local, told: Option<&str>) -> bool {
-    let (link, identifier) = told.unwrap_or("").split_once(' ').unwrap_or(("", ""));
-    has_link(&local.path, link)
-        && has_identifier(local, identifier)
-        && local.candidates.is_empty()
-        && local.links.is_empty()
-        && local.mark == 0
-}
-
-fn has_link(path: &Option<LinkRecord>, name: &str) -> bool {
-    match path {
-        Some(link) => link.name.as_slice() == name.as_bytes(),
+/// The link and the identifier. A path is neither marked nor searched.
+fn is_path(local: &Local, told: &str) -> bool {
+    let (name, identifier) = told.split_once(' ').unwrap_or((told, ""));
+    match &local.path {
+        Some(link) => link.name.as_slice() == name.as_bytes()
+            && has_identifier(&local.identifier, identifier)
+            && local.candidates.is_empty()
+            && local.links.is_empty()
+            && local.mark == 0,
         None => false,
     }
 }
 
 /// An identifier in words: `-` none, `#NUMBER` the stem `A` and this value, or its octets.
-fn has_identifier(local: &Local, word: &str) -> bool {
-    match &local.identifier {
-        Some(octets) => is_identifier(octets.as_slice(), word),
-        None => word == "-",
-    }
-}
-
-fn is_identifier(octets: &[u8], word: &str) -> bool {
-    match word.strip_prefix('#') {
-        Some(value) => is_made(octets, value),
-        None => are_octets(octets, word),
+fn has_identifier(identifier: &Option<Octets>, word: &str) -> bool {
+    match (identifier, word.strip_prefix('#')) {
+        (Some(octets), Some(value)) => is_made(octets.as_slice(), value),
+        (Some(octets), None) => are_octets(octets.as_slice(), word),
+        (None, _) => word == "-",
     }
 }
 

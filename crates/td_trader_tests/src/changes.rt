@@ -2,45 +2,43 @@
 
 ghost use Rattle.std.specs.Prelude.{◌≡◌, []};
 
-use crate::answers::is_outcome;
-use crate::lines::{NEW, Start, follows, is_shown};
+use crate::lines::{NEW, Start, follows, is_answer, is_shown};
 use crate::opening::empty_store;
-use crate::values::text;
 use std::alloc::Global;
 use std::process::Abort;
 use std::test::Fail;
-use td_cdr::Memory;
+use td_cdr::{Memory, Text};
 use td_changes::{apply, seek};
-use td_ops::{Attribute, Change, Look, NumberAttribute, Outcome};
+use td_ops::{Attribute, Change, Look, NumberAttribute};
 use td_store::Store;
 
 /// An ordinary offer 7 and a proxy offer 8 of the type Printer, and the link `b`.
 pub const KEPT: Start = Start {
     last_offer: 6,
-    lines: "type Printer;IDL:Printer:1.0; => incarnation 1
+    lines: "add_type Printer;IDL:Printer:1.0; => incarnation 1
 export IDL:Printer:1.0;Printer; => id 7
-proxy @IDL:L:1.0;Printer;;$*; => id 8
-link b;@IDL:L:1.0;IDL:R:1.0;if_no_local;always => done",
+export_proxy @IDL:L:1.0;Printer;;TRUE;$*; => id 8
+add_link b;@IDL:L:1.0;if_no_local;always;IDL:R:1.0 => done",
     ..NEW
 };
 
-const ATTRIBUTES: &str = "set max_list 7 => number 100
-set max_list 8 => number 7
-see get max_list => number 8
-set supports_proxy_offers FALSE => TRUE
-see get supports_proxy_offers => FALSE
-set max_follow_policy local_only => always
-see get max_follow_policy => local_only";
+const ATTRIBUTES: &str = "set_max_list 7 => number 100
+set_max_list 8 => number 7
+_get_max_list => number 8
+set_supports_proxy_offers FALSE => TRUE
+_get_supports_proxy_offers => FALSE
+set_max_follow_policy local_only => always
+_get_max_follow_policy => local_only";
 
 #[test]
 fn the_old_value_is_answered(rt: HostRuntime) -> Result<(), Fail> {
     follows(&rt, rt.alloc(), NEW, ATTRIBUTES)
 }
 
-const STEMS: &str = "stem 7*65 => IMP_LIMIT
-see get request_id_stem => stem A
-stem 7*64 => stem A
-see get request_id_stem => stem 7*64";
+const STEMS: &str = "set_request_id_stem 7*65 => IMP_LIMIT
+_get_request_id_stem => stem A
+set_request_id_stem 7*64 => stem A
+_get_request_id_stem => stem 7*64";
 
 #[test]
 fn a_stem_is_at_most_64_octets(rt: HostRuntime) -> Result<(), Fail> {
@@ -66,29 +64,19 @@ fn changed_and_looked_at(alloc: Global) -> Result<bool, Memory> {
 fn refused_then_changed(alloc: Global, store: &mut Store) -> Result<bool, Memory>
     requires { store.old.offers ≡ [] }
 {
-    let name = text(alloc, "b")?;
+    let name = Text::from_slice(alloc, b"b")?;
+    let seven = Change::SetNumber {
+        attribute: NumberAttribute::MaxList,
+        value: 7,
+    };
     Ok(
-        is_applied(
+        is_answer(
             apply(alloc, store, Change::RemoveLink { name }),
             "/Link/UnknownLinkName:1.0",
         ) && reads(alloc, store, 100, "number 100")
-            && is_applied(apply(alloc, store, seven()), "number 100")
+            && is_answer(apply(alloc, store, seven), "number 100")
             && reads(alloc, store, 7, "number 7"),
     )
-}
-
-fn seven() -> Change {
-    Change::SetNumber {
-        attribute: NumberAttribute::MaxList,
-        value: 7,
-    }
-}
-
-fn is_applied(answer: Result<Outcome, Memory>, told: &str) -> bool {
-    match &answer {
-        Ok(outcome) => is_outcome(outcome, told),
-        Err(_) => false,
-    }
 }
 
 fn reads(alloc: Global, store: &Store, max_list: u32, told: &str) -> bool {
@@ -106,23 +94,23 @@ withdraw 7 => IMP_LIMIT
 withdraw 9 => /UnknownOfferId:1.0
 modify 7;; => IMP_LIMIT
 modify 07;; => /IllegalOfferId:1.0
-withdraw_all Printer; => IMP_LIMIT
-withdraw_all Printer;1 == 2 => /Register/NoMatchingOffers:1.0
-see offers => ids 7
-see proxies => ids 8";
+withdraw_using_constraint Printer; => IMP_LIMIT
+withdraw_using_constraint Printer;1 == 2 => /Register/NoMatchingOffers:1.0
+list_offers => ids 7
+list_proxies => ids 8";
 
 #[test]
 fn changes_of_offers(rt: HostRuntime) -> Result<(), Fail> {
     follows(&rt, rt.alloc(), BARRED, OFFERS_BARRED)
 }
 
-const LINKS_BARRED: &str = "link c;@IDL:L:1.0;IDL:R:1.0;local_only;local_only => IMP_LIMIT
-link b;@IDL:L:1.0;IDL:R:1.0;local_only;local_only => /Link/DuplicateLinkName:1.0
-unlink b => IMP_LIMIT
-unlink c => /Link/UnknownLinkName:1.0
-rules b;local_only;local_only => IMP_LIMIT
-rules c;local_only;local_only => /Link/UnknownLinkName:1.0
-proxy @IDL:L:1.0;Printer;;$*; => IMP_LIMIT
+const LINKS_BARRED: &str = "add_link c;@IDL:L:1.0;local_only;local_only;IDL:R:1.0 => IMP_LIMIT
+add_link b;@IDL:L:1.0;local_only;local_only;IDL:R:1.0 => /Link/DuplicateLinkName:1.0
+remove_link b => IMP_LIMIT
+remove_link c => /Link/UnknownLinkName:1.0
+modify_link b;local_only;local_only => IMP_LIMIT
+modify_link c;local_only;local_only => /Link/UnknownLinkName:1.0
+export_proxy @IDL:L:1.0;Printer;;TRUE;$*; => IMP_LIMIT
 withdraw_proxy 8 => IMP_LIMIT
 withdraw_proxy 7 => /Proxy/NotProxyOfferId:1.0";
 
@@ -131,56 +119,56 @@ fn changes_of_links_and_proxy_offers(rt: HostRuntime) -> Result<(), Fail> {
     follows(&rt, rt.alloc(), BARRED, LINKS_BARRED)
 }
 
-const ATTRIBUTES_BARRED: &str = "set supports_proxy_offers FALSE => IMP_LIMIT
-set max_list 7 => IMP_LIMIT
-set max_follow_policy local_only => IMP_LIMIT
-stem C => IMP_LIMIT
-see get supports_proxy_offers => TRUE";
+const ATTRIBUTES_BARRED: &str = "set_supports_proxy_offers FALSE => IMP_LIMIT
+set_max_list 7 => IMP_LIMIT
+set_max_follow_policy local_only => IMP_LIMIT
+set_request_id_stem C => IMP_LIMIT
+_get_supports_proxy_offers => TRUE";
 
 #[test]
 fn attributes(rt: HostRuntime) -> Result<(), Fail> {
     follows(&rt, rt.alloc(), BARRED, ATTRIBUTES_BARRED)
 }
 
-const TYPES_BARRED: &str = "mask Printer => IMP_LIMIT
-remove Printer => IMP_LIMIT
-remove Scanner => /UnknownServiceType:1.0";
+const TYPES_BARRED: &str = "mask_type Printer => IMP_LIMIT
+remove_type Printer => IMP_LIMIT
+remove_type Scanner => /UnknownServiceType:1.0";
 
 /// A trader that accepts no change more, whose type is masked.
 const MASKED: Start = Start {
     last_offer: 0,
     changes: 2,
-    lines: "type Printer;IDL:Printer:1.0; => incarnation 1
-mask Printer => done",
+    lines: "add_type Printer;IDL:Printer:1.0; => incarnation 1
+mask_type Printer => done",
 };
 
 #[test]
 fn changes_of_types(rt: HostRuntime) -> Result<(), Fail> {
     let alloc = rt.alloc();
     follows(&rt, alloc, BARRED, TYPES_BARRED)?;
-    follows(&rt, alloc, MASKED, "unmask Printer => IMP_LIMIT")
+    follows(&rt, alloc, MASKED, "unmask_type Printer => IMP_LIMIT")
 }
 
 /// What is refused is at fault with all that is refused later, too.
-const LINKED: &str = "link b c;@IDL:L:1.0;-;always;if_no_local => /Link/IllegalLinkName:1.0
-link b;@IDL:L:1.0;-;always;if_no_local => /Link/DuplicateLinkName:1.0
-link c;@IDL:L:1.0;-;always;if_no_local => /InvalidLookupRef:1.0
-link c;;IDL:R:1.0;always;if_no_local => /InvalidLookupRef:1.0
-set max_link_follow_policy local_only => always
-link c;@IDL:L:1.0;IDL:R:1.0;always;if_no_local => /Link/DefaultFollowTooPermissive:1.0
-link c;@IDL:L:1.0;IDL:R:1.0;always;always => /Link/LimitingFollowTooPermissive:1.0
-set max_link_follow_policy always => local_only
-link c;@IDL:L:1.0;IDL:R:1.0;always;always => done
-link c;@IDL:L:1.0;IDL:R:1.0;always;always => /Link/DuplicateLinkName:1.0
-see link c => rules always always
-rules b;local_only;if_no_local => done
-see link b => rules local_only if_no_local
-set max_link_follow_policy local_only => always
-rules b c;always;if_no_local => /Link/IllegalLinkName:1.0
-rules d;always;if_no_local => /Link/UnknownLinkName:1.0
-rules b;always;if_no_local => /Link/DefaultFollowTooPermissive:1.0
-rules b;local_only;always => /Link/LimitingFollowTooPermissive:1.0
-see link b => rules local_only if_no_local";
+const LINKED: &str = "add_link b c;@IDL:L:1.0;always;if_no_local => /Link/IllegalLinkName:1.0
+add_link b;@IDL:L:1.0;always;if_no_local => /Link/DuplicateLinkName:1.0
+add_link c;@IDL:L:1.0;always;if_no_local => /InvalidLookupRef:1.0
+add_link c;;always;if_no_local;IDL:R:1.0 => /InvalidLookupRef:1.0
+set_max_link_follow_policy local_only => always
+add_link c;@IDL:L:1.0;always;if_no_local;IDL:R:1.0 => /Link/DefaultFollowTooPermissive:1.0
+add_link c;@IDL:L:1.0;always;always;IDL:R:1.0 => /Link/LimitingFollowTooPermissive:1.0
+set_max_link_follow_policy always => local_only
+add_link c;@IDL:L:1.0;always;always;IDL:R:1.0 => done
+add_link c;@IDL:L:1.0;always;always;IDL:R:1.0 => /Link/DuplicateLinkName:1.0
+describe_link c => rules always always
+modify_link b;local_only;if_no_local => done
+describe_link b => rules local_only if_no_local
+set_max_link_follow_policy local_only => always
+modify_link b c;always;if_no_local => /Link/IllegalLinkName:1.0
+modify_link d;always;if_no_local => /Link/UnknownLinkName:1.0
+modify_link b;always;if_no_local => /Link/DefaultFollowTooPermissive:1.0
+modify_link b;local_only;always => /Link/LimitingFollowTooPermissive:1.0
+describe_link b => rules local_only if_no_local";
 
 #[test]
 fn a_link_is_added_and_given_other_rules(rt: HostRuntime) -> Result<(), Fail> {
@@ -189,21 +177,21 @@ fn a_link_is_added_and_given_other_rules(rt: HostRuntime) -> Result<(), Fail> {
 
 /// The limit comes last.
 const FULL: &str = "links 1023 => done
-link one_more;@IDL:L:1.0;IDL:R:1.0;always;if_no_local => /Link/DefaultFollowTooPermissive:1.0
-link one_more;@IDL:L:1.0;IDL:R:1.0;always;always => IMP_LIMIT";
+add_link one_more;@IDL:L:1.0;always;if_no_local;IDL:R:1.0 => /Link/DefaultFollowTooPermissive:1.0
+add_link one_more;@IDL:L:1.0;always;always;IDL:R:1.0 => IMP_LIMIT";
 
 #[test]
 fn there_are_at_most_1024_links(rt: HostRuntime) -> Result<(), Fail> {
     follows(&rt, rt.alloc(), KEPT, FULL)
 }
 
-const UNLINKED: &str = "see link b => rules if_no_local always
-see link c => /Link/UnknownLinkName:1.0
-see links => names b
-unlink b c => /Link/IllegalLinkName:1.0
-unlink b => done
-unlink b => /Link/UnknownLinkName:1.0
-see links => none";
+const UNLINKED: &str = "describe_link b => rules if_no_local always
+describe_link c => /Link/UnknownLinkName:1.0
+list_links => names b
+remove_link b c => /Link/IllegalLinkName:1.0
+remove_link b => done
+remove_link b => /Link/UnknownLinkName:1.0
+list_links => names";
 
 #[test]
 fn a_link_is_described_and_removed(rt: HostRuntime) -> Result<(), Fail> {
@@ -211,38 +199,38 @@ fn a_link_is_described_and_removed(rt: HostRuntime) -> Result<(), Fail> {
 }
 
 /// Where proxy offers aren't supported, that comes before all else.
-const PROXIED: &str = "see proxy 8 => proxy Printer;$*
-see proxy 08 => /IllegalOfferId:1.0
-see proxy 9 => /UnknownOfferId:1.0
-see proxy 7 => /Proxy/NotProxyOfferId:1.0
-see offers => ids 7
-see proxies => ids 8
+const PROXIED: &str = "describe_proxy 8 => proxy Printer;$*
+describe_proxy 08 => /IllegalOfferId:1.0
+describe_proxy 9 => /UnknownOfferId:1.0
+describe_proxy 7 => /Proxy/NotProxyOfferId:1.0
+list_offers => ids 7
+list_proxies => ids 8
 withdraw_proxy 08 => /IllegalOfferId:1.0
 withdraw_proxy 9 => /UnknownOfferId:1.0
 withdraw_proxy 7 => /Proxy/NotProxyOfferId:1.0
 withdraw_proxy 8 => done
 withdraw_proxy 8 => /UnknownOfferId:1.0
-set supports_proxy_offers FALSE => TRUE
+set_supports_proxy_offers FALSE => TRUE
 withdraw_proxy 08 => NO_IMPLEMENT
-see proxy 08 => NO_IMPLEMENT
-see proxies => /NotImplemented:1.0";
+describe_proxy 08 => NO_IMPLEMENT
+list_proxies => /NotImplemented:1.0";
 
 #[test]
 fn a_proxy_offer_is_described_and_withdrawn(rt: HostRuntime) -> Result<(), Fail> {
     follows(&rt, rt.alloc(), KEPT, PROXIED)
 }
 
-const TYPES: &str = "type Printer;IDL:Printer:1.0; => incarnation 1
-type Printer;IDL:Printer:1.0; => Repos/ServiceTypeRepository/ServiceTypeExists:1.0
-mask Printer => done
-mask Printer => Repos/ServiceTypeRepository/AlreadyMasked:1.0
-unmask Printer => done
-see types => names Printer
-see type Printer => type IDL:Printer:1.0
-see full Printer => type IDL:Printer:1.0
-remove Printer => done
-remove Printer => /UnknownServiceType:1.0
-type Printer;IDL:Printer:1.0; => incarnation 2";
+const TYPES: &str = "add_type Printer;IDL:Printer:1.0; => incarnation 1
+add_type Printer;IDL:Printer:1.0; => Repos/ServiceTypeRepository/ServiceTypeExists:1.0
+mask_type Printer => done
+mask_type Printer => Repos/ServiceTypeRepository/AlreadyMasked:1.0
+unmask_type Printer => done
+list_types 0 => names Printer
+describe_type Printer => type IDL:Printer:1.0
+fully_describe_type Printer => type IDL:Printer:1.0
+remove_type Printer => done
+remove_type Printer => /UnknownServiceType:1.0
+add_type Printer;IDL:Printer:1.0; => incarnation 2";
 
 #[test]
 fn a_type_comes_and_goes(rt: HostRuntime) -> Result<(), Fail> {
@@ -250,17 +238,17 @@ fn a_type_comes_and_goes(rt: HostRuntime) -> Result<(), Fail> {
 }
 
 /// What is at fault with the type comes before what is at fault with the constraint.
-const CONSTRAINTS: &str = "withdraw_all Prin ter;and => /IllegalServiceType:1.0
-withdraw_all Scanner;and => /UnknownServiceType:1.0
-type Scanner;IDL:Printer:1.0; => incarnation 2
-withdraw_all Scanner;and => /IllegalConstraint:1.0
-withdraw_all Printer;and => /IllegalConstraint:1.0
-withdraw_all Printer;exist Colour => /Register/NoMatchingOffers:1.0
-see offer 7 => offer Printer
-withdraw_all Printer;not exist Colour => done
-see offer 7 => /UnknownOfferId:1.0
-see proxy 8 => proxy Printer;$*
-withdraw_all Printer; => /Register/NoMatchingOffers:1.0";
+const CONSTRAINTS: &str = "withdraw_using_constraint Prin ter;and => /IllegalServiceType:1.0
+withdraw_using_constraint Scanner;and => /UnknownServiceType:1.0
+add_type Scanner;IDL:Printer:1.0; => incarnation 2
+withdraw_using_constraint Scanner;and => /IllegalConstraint:1.0
+withdraw_using_constraint Printer;and => /IllegalConstraint:1.0
+withdraw_using_constraint Printer;exist Colour => /Register/NoMatchingOffers:1.0
+describe 7 => offer Printer
+withdraw_using_constraint Printer;not exist Colour => done
+describe 7 => /UnknownOfferId:1.0
+describe_proxy 8 => proxy Printer;$*
+withdraw_using_constraint Printer; => /Register/NoMatchingOffers:1.0";
 
 #[test]
 fn offers_are_withdrawn_by_a_constraint(rt: HostRuntime) -> Result<(), Fail> {

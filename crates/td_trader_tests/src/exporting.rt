@@ -4,9 +4,9 @@ use crate::lines::{NEW, Start, follows};
 use std::test::Fail;
 
 /// The types Printer and Masked, which is masked.
-pub const TYPED: &str = "type Printer;IDL:Printer:1.0;Cost Serial Note => incarnation 1
-type Masked;IDL:Printer:1.0;Cost Serial Note => incarnation 2
-mask Masked => done";
+pub const TYPED: &str = "add_type Printer;IDL:Printer:1.0;Cost Serial Note => incarnation 1
+add_type Masked;IDL:Printer:1.0;Cost Serial Note => incarnation 2
+mask_type Masked => done";
 
 /// What is refused has besides something that is refused later.
 const CALLS: &str = "export ;; => /Register/InvalidObjectRef:1.0
@@ -32,8 +32,8 @@ fn causes_are_tried_in_order(rt: HostRuntime) -> Result<(), Fail> {
 /// A trader that gave its last number; it has no dynamic properties.
 const LAST: Start = Start {
     last_offer: u32::MAX,
-    lines: "type Printer;IDL:Printer:1.0;Cost Serial Note => incarnation 1
-set supports_dynamic_properties FALSE => TRUE",
+    lines: "add_type Printer;IDL:Printer:1.0;Cost Serial Note => incarnation 1
+set_supports_dynamic_properties FALSE => TRUE",
     ..NEW
 };
 

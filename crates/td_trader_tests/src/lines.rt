@@ -1,13 +1,13 @@
 //! Lines that a trader follows: what it is asked, ` => `, and what it answers.
 
 use crate::answers::{is_begun, is_outcome, is_reply};
-use crate::asking::{change, look, query};
+use crate::asking::{added_link, call};
 use crate::opening::opened;
 use std::alloc::Global;
 use std::process::Abort;
 use std::test::Fail;
 use td_cdr::{Boxed, Memory};
-use td_ops::{Change, Look, Outcome, Query};
+use td_ops::{Call, Change, Look, OpsFault, Outcome};
 use td_register::Accepted;
 use td_trader::Trader;
 
@@ -60,31 +60,34 @@ fn first_wrong(alloc: Global, trader: &mut Trader, lines: &'static str) -> &'sta
     ""
 }
 
-/// Whether a trader answers so. A query begins; `see` looks; all else but what is looked for in the trader itself is a
-/// change.
+/// Whether a trader answers so: to a call, to the change that adds a link, or by what is looked for in the trader itself.
 fn is_so(alloc: Global, trader: &mut Trader, line: &str) -> bool {
     let (asked, told) = line.split_once(" => ").unwrap_or((line, ""));
     let (word, rest) = asked.split_once(' ').unwrap_or((asked, ""));
     match word {
-        "query" => begins(trader, query(alloc, rest), told),
-        "see" => is_seen(trader, look(alloc, rest), told),
+        "add_link" => links(alloc, trader, rest, told),
         "links" => links_all(alloc, trader, rest),
         "history" => is_history(trader.history(), told),
         "point" => told.parse::<u64>() == Ok(trader.point()),
         "marks" => told.parse::<u64>() == Ok(trader.marks()),
         "reserve" => trader.reserve_change().is_ok(),
-        _ => is_done(trader, change(alloc, word, rest), told),
+        _ => answers(trader, call(alloc, asked), told),
     }
 }
 
-fn is_done(trader: &mut Trader, change: Result<Change, Memory>, told: &str) -> bool {
-    match change {
-        Ok(change) => is_answer(trader.change(change), told),
-        Err(_) => false,
+fn answers(trader: &mut Trader, call: Result<Boxed<Call>, OpsFault>, told: &str) -> bool {
+    let Ok(call) = call else {
+        return false;
+    };
+    match call.into_inner() {
+        Call::Change(change) => is_answer(trader.change(change), told),
+        Call::Look(look) => is_seen(trader, &look, told),
+        Call::Query(query) => is_begun(trader.begin(&query), told),
+        _ => false,
     }
 }
 
-fn is_answer(answer: Result<Outcome, Memory>, told: &str) -> bool {
+pub fn is_answer(answer: Result<Outcome, Memory>, told: &str) -> bool {
     let passed = match &answer {
         Ok(outcome) => is_outcome(outcome, told),
         Err(_) => false,
@@ -93,22 +96,8 @@ fn is_answer(answer: Result<Outcome, Memory>, told: &str) -> bool {
     passed
 }
 
-fn begins(trader: &mut Trader, query: Result<Boxed<Query>, Memory>, told: &str) -> bool {
-    match query {
-        Ok(query) => is_begun(trader.begin(query.get()), told),
-        Err(_) => false,
-    }
-}
-
-fn is_seen(trader: &Trader, look: Result<Look, Memory>, told: &str) -> bool {
-    match look {
-        Ok(look) => {
-            let passed = is_shown(trader.look(&look), trader.store().attributes.max_list, told);
-            drop(look);
-            passed
-        }
-        Err(_) => false,
-    }
+fn is_seen(trader: &Trader, look: &Look, told: &str) -> bool {
+    is_shown(trader.look(look), trader.store().attributes.max_list, told)
 }
 
 /// Whether a look is answered so, and with max_list.
@@ -121,21 +110,24 @@ pub fn is_shown(answer: Result<(Outcome, u32), Memory>, max_list: u32, told: &st
     passed
 }
 
+fn links(alloc: Global, trader: &mut Trader, parts: &str, told: &str) -> bool {
+    match added_link(alloc, parts) {
+        Ok(change) => is_answer(trader.change(change), told),
+        Err(_) => false,
+    }
+}
+
 /// Adds so many links, whose names are numbered.
 fn links_all(alloc: Global, trader: &mut Trader, count: &str) -> bool {
     for number in 0..count.parse::<u32>().unwrap_or(0) {
-        if !links_one(alloc, trader, number) {
+        let Ok(parts) = format!(in alloc; "l{number};@IDL:L:1.0;always;always;IDL:R:1.0") else {
+            return false;
+        };
+        if !links(alloc, trader, parts.as_str(), "done") {
             return false;
         }
     }
     true
-}
-
-fn links_one(alloc: Global, trader: &mut Trader, number: u32) -> bool {
-    match format!(in alloc; "l{number};@IDL:L:1.0;IDL:R:1.0;always;always") {
-        Ok(words) => is_done(trader, change(alloc, "link", words.as_str()), "done"),
-        Err(_) => false,
-    }
 }
 
 /// Whether a history is the first type of this name alone, or nothing.

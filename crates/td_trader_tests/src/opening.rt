@@ -2,7 +2,6 @@
 
 ghost use Rattle.std.specs.Prelude.{◌≡◌, ◌∷◌, [], IfOk};
 
-use crate::values::text;
 use std::alloc::Global;
 use td_cdr::{List, Memory, Octets, Text};
 use td_changes::Bounds;
@@ -40,7 +39,7 @@ pub fn opened(alloc: Global, last_offer: u32, changes: u64) -> Result<Trader, Me
 fn names(alloc: Global) -> Result<(Text, Octets), Memory>
     ensures { IfOk result (λ p. p.1 ≡ 65 ∷ []) }
 {
-    let name = text(alloc, "A")?;
+    let name = Text::from_slice(alloc, b"A")?;
     match Octets::from_slice(alloc, b"A") {
         Ok(stem) => Ok((name, stem)),
         Err(memory) => {
@@ -76,23 +75,10 @@ fn parts(alloc: Global) -> Result<(Offers, (Links, Attributes)), Memory>
     ensures stem { IfOk result (λ p. p.1.1.request_id_stem ≡ 65 ∷ []) }
 {
     let offers = Offers::new(alloc)?;
-    match links_and_attributes(alloc) {
-        Ok(others) => Ok((offers, others)),
+    match attributes(alloc) {
+        Ok(attributes) => Ok((offers, (Links::new(alloc), attributes))),
         Err(memory) => {
             drop(offers);
-            Err(memory)
-        }
-    }
-}
-
-fn links_and_attributes(alloc: Global) -> Result<(Links, Attributes), Memory>
-    ensures { IfOk result (λ p. p.1.request_id_stem ≡ 65 ∷ []) }
-{
-    let links = Links::new(alloc);
-    match attributes(alloc) {
-        Ok(attributes) => Ok((links, attributes)),
-        Err(memory) => {
-            drop(links);
             Err(memory)
         }
     }

@@ -5,20 +5,20 @@ use crate::lines::{NEW, Start, follows};
 use std::test::Fail;
 
 /// What is refused has besides something that is refused later, and exports nothing.
-const CALLS: &str = "proxy IDL:Lookup:1.0;;;$(;a a => /IllegalServiceType:1.0
-see proxy 1 => /UnknownOfferId:1.0
-proxy IDL:Lookup:1.0;Masked;;$(;a a => /UnknownServiceType:1.0
-see proxy 1 => /UnknownOfferId:1.0
-proxy IDL:Lookup:1.0;Printer;;$(;a a => /InvalidLookupRef:1.0
-see proxy 1 => /UnknownOfferId:1.0
-proxy @IDL:Lookup:1.0;Printer;;$(;a a => /MissingMandatoryProperty:1.0
-see proxy 1 => /UnknownOfferId:1.0
-proxy @IDL:Lookup:1.0;Printer;Cost Serial;$(;a a => /Proxy/IllegalRecipe:1.0
-see proxy 1 => /UnknownOfferId:1.0
-proxy @IDL:Lookup:1.0;Printer;Cost Serial;$*;a a => /DuplicatePolicyName:1.0
-see proxy 1 => /UnknownOfferId:1.0
-proxy @IDL:Lookup:1.0;Printer;Cost Serial;$*;a b => id 1
-see proxy 1 => proxy Printer;$*";
+const CALLS: &str = "export_proxy IDL:Lookup:1.0;;;TRUE;$(;a a => /IllegalServiceType:1.0
+describe_proxy 1 => /UnknownOfferId:1.0
+export_proxy IDL:Lookup:1.0;Masked;;TRUE;$(;a a => /UnknownServiceType:1.0
+describe_proxy 1 => /UnknownOfferId:1.0
+export_proxy IDL:Lookup:1.0;Printer;;TRUE;$(;a a => /InvalidLookupRef:1.0
+describe_proxy 1 => /UnknownOfferId:1.0
+export_proxy @IDL:Lookup:1.0;Printer;;TRUE;$(;a a => /MissingMandatoryProperty:1.0
+describe_proxy 1 => /UnknownOfferId:1.0
+export_proxy @IDL:Lookup:1.0;Printer;Cost Serial;TRUE;$(;a a => /Proxy/IllegalRecipe:1.0
+describe_proxy 1 => /UnknownOfferId:1.0
+export_proxy @IDL:Lookup:1.0;Printer;Cost Serial;TRUE;$*;a a => /DuplicatePolicyName:1.0
+describe_proxy 1 => /UnknownOfferId:1.0
+export_proxy @IDL:Lookup:1.0;Printer;Cost Serial;TRUE;$*;a b => id 1
+describe_proxy 1 => proxy Printer;$*";
 
 #[test]
 fn causes_are_tried_in_order(rt: HostRuntime) -> Result<(), Fail> {
@@ -30,10 +30,10 @@ fn causes_are_tried_in_order(rt: HostRuntime) -> Result<(), Fail> {
 }
 
 /// A trader without proxy offers, which refuses all.
-const WITHOUT: &str = "set supports_proxy_offers FALSE => TRUE
-proxy IDL:Lookup:1.0;;;$(;a a => NO_IMPLEMENT
-set supports_proxy_offers TRUE => FALSE
-see proxy 1 => /UnknownOfferId:1.0";
+const WITHOUT: &str = "set_supports_proxy_offers FALSE => TRUE
+export_proxy IDL:Lookup:1.0;;;TRUE;$(;a a => NO_IMPLEMENT
+set_supports_proxy_offers TRUE => FALSE
+describe_proxy 1 => /UnknownOfferId:1.0";
 
 /// A trader that gave its last number.
 const LAST: Start = Start {
@@ -42,8 +42,8 @@ const LAST: Start = Start {
     ..NEW
 };
 
-const LAST_CALL: &str = "proxy @IDL:Lookup:1.0;Printer;Cost Serial;$*;a b => IMP_LIMIT
-see proxy 1 => /UnknownOfferId:1.0";
+const LAST_CALL: &str = "export_proxy @IDL:Lookup:1.0;Printer;Cost Serial;TRUE;$*;a b => IMP_LIMIT
+describe_proxy 1 => /UnknownOfferId:1.0";
 
 #[test]
 fn first_and_last_causes(rt: HostRuntime) -> Result<(), Fail> {

@@ -9,8 +9,8 @@ use td_cdr::Memory;
 use td_register::{id_of, number_in};
 
 /// An ordinary offer has the number 7, a proxy offer the number 8.
-const WITHDRAWN: &str = "see offer 7 => offer Printer
-see offer 8 => /Register/ProxyOfferId:1.0
+const WITHDRAWN: &str = "describe 7 => offer Printer
+describe 8 => /Register/ProxyOfferId:1.0
 withdraw 8 => /Register/ProxyOfferId:1.0
 withdraw 7 => done
 withdraw 7 => /UnknownOfferId:1.0

@@ -1,40 +1,11 @@
-//! Values from words.
+//! Parameters from words, as bytes.
 
 use std::alloc::Global;
-use td_cdr::{List, Memory, Order, Reader, Text};
-use td_ior::make_ior;
-use td_policy::{number_policy, octets_policy, texts_policy, truth_policy};
-use td_value::{
-    Any, FollowOption, Ior, Policy, PropStruct, Property, PropertyMode, TypeCode, read_any,
-};
-
-/// The text of a `&str`.
-pub fn text(alloc: Global, text: &str) -> Result<Text, Memory> {
-    Text::from_slice(alloc, text.as_bytes())
-}
+use td_cdr::{Memory, Writer};
 
 /// Two parts with `;` between them, the second empty where there is none.
 pub fn two(words: &str) -> (&str, &str) {
     words.split_once(';').unwrap_or((words, ""))
-}
-
-/// The reference of an id, without a profile; behind `@` with the profile of an object that can be reached.
-pub fn reference(alloc: Global, word: &str) -> Result<Ior, Memory> {
-    match word.strip_prefix('@') {
-        Some(id) => make_ior(alloc, id.as_bytes(), b"a", 1, b"k"),
-        None => Ok(Ior {
-            id: text(alloc, word)?,
-            profiles: List::new(alloc),
-        }),
-    }
-}
-
-pub fn rule_of(word: &str) -> FollowOption {
-    match word {
-        "local_only" => FollowOption::LocalOnly,
-        "if_no_local" => FollowOption::IfNoLocal,
-        _ => FollowOption::Always,
-    }
 }
 
 /// A word, and how often it stands: `WORD*COUNT`, or once.
@@ -45,173 +16,188 @@ pub fn counted(word: &str) -> (&str, usize) {
     }
 }
 
-/// The octets of a word, as often as it says.
-pub fn octets(alloc: Global, word: &str) -> Result<Vec<u8>, Memory> {
-    let (word, count) = counted(word);
-    let mut octets = Vec::new(alloc);
-    for _ in 0..count {
-        octets.extend_from_slice(word.as_bytes())?;
+/// Appends the parts one after the other, each as its letter says: `t` a text, `n` names, `r` a reference, `p`
+/// properties, `s` the properties of a type, `q` policies, `d` desired properties, `f` a rule for following links, `b`
+/// a truth value, `o` octets, `u` a number, which is ten where none is said.
+pub fn put_all(alloc: Global, w: &mut Writer, letters: &str, parts: &str) -> Result<(), Memory> {
+    let mut rest = parts;
+    for letter in letters.as_bytes() {
+        let (part, behind) = two(rest);
+        put(alloc, w, *letter, part)?;
+        rest = behind;
     }
-    Ok(octets)
+    Ok(())
 }
 
-/// The names of these words.
-pub fn names(alloc: Global, words: &str) -> Result<List<Text>, Memory> {
-    let mut names = List::new(alloc);
-    for word in words.split(' ') {
-        if !word.is_empty() {
-            names.push(text(alloc, word)?)?;
+fn put(alloc: Global, w: &mut Writer, letter: u8, part: &str) -> Result<(), Memory> {
+    match letter {
+        b't' => w.string(part.as_bytes()),
+        b'r' => put_reference(w, part),
+        b'p' => put_properties(alloc, w, part),
+        b'n' | b's' | b'q' => put_each(w, letter, part),
+        b'd' => put_desired(w, part),
+        b'f' => w.u32(rule_of(part)),
+        b'b' => w.octet(if part == "TRUE" { 1 } else { 0 }),
+        b'o' => put_octets(w, part),
+        _ => w.u32(part.parse::<u32>().unwrap_or(10)),
+    }
+}
+
+/// The IIOP profile of an object `k` at port 1 of a host `a`.
+const PROFILE: &[u8] = b"\0\x01\0\0\0\0\0\x02a\0\0\x01\0\0\0\x01k";
+
+/// The reference of an id, without a profile; behind `@` with the profile of an object that can be reached.
+fn put_reference(w: &mut Writer, word: &str) -> Result<(), Memory> {
+    match word.strip_prefix('@') {
+        Some(id) => {
+            w.string(id.as_bytes())?;
+            w.u32(1)?;
+            w.u32(0)?;
+            w.octets(PROFILE)
+        }
+        None => {
+            w.string(word.as_bytes())?;
+            w.u32(0)
         }
     }
-    Ok(names)
 }
 
-/// A ulong of 7.
-const ULONG: &[u8] = b"\0\0\0\x05\0\0\0\x07";
+fn rule_of(word: &str) -> u32 {
+    match word {
+        "local_only" => 0,
+        "if_no_local" => 1,
+        _ => 2,
+    }
+}
 
-/// An empty string.
-const STRING: &[u8] = b"\0\0\0\x12\0\0\0\0\0\0\0\x01\0";
+/// The octets of a word, as often as it says.
+fn put_octets(w: &mut Writer, word: &str) -> Result<(), Memory> {
+    let (word, count) = counted(word);
+    w.u32(word.len().wrapping_mul(count) as u32)?;
+    for _ in 0..count {
+        w.append(word.as_bytes())?;
+    }
+    Ok(())
+}
+
+/// Some properties are desired, of these names.
+fn put_desired(w: &mut Writer, names: &str) -> Result<(), Memory> {
+    w.u32(1)?;
+    put_each(w, b'n', names)
+}
+
+/// A sequence of these words.
+fn put_each(w: &mut Writer, letter: u8, words: &str) -> Result<(), Memory> {
+    if words.is_empty() {
+        return w.u32(0);
+    }
+    w.u32(words.split(' ').count() as u32)?;
+    for word in words.split(' ') {
+        put_item(w, letter, word)?;
+    }
+    Ok(())
+}
+
+fn put_item(w: &mut Writer, letter: u8, word: &str) -> Result<(), Memory> {
+    match letter {
+        b'n' => w.string(word.as_bytes()),
+        b's' => put_named(w, word, ULONG, mode_of(word)),
+        b'q' => put_policy(w, word),
+        _ => put_property(w, word),
+    }
+}
+
+/// What a type says of the property Cost, which is mandatory, of Serial, which is readonly, and of others.
+fn mode_of(name: &str) -> &'static [u8] {
+    match name {
+        "Cost" => b"\0\0\0\x02",
+        "Serial" => b"\0\0\0\x01",
+        _ => b"\0\0\0\0",
+    }
+}
+
+/// The numbers of kinds of types.
+const ULONG: u32 = 5;
+
+const BOOLEAN: u32 = 8;
+
+const STRUCT: u32 = 15;
+
+const STRING: u32 = 18;
+
+const SEQUENCE: u32 = 19;
+
+/// A name, the kind of a type, and the bytes behind it.
+fn put_named(w: &mut Writer, name: &str, kind: u32, rest: &[u8]) -> Result<(), Memory> {
+    w.string(name.as_bytes())?;
+    w.u32(kind)?;
+    w.append(rest)
+}
 
 /// A DynamicProp: the nil evaluator, a returned type of ulong, and no extra_info.
 const DYNAMIC: &[u8] = b"\
-    \0\0\0\x0f\0\0\0\x80\0\0\0\0\0\0\0.IDL:omg.org/CosTradingDynamic/DynamicProp:1.0\0\0\0\0\0\0\
+    \0\0\0\x80\0\0\0\0\0\0\0.IDL:omg.org/CosTradingDynamic/DynamicProp:1.0\0\0\0\0\0\0\
     \x01\0\0\0\0\0\0\0\x03\0\0\0\x01\0\0\0\0\0\0\0\x0e\0\0\0\x11\0\0\0\0\0\0\0\x01\0\0\0\0\0\0\0\
     \x01\0\0\0\0\0\0\0\x01\0\0\0\0\0\0\0\x0c\0\0\0\x01\0\0\0\0\0\0\0\x0b\0\0\0\x01\0\0\0\0\0\0\0\
     \0\0\0\0\x05\0\0\0\0";
 
-fn any_of(alloc: Global, bytes: &[u8]) -> Result<Any, Memory> {
-    if bytes.len() > 1000 {
-        return Err(Memory);
-    }
-    let mut reader = Reader::new(bytes, 0, Order::Big);
-    read_any(alloc, &mut reader).or(Err(Memory))
-}
-
-/// A property whose value has these bytes.
-fn property_of(alloc: Global, name: &str, bytes: &[u8]) -> Result<Property, Memory> {
-    let name = text(alloc, name)?;
-    Ok(Property {
-        name,
-        value: any_of(alloc, bytes)?,
-    })
-}
-
-/// A property that is a ulong, or behind `text-` a string, or behind `dynamic-` one that is evaluated to a ulong.
-fn property(alloc: Global, word: &str) -> Result<Property, Memory> {
+/// A property that is a ulong of 7, or behind `text-` an empty string, or behind `dynamic-` one that is evaluated to a
+/// ulong.
+fn put_property(w: &mut Writer, word: &str) -> Result<(), Memory> {
     match word.split_once('-') {
-        Some(("dynamic", name)) => property_of(alloc, name, DYNAMIC),
-        Some((_, name)) => property_of(alloc, name, STRING),
-        None => property_of(alloc, word, ULONG),
+        Some(("dynamic", name)) => put_named(w, name, STRUCT, DYNAMIC),
+        Some((_, name)) => put_named(w, name, STRING, b"\0\0\0\0\0\0\0\x01\0"),
+        None => put_named(w, word, ULONG, b"\0\0\0\x07"),
     }
 }
 
-/// So many ulongs whose names are numbered.
-fn numbered(alloc: Global, name: &str, count: usize) -> Result<List<Property>, Memory> {
-    let mut properties = List::new(alloc);
+/// The properties of these words, or `NAME*COUNT` for so many, whose names are numbered.
+fn put_properties(alloc: Global, w: &mut Writer, words: &str) -> Result<(), Memory> {
+    let (name, count) = counted(words);
+    if count == 1 {
+        return put_each(w, b'p', words);
+    }
+    w.u32(count as u32)?;
     for number in 0..count {
-        properties.push(one_of_many(alloc, name, number)?)?;
+        let name = format!(in alloc; "{name}{number}")?;
+        put_property(w, name.as_str())?;
     }
-    Ok(properties)
+    Ok(())
 }
 
-fn one_of_many(alloc: Global, name: &str, number: usize) -> Result<Property, Memory> {
-    match format!(in alloc; "{name}{number}") {
-        Ok(name) => property(alloc, name.as_str()),
-        Err(_) => Err(Memory),
-    }
-}
+/// The type of a sequence of octets, and of a sequence of strings, behind its kind.
+const OCTETS: &[u8] = b"\0\0\0\x0c\0\0\0\0\0\0\0\x0a\0\0\0\0";
 
-/// The properties of these words, or `NAME*COUNT` for so many.
-pub fn properties(alloc: Global, words: &str) -> Result<List<Property>, Memory> {
-    match counted(words) {
-        (_, 1) => each_property(alloc, words),
-        (name, count) => numbered(alloc, name, count),
-    }
-}
+const TEXTS: &[u8] = b"\0\0\0\x10\0\0\0\0\0\0\0\x12\0\0\0\0\0\0\0\0";
 
-fn each_property(alloc: Global, words: &str) -> Result<List<Property>, Memory> {
-    let mut properties = List::new(alloc);
-    for word in words.split(' ') {
-        if !word.is_empty() {
-            properties.push(property(alloc, word)?)?;
+/// A policy as `NAME=VALUE`; a name alone is TRUE.
+fn put_policy(w: &mut Writer, word: &str) -> Result<(), Memory> {
+    let (name, value) = word.split_once('=').unwrap_or((word, "TRUE"));
+    match (name, value) {
+        ("request_id", _) => {
+            put_named(w, name, SEQUENCE, OCTETS)?;
+            put_octets(w, value)
+        }
+        ("starting_trader", _) => {
+            put_named(w, name, SEQUENCE, TEXTS)?;
+            put_path(w, value)
+        }
+        (_, "TRUE") => put_named(w, name, BOOLEAN, b"\x01"),
+        (_, "FALSE") => put_named(w, name, BOOLEAN, b"\0"),
+        _ => {
+            put_named(w, name, ULONG, b"")?;
+            w.u32(value.parse::<u32>().unwrap_or(0))
         }
     }
-    Ok(properties)
-}
-
-/// What a type says of the property Cost, which is mandatory, of Serial, which is readonly, and of others.
-fn mode_of(name: &str) -> PropertyMode {
-    match name {
-        "Cost" => PropertyMode::Mandatory,
-        "Serial" => PropertyMode::Readonly,
-        _ => PropertyMode::Normal,
-    }
-}
-
-fn ulong(alloc: Global, name: &str) -> Result<PropStruct, Memory> {
-    Ok(PropStruct {
-        name: text(alloc, name)?,
-        value_type: TypeCode::ULong,
-        mode: mode_of(name),
-    })
-}
-
-/// The properties of a type, each a ulong.
-pub fn declared(alloc: Global, words: &str) -> Result<List<PropStruct>, Memory> {
-    let mut declared = List::new(alloc);
-    for word in words.split(' ') {
-        if !word.is_empty() {
-            declared.push(ulong(alloc, word)?)?;
-        }
-    }
-    Ok(declared)
 }
 
 /// So many names: the first, and `c` for the rest.
-fn path_names(alloc: Global, word: &str) -> Result<List<Text>, Memory> {
+fn put_path(w: &mut Writer, word: &str) -> Result<(), Memory> {
     let (first, count) = counted(word);
-    let mut names = List::new(alloc);
+    w.u32(count as u32)?;
     for place in 0..count {
-        names.push(text(alloc, if place == 0 { first } else { "c" })?)?;
+        let name = if place == 0 { first } else { "c" };
+        w.string(name.as_bytes())?;
     }
-    Ok(names)
-}
-
-fn path(alloc: Global, word: &str) -> Result<Policy, Memory> {
-    let names = path_names(alloc, word)?;
-    texts_policy(alloc, b"starting_trader".as_slice(), names.as_slice())
-}
-
-fn request_id(alloc: Global, word: &str) -> Result<Policy, Memory> {
-    let octets = octets(alloc, word)?;
-    octets_policy(alloc, b"request_id".as_slice(), octets.as_slice())
-}
-
-/// A policy as `NAME=VALUE`; a name alone is TRUE.
-fn policy(alloc: Global, word: &str) -> Result<Policy, Memory> {
-    let (name, value) = word.split_once('=').unwrap_or((word, "TRUE"));
-    match name {
-        "request_id" => request_id(alloc, value),
-        "starting_trader" => path(alloc, value),
-        _ => plain_policy(alloc, name, value),
-    }
-}
-
-fn plain_policy(alloc: Global, name: &str, value: &str) -> Result<Policy, Memory> {
-    match value {
-        "TRUE" => truth_policy(alloc, name.as_bytes(), true),
-        "FALSE" => truth_policy(alloc, name.as_bytes(), false),
-        _ => number_policy(alloc, name.as_bytes(), value.parse::<u32>().unwrap_or(0)),
-    }
-}
-
-/// The policies of these words.
-pub fn policies(alloc: Global, words: &str) -> Result<List<Policy>, Memory> {
-    let mut policies = List::new(alloc);
-    for word in words.split(' ') {
-        if !word.is_empty() {
-            policies.push(policy(alloc, word)?)?;
-        }
-    }
-    Ok(policies)
+    Ok(())
 }
