@@ -163,13 +163,7 @@ fn begins_so(begin: &Begin, told: &str) -> bool {
 /// The identifier, the mark, the point, and how many offers and links are searched and policies above their maximum.
 fn is_search(local: &Local, told: &str) -> bool {
     let (identifier, numbers) = told.split_once(' ').unwrap_or((told, ""));
-    has_identifier(&local.identifier, identifier)
-        && local.path.is_none()
-        && are_numbers(local, numbers)
-}
-
-fn are_numbers(local: &Local, told: &str) -> bool {
-    let mut words = told.split(' ');
+    let mut words = numbers.split(' ');
     for number in [
         local.mark,
         local.point,
@@ -181,7 +175,7 @@ fn are_numbers(local: &Local, told: &str) -> bool {
             return false;
         }
     }
-    words.next().is_none()
+    words.next().is_none() && local.path.is_none() && has_identifier(&local.identifier, identifier)
 }
 
 /// The link and the identifier. A path is neither marked nor searched.

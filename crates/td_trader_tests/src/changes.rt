@@ -65,16 +65,22 @@ fn refused_then_changed(alloc: Global, store: &mut Store) -> Result<bool, Memory
     requires { store.old.offers ≡ [] }
 {
     let name = Text::from_slice(alloc, b"b")?;
-    let seven = Change::SetNumber {
-        attribute: NumberAttribute::MaxList,
-        value: 7,
-    };
     Ok(
         is_answer(
             apply(alloc, store, Change::RemoveLink { name }),
             "/Link/UnknownLinkName:1.0",
         ) && reads(alloc, store, 100, "number 100")
-            && is_answer(apply(alloc, store, seven), "number 100")
+            && is_answer(
+                apply(
+                    alloc,
+                    store,
+                    Change::SetNumber {
+                        attribute: NumberAttribute::MaxList,
+                        value: 7,
+                    },
+                ),
+                "number 100",
+            )
             && reads(alloc, store, 7, "number 7"),
     )
 }

@@ -7,7 +7,7 @@ use std::alloc::Global;
 use std::process::Abort;
 use std::test::Fail;
 use td_cdr::{Boxed, Memory};
-use td_ops::{Call, Change, Look, OpsFault, Outcome};
+use td_ops::{Call, Change, OpsFault, Outcome};
 use td_register::Accepted;
 use td_trader::Trader;
 
@@ -60,7 +60,8 @@ fn first_wrong(alloc: Global, trader: &mut Trader, lines: &'static str) -> &'sta
     ""
 }
 
-/// Whether a trader answers so: to a call, to the change that adds a link, or by what is looked for in the trader itself.
+/// Whether a trader answers so: to a call, to the change that adds a link, or by what is looked for in the trader
+/// itself.
 fn is_so(alloc: Global, trader: &mut Trader, line: &str) -> bool {
     let (asked, told) = line.split_once(" => ").unwrap_or((line, ""));
     let (word, rest) = asked.split_once(' ').unwrap_or((asked, ""));
@@ -79,11 +80,20 @@ fn answers(trader: &mut Trader, call: Result<Boxed<Call>, OpsFault>, told: &str)
     let Ok(call) = call else {
         return false;
     };
-    match call.into_inner() {
+    match call.get() {
+        Call::Look(look) => is_shown(trader.look(look), trader.store().attributes.max_list, told),
+        Call::Query(query) => is_begun(trader.begin(query), told),
+        _ => changes(trader, call.into_inner(), told),
+    }
+}
+
+fn changes(trader: &mut Trader, call: Call, told: &str) -> bool {
+    match call {
         Call::Change(change) => is_answer(trader.change(change), told),
-        Call::Look(look) => is_seen(trader, &look, told),
-        Call::Query(query) => is_begun(trader.begin(&query), told),
-        _ => false,
+        other => {
+            drop(other);
+            false
+        }
     }
 }
 
@@ -94,10 +104,6 @@ pub fn is_answer(answer: Result<Outcome, Memory>, told: &str) -> bool {
     };
     drop(answer);
     passed
-}
-
-fn is_seen(trader: &Trader, look: &Look, told: &str) -> bool {
-    is_shown(trader.look(look), trader.store().attributes.max_list, told)
 }
 
 /// Whether a look is answered so, and with max_list.
@@ -131,17 +137,14 @@ fn links_all(alloc: Global, trader: &mut Trader, count: &str) -> bool {
 }
 
 /// Whether a history is the first type of this name alone, or nothing.
-fn is_history(history: &[Accepted], name: &str) -> bool {
+fn is_history(history: &[Accepted], expected: &str) -> bool {
     match history {
-        [] => name.is_empty(),
-        [only] => is_type(&only.change, name) && is_reply(&only.reply, "incarnation 1"),
-        _ => false,
-    }
-}
-
-fn is_type(change: &Change, expected: &str) -> bool {
-    match change {
-        Change::AddType { name, .. } => name.as_slice() == expected.as_bytes(),
+        [] => expected.is_empty(),
+        [only] => match &only.change {
+            Change::AddType { name, .. } => name.as_slice() == expected.as_bytes()
+                && is_reply(&only.reply, "incarnation 1"),
+            _ => false,
+        },
         _ => false,
     }
 }

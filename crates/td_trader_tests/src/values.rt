@@ -9,9 +9,9 @@ pub fn two(words: &str) -> (&str, &str) {
 }
 
 /// A word, and how often it stands: `WORD*COUNT`, or once.
-pub fn counted(word: &str) -> (&str, usize) {
+pub fn counted(word: &str) -> (&str, u32) {
     match word.split_once('*') {
-        Some((word, count)) => (word, count.parse::<usize>().unwrap_or(0)),
+        Some((word, count)) => (word, count.parse::<u32>().unwrap_or(0)),
         None => (word, 1),
     }
 }
@@ -29,13 +29,19 @@ pub fn put_all(alloc: Global, w: &mut Writer, letters: &str, parts: &str) -> Res
     Ok(())
 }
 
+/// Some properties are desired, and their names follow.
+const SOME: u32 = 1;
+
 fn put(alloc: Global, w: &mut Writer, letter: u8, part: &str) -> Result<(), Memory> {
     match letter {
         b't' => w.string(part.as_bytes()),
         b'r' => put_reference(w, part),
         b'p' => put_properties(alloc, w, part),
         b'n' | b's' | b'q' => put_each(w, letter, part),
-        b'd' => put_desired(w, part),
+        b'd' => {
+            w.u32(SOME)?;
+            put_each(w, b'n', part)
+        }
         b'f' => w.u32(rule_of(part)),
         b'b' => w.octet(if part == "TRUE" { 1 } else { 0 }),
         b'o' => put_octets(w, part),
@@ -73,17 +79,12 @@ fn rule_of(word: &str) -> u32 {
 /// The octets of a word, as often as it says.
 fn put_octets(w: &mut Writer, word: &str) -> Result<(), Memory> {
     let (word, count) = counted(word);
-    w.u32(word.len().wrapping_mul(count) as u32)?;
+    let len = u32::try_from(word.len()).unwrap_or(0);
+    w.u32(len.wrapping_mul(count))?;
     for _ in 0..count {
         w.append(word.as_bytes())?;
     }
     Ok(())
-}
-
-/// Some properties are desired, of these names.
-fn put_desired(w: &mut Writer, names: &str) -> Result<(), Memory> {
-    w.u32(1)?;
-    put_each(w, b'n', names)
 }
 
 /// A sequence of these words.
@@ -91,7 +92,7 @@ fn put_each(w: &mut Writer, letter: u8, words: &str) -> Result<(), Memory> {
     if words.is_empty() {
         return w.u32(0);
     }
-    w.u32(words.split(' ').count() as u32)?;
+    w.u32(u32::try_from(words.split(' ').count()).unwrap_or(0))?;
     for word in words.split(' ') {
         put_item(w, letter, word)?;
     }
@@ -157,7 +158,7 @@ fn put_properties(alloc: Global, w: &mut Writer, words: &str) -> Result<(), Memo
     if count == 1 {
         return put_each(w, b'p', words);
     }
-    w.u32(count as u32)?;
+    w.u32(count)?;
     for number in 0..count {
         let name = format!(in alloc; "{name}{number}")?;
         put_property(w, name.as_str())?;
@@ -194,7 +195,7 @@ fn put_policy(w: &mut Writer, word: &str) -> Result<(), Memory> {
 /// So many names: the first, and `c` for the rest.
 fn put_path(w: &mut Writer, word: &str) -> Result<(), Memory> {
     let (first, count) = counted(word);
-    w.u32(count as u32)?;
+    w.u32(count)?;
     for place in 0..count {
         let name = if place == 0 { first } else { "c" };
         w.string(name.as_bytes())?;
