@@ -4,7 +4,11 @@
 #[cfg(test)]
 mod candidates;
 #[cfg(test)]
+mod lines;
+#[cfg(test)]
 mod links;
+#[cfg(test)]
+mod making;
 #[cfg(test)]
 mod many;
 #[cfg(test)]
@@ -12,6 +16,10 @@ mod offers;
 #[cfg(test)]
 mod places;
 #[cfg(test)]
-mod support;
+mod policies;
+#[cfg(test)]
+mod telling;
 #[cfg(test)]
 mod types;
+#[cfg(test)]
+mod words;

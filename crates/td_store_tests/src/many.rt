@@ -5,8 +5,11 @@ ghost use Rattle.std.specs.List.{AllByRecursion};
 ghost use Rattle.td_store.specs.Candidates.{is_among};
 ghost use Rattle.td_types.specs.Conforming.{subtypes};
 
-use crate::candidates::{Question, is_right};
-use crate::support::{append, attributes, text};
+use crate::candidates::TYPES;
+use crate::lines::{EMPTY, first_wrong};
+use crate::making::{append, made_store};
+use crate::policies::stated_of;
+use crate::words::text;
 use std::alloc::Global;
 use std::marker::Brand;
 use std::process::Abort;
@@ -14,7 +17,7 @@ use std::sync::ledger::{Blank, Ledger};
 use std::test::Fail;
 use td_cdr::{Memory, Text};
 use td_policy::{Attributes, Stated};
-use td_store::{Offers, Steps, StoreFault};
+use td_store::{Offers, Steps, Store, StoreFault};
 use td_types::Types;
 
 /// Over 1,000 offers of Device, one of Printer and two of Laser, a query for Printer finds three and
@@ -22,65 +25,32 @@ use td_types::Types;
 #[test]
 fn a_query_for_printers(rt: HostRuntime) -> Result<(), Fail> {
     let alloc = rt.alloc();
-    assert!(rt; is_right(alloc, Question::Printers)?);
+    assert!(rt; is_right(alloc)?);
     Ok(())
 }
 
 /// Whether the query finds the three among the thousand.
-pub(crate) fn finds_over(alloc: Global, types: &Types) -> bool {
+fn is_right(alloc: Global) -> Result<bool, Memory> {
+    let mut store = made_store(alloc, &EMPTY)?;
+    let added = first_wrong(alloc, &mut store, TYPES).is_empty();
     match mostly_devices(alloc) {
-        Ok(offers) => {
-            let found = finds_among(alloc, types, &offers);
-            drop(offers);
-            found
-        }
-        Err(_) => false,
+        Ok(offers) => Ok(added && finds_over(alloc, &store, &offers)?),
+        Err(_) => Err(Memory),
     }
-}
-
-fn finds_among(alloc: Global, types: &Types, offers: &Offers) -> bool
-    requires { length (filter (is_among (2 ∷ 3 ∷ [])) offers.now) ≤ 3 }
-{
-    match attributes(alloc) {
-        Ok(attributes) => {
-            let found = finds_stating(alloc, types, offers, &attributes, nothing_stated());
-            drop(attributes);
-            found
-        }
-        Err(_) => false,
-    }
-}
-
-fn finds_stating(
-    alloc: Global,
-    types: &Types,
-    offers: &Offers,
-    attributes: &Attributes,
-    stated: Stated,
-) -> bool
-    requires { length (filter (is_among (2 ∷ 3 ∷ [])) offers.now) ≤ 3 }
-{
-    query(alloc, types, offers, attributes, &stated).unwrap_or(false)
 }
 
 /// The query on a counter of its own.
-fn query(
-    alloc: Global,
-    types: &Types,
-    offers: &Offers,
-    attributes: &Attributes,
-    stated: &Stated,
-) -> Result<bool, Memory>
+fn finds_over(alloc: Global, store: &Store, offers: &Offers) -> Result<bool, Memory>
     requires { length (filter (is_among (2 ∷ 3 ∷ [])) offers.now) ≤ 3 }
 {
-    counted::<Brand>(alloc, types, offers, attributes, stated, Blank::new(1))
+    let stated = stated_of(alloc, "-")?;
+    counted::<Brand>(alloc, store, offers, stated.get(), Blank::new(1))
 }
 
 fn counted<L: Ledger>(
     alloc: Global,
-    types: &Types,
+    store: &Store,
     offers: &Offers,
-    attributes: &Attributes,
     stated: &Stated,
     blank: Blank,
 ) -> Result<bool, Memory>
@@ -90,9 +60,15 @@ fn counted<L: Ledger>(
     requires few { length (filter (is_among (2 ∷ 3 ∷ [])) offers.now) ≤ 3 }
 {
     let mut steps = Steps::<L>::new(blank);
-    let printer = text(alloc, "Printer")?;
+    let printer = text(alloc, "Printer", 0)?;
     finds_three(
-        alloc, types, offers, attributes, stated, &printer, &mut steps,
+        alloc,
+        &store.types,
+        offers,
+        &store.attributes,
+        stated,
+        &printer,
+        &mut steps,
     )
 }
 
@@ -140,22 +116,6 @@ fn finds<L: Ledger>(
     Ok(found.len() == 3)
 }
 
-fn nothing_stated() -> Stated {
-    Stated {
-        exact: None,
-        hops: None,
-        follow: None,
-        match_card: None,
-        return_card: None,
-        search_card: None,
-        start: None,
-        use_dynamic: None,
-        use_modifiable: None,
-        use_proxy: None,
-        request_id: None,
-    }
-}
-
 fn mostly_devices(alloc: Global) -> Result<Offers, StoreFault>
     ensures { IfOk result (λ offers. length (filter (is_among (2 ∷ 3 ∷ [])) offers) ≤ 3) }
 {
@@ -174,9 +134,9 @@ fn add_mostly_devices(alloc: Global, offers: &mut Offers) -> Result<(), StoreFau
     ensures { OnOk result (length (filter (is_among (2 ∷ 3 ∷ [])) offers.new) ≤ 3) }
 {
     add_devices(alloc, offers)?;
-    append(alloc, offers, 1001, "Printer", 2, "")?;
-    append(alloc, offers, 1002, "Laser", 3, "")?;
-    append(alloc, offers, 1003, "Laser", 3, "")?;
+    append(alloc, offers, 1001, "Printer", 2, "-")?;
+    append(alloc, offers, 1002, "Laser", 3, "-")?;
+    append(alloc, offers, 1003, "Laser", 3, "-")?;
     Ok(())
 }
 
@@ -187,7 +147,7 @@ fn add_devices(alloc: Global, offers: &mut Offers) -> Result<(), StoreFault>
     ensures others { OnOk result (length (filter (is_among (2 ∷ 3 ∷ [])) offers.new) ≡ 0) }
 {
     for i in 0..1000u32 {
-        append(alloc, offers, i + 1, "Device", 1, "")?;
+        append(alloc, offers, i + 1, "Device", 1, "-")?;
     }
     Ok(())
 }

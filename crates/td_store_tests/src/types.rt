@@ -1,13 +1,9 @@
 //! Service types, policies and attributes.
 
-mod attributes;
-mod calls;
-mod effective;
+pub(crate) mod attributes;
+pub(crate) mod calls;
+pub(crate) mod effective;
 mod limits;
-mod many;
-mod parts;
-mod reading;
-mod rules;
-mod support;
-mod telling;
+pub(crate) mod reading;
+pub(crate) mod rules;
 mod worked;

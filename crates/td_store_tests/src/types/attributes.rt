@@ -1,66 +1,89 @@
-//! The attributes of a new trader.
+//! The attributes of a trader.
 
-use crate::types::support::attributes;
+use crate::lines::{EMPTY, follows};
+use crate::telling::{put, put_number, put_truth};
+use crate::words::{cut, rule_of, ulong_of};
 use std::alloc::Global;
-use std::process::Abort;
 use std::test::Fail;
-use td_cdr::{Boxed, Memory, Twin};
+use td_cdr::{Memory, Twin};
 use td_policy::Attributes;
-use td_value::{FollowOption, Ior};
+
+/// The ids of the Lookup, Register, Link, Proxy, Admin and type repository, the stem, what is supported, the numbers
+/// by their order in the standard, and the three rules.
+const NEW: &str =
+    "attributes = A/L A/R A/K A/P A/A A/T A yes yes yes 10000 1000000 1000 1000000 1000 1000000 100 5 10 2 2 2
+copied_attributes = A/L A/R A/K A/P A/A A/T A yes yes yes 10000 1000000 1000 1000000 1000 1000000 100 5 10 2 2 2";
 
 #[test]
 fn a_new_trader(rt: HostRuntime) -> Result<(), Fail> {
-    let alloc = rt.alloc();
-    assert!(rt; is_new_and_copied(alloc)?);
+    follows(&rt, rt.alloc(), &EMPTY, NEW)
+}
+
+/// Tells the attributes, or a copy of them.
+pub(crate) fn see_attributes(
+    alloc: Global,
+    attributes: &Attributes,
+    word: &str,
+    told: &mut Vec<u8>,
+) -> Result<(), Memory> {
+    if word == "attributes" {
+        return put_attributes(alloc, told, attributes);
+    }
+    let twin = attributes.copy(alloc)?;
+    put_attributes(alloc, told, &twin)
+}
+
+fn put_attributes(alloc: Global, told: &mut Vec<u8>, a: &Attributes) -> Result<(), Memory> {
+    for reference in [
+        &a.lookup_if,
+        &a.register_if,
+        &a.link_if,
+        &a.proxy_if,
+        &a.admin_if,
+        &a.type_repos,
+    ] {
+        put(told, reference.id.as_slice())?;
+    }
+    put(told, a.request_id_stem.as_slice())?;
+    put_truth(told, Some(a.supports_modifiable_properties))?;
+    put_truth(told, Some(a.supports_dynamic_properties))?;
+    put_truth(told, Some(a.supports_proxy_offers))?;
+    for number in numbers_of(a) {
+        put_number(alloc, told, Some(number as u64))?;
+    }
     Ok(())
 }
 
-fn is_new_and_copied(alloc: Global) -> Result<bool, Memory> {
-    let new = Boxed::new(alloc, attributes(alloc)?)?;
-    Ok(is_new(new.get()) && is_copied(alloc, new.get())?)
+fn numbers_of(a: &Attributes) -> [u32; 12] {
+    [
+        a.def_search_card,
+        a.max_search_card,
+        a.def_match_card,
+        a.max_match_card,
+        a.def_return_card,
+        a.max_return_card,
+        a.max_list,
+        a.def_hop_count,
+        a.max_hop_count,
+        a.def_follow_policy.number(),
+        a.max_follow_policy.number(),
+        a.max_link_follow_policy.number(),
+    ]
 }
 
-fn is_new(a: &Attributes) -> bool {
-    has_own_references(a) && supports_all(a) && has_default_numbers(a) && follows_always(a)
-}
-
-fn is_copied(alloc: Global, a: &Attributes) -> Result<bool, Memory> {
-    let twin = Boxed::new(alloc, a.copy(alloc)?)?;
-    Ok(has_own_references(twin.get()) && has_default_numbers(twin.get()))
-}
-
-fn has_id(reference: &Ior, id: &[u8]) -> bool {
-    reference.id.as_slice() == id
-}
-
-fn has_own_references(a: &Attributes) -> bool {
-    has_id(&a.lookup_if, b"A/L")
-        && has_id(&a.register_if, b"A/R")
-        && has_id(&a.link_if, b"A/K")
-        && has_id(&a.proxy_if, b"A/P")
-        && has_id(&a.admin_if, b"A/A")
-        && has_id(&a.type_repos, b"A/T")
-        && a.request_id_stem.as_slice() == b"A".as_slice()
-}
-
-fn supports_all(a: &Attributes) -> bool {
-    a.supports_modifiable_properties && a.supports_dynamic_properties && a.supports_proxy_offers
-}
-
-fn has_default_numbers(a: &Attributes) -> bool {
-    a.def_search_card == 10000
-        && a.max_search_card == 1000000
-        && a.def_match_card == 1000
-        && a.max_match_card == 1000000
-        && a.def_return_card == 1000
-        && a.max_return_card == 1000000
-        && a.max_list == 100
-        && a.def_hop_count == 5
-        && a.max_hop_count == 10
-}
-
-fn follows_always(a: &Attributes) -> bool {
-    a.def_follow_policy == FollowOption::Always
-        && a.max_follow_policy == FollowOption::Always
-        && a.max_link_follow_policy == FollowOption::Always
+/// Gives the attribute of `NAME NUMBER` another value. Tells nothing.
+pub(crate) fn set(a: &mut Attributes, words: &str) -> Result<(), Memory> {
+    let (name, digits) = cut(words);
+    let number = ulong_of(digits);
+    match name {
+        "supports_modifiable_properties" => a.supports_modifiable_properties = number != 0,
+        "supports_dynamic_properties" => a.supports_dynamic_properties = number != 0,
+        "supports_proxy_offers" => a.supports_proxy_offers = number != 0,
+        "max_match_card" => a.max_match_card = number,
+        "max_return_card" => a.max_return_card = number,
+        "max_search_card" => a.max_search_card = number,
+        "max_follow_policy" => a.max_follow_policy = rule_of(digits),
+        _ => return Err(Memory),
+    }
+    Ok(())
 }

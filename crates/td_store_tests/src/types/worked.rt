@@ -1,13 +1,17 @@
 //! Worked examples: calls in order, each with its answer.
 
-use crate::types::calls::answered;
+use crate::lines::{EMPTY, Start, follows};
 use std::test::Fail;
 
 /// Below Device stands Printer, and Laser below that. A and B are each other's base.
-const INTERFACES: &str = "Printer:Device
+const START: Start = Start {
+    interfaces: "Printer:Device
 Laser:Printer
 A:B
-B:A";
+B:A",
+    offers: "",
+    lines: "",
+};
 
 /// Three types, each below the one before: what they have, and how they conform in several steps.
 /// A masked type conforms as before.
@@ -33,7 +37,7 @@ conforms Device Laser = no
 conforms Toaster Toaster = no
 subtypes Printer = 2 3
 subtypes Device = 1 2 3
-subtypes Toaster = -
+subtypes Toaster =
 interface_of Printer = Printer
 interface_of Toaster = none
 incarnation_of Laser = 3
@@ -57,7 +61,7 @@ is_masked Printer = no";
 
 #[test]
 fn types_conform_and_are_masked(rt: HostRuntime) -> Result<(), Fail> {
-    answered(&rt, rt.alloc(), INTERFACES, LIFE)
+    follows(&rt, rt.alloc(), &START, LIFE)
 }
 
 /// A removed type leaves the others in their order. Added again it gets the next incarnation. The
@@ -92,7 +96,7 @@ subtypes Device = 1 7";
 
 #[test]
 fn types_are_removed_and_added_again(rt: HostRuntime) -> Result<(), Fail> {
-    answered(&rt, rt.alloc(), "", REMOVALS)
+    follows(&rt, rt.alloc(), &EMPTY, REMOVALS)
 }
 
 /// Two supertypes give one name: the first one's value type, and the join of both modes. The join of
@@ -111,7 +115,7 @@ add Strong - Cost:long:both Both = 6";
 
 #[test]
 fn modes_are_joined(rt: HostRuntime) -> Result<(), Fail> {
-    answered(&rt, rt.alloc(), "", JOINED)
+    follows(&rt, rt.alloc(), &EMPTY, JOINED)
 }
 
 /// Each exception with its members. A refused call changes nothing.
@@ -156,7 +160,7 @@ describe Lamp = - Cost:string:normal - no 0 2";
 
 #[test]
 fn each_exception(rt: HostRuntime) -> Result<(), Fail> {
-    answered(&rt, rt.alloc(), INTERFACES, REFUSALS)
+    follows(&rt, rt.alloc(), &START, REFUSALS)
 }
 
 /// Two causes stand together: which one is answered.
@@ -181,7 +185,7 @@ list = Device,Lamp";
 
 #[test]
 fn the_first_cause_is_answered(rt: HostRuntime) -> Result<(), Fail> {
-    answered(&rt, rt.alloc(), INTERFACES, ORDER)
+    follows(&rt, rt.alloc(), &START, ORDER)
 }
 
 /// Interfaces that conform, through a cycle and with an empty id too.
@@ -202,5 +206,5 @@ add Fourth Device - Third = InterfaceTypeMismatch Third A Fourth Device";
 
 #[test]
 fn interfaces_are_each_others_base(rt: HostRuntime) -> Result<(), Fail> {
-    answered(&rt, rt.alloc(), INTERFACES, CONFORMING)
+    follows(&rt, rt.alloc(), &START, CONFORMING)
 }

@@ -1,6 +1,6 @@
 use Rattle.std.proofs.lemmas.Result.{on_ok_weaker}
 use Rattle.td_store_tests.proofs.Counts.{one-more, one-among}
-use Rattle.td_store_tests.proofs.support.append.Goals as goal
+use Rattle.td_store_tests.proofs.making.append.Goals as goal
 
 pub returns-clause-below : goal.returns-clause-below
 returns-clause-below c =

@@ -1,4 +1,0 @@
-use Rattle.td_store_tests.proofs.candidates.found.Given as goal
-
-abbrev pub ghosts-counted : goal.ghosts-counted
-ghosts-counted a = record { name = a.blank.name; parts = a.blank.parts }
