@@ -9,7 +9,7 @@ use std::alloc::Global;
 use td_cdr::{Boxed, List, Memory, Octets};
 use td_ior::make_ior;
 use td_peers::{MemPeers, Scripted};
-use td_value::{Any, Ior, Offer, TypeCode, Value, offer_size};
+use td_value::{Any, Ior, Offer, Property, TypeCode, Value, offer_size};
 use td_walk::SubAnswer;
 
 /// The object of a key; without a key a reference without profiles.
@@ -21,23 +21,37 @@ pub(crate) fn object(alloc: Global, key: &str) -> Result<Boxed<Ior>, Memory> {
     Boxed::new(alloc, object)
 }
 
-/// The number 7.
-pub(crate) fn seven(alloc: Global) -> Result<Boxed<Any>, Memory> {
+/// A number as the value that an evaluator gives.
+pub(crate) fn number(alloc: Global, n: u32) -> Result<Boxed<Any>, Memory> {
     Boxed::new(
         alloc,
         Any {
             code: TypeCode::ULong,
-            value: Value::ULong(7),
+            value: Value::ULong(n),
         },
     )
 }
 
-/// An offer without properties.
+/// A Floor.
+fn properties(alloc: Global) -> Result<List<Property>, Memory> {
+    let name = text(alloc, "Floor")?;
+    let mut properties = List::new(alloc);
+    properties.push(Property {
+        name,
+        value: Any {
+            code: TypeCode::ULong,
+            value: Value::ULong(3),
+        },
+    })?;
+    Ok(properties)
+}
+
+/// An offer with one property.
 fn offer(alloc: Global) -> Result<Offer, Memory>
     ensures { IfOk result IsSmallOffer }
 {
+    let properties = properties(alloc)?;
     let reference = nobody(alloc);
-    let properties = List::new(alloc);
     let size = offer_size(alloc, &reference, &properties)?;
     if size > 6 << 20 {
         return Err(Memory);
@@ -50,7 +64,7 @@ fn offer(alloc: Global) -> Result<Offer, Memory>
 
 /// An answer of one offer.
 #[tactic(auto, using(crate::proofs::Small::one_small))]
-fn offered(alloc: Global) -> Result<SubAnswer, Memory>
+pub(crate) fn offered(alloc: Global) -> Result<SubAnswer, Memory>
     ensures { IfOk result HasSmallOffers }
 {
     let mut offers = List::new(alloc);
@@ -80,7 +94,7 @@ fn scripted(alloc: Global, word: &str) -> Result<Scripted, Memory>
     match word {
         "failed" => Ok(Scripted::Failed),
         "nobody" => Ok(Scripted::Reference(nobody(alloc))),
-        "seven" => Ok(Scripted::Evaluated(seven(alloc)?)),
+        "seven" => Ok(Scripted::Evaluated(number(alloc, 7)?)),
         "offer" => Ok(Scripted::Offers(offered(alloc)?)),
         _ => Ok(Scripted::Offers(limited(alloc, word)?)),
     }

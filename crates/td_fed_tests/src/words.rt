@@ -1,7 +1,8 @@
-//! Texts, references and policies from words.
+//! Texts, references, policies and queries from words.
 
 use std::alloc::Global;
-use td_cdr::{List, Memory, Text};
+use td_cdr::{Boxed, List, Memory, Text};
+use td_ops::{Desired, Query};
 use td_policy::{number_policy, octets_policy, rule_policy, texts_policy, truth_policy};
 use td_value::{FollowOption, Ior, Policy};
 
@@ -32,7 +33,7 @@ pub(crate) fn rule_of(word: &str) -> FollowOption {
 }
 
 /// Names with commas between them.
-pub(crate) fn path(alloc: Global, words: &str) -> Result<List<Text>, Memory> {
+pub(crate) fn names(alloc: Global, words: &str) -> Result<List<Text>, Memory> {
     let mut names = List::new(alloc);
     for word in words.split(',') {
         names.push(text(alloc, word)?)?;
@@ -41,7 +42,7 @@ pub(crate) fn path(alloc: Global, words: &str) -> Result<List<Text>, Memory> {
 }
 
 fn start(alloc: Global, words: &str) -> Result<Policy, Memory> {
-    let names = path(alloc, words)?;
+    let names = names(alloc, words)?;
     texts_policy(alloc, b"starting_trader", names.as_slice())
 }
 
@@ -66,4 +67,45 @@ pub(crate) fn policies(alloc: Global, words: &str) -> Result<List<Policy>, Memor
         }
     }
     Ok(policies)
+}
+
+/// All properties are desired, none (`-`), or those of these names.
+fn desired(alloc: Global, words: &str) -> Result<Desired, Memory> {
+    match words {
+        "" => Ok(Desired::All),
+        "-" => Ok(Desired::None),
+        _ => Ok(Desired::Some(names(alloc, words)?)),
+    }
+}
+
+/// Gives a query its texts, its policies and the desired properties.
+fn write_query(alloc: Global, query: &mut Query, words: &str) -> Result<(), Memory> {
+    let (constraint, rest) = two(words);
+    let (preference, rest) = two(rest);
+    let (passed, wanted) = two(rest);
+    query.service_type = text(alloc, "Printer")?;
+    query.constraint = text(alloc, constraint)?;
+    query.preference = text(alloc, preference)?;
+    query.policies = policies(alloc, passed)?;
+    query.desired = desired(alloc, wanted)?;
+    Ok(())
+}
+
+/// A query for Printers, of `CONSTRAINT;PREFERENCE;POLICIES;DESIRED`.
+pub(crate) fn query(alloc: Global, words: &str) -> Result<Boxed<Query>, Memory> {
+    let mut query = Query {
+        service_type: Text::new(alloc),
+        constraint: Text::new(alloc),
+        preference: Text::new(alloc),
+        policies: List::new(alloc),
+        desired: Desired::All,
+        how_many: 10,
+    };
+    match write_query(alloc, &mut query, words) {
+        Ok(()) => Boxed::new(alloc, query),
+        Err(memory) => {
+            drop(query);
+            Err(memory)
+        }
+    }
 }

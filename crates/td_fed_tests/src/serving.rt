@@ -1,0 +1,53 @@
+//! What a trader serves a query with, and what that is tried for.
+
+use crate::checking::Case;
+use crate::passing::passes;
+use crate::visiting::is_visited;
+use std::alloc::Global;
+use td_cdr::Memory;
+use td_ops::Query;
+use td_store::Local;
+use td_trader::{Begin, Solo, Traders};
+
+fn is_served(alloc: Global, case: Case, local: Local, tried: &str, told: &str) -> bool {
+    match case {
+        Case::Visit => is_visited(alloc, local, told),
+        _ => {
+            let passed = passes(alloc, case, &local, tried, told).unwrap_or(false);
+            drop(local);
+            passed
+        }
+    }
+}
+
+fn is_begun(
+    alloc: Global,
+    case: Case,
+    begun: Result<Begin, Memory>,
+    tried: &str,
+    told: &str,
+) -> bool {
+    match begun {
+        Ok(Begin::Search(local)) => is_served(alloc, case, local, tried, told),
+        Ok(Begin::Path(local)) => is_served(alloc, case, local, tried, told),
+        other => {
+            drop(other);
+            false
+        }
+    }
+}
+
+/// Whether what A serves the query with comes to what is told.
+pub(crate) fn begins(
+    alloc: Global,
+    case: Case,
+    group: &mut Solo,
+    query: &Query,
+    tried: &str,
+    told: &str,
+) -> bool {
+    if group.count() == 0 {
+        return false;
+    }
+    is_begun(alloc, case, group.begin(0, query), tried, told)
+}
