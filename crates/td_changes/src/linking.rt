@@ -10,7 +10,7 @@ ghost use Rattle.td_changes.specs.Links.{add_link, name_cause, permits_more, rul
 ghost use Rattle.td_register.specs.Needs.{NeedsNone};
 
 use std::alloc::Global;
-use td_cdr::{Memory, Text, Twin, copy_three, is_word_name};
+use td_cdr::{Memory, Text, Twin, is_word_name, share_three};
 use td_exceptions::UserException;
 use td_ior::{IorFault, iiop_of};
 use td_ops::{Change, Reply};
@@ -149,7 +149,7 @@ fn new_link(
     ensures { IsNewLink store.now name.now target.now def_pass_on limiting register.now result }
 {
     let known = known_register(alloc, store, name, target, def_pass_on, limiting, register)?;
-    let (name, (target, register)) = copy_three(alloc, name, target, known)?;
+    let (name, (target, register)) = share_three(alloc, name, target, known)?;
     Ok(LinkRecord {
         name,
         target,

@@ -61,8 +61,8 @@ pub(crate) fn link_info(alloc: Global, link: &LinkRecord) -> Result<LinkInfo, Me
     ensures { IfOk result (λ i. i ≡ link_info_of link.now) }
 {
     Ok(LinkInfo {
-        target: link.target.copy(alloc)?,
-        target_reg: link.register.copy(alloc)?,
+        target: link.target.get().copy(alloc)?,
+        target_reg: link.register.get().copy(alloc)?,
         def_pass_on_follow_rule: link.def_pass_on,
         limiting_follow_rule: link.limiting,
     })

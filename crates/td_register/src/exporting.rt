@@ -18,7 +18,7 @@ use crate::named::{check_interface, check_open};
 use crate::properties::{check_missing, check_properties, check_size};
 use crate::refusal::{Fault, Refusal, raised};
 use std::alloc::Global;
-use td_cdr::{List, Memory, Text, Twin, copy_three};
+use td_cdr::{List, Memory, Text, Twin, share_three};
 use td_exceptions::UserException;
 use td_ior::is_nil;
 use td_ops::{Change, Reply};
@@ -129,10 +129,10 @@ fn new_offer(
     requires { store.now.last_offer < last_number }
     ensures { IfOk result (λ o. o ≡ exported store.now reference.now type_name.now properties.now) }
 {
-    let (reference, (service_type, properties)) = copy_three(
+    let (reference, (service_type, properties)) = share_three(
         alloc, reference, type_name, properties,
     )?;
-    let incarnation = incarnation_now(store, &service_type);
+    let incarnation = incarnation_now(store, type_name);
     Ok(OfferRecord {
         number: store.last_offer + 1,
         reference,

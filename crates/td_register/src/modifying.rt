@@ -22,7 +22,7 @@ use crate::register::ordinary;
 use crate::typing::mode_of;
 use std::alloc::Global;
 use std::collections::BTreeSet;
-use td_cdr::{List, Memory, Text, Twin, copy_two, nothing_seen};
+use td_cdr::{List, Memory, Shared, Text, Twin, copy_two, nothing_seen};
 use td_exceptions::UserException;
 use td_ops::{Change, Reply, is_among};
 use td_store::{OfferRecord, Store};
@@ -53,7 +53,7 @@ fn check_deletion(
     }
     let mode = mode_of(demanded, name.as_slice());
     if is_mandatory(mode) {
-        let (service_type, name) = copy_two(alloc, &offer.service_type, name)?;
+        let (service_type, name) = copy_two(alloc, offer.service_type.get(), name)?;
         return Err(raised(UserException::MandatoryProperty { service_type, name }));
     }
     if is_readonly(mode) {
@@ -239,7 +239,7 @@ pub fn renewal(
     id: &Text,
     deleted: &[Text],
     changed: &[Property],
-) -> Result<(u32, List<Property>), Fault>
+) -> Result<(u32, Shared<List<Property>>), Fault>
     ensures { IsRenewal store.now id.now deleted.now changed.now result }
 {
     if !store.attributes.supports_modifiable_properties {
@@ -247,6 +247,7 @@ pub fn renewal(
     }
     let offer = ordinary(alloc, &store.offers, id)?;
     let properties = new_properties(alloc, store, offer, deleted, changed)?;
+    let properties = Shared::new(alloc, properties)?;
     Ok((offer.number, properties))
 }
 

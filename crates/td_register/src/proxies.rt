@@ -73,9 +73,9 @@ fn plain_info(alloc: Global, offer: &OfferRecord) -> Result<ProxyInfo, Memory>
 {
     let (service_type, (target, properties)) = copy_three(
         alloc,
-        &offer.service_type,
-        &offer.reference,
-        &offer.properties,
+        offer.service_type.get(),
+        offer.reference.get(),
+        offer.properties.get(),
     )?;
     Ok(ProxyInfo {
         service_type,
@@ -94,9 +94,9 @@ fn whole_info(alloc: Global, offer: &OfferRecord, part: &ProxyPart) -> Result<Pr
     let (recipe, policies_to_pass_on) = copy_two(alloc, &part.recipe, &part.policies)?;
     let (service_type, (target, properties)) = copy_three(
         alloc,
-        &offer.service_type,
-        &offer.reference,
-        &offer.properties,
+        offer.service_type.get(),
+        offer.reference.get(),
+        offer.properties.get(),
     )?;
     Ok(ProxyInfo {
         service_type,

@@ -17,7 +17,7 @@ use crate::history::{Accepted, entry_of};
 use crate::named::check_open;
 use crate::refusal::{Fault, Refusal, invalid_lookup, raised};
 use std::alloc::Global;
-use td_cdr::{List, Memory, Text, Twin, copy_four, nothing_seen, see};
+use td_cdr::{List, Memory, Text, Twin, nothing_seen, see, share_four};
 use td_exceptions::UserException;
 use td_ior::{IorFault, iiop_of};
 use td_lang::{LangFault, read_recipe};
@@ -163,10 +163,10 @@ fn new_proxy(
     ensures { IfOk result (λ o.
         o ≡ exported_proxy store.now target.now type_name.now properties.now part.now) }
 {
-    let (reference, (service_type, (properties, part))) = copy_four(
+    let (reference, (service_type, (properties, part))) = share_four(
         alloc, target, type_name, properties, part,
     )?;
-    let incarnation = incarnation_now(store, &service_type);
+    let incarnation = incarnation_now(store, type_name);
     Ok(OfferRecord {
         number: store.last_offer + 1,
         reference,

@@ -84,9 +84,9 @@ fn offer_info(alloc: Global, offer: &OfferRecord) -> Result<OfferInfo, Memory>
 {
     let (reference, (service_type, properties)) = copy_three(
         alloc,
-        &offer.reference,
-        &offer.service_type,
-        &offer.properties,
+        offer.reference.get(),
+        offer.service_type.get(),
+        offer.properties.get(),
     )?;
     Ok(OfferInfo {
         reference,

@@ -13,10 +13,11 @@ use Rattle.std.proofs.Crossing.{crosses, Vec-sync}
 use Rattle.std.proofs.MapsCrossing.{BTreeMap-send}
 use Rattle.td_cdr.proofs.boxed.Boxed.TheSendSync as boxed_cross
 use Rattle.td_cdr.proofs.list.List.TheSendSync as list_cross
+use Rattle.td_cdr.proofs.shared.Shared.TheSendSync as shared_cross
 use Rattle.td_cdr.proofs.text.Text.TheSendSync as text_cross
 use Rattle.td_cell.proofs.cell.Cell.TheSendSync as cell_cross
 use Rattle.td_cell.proofs.pass.Pass.TheSendSync as pass_cross
-use Rattle.td_codes.proofs.code.TypeCode.TheLaws.TheKnot.{send-TypeCode, send-Any}
+use Rattle.td_codes.proofs.code.TypeCode.TheLaws.TheKnot.{send-TypeCode, send-Any, sync-Any}
 use Rattle.td_codes.proofs.reference.Ior.TheSendSync as ior_cross
 use Rattle.td_codes.specs.contracts.code.Any as any
 use Rattle.td_codes.specs.contracts.code.TypeCode as code
@@ -32,6 +33,7 @@ use Rattle.td_store.proofs.links.Links.TheSendSync as links_cross
 use Rattle.td_store.proofs.slab.Slab.TheSendSync as slab_cross
 use Rattle.td_store.specs.contracts.offers.Offers as offers
 use Rattle.td_store.specs.contracts.record.OfferRecord as offer_record
+use Rattle.td_store.specs.contracts.record.ProxyPart as proxy_part
 use Rattle.td_store.specs.contracts.store.Store as store
 use Rattle.td_trader.specs.contracts.trader.Trader as trader
 use Rattle.td_trader.specs.contracts.trader.Trader.TheInside as trader_inside
@@ -47,7 +49,7 @@ use Rattle.td_value.specs.contracts.structures.ProxyInfo as proxy_info
 use Rattle.td_value.specs.contracts.structures.TypeStruct as type_struct
 
 -- ---- the rows below, which Rattle itself shows to cross
-ruleset rows = (text_cross.the_send, list_cross.the_send, boxed_cross.the_send)
+ruleset rows = (text_cross.the_send, list_cross.the_send, boxed_cross.the_send, shared_cross.the_send)
 
 ruleset low = (sendable, crosses, rows, ior_cross.the_field_send, ior_cross.the_send)
 
@@ -75,9 +77,27 @@ offer_send = search (property_send, low) depth 20
 
 ruleset valued = (any_send, property_send, policy_send, prop_send, offer_send, low)
 
+-- ---- what is shared: several threads may see it at once
+ruleset seen = (sendable, crosses, text_cross.the_sync, list_cross.the_sync, ior_cross.the_field_sync, ior_cross.the_sync)
+
+any_field_sync : IsSync (any.the_field).row
+any_field_sync = search (sync-Any, seen) depth 20
+
+property_sync : IsSync property.the_row
+property_sync = search (any_field_sync, seen) depth 20
+
+policy_sync : IsSync policy.the_row
+policy_sync = search (any_field_sync, seen) depth 20
+
+proxy_part_sync : IsSync proxy_part.the_row
+proxy_part_sync = search (policy_sync, seen) depth 20
+
+proxy_part_send : IsSend proxy_part.the_row
+proxy_part_send = search valued depth 20
+
 -- ---- the store
 offer_record_send : IsSend offer_record.the_row
-offer_record_send = search valued depth 20
+offer_record_send = search (property_sync, proxy_part_send, proxy_part_sync, seen, valued) depth 20
 
 offers_send : IsSend offers.the_row
 offers_send = search (slab_cross.the_send, offer_record_send, BTreeMap-send, sendable) depth 20

@@ -68,7 +68,7 @@ impl Links {
         if self.named.len() >= MOST_LINKS {
             return Err(StoreFault::Full);
         }
-        let name = link.name.copy(alloc)?;
+        let name = link.name.get().copy(alloc)?;
         match self.named.insert(name.into_vec(), link) {
             Ok(_) => Ok(()),
             Err(_) => Err(StoreFault::Memory),
@@ -133,7 +133,7 @@ fn names_of(alloc: Global, links: &[LinkRecord]) -> Result<List<Text>, Memory>
 {
     let mut names = List::new(alloc);
     for link in links {
-        names.push(link.name.copy(alloc)?)?;
+        names.push(link.name.get().copy(alloc)?)?;
     }
     Ok(names)
 }

@@ -9,7 +9,7 @@ use crate::slab::Slab;
 use crate::steps::Steps;
 use std::marker::Brand;
 use std::sync::ledger::{Blank, Ledger};
-use td_cdr::List;
+use td_cdr::{List, Shared};
 use td_value::Property;
 
 /// The offer at a place.
@@ -37,7 +37,7 @@ fn counted_look<L: Ledger>(
 pub(crate) fn change_properties(
     slab: &mut Slab<OfferRecord>,
     place: u32,
-    properties: List<Property>,
+    properties: Shared<List<Property>>,
 )
     ensures { slab.new ≡ with_changed slab.old place properties }
 {
@@ -47,7 +47,7 @@ pub(crate) fn change_properties(
 fn counted_change<L: Ledger>(
     slab: &mut Slab<OfferRecord>,
     place: u32,
-    properties: List<Property>,
+    properties: Shared<List<Property>>,
     blank: Blank,
 )
     requires name { blank.name ≡ L.name }

@@ -21,7 +21,7 @@ use std::alloc::Global;
 use std::collections::BTreeMap;
 use std::marker::Model;
 use std::sync::ledger::Ledger;
-use td_cdr::{List, Memory, Text};
+use td_cdr::{List, Memory, Shared, Text};
 use td_policy::{Attributes, Stated};
 use td_types::Types;
 use td_value::Property;
@@ -145,7 +145,7 @@ impl Offers {
     }
 
     /// Gives the offer of a number other properties, and answers whether there is one. Takes no memory.
-    pub fn modify(&mut self, number: u32, properties: List<Property>) -> bool
+    pub fn modify(&mut self, number: u32, properties: Shared<List<Property>>) -> bool
         ensures there { result ≡ is_some (offer_of self.old number) }
         ensures changed { self.new ≡ with_properties number properties self.old }
     {

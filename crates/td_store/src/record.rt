@@ -1,9 +1,10 @@
-//! What is kept of an offer and of a link.
+//! What is kept of an offer and of a link. Their larger parts are shared, so that a query's copies of them take no
+//! memory but for their places.
 
 ghost use Rattle.std.specs.Prelude.{◌≡◌, IfOk};
 
 use std::alloc::Global;
-use td_cdr::{List, Memory, Text, Twin};
+use td_cdr::{List, Memory, Shared, Text, Twin};
 use td_value::{FollowOption, Ior, Policy, Property};
 
 /// An offer with its number, and the incarnation that its type had when it was exported (module
@@ -12,12 +13,12 @@ pub struct OfferRecord {
     /// The offer's number at this trader.
     pub number: u32,
     /// The object that is offered; of a proxy offer, the Lookup to which queries are passed on.
-    pub reference: Ior,
-    pub service_type: Text,
+    pub reference: Shared<Ior>,
+    pub service_type: Shared<Text>,
     pub incarnation: u64,
-    pub properties: List<Property>,
+    pub properties: Shared<List<Property>>,
     /// What a proxy offer has besides.
-    pub proxy: Option<ProxyPart>,
+    pub proxy: Option<Shared<ProxyPart>>,
 }
 
 // By hand, since a derived drop is written out at each exit, and proved again in each crate above.
@@ -44,11 +45,11 @@ pub struct ProxyPart {
 
 /// A link to another trader (module CosTrading, interface Link).
 pub struct LinkRecord {
-    pub name: Text,
+    pub name: Shared<Text>,
     /// The Lookup of the other trader.
-    pub target: Ior,
+    pub target: Shared<Ior>,
     /// The Register of the other trader.
-    pub register: Ior,
+    pub register: Shared<Ior>,
     pub def_pass_on: FollowOption,
     pub limiting: FollowOption,
 }
@@ -62,23 +63,6 @@ impl Drop for LinkRecord {
             def_pass_on: _def_pass_on,
             limiting: _limiting,
         } = self;
-    }
-}
-
-impl OfferRecord {
-    /// The object that is offered.
-    pub fn into_reference(self) -> Ior
-        ensures { result ≡ self.reference }
-    {
-        let OfferRecord {
-            number: _number,
-            reference,
-            service_type: _service_type,
-            incarnation: _incarnation,
-            properties: _properties,
-            proxy: _proxy,
-        } = self;
-        reference
     }
 }
 
@@ -99,7 +83,10 @@ impl Twin for OfferRecord {
     }
 }
 
-fn copy_proxy(alloc: Global, proxy: &Option<ProxyPart>) -> Result<Option<ProxyPart>, Memory>
+fn copy_proxy(
+    alloc: Global,
+    proxy: &Option<Shared<ProxyPart>>,
+) -> Result<Option<Shared<ProxyPart>>, Memory>
     ensures { IfOk result (λ twin. twin ≡ proxy.now) }
 {
     match proxy {

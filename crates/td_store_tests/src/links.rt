@@ -1,7 +1,7 @@
 //! Links by their names.
 
 use crate::lines::{EMPTY, follows};
-use crate::making::reference;
+use crate::making::{reference, shared};
 use crate::telling::{put, put_names, put_number, put_text};
 use crate::words::{cut, rule_of, text};
 use std::alloc::Global;
@@ -77,9 +77,9 @@ pub(crate) fn link(
 }
 
 fn link_named(alloc: Global, name: &str, number: u64) -> Result<LinkRecord, Memory> {
-    let name = text(alloc, name, number)?;
-    let target = reference(alloc, "L")?;
-    let register = reference(alloc, "R")?;
+    let name = shared(alloc, text(alloc, name, number))?;
+    let target = shared(alloc, reference(alloc, "L"))?;
+    let register = shared(alloc, reference(alloc, "R"))?;
     Ok(LinkRecord {
         name,
         target,
@@ -106,7 +106,7 @@ pub(crate) fn change_link(
     }
     match links.remove(&name) {
         None => put_text(told, None),
-        Some(link) => put_text(told, Some(&link.name)),
+        Some(link) => put_text(told, Some(link.name.get())),
     }
 }
 

@@ -8,7 +8,7 @@ ghost use Rattle.td_store_tests.specs.Counting.{count_among};
 use crate::lines::Start;
 use crate::words::{cut, names, number_of, text};
 use std::alloc::Global;
-use td_cdr::{List, Memory, Order, Reader, Text};
+use td_cdr::{List, Memory, Order, Reader, Shared, Text};
 use td_policy::{Attributes, OwnReferences, default_attributes};
 use td_store::{Links, OfferRecord, Offers, ProxyPart, Store, StoreFault};
 use td_types::Types;
@@ -159,6 +159,11 @@ pub(crate) fn append(
     offers.insert(offer)
 }
 
+/// What was made, in a block of its own.
+pub(crate) fn shared<T: Drop>(alloc: Global, made: Result<T, Memory>) -> Result<Shared<T>, Memory> {
+    Shared::new(alloc, made?)
+}
+
 /// An offer with these words: `proxy` makes it a proxy offer, and the others are its properties.
 fn offer(
     alloc: Global,
@@ -169,9 +174,9 @@ fn offer(
 ) -> Result<OfferRecord, Memory>
     ensures { IfOk result (λ o. (o.number ≡ number) × (o.incarnation ≡ incarnation)) }
 {
-    let reference = reference(alloc, "IDL:Printer:1.0")?;
-    let service_type = text(alloc, service_type, 0)?;
-    let properties = offer_properties(alloc, words)?;
+    let reference = shared(alloc, reference(alloc, "IDL:Printer:1.0"))?;
+    let service_type = shared(alloc, text(alloc, service_type, 0))?;
+    let properties = shared(alloc, offer_properties(alloc, words))?;
     let proxy = proxy(alloc, words)?;
     Ok(OfferRecord {
         number,
@@ -184,16 +189,20 @@ fn offer(
 }
 
 /// A proxy's part, where a word says so.
-fn proxy(alloc: Global, words: &str) -> Result<Option<ProxyPart>, Memory> {
+fn proxy(alloc: Global, words: &str) -> Result<Option<Shared<ProxyPart>>, Memory> {
     if words.contains("proxy") {
-        Ok(Some(ProxyPart {
-            if_match_all: true,
-            recipe: Text::from_slice(alloc, b"$*")?,
-            policies: List::new(alloc),
-        }))
+        Ok(Some(shared(alloc, proxy_part(alloc))?))
     } else {
         Ok(None)
     }
+}
+
+fn proxy_part(alloc: Global) -> Result<ProxyPart, Memory> {
+    Ok(ProxyPart {
+        if_match_all: true,
+        recipe: Text::from_slice(alloc, b"$*")?,
+        policies: List::new(alloc),
+    })
 }
 
 /// The properties of an offer's words, but for `proxy`; `-` is none.

@@ -1,7 +1,7 @@
 //! Offers by their numbers.
 
 use crate::lines::{Start, follows};
-use crate::making::offer_properties;
+use crate::making::{offer_properties, shared};
 use crate::telling::{put, put_number, put_truth};
 use crate::words::{cut, ulong_of};
 use std::alloc::Global;
@@ -91,7 +91,7 @@ pub(crate) fn change_offer(
     match word {
         "withdraw" => put_number(alloc, told, removed(offers, number)),
         _ => {
-            let properties = offer_properties(alloc, words)?;
+            let properties = shared(alloc, offer_properties(alloc, words))?;
             put_truth(told, Some(offers.modify(number, properties)))
         }
     }

@@ -8,7 +8,7 @@ ghost use Rattle.td_walk.specs.Answers.{drawn_by, IsRankedAnswer};
 ghost use Rattle.td_walk.specs.Resolving.{resolved};
 
 use std::alloc::Global;
-use td_cdr::{List, Memory, Text};
+use td_cdr::{List, Memory, Text, Twin};
 use td_eval::rank;
 use td_ops::is_among;
 use td_out::Words;
@@ -16,14 +16,18 @@ use td_store::Local;
 use td_value::Offer;
 use td_walk::{Found, Gathered, SubAnswer, resolved};
 
-/// The offer as it is answered.
-fn offer_of(alloc: Global, one: Found) -> Result<Offer, Memory>
-    ensures { IfOk result (λ offer. offer ≡ offer_of one) }
+/// The offer as it is answered, with parts of its own.
+fn offer_of(alloc: Global, one: &Found) -> Result<Offer, Memory>
+    ensures { IfOk result (λ offer. offer ≡ offer_of one.now) }
 {
-    let Found { offer, made } = one;
-    let properties = resolved(alloc, made.as_slice(), offer.properties.as_slice())?;
+    let reference = one.offer.reference.get().copy(alloc)?;
+    let properties = resolved(
+        alloc,
+        one.made.as_slice(),
+        one.offer.properties.as_slice(),
+    )?;
     Ok(Offer {
-        reference: offer.into_reference(),
+        reference,
         properties,
     })
 }
@@ -34,7 +38,7 @@ fn add_own(alloc: Global, offers: &mut Vec<Offer>, found: List<Found>) -> Result
 {
     for one in found.into_vec() {
         if one.offer.proxy.is_none() {
-            offers.push(offer_of(alloc, one)?)?;
+            offers.push(offer_of(alloc, &one)?)?;
         }
     }
     Ok(())

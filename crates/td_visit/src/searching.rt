@@ -15,7 +15,7 @@ ghost use Rattle.td_eval.specs.Values.{matching};
 use crate::progress::{Completion, Scan};
 use std::alloc::Global;
 use std::mem;
-use td_cdr::{List, Memory, Text, Twin};
+use td_cdr::{List, Memory, Shared, Text, Twin};
 use td_eval::{matches, names_asked};
 use td_lang::Constraint;
 use td_store::{Local, OfferRecord, ProxyPart};
@@ -23,7 +23,7 @@ use td_value::{Property, SpecifiedProps, is_dynamic};
 use td_walk::{Evaluation, Found, Left, Next, evaluate_each, evaluate_named, resolved};
 
 /// Whether the offer matches whatever is asked.
-fn matches_all(proxy: &Option<ProxyPart>) -> bool
+fn matches_all(proxy: &Option<Shared<ProxyPart>>) -> bool
     ensures { result ≡ matches_all proxy.now }
 {
     match proxy {
@@ -58,7 +58,7 @@ fn is_matching(
     matches(constraint, &resolved)
 }
 
-/// Adds a copy of the offer.
+/// Adds the offer: a copy that shares its parts.
 fn add_found(
     alloc: Global,
     offer: &OfferRecord,

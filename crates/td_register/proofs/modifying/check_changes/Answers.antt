@@ -37,7 +37,7 @@ returns-in_err-check_value c = λ deleted h.
     rw (p.1, p.2) (change_stops c.args.supported demanded o deleted c.args.changed.now
     c.loop-property.property-index q f c.loop-property-test.true c.property-item.is
     (second (name_cause met q.name) (value otherwise fixed) f (c.in_ok-check_name.ensures.judged met so_far.0)
-    (first value fixed f c.in_err-check_value.ensures))
+    (first value fixed f (rw c.deref.ensures at c.in_err-check_value.ensures)))
     so_far.1)
 
 pub returns-in_err-check_readonly : goal.returns-in_err-check_readonly
@@ -56,7 +56,7 @@ returns-in_err-check_readonly c = λ deleted h.
     rw (p.1, p.2) (change_stops c.args.supported demanded o deleted c.args.changed.now
     c.loop-property.property-index q f c.loop-property-test.true c.property-item.is
     (second (name_cause met q.name) (value otherwise fixed) f (c.in_ok-check_name.ensures.judged met so_far.0)
-    (second value fixed f c.in_ok-check_value.ensures c.in_err-check_readonly.ensures))
+    (second value fixed f (rw c.deref.ensures at c.in_ok-check_value.ensures) c.in_err-check_readonly.ensures))
     so_far.1)
 
 pub loop-property-preserved : goal.loop-property-preserved
@@ -68,8 +68,8 @@ loop-property-preserved c = λ deleted h.
           (c.in_ok-check_name.ensures.noted met so_far.0),
       change_passes c.args.supported c.args.demanded.now c.args.offer.now deleted c.args.changed.now
           c.loop-property.property-index c.property-item.result c.loop-property-test.true c.property-item.is
-          (c.in_ok-check_name.ensures.judged met so_far.0) c.in_ok-check_value.ensures c.in_ok-check_readonly.ensures
-          so_far.1,
+          (c.in_ok-check_name.ensures.judged met so_far.0) (rw c.deref.ensures at c.in_ok-check_value.ensures)
+          c.in_ok-check_readonly.ensures so_far.1,
     )
 
 pub returns : goal.returns
