@@ -2,9 +2,9 @@
 
 use std::alloc::Global;
 use td_cdr::{
-    Boxed, CdrFault, List, Memory, Octets, Order, Reader, Spelled, Text, Twin, ValueFault, Writer,
-    copy_four, copy_three, copy_two, put_five, put_four, put_six, put_three, put_two, read_whole,
-    write_whole,
+    Boxed, CdrFault, List, Memory, Octets, Order, Reader, Shared, Spelled, Text, Twin, ValueFault,
+    Writer, copy_four, copy_three, copy_two, put_five, put_four, put_six, put_three, put_two,
+    read_whole, share_four, write_whole,
 };
 
 const BIG: Order = Order::Big;
@@ -228,10 +228,29 @@ fn is_copied(alloc: Global) -> Result<bool, Memory> {
     copied(alloc, &boxed)
 }
 
+/// Whether the second owner of a text sees its bytes once the first one is gone.
+fn is_shared(alloc: Global) -> Result<bool, Memory> {
+    let shared = Shared::new(alloc, Text::from_slice(alloc, b"twin")?)?;
+    let twin = shared.copy(alloc)?;
+    drop(shared);
+    Ok(twin.as_slice() == b"twin" && twin.get().len() == 4)
+}
+
 #[test]
 fn copies(rt: HostRuntime) {
     let alloc = rt.alloc();
-    assert!(rt; is_copied(alloc) == Ok(true));
+    assert!(rt; is_copied(alloc) == Ok(true) && is_shared(alloc) == Ok(true));
+}
+
+#[test]
+fn values_shared_one_after_another(rt: HostRuntime) {
+    let alloc = rt.alloc();
+    assert!(rt; are_shared(alloc) == Ok(true));
+}
+
+fn are_shared(alloc: Global) -> Result<bool, Memory> {
+    let (first, (second, (third, fourth))) = share_four(alloc, &1u32, &2u32, &3u32, &true)?;
+    Ok(*first.get() == 1 && *second.get() == 2 && *third.get() == 3 && *fourth.get())
 }
 
 #[test]

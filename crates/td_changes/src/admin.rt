@@ -29,12 +29,12 @@ fn reference_of(which: ReferenceAttribute, a: &Attributes) -> &Ior
     ensures { result.now ≡ reference_of which a.now }
 {
     match which {
-        ReferenceAttribute::LookupIf => &a.lookup_if,
-        ReferenceAttribute::RegisterIf => &a.register_if,
-        ReferenceAttribute::LinkIf => &a.link_if,
-        ReferenceAttribute::ProxyIf => &a.proxy_if,
-        ReferenceAttribute::AdminIf => &a.admin_if,
-        ReferenceAttribute::TypeRepos => &a.type_repos,
+        ReferenceAttribute::LookupIf => a.lookup_if.get(),
+        ReferenceAttribute::RegisterIf => a.register_if.get(),
+        ReferenceAttribute::LinkIf => a.link_if.get(),
+        ReferenceAttribute::ProxyIf => a.proxy_if.get(),
+        ReferenceAttribute::AdminIf => a.admin_if.get(),
+        ReferenceAttribute::TypeRepos => a.type_repos.get(),
     }
 }
 

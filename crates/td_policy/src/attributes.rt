@@ -4,27 +4,27 @@ ghost use Rattle.std.specs.Prelude.{◌≡◌, IfOk};
 ghost use Rattle.td_policy.specs.Attributes.{default_attributes, own_references, with_references};
 
 use std::alloc::Global;
-use td_cdr::{Memory, Octets, Text, Twin};
+use td_cdr::{Memory, Octets, Shared, Text, Twin};
 use td_value::{FollowOption, Ior};
 
 /// The attributes of a trader, each by its name in the standard. What a trader's type repository
-/// tells of itself (incarnation) isn't among them.
+/// tells of itself (incarnation) isn't among them. The references are shared, since each query has a copy.
 pub struct Attributes {
     /// The trader's own Lookup.
-    pub lookup_if: Ior,
+    pub lookup_if: Shared<Ior>,
     /// Its Register.
-    pub register_if: Ior,
+    pub register_if: Shared<Ior>,
     /// Its Link.
-    pub link_if: Ior,
+    pub link_if: Shared<Ior>,
     /// Its Proxy.
-    pub proxy_if: Ior,
+    pub proxy_if: Shared<Ior>,
     /// Its Admin.
-    pub admin_if: Ior,
+    pub admin_if: Shared<Ior>,
     pub supports_modifiable_properties: bool,
     pub supports_dynamic_properties: bool,
     pub supports_proxy_offers: bool,
     /// The repository of the types of its offers.
-    pub type_repos: Ior,
+    pub type_repos: Shared<Ior>,
     /// How many offers a query searches where it doesn't say.
     pub def_search_card: u32,
     /// How many offers a query searches at most.
@@ -84,7 +84,7 @@ impl Drop for Attributes {
 }
 
 impl Attributes {
-    /// A copy of the references.
+    /// The references.
     fn copy_references(&self, alloc: Global) -> Result<OwnReferences, Memory>
         ensures { IfOk result (λ own. own ≡ own_references self.now) }
     {
@@ -140,13 +140,13 @@ impl Twin for Attributes {
 /// The references of a trader's own objects.
 #[derive(Drop)]
 pub struct OwnReferences {
-    pub lookup: Ior,
-    pub register: Ior,
-    pub link: Ior,
-    pub proxy: Ior,
-    pub admin: Ior,
+    pub lookup: Shared<Ior>,
+    pub register: Shared<Ior>,
+    pub link: Shared<Ior>,
+    pub proxy: Shared<Ior>,
+    pub admin: Shared<Ior>,
     /// The type repository.
-    pub types: Ior,
+    pub types: Shared<Ior>,
 }
 
 impl Twin for OwnReferences {

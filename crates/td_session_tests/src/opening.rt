@@ -6,7 +6,7 @@ ghost use Rattle.td_file.specs.Files.{IsAddress as IsHome};
 ghost use Rattle.td_reply.specs.References.{IsAddress};
 
 use std::alloc::Global;
-use td_cdr::{List, Memory, Octets, Text};
+use td_cdr::{List, Memory, Octets, Shared, Text, copy_three};
 use td_changes::Bounds;
 use td_file::{FileFault, Opened, read_file};
 use td_peers::MemPeers;
@@ -164,18 +164,23 @@ fn attributes(alloc: Global) -> Result<Attributes, Memory>
     ensures { IfOk result (λ a. a.request_id_stem ≡ 65 ∷ []) }
 {
     let name = Text::from_slice(alloc, b"A")?;
-    default_attributes(
-        alloc,
-        &name,
-        OwnReferences {
-            lookup: nil(alloc),
-            register: nil(alloc),
-            link: nil(alloc),
-            proxy: nil(alloc),
-            admin: nil(alloc),
-            types: nil(alloc),
-        },
-    )
+    let own = own_references(alloc)?;
+    default_attributes(alloc, &name, own)
+}
+
+/// Six nil references.
+fn own_references(alloc: Global) -> Result<OwnReferences, Memory> {
+    let nil = Shared::new(alloc, nil(alloc))?;
+    let (lookup, (register, link)) = copy_three(alloc, &nil, &nil, &nil)?;
+    let (proxy, (admin, types)) = copy_three(alloc, &nil, &nil, &nil)?;
+    Ok(OwnReferences {
+        lookup,
+        register,
+        link,
+        proxy,
+        admin,
+        types,
+    })
 }
 
 fn nil(alloc: Global) -> Ior {

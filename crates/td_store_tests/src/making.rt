@@ -46,44 +46,35 @@ fn interface(alloc: Global, line: &str) -> Result<(Text, List<Text>), Memory> {
 /// The attributes of trader A when it is new.
 fn attributes(alloc: Global) -> Result<Attributes, Memory> {
     let name = text(alloc, "A", 0)?;
-    let mut own = nils(alloc);
-    match set_ids(alloc, &mut own) {
-        Ok(()) => default_attributes(alloc, &name, own),
-        Err(memory) => {
-            drop(own);
-            Err(memory)
-        }
-    }
+    let own = own_references(alloc)?;
+    default_attributes(alloc, &name, own)
 }
 
-/// References without ids.
-fn nils(alloc: Global) -> OwnReferences {
-    OwnReferences {
-        lookup: nil(alloc),
-        register: nil(alloc),
-        link: nil(alloc),
-        proxy: nil(alloc),
-        admin: nil(alloc),
-        types: nil(alloc),
-    }
+/// References with the ids of trader A.
+fn own_references(alloc: Global) -> Result<OwnReferences, Memory> {
+    let (lookup, (register, link)) = three(alloc, "A/L", "A/R", "A/K")?;
+    let (proxy, (admin, types)) = three(alloc, "A/P", "A/A", "A/T")?;
+    Ok(OwnReferences {
+        lookup,
+        register,
+        link,
+        proxy,
+        admin,
+        types,
+    })
 }
 
-fn nil(alloc: Global) -> Ior {
-    Ior {
-        id: Text::new(alloc),
-        profiles: List::new(alloc),
-    }
-}
-
-/// Gives the references the ids of trader A.
-fn set_ids(alloc: Global, own: &mut OwnReferences) -> Result<(), Memory> {
-    own.lookup.id = text(alloc, "A/L", 0)?;
-    own.register.id = text(alloc, "A/R", 0)?;
-    own.link.id = text(alloc, "A/K", 0)?;
-    own.proxy.id = text(alloc, "A/P", 0)?;
-    own.admin.id = text(alloc, "A/A", 0)?;
-    own.types.id = text(alloc, "A/T", 0)?;
-    Ok(())
+/// Three references with these ids.
+fn three(
+    alloc: Global,
+    first: &str,
+    second: &str,
+    third: &str,
+) -> Result<(Shared<Ior>, (Shared<Ior>, Shared<Ior>)), Memory> {
+    let first = shared(alloc, reference(alloc, first))?;
+    let second = shared(alloc, reference(alloc, second))?;
+    let third = shared(alloc, reference(alloc, third))?;
+    Ok((first, (second, third)))
 }
 
 /// A reference with this id and no profiles.

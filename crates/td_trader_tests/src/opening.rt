@@ -3,7 +3,7 @@
 ghost use Rattle.std.specs.Prelude.{◌≡◌, ◌∷◌, [], IfOk};
 
 use std::alloc::Global;
-use td_cdr::{List, Memory, Octets, Text};
+use td_cdr::{List, Memory, Octets, Shared, Text, copy_three};
 use td_changes::Bounds;
 use td_policy::{Attributes, OwnReferences, default_attributes};
 use td_store::{Links, Offers, Store};
@@ -88,18 +88,23 @@ fn attributes(alloc: Global) -> Result<Attributes, Memory>
     ensures { IfOk result (λ a. a.request_id_stem ≡ 65 ∷ []) }
 {
     let name = Text::from_slice(alloc, b"A")?;
-    default_attributes(
-        alloc,
-        &name,
-        OwnReferences {
-            lookup: nil(alloc),
-            register: nil(alloc),
-            link: nil(alloc),
-            proxy: nil(alloc),
-            admin: nil(alloc),
-            types: nil(alloc),
-        },
-    )
+    let own = own_references(alloc)?;
+    default_attributes(alloc, &name, own)
+}
+
+/// Six nil references.
+fn own_references(alloc: Global) -> Result<OwnReferences, Memory> {
+    let nil = Shared::new(alloc, nil(alloc))?;
+    let (lookup, (register, link)) = copy_three(alloc, &nil, &nil, &nil)?;
+    let (proxy, (admin, types)) = copy_three(alloc, &nil, &nil, &nil)?;
+    Ok(OwnReferences {
+        lookup,
+        register,
+        link,
+        proxy,
+        admin,
+        types,
+    })
 }
 
 fn nil(alloc: Global) -> Ior {
