@@ -3,7 +3,11 @@
 ghost use Rattle.std.specs.Prelude.{◌≡◌, IfOk};
 
 use crate::memory::Memory;
+use crate::reader::Reader;
+use crate::spelled::Spelled;
 use crate::twin::Twin;
+use crate::value_fault::ValueFault;
+use crate::writer::Writer;
 use std::alloc::Global;
 use std::marker::Model;
 use std::ops::Deref;
@@ -84,6 +88,26 @@ impl<T> Twin for Shared<T> {
             inner: Arc::try_clone(&self.inner)?,
         })
     }
+}
+
+// It is spelled as the value.
+impl<T: Spelled + Drop> Spelled for Shared<T> {
+    ghost format = { T.format };
+
+    ghost faults = { T.faults };
+
+    fn read(alloc: Global, r: &mut Reader) -> Result<Shared<T>, ValueFault> {
+        let value = T::read(alloc, r)?;
+        Ok(Shared::new(alloc, value)?)
+    }
+
+    fn write(&self, alloc: Global, w: &mut Writer) -> Result<(), Memory> {
+        self.get().write(alloc, w)
+    }
+
+    ghost lawful = { T.lawful };
+
+    ghost refuses = { T.refuses };
 }
 
 /// Blocks with copies of two values.

@@ -233,7 +233,7 @@ fn is_shared(alloc: Global) -> Result<bool, Memory> {
     let shared = Shared::new(alloc, Text::from_slice(alloc, b"twin")?)?;
     let twin = shared.copy(alloc)?;
     drop(shared);
-    Ok(twin.as_slice() == b"twin" && twin.get().len() == 4)
+    Ok(twin.as_slice() == b"twin".as_slice() && twin.get().len() == 4)
 }
 
 #[test]

@@ -1,7 +1,7 @@
 //! Properties and offers from lines of text.
 
 use std::alloc::Global;
-use td_cdr::{Boxed, List, Memory, Text};
+use td_cdr::{Boxed, List, Memory, Shared, Text};
 use td_value::{Any, Ior, Offer, Property, TypeCode, Value};
 
 /// The text of a `&str`.
@@ -141,15 +141,16 @@ pub fn properties(alloc: Global, line: &str) -> Result<List<Property>, Memory> {
 
 /// An offer of an interface of this name.
 fn offer(alloc: Global, name: &str, line: &str) -> Result<Boxed<Offer>, Memory> {
-    let id = text(alloc, name)?;
-    let properties = properties(alloc, line)?;
+    let reference = Ior {
+        id: text(alloc, name)?,
+        profiles: List::new(alloc),
+    };
+    let reference = Shared::new(alloc, reference)?;
+    let properties = Shared::new(alloc, properties(alloc, line)?)?;
     Boxed::new(
         alloc,
         Offer {
-            reference: Ior {
-                id,
-                profiles: List::new(alloc),
-            },
+            reference,
             properties,
         },
     )

@@ -6,7 +6,7 @@ ghost use Rattle.td_walk.specs.Peering.{IsSmallOffer, HasSmallOffers};
 
 use crate::words::{nobody, text};
 use std::alloc::Global;
-use td_cdr::{Boxed, List, Memory, Octets};
+use td_cdr::{Boxed, List, Memory, Octets, Shared};
 use td_ior::make_ior;
 use td_peers::{MemPeers, Scripted};
 use td_value::{Any, Ior, Offer, Property, TypeCode, Value, offer_size};
@@ -50,8 +50,8 @@ fn properties(alloc: Global) -> Result<List<Property>, Memory> {
 fn offer(alloc: Global) -> Result<Offer, Memory>
     ensures { IfOk result IsSmallOffer }
 {
-    let properties = properties(alloc)?;
-    let reference = nobody(alloc);
+    let properties = Shared::new(alloc, properties(alloc)?)?;
+    let reference = Shared::new(alloc, nobody(alloc))?;
     let size = offer_size(alloc, &reference, &properties)?;
     if size > 6 << 20 {
         return Err(Memory);

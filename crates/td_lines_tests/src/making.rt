@@ -6,7 +6,7 @@ ghost use Rattle.td_iter.specs.declared.limits.TheConstants.{REPLY_START};
 
 use std::alloc::Global;
 use std::test::Fail;
-use td_cdr::{List, Memory, Order, Text, Writer};
+use td_cdr::{List, Memory, Order, Shared, Text, Writer};
 use td_iter::{IdIter, OfferIter, REPLY_START};
 use td_value::{Ior, Offer};
 
@@ -46,9 +46,11 @@ pub fn offer(alloc: Global, id: &[u8]) -> Result<Offer, Fail> {
         id: Text::from_slice(alloc, id)?,
         profiles: List::new(alloc),
     };
+    let reference = Shared::new(alloc, reference)?;
+    let properties = Shared::new(alloc, List::new(alloc))?;
     Ok(Offer {
         reference,
-        properties: List::new(alloc),
+        properties,
     })
 }
 

@@ -6,7 +6,7 @@ ghost use Rattle.std.specs.Option.{option_copied};
 ghost use Rattle.td_lookup.specs.Choosing.{chosen, named_in, property_named};
 
 use std::alloc::Global;
-use td_cdr::{List, Memory, Text, Twin};
+use td_cdr::{List, Memory, Shared, Text, Twin};
 use td_value::{Offer, Property, SpecifiedProps};
 
 fn property_named<'a>(name: &[u8], properties: &'a [Property]) -> Option<&'a Property>
@@ -39,12 +39,12 @@ fn choose(alloc: Global, desired: &SpecifiedProps, offer: &mut Offer) -> Result<
 {
     match desired {
         SpecifiedProps::None => {
-            offer.properties = List::new(alloc);
+            offer.properties = Shared::new(alloc, List::new(alloc))?;
             Ok(())
         }
         SpecifiedProps::Some(names) => {
             let named = named_in(alloc, names.as_slice(), offer.properties.as_slice())?;
-            offer.properties = named;
+            offer.properties = Shared::new(alloc, named)?;
             Ok(())
         }
         SpecifiedProps::All => Ok(()),

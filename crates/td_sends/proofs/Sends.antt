@@ -72,13 +72,9 @@ policy_send = search (any_field, low) depth 20
 prop_send : IsSend prop.the_row
 prop_send = search (code_field, mode_cross.the_field_send, low) depth 20
 
-pub offer_send : IsSend offer.the_row
-offer_send = search (property_send, low) depth 20
-
-ruleset valued = (any_send, property_send, policy_send, prop_send, offer_send, low)
-
 -- ---- what is shared: several threads may see it at once
-ruleset seen = (sendable, crosses, text_cross.the_sync, list_cross.the_sync, ior_cross.the_field_sync, ior_cross.the_sync)
+ruleset seen =
+    (sendable, crosses, text_cross.the_sync, list_cross.the_sync, ior_cross.the_field_sync, ior_cross.the_sync)
 
 any_field_sync : IsSync (any.the_field).row
 any_field_sync = search (sync-Any, seen) depth 20
@@ -89,13 +85,19 @@ property_sync = search (any_field_sync, seen) depth 20
 policy_sync : IsSync policy.the_row
 policy_sync = search (any_field_sync, seen) depth 20
 
+-- ---- an offer of an answer
+pub offer_send : IsSend offer.the_row
+offer_send = search (property_sync, property_send, seen, low) depth 20
+
+ruleset valued = (any_send, property_send, policy_send, prop_send, offer_send, low)
+
+-- ---- the store
 proxy_part_sync : IsSync proxy_part.the_row
 proxy_part_sync = search (policy_sync, seen) depth 20
 
 proxy_part_send : IsSend proxy_part.the_row
 proxy_part_send = search valued depth 20
 
--- ---- the store
 offer_record_send : IsSend offer_record.the_row
 offer_record_send = search (property_sync, proxy_part_send, proxy_part_sync, seen, valued) depth 20
 

@@ -3,7 +3,7 @@
 use std::alloc::Global;
 use std::slice;
 use std::test::Fail;
-use td_cdr::{List, Memory, Text};
+use td_cdr::{List, Memory, Shared, Text};
 use td_forms::{ValueType, code_of, value_of, value_type_of};
 use td_shown::put_found;
 use td_value::{Any, Ior, Offer, Property};
@@ -58,6 +58,8 @@ fn offer(alloc: Global, property: Property) -> Result<Offer, Memory> {
         id: Text::new(alloc),
         profiles: List::new(alloc),
     };
+    let reference = Shared::new(alloc, reference)?;
+    let properties = Shared::new(alloc, properties)?;
     Ok(Offer {
         reference,
         properties,

@@ -8,8 +8,8 @@ ghost use Rattle.td_value.specs.Structures.{link_info, proxy_info, type_struct, 
 use crate::enumerations::{FollowOption, PropertyMode};
 use std::alloc::Global;
 use td_cdr::{
-    List, Memory, Reader, Spelled, Text, Twin, ValueFault, Writer, put_five, put_four, put_six,
-    put_three, put_two,
+    List, Memory, Reader, Shared, Spelled, Text, Twin, ValueFault, Writer, put_five, put_four,
+    put_six, put_three, put_two,
 };
 use td_codes::{Any, Ior, TypeCode};
 
@@ -201,10 +201,10 @@ impl Spelled for PropStruct {
     ghost refuses = { prop_struct.refuses };
 }
 
-/// An offer as an importer sees it.
+/// An offer as an importer sees it. Its parts are shared, so that an answer has those of the trader that keeps it.
 pub struct Offer {
-    pub reference: Ior,
-    pub properties: List<Property>,
+    pub reference: Shared<Ior>,
+    pub properties: Shared<List<Property>>,
 }
 
 impl Drop for Offer {
@@ -232,8 +232,8 @@ impl Spelled for Offer {
 
     fn read(alloc: Global, r: &mut Reader) -> Result<Offer, ValueFault> {
         Ok(Offer {
-            reference: Ior::read(alloc, r)?,
-            properties: List::read(alloc, r)?,
+            reference: Shared::read(alloc, r)?,
+            properties: Shared::read(alloc, r)?,
         })
     }
 

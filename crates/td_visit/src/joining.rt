@@ -7,25 +7,38 @@ ghost use Rattle.td_walk.specs.Answers.{offer_of, own_offers, joined, is_limit, 
 ghost use Rattle.td_walk.specs.Answers.{drawn_by, IsRankedAnswer};
 ghost use Rattle.td_walk.specs.Resolving.{resolved};
 
+use crate::searching::has_dynamic;
 use std::alloc::Global;
-use td_cdr::{List, Memory, Text, Twin};
+use td_cdr::{List, Memory, Shared, Text, Twin};
 use td_eval::rank;
 use td_ops::is_among;
 use td_out::Words;
 use td_store::Local;
-use td_value::Offer;
-use td_walk::{Found, Gathered, SubAnswer, resolved};
+use td_value::{Offer, Property};
+use td_walk::{Evaluation, Found, Gathered, SubAnswer, resolved};
 
-/// The offer as it is answered, with parts of its own.
+/// The properties after these evaluations. Those of which none is dynamic stay as they are, and are shared.
+#[tactic(auto, using(crate::proofs::Resolved::without_dynamic))]
+fn answered(
+    alloc: Global,
+    made: &[Evaluation],
+    properties: &Shared<List<Property>>,
+) -> Result<Shared<List<Property>>, Memory>
+    ensures { IfOk result (λ ps. ps ≡ resolved made.now properties.now) }
+{
+    if !has_dynamic(properties.as_slice()) {
+        return properties.copy(alloc);
+    }
+    let resolved = resolved(alloc, made, properties.as_slice())?;
+    Shared::new(alloc, resolved)
+}
+
+/// The offer as it is answered.
 fn offer_of(alloc: Global, one: &Found) -> Result<Offer, Memory>
     ensures { IfOk result (λ offer. offer ≡ offer_of one.now) }
 {
-    let reference = one.offer.reference.get().copy(alloc)?;
-    let properties = resolved(
-        alloc,
-        one.made.as_slice(),
-        one.offer.properties.as_slice(),
-    )?;
+    let reference = one.offer.reference.copy(alloc)?;
+    let properties = answered(alloc, one.made.as_slice(), &one.offer.properties)?;
     Ok(Offer {
         reference,
         properties,

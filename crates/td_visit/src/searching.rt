@@ -32,7 +32,8 @@ fn matches_all(proxy: &Option<Shared<ProxyPart>>) -> bool
     }
 }
 
-fn has_dynamic(properties: &[Property]) -> bool
+/// Whether one of the properties is evaluated when it is asked for.
+pub(crate) fn has_dynamic(properties: &[Property]) -> bool
     ensures { result ≡ list_any is_dynamic properties.now }
 {
     properties
