@@ -94,15 +94,15 @@ fn note_begin(
         Begin::Search(local) => {
             notes.push_reserved(TraceItem::Search {
                 trader,
-                point: local.point,
-                mark: local.mark,
+                point: local.get().point,
+                mark: local.get().mark,
             });
             open(alloc, local)
         }
         Begin::Path(local) => {
             notes.push_reserved(TraceItem::Path {
                 trader,
-                point: local.point,
+                point: local.get().point,
             });
             open(alloc, local)
         }
@@ -116,7 +116,7 @@ fn refused(alloc: Global, outcome: Outcome) -> Result<Entry, Memory>
     Ok(Entry::Ended(Visit::Refused(outcome)))
 }
 
-fn open(alloc: Global, local: Local) -> Result<Entry, Memory>
+fn open(alloc: Global, local: Boxed<Local>) -> Result<Entry, Memory>
     ensures { IfOk result (λ e. e ≡ entry.Open (opened local)) }
 {
     Ok(Entry::Open(Frame::new(alloc, local)?))

@@ -4,16 +4,16 @@ use crate::checking::Case;
 use crate::passing::passes;
 use crate::visiting::is_visited;
 use std::alloc::Global;
-use td_cdr::Memory;
+use td_cdr::{Boxed, Memory};
 use td_ops::Query;
 use td_store::Local;
 use td_trader::{Begin, Solo, Traders};
 
-fn is_served(alloc: Global, case: Case, local: Local, tried: &str, told: &str) -> bool {
+fn is_served(alloc: Global, case: Case, local: Boxed<Local>, tried: &str, told: &str) -> bool {
     match case {
         Case::Visit => is_visited(alloc, local, told),
         _ => {
-            let passed = passes(alloc, case, &local, tried, told).unwrap_or(false);
+            let passed = passes(alloc, case, local.get(), tried, told).unwrap_or(false);
             drop(local);
             passed
         }

@@ -161,7 +161,7 @@ fn goes_so(alloc: Global, frame: Frame, steps: &str, told: &str) -> bool {
 }
 
 /// Whether a visit asks these questions, and ends with this answer behind those that it is given: `STEPS => ANSWER`.
-pub(crate) fn is_visited(alloc: Global, local: Local, told: &str) -> bool {
+pub(crate) fn is_visited(alloc: Global, local: Boxed<Local>, told: &str) -> bool {
     let (steps, end) = told.split_once(" => ").unwrap_or((told, ""));
     match Frame::new(alloc, local) {
         Ok(frame) => goes_so(alloc, frame, steps, end),

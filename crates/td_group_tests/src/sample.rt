@@ -208,7 +208,7 @@ fn begins_as<T: Traders>(traders: &mut T, at: usize, query: Query) -> &'static s
 
 fn kind_of(answer: Result<Begin, Memory>) -> &'static str {
     let kind = match &answer {
-        Ok(Begin::Search(local)) => search_of(local.mark),
+        Ok(Begin::Search(local)) => search_of(local.get().mark),
         Ok(Begin::Repeat(1)) => "repeat 1",
         _ => "another",
     };

@@ -11,7 +11,7 @@ ghost use Rattle.td_trader.specs.Serving.{local_of};
 use crate::local::{path_local, search_local};
 use crate::query::{Parts, first_name, judge};
 use std::alloc::Global;
-use td_cdr::{Memory, Octets, Twin};
+use td_cdr::{Boxed, Memory, Octets, Twin};
 use td_changes::Bounds;
 use td_marks::{Made, Ring};
 use td_ops::{Outcome, Query};
@@ -27,9 +27,9 @@ pub enum Begin {
     /// It was searched here before: its identifier is remembered under the mark of this number.
     Repeat(u64),
     /// It is searched here, and was marked.
-    Search(Local),
+    Search(Boxed<Local>),
     /// It is passed on over the first link of its path.
-    Path(Local),
+    Path(Boxed<Local>),
 }
 
 /// Begins a query at a trader with this store, at this point of its history: marks it where it is to be
@@ -217,7 +217,7 @@ fn local_under(
     query: &Query,
     parts: Parts,
     made: &Made,
-) -> Result<Local, Memory>
+) -> Result<Boxed<Local>, Memory>
     requires { parts ≡ parts_of query.now }
     ensures { IfOk result (λ l. l ≡ local_of store.now point mark made.now.identifier query.now) }
 {

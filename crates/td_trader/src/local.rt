@@ -11,7 +11,7 @@ use crate::query::Parts;
 use std::alloc::Global;
 use std::marker::Brand;
 use std::sync::ledger::{Blank, Ledger};
-use td_cdr::{List, Memory, Octets, Twin, copy_two};
+use td_cdr::{Boxed, List, Memory, Octets, Twin, copy_two};
 use td_ops::Query;
 use td_policy::{Attributes, Effective, Stated, effective_of};
 use td_store::{LinkRecord, Local, OfferRecord, Steps, Store};
@@ -30,7 +30,7 @@ pub fn search_local(
     point: u64,
     mark: u64,
     identifier: Octets,
-) -> Result<Local, Memory>
+) -> Result<Boxed<Local>, Memory>
     requires { parts ≡ parts_of query.now }
     ensures { IfOk result (λ local. local ≡ local_of store.now point mark identifier query.now) }
 {
@@ -40,7 +40,7 @@ pub fn search_local(
             local.mark = mark;
             local.candidates = candidates;
             local.links = links;
-            Ok(local)
+            Boxed::new(alloc, local)
         }
         Err(memory) => {
             drop(parts);
@@ -63,7 +63,7 @@ pub fn path_local(
     parts: Parts,
     point: u64,
     link: &LinkRecord,
-) -> Result<Local, Memory>
+) -> Result<Boxed<Local>, Memory>
     requires { parts ≡ parts_of query.now }
     ensures { IfOk result (λ local. local ≡ path_of store.now point link.now query.now) }
 {
@@ -71,7 +71,7 @@ pub fn path_local(
         Ok((copies, (link, identifier))) => {
             let mut local = bare_local(alloc, parts, copies, point, identifier);
             local.path = Some(link);
-            Ok(local)
+            Boxed::new(alloc, local)
         }
         Err(memory) => {
             drop(parts);

@@ -155,8 +155,8 @@ fn begins_so(begin: &Begin, told: &str) -> bool {
     match begin {
         Begin::Refused(outcome) => is_outcome(outcome, told),
         Begin::Repeat(mark) => word == "repeat" && rest.parse::<u64>() == Ok(*mark),
-        Begin::Search(local) => word == "search" && is_search(local, rest),
-        Begin::Path(local) => word == "path" && is_path(local, rest),
+        Begin::Search(local) => word == "search" && is_search(local.get(), rest),
+        Begin::Path(local) => word == "path" && is_path(local.get(), rest),
     }
 }
 

@@ -5,14 +5,14 @@ use crate::ending::end_visit;
 use crate::progress::Progress;
 use std::alloc::Global;
 use std::marker::Model;
-use td_cdr::{List, Memory};
+use td_cdr::{Boxed, List, Memory};
 use td_out::Words;
 use td_store::Local;
 use td_walk::{Next, StepAnswer, SubAnswer};
 
 /// A visit that waits for the answers to its questions. What was done for one question isn't done again for the next.
 pub struct Frame {
-    local: Local,
+    local: Boxed<Local>,
     answers: List<StepAnswer>,
     progress: Progress,
 }
@@ -55,11 +55,11 @@ impl Frame {
     /// # Errors
     ///
     /// `Memory` for want of memory alone.
-    pub fn new(alloc: Global, local: Local) -> Result<Frame, Memory>
+    pub fn new(alloc: Global, local: Boxed<Local>) -> Result<Frame, Memory>
         ensures { IfOk result (λ f. f ≡ record { local = local; answers = [] }) }
     {
         let answers = List::new(alloc);
-        let progress = start_visit(alloc, &local, answers.as_slice());
+        let progress = start_visit(alloc, local.get(), answers.as_slice());
         Ok(Frame {
             local,
             answers,
@@ -78,7 +78,7 @@ impl Frame {
     {
         next_question(
             alloc,
-            &self.local,
+            self.local.get(),
             self.answers.as_slice(),
             &mut self.progress,
         )
@@ -88,7 +88,7 @@ impl Frame {
     pub fn local(&self) -> &Local
         ensures { result.now ≡ self.now.local }
     {
-        &self.local
+        self.local.get()
     }
 
     /// How many answers were taken.
@@ -131,7 +131,7 @@ impl Frame {
             answers,
             progress,
         } = self;
-        let ended = end_visit(alloc, &local, answers, progress, words);
+        let ended = end_visit(alloc, local.get(), answers, progress, words);
         drop(local);
         ended
     }
