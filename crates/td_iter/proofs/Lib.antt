@@ -6,3 +6,4 @@ pub mod Lengths
 pub mod Loading
 pub mod Places
 pub mod Steadiness
+pub mod Whole

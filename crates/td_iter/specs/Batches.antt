@@ -1,6 +1,7 @@
 -- How many of the items that are left stand in a reply (OMG's Trading Object Service: the operations query, list_offers
 -- and list_proxies, and next_n of the interfaces OfferIterator and OfferIdIterator).
-use Rattle.std.specs.Prelude.{◌≡◌, ℕ, ◌+◌, ◌≤◌, Bool, List, [], ◌∷◌, ◌++◌, length, take, drop}
+use Rattle.std.specs.Prelude.{◌≡◌, ℕ, ◌+◌, ◌≤◌, Bool, true, false, if◌then◌else◌, List, [], ◌∷◌, ◌++◌, length, take}
+use Rattle.std.specs.Prelude.{drop}
 use Rattle.td_cdr.specs.Format.{Piece}
 use Rattle.td_cdr.specs.Writing.{Draft}
 use Rattle.td_codes.specs.Formats.{is_some}
@@ -41,6 +42,17 @@ module _ {X : Type 0} (head : List X → Bool → Piece) (left : List X) where
     pub puts : PutsBatch n old new count
     pub rest_is : rest ≡ drop count left
     pub more_is : more ≡ is_some rest
+
+-- Whether the batch for n items has all that is left: it was written then, and else nothing was.
+abbrev pub PutsWhole : {X : Type 0} → (List X → Bool → Piece) → List X → (n : ℕ) → (old new : Draft) → Bool → Type 0
+PutsWhole head left n old new true = PutsBatch head left n old new (length left)
+PutsWhole head left n old new false = (new.bytes ≡ old.bytes) × (IsBatch head left old n (length left) → ⊥)
+
+-- the same, where nothing is left behind it
+abbrev pub GivesWhole : {X : Type 0} → (List X → Bool → Piece) → List X → (n : ℕ) → (rest : List X) → (old new : Draft)
+    → Bool → Type 0
+GivesWhole head left n rest old new whole =
+    PutsWhole head left n old new whole × (rest ≡ (if whole then [] else left))
 
 -- Batches one after the other, each for any number of items and in any reply, and what is left behind the last
 pub data Batches {X : Type 0} : List X → List (List X) → List X → Type 0 where

@@ -3,8 +3,9 @@
 ghost use Rattle.std.specs.Prelude.{◌≡◌, length, take, IfOk, OnErr, if◌then◌else◌};
 ghost use Rattle.td_cdr.specs.Sound.{◌&◌, sequence, text};
 ghost use Rattle.td_codes.specs.References.{reference};
-ghost use Rattle.td_iter.specs.Batches.{PutsBatch};
+ghost use Rattle.td_iter.specs.Batches.{PutsBatch, PutsWhole};
 ghost use Rattle.td_iter.specs.Heads.{nil, given_or_nil, offers_found, ids_found, IsSmallReference, AreLimits};
+ghost use Rattle.td_codes.specs.declared.reference.Ior.{Ior as Reference};
 ghost use Rattle.td_iter.specs.declared.limits.TheConstants.{REPLY_START};
 
 use crate::filling::{Tail, put_counted};
@@ -82,6 +83,66 @@ fn append_found(
     let count = put_counted(alloc, w, offers, n, Tail { more, done })?;
     let reference = given_or_nil(iterator, &none, count < offers.len());
     put_two(alloc, w, reference, limits)?;
+    Ok(count)
+}
+
+/// Appends the result of a query, where its batch for n has all of these offers: then it has no iterator's reference.
+/// Answers whether it has.
+///
+/// # Errors
+///
+/// `Memory` for want of memory alone; the writer is then unchanged.
+pub(crate) fn put_whole(
+    alloc: Global,
+    w: &mut Writer,
+    offers: &[Offer],
+    n: u32,
+    limits: &List<Text>,
+) -> Result<bool, Memory>
+    requires start { length w.old.bytes ≡ REPLY_START }
+    requires limits { AreLimits limits.now }
+    ensures whole { IfOk result (λ whole. (iterator : Reference)
+        → PutsWhole (offers_found iterator limits.now) offers.now n w.old w.new whole) }
+    ensures err { OnErr result (w.new.bytes ≡ w.old.bytes) }
+    ensures order { w.new.order ≡ w.old.order }
+{
+    let held = w.len();
+    match append_ended(alloc, w, offers, n, limits) {
+        Ok(count) if count == offers.len() => Ok(true),
+        Ok(_) => {
+            w.cut(held);
+            Ok(false)
+        }
+        Err(memory) => {
+            w.cut(held);
+            Err(memory)
+        }
+    }
+}
+
+/// Appends the result of a query with the nil reference, whatever is left behind its batch. Where it fails, some may be
+/// written.
+fn append_ended(
+    alloc: Global,
+    w: &mut Writer,
+    offers: &[Offer],
+    n: u32,
+    limits: &List<Text>,
+) -> Result<usize, Memory>
+    requires start { length w.old.bytes ≡ REPLY_START }
+    requires limits { AreLimits limits.now }
+    ensures puts { IfOk result (λ k. PutsBatch (offers_found nil limits.now) offers.now n w.old w.new k) }
+    ensures kept { OnErr result (take (length w.old.bytes) w.new.bytes ≡ w.old.bytes) }
+    ensures order { w.new.order ≡ w.old.order }
+{
+    let none = nil(alloc);
+    let size = found_size(alloc, w, &none, limits)?;
+    let tail = Tail {
+        more: size,
+        done: size,
+    };
+    let count = put_counted(alloc, w, offers, n, tail)?;
+    put_two(alloc, w, &none, limits)?;
     Ok(count)
 }
 

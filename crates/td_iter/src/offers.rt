@@ -1,11 +1,12 @@
 //! Iterators over offers.
 
 ghost use Rattle.std.specs.Prelude.{◌≡◌, ◌<◌, ◌^◌, length, IfOk, OnOk, OnErr};
-ghost use Rattle.td_iter.specs.Batches.{GivesBatch};
+ghost use Rattle.td_codes.specs.declared.reference.Ior.{Ior as Reference};
+ghost use Rattle.td_iter.specs.Batches.{GivesBatch, GivesWhole};
 ghost use Rattle.td_iter.specs.Heads.{offers_found, next_offers, AreSmallOffers, IsSmallReference, AreLimits};
 ghost use Rattle.td_iter.specs.declared.limits.TheConstants.{REPLY_START};
 
-use crate::first::put_found;
+use crate::first::{put_found, put_whole};
 use crate::next::put_next;
 use std::alloc::Global;
 use std::marker::Model;
@@ -95,6 +96,38 @@ impl OfferIter {
         let count = put_found(alloc, w, left, n, iterator, limits)?;
         self.given += count;
         Ok(self.given < self.offers.len())
+    }
+
+    /// Appends the result of a query, where its batch for n has all offers that are left: these, the nil reference and
+    /// the limits. Answers whether it has; where it hasn't, nothing was written. So an iterator that nobody needs is
+    /// given no reference.
+    ///
+    /// # Errors
+    ///
+    /// `Memory` for want of memory alone; the iterator and what the writer holds are then unchanged.
+    pub fn whole_batch(
+        &mut self,
+        alloc: Global,
+        n: u32,
+        w: &mut Writer,
+        limits: &List<Text>,
+    ) -> Result<bool, Memory>
+        requires start { length w.old.bytes ≡ REPLY_START }
+        requires limits { AreLimits limits.now }
+        ensures whole { IfOk result (λ whole. (iterator : Reference)
+            → GivesWhole (offers_found iterator limits.now) self.old n self.new w.old w.new whole) }
+        ensures err { OnErr result ((self.new ≡ self.old) × (w.new.bytes ≡ w.old.bytes)) }
+        ensures order { w.new.order ≡ w.old.order }
+    {
+        let (_given, left) = self.offers.as_slice().split_at(self.given);
+        if (n as usize) < left.len() {
+            return Ok(false);
+        }
+        let whole = put_whole(alloc, w, left, n, limits)?;
+        if whole {
+            self.given = self.offers.len();
+        }
+        Ok(whole)
     }
 
     /// Appends the result of `next_n`: whether something is left behind the batch for n offers, and the

@@ -89,3 +89,37 @@ fn leaves_all(alloc: Global, left: &mut OfferIter) -> Result<bool, Fail> {
             && left.max_left() == 2,
     )
 }
+
+/// Whether the batch for n that has all offers has these bytes; or there is none, and nothing was written.
+fn gives_whole(
+    alloc: Global,
+    left: &mut OfferIter,
+    n: u32,
+    digits: &str,
+    whole: bool,
+) -> Result<bool, Fail> {
+    let mut w = started(alloc, Order::Big)?;
+    let told = left.whole_batch(alloc, n, &mut w, &no_limits(alloc))?;
+    Ok(told == whole && is_body(alloc, &w, digits)?)
+}
+
+/// A batch for fewer than are left isn't all, and one for more is.
+#[test]
+fn whole_batches(rt: HostRuntime) -> Result<(), Fail> {
+    assert!(rt; gives_both(rt.alloc())?);
+    Ok(())
+}
+
+fn gives_both(alloc: Global) -> Result<bool, Fail> {
+    let mut left = offers(alloc, b"12")?;
+    takes_both(alloc, &mut left)
+}
+
+fn takes_both(alloc: Global, left: &mut OfferIter) -> Result<bool, Fail> {
+    Ok(
+        gives_whole(alloc, left, 1, "", false)?
+            && left.max_left() == 2
+            && gives_whole(alloc, left, 3, FIRST, true)?
+            && left.max_left() == 0,
+    )
+}

@@ -1,13 +1,21 @@
 -- The first batch of offers.
-use Rattle.std.proofs.Common.{◌≡◌, ℕ, Bool, if◌then◌else◌, List, Result, Ok, Err, OnOk, ap, subst, ◌∙◌}
+use Rattle.std.proofs.Common.{◌≡◌, ℕ, Bool, true, false, if◌then◌else◌, List, ◌++◌, Result, Ok, Err, OnOk, OnErr}
+use Rattle.std.proofs.Common.{length, refl, sym, ap, subst, ◌∙◌}
+use Rattle.std.proofs.Math.Seq.{drop-length}
+use Rattle.std.proofs.lemmas.Bool.{both_ways}
+use Rattle.td_cdr.specs.Format.{Piece}
 use Rattle.td_cdr.specs.Writing.{Draft}
 use Rattle.td_cdr.specs.declared.memory.Memory.{Memory as Wanting}
+use Rattle.td_cdr.specs.declared.order.Order.{Order}
 use Rattle.td_codes.specs.Formats.{is_some}
 use Rattle.td_codes.specs.declared.reference.Ior.{Ior}
+use Rattle.td_iter.specs.Batches.{GivesWhole, IsBatch, PutsBatch}
 use Rattle.td_iter.specs.Desks.{Live, added}
+use Rattle.td_iter.specs.Heads.{offers_found}
 use Rattle.td_iter.specs.declared.item.Item.TheVariants.{Offers}
-use Rattle.td_lookup.specs.Querying.{offers_kept}
+use Rattle.td_lookup.specs.Querying.{first_offers, offers_kept}
 use Rattle.td_lookup.specs.Telling.{PutsBatched, PutsFirst}
+use Rattle.td_ops.specs.Outcomes.{outcome_piece}
 use Rattle.td_reply.specs.References.{offer_iterator}
 use Rattle.td_reply.specs.declared.answer.ReplyBody.{ReplyBody}
 use Rattle.td_value.specs.declared.structures.Offer.{Offer}
@@ -21,23 +29,72 @@ rest_kept name left rest more d e made same told =
     subst (λ (xs : List Offer). e ≡ offers_kept name xs d) same
     (subst (λ (b : Bool). e ≡ (if b then added name (Offers rest) d else d)) told made)
 
-puts_first : (home : Address) (name trader : List ℕ) (n : ℕ) (limits : List (List ℕ)) (offers left : List Offer)
-    (reference : Ior) (old new : Draft) (d e : Live) → trader ≡ name → left ≡ offers
-    → reference ≡ offer_iterator home name d.1 → PutsBatched reference limits trader n left old new d e
-    → PutsFirst home name n limits offers old new d e
-puts_first home name trader n limits offers left reference old new d e t l r p =
-    let q : PutsBatched (offer_iterator home name d.1) limits name n offers old new d e =
-    subst (λ (x : Ior). PutsBatched x limits name n offers old new d e) r
-    (subst (λ (xs : List Offer). PutsBatched reference limits name n xs old new d e) l
-    (subst (λ (x : List ℕ). PutsBatched reference limits x n left old new d e) t p)) in
-    record { count = q.count; batch = q.puts.is_batch; bytes = q.puts.bytes; kept = q.kept }
+-- where a batch hasn't all that is left, nothing was written and all is left
+pub nothing_written : (head : List Offer → Bool → Piece) (left rest : List Offer) (n : ℕ) (old new : Draft)
+    (whole : Bool) → whole ≡ false → GivesWhole head left n rest old new whole
+    → (new.bytes ≡ old.bytes) × (rest ≡ left)
+nothing_written head left rest n old new false e g = (g.0.0, g.1)
+nothing_written head left rest n old new true e g = absurd (both_ways true e refl)
 
-pub tell_first : (home : Address) (name trader : List ℕ) (n number : ℕ) (limits : List (List ℕ))
-    (offers left : List Offer) (reference : Ior) (old new : Draft) (d e : Live) (r : Result ReplyBody Wanting)
-    → trader ≡ name → left ≡ offers → reference ≡ offer_iterator home name number → number ≡ d.1
-    → OnOk r (PutsBatched reference limits trader n left old new d e)
-    → OnOk r (PutsFirst home name n limits offers old new d e)
-tell_first home name trader n number limits offers left reference old new d e (Ok b) t l made next p =
-    puts_first home name trader n limits offers left reference old new d e t l
-    (made ∙ ap (λ (x : ℕ). offer_iterator home name x) next) p
-tell_first home name trader n number limits offers left reference old new d e (Err m) t l made next p = tt
+pub unchanged_after : (old mid new : Draft) (d e : Live) (r : Result ReplyBody Wanting) → mid.bytes ≡ old.bytes
+    → OnErr r ((e ≡ d) × (new.bytes ≡ mid.bytes)) → OnErr r ((e ≡ d) × (new.bytes ≡ old.bytes))
+unchanged_after old mid new d e (Ok b) same u = tt
+unchanged_after old mid new d e (Err m) same u = (u.0, u.1 ∙ same)
+
+module _ (home : Address) (name : List ℕ) (n : ℕ) (limits : List (List ℕ)) (offers : List Offer) where
+  puts_first : (trader : List ℕ) (reference : Ior) (old new : Draft) (d e : Live) → trader ≡ name
+      → reference ≡ offer_iterator home name d.1 → PutsBatched reference limits trader n offers old new d e
+      → PutsFirst home name n limits offers old new d e
+  puts_first trader reference old new d e t r p =
+      let q : PutsBatched (offer_iterator home name d.1) limits name n offers old new d e =
+      subst (λ (x : Ior). PutsBatched x limits name n offers old new d e) r
+      (subst (λ (x : List ℕ). PutsBatched reference limits x n offers old new d e) t p) in
+      record { count = q.count; batch = q.puts.is_batch; bytes = q.puts.bytes; kept = q.kept }
+
+  pub tell_first : (trader : List ℕ) (number : ℕ) (reference : Ior) (old new : Draft) (d e : Live)
+      (r : Result ReplyBody Wanting) → trader ≡ name → reference ≡ offer_iterator home name number → number ≡ d.1
+      → OnOk r (PutsBatched reference limits trader n offers old new d e)
+      → OnOk r (PutsFirst home name n limits offers old new d e)
+  tell_first trader number reference old new d e (Ok b) t made next p =
+      puts_first trader reference old new d e t (made ∙ ap (λ (x : ℕ). offer_iterator home name x) next) p
+  tell_first trader number reference old new d e (Err m) t made next p = tt
+
+  -- a batch that has all offers, behind which nothing is kept
+  pub tell_whole : (left rest : List Offer) (old new : Draft) (d : Live) (whole : Bool) → left ≡ offers → whole ≡ true
+      → ((r : Ior) → GivesWhole (offers_found r limits) left n rest old new whole)
+      → PutsFirst home name n limits offers old new d d
+  tell_whole left rest old new d false same e gives = absurd (both_ways false refl e)
+  tell_whole left rest old new d true same e gives =
+      let reference = offer_iterator home name d.1 in
+      let p : PutsBatch (offers_found reference limits) offers n old new (length offers) =
+      subst (λ (xs : List Offer). PutsBatch (offers_found reference limits) xs n old new (length xs)) same
+      (gives reference).0 in
+      record {
+        count = length offers;
+        batch = p.is_batch;
+        bytes = p.bytes;
+        kept = ap (λ (xs : List Offer). offers_kept name xs d) (sym (drop-length offers));
+      }
+
+  -- what was tried before and wrote nothing doesn't matter
+  puts_after : (left : List Offer) (old mid new : Draft) (d e : Live) → left ≡ offers → mid.bytes ≡ old.bytes
+      → mid.order ≡ old.order → PutsFirst home name n limits left mid new d e
+      → PutsFirst home name n limits offers old new d e
+  puts_after left old mid new d e same bytes order p =
+      let q = subst (λ (xs : List Offer). PutsFirst home name n limits xs mid new d e) same p in
+      let Batched = λ (xs : List ℕ) (o : Order). IsBatch (offers_found (offer_iterator home name d.1) limits) offers
+      (record { bytes = xs; order = o; room = 0 }) n q.count in
+      let Written = λ (xs : List ℕ) (o : Order). new.bytes ≡
+      xs ++ outcome_piece (first_offers home name d.1 limits offers q.count) o (length xs) in
+      record {
+        count = q.count;
+        batch = subst (Batched old.bytes) order (subst (λ (xs : List ℕ). Batched xs mid.order) bytes q.batch);
+        bytes = subst (Written old.bytes) order (subst (λ (xs : List ℕ). Written xs mid.order) bytes q.bytes);
+        kept = q.kept;
+      }
+
+  pub tell_after : (left : List Offer) (old mid new : Draft) (d e : Live) (r : Result ReplyBody Wanting) → left ≡ offers
+      → mid.bytes ≡ old.bytes → mid.order ≡ old.order → OnOk r (PutsFirst home name n limits left mid new d e)
+      → OnOk r (PutsFirst home name n limits offers old new d e)
+  tell_after left old mid new d e (Ok b) same bytes order p = puts_after left old mid new d e same bytes order p
+  tell_after left old mid new d e (Err m) same bytes order p = tt

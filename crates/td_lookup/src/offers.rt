@@ -92,9 +92,44 @@ fn put_offers(
     ensures err { OnErr result ((desk.new ≡ desk.old) × (w.new.bytes ≡ w.old.bytes)) }
     ensures order { w.new.order ≡ w.old.order }
 {
-    let Some(left) = over_offers(offers) else {
+    let Some(mut left) = over_offers(offers) else {
         return Err(Memory);
     };
+    match left.whole_batch(alloc, n, w, limits) {
+        Ok(true) => {
+            drop(left);
+            Ok(ReplyBody::Written)
+        }
+        Ok(false) => put_some(alloc, home, name, n, left, limits, desk, w),
+        Err(memory) => {
+            drop(left);
+            Err(memory)
+        }
+    }
+}
+
+/// Appends the first batch for n of what is left, with the reference of the desk's next iterator where something is
+/// left behind it, and keeps the rest.
+fn put_some(
+    alloc: Global,
+    home: &Address,
+    name: &Text,
+    n: u32,
+    left: OfferIter,
+    limits: &List<Text>,
+    desk: &mut Desk,
+    w: &mut Writer,
+) -> Result<ReplyBody, Memory>
+    requires home { IsAddress home.now }
+    requires name { IsTraderName name.now }
+    requires limits { AreLimits limits.now }
+    requires start { length w.old.bytes ≡ REPLY_START }
+    requires numbers { desk.old.1 < 2 ^ 63 }
+    ensures written { IfOk result (λ b. b ≡ ReplyBody.Written) }
+    ensures puts { OnOk result (PutsFirst home.now name.now n limits.now left w.old w.new desk.old desk.new) }
+    ensures err { OnErr result ((desk.new ≡ desk.old) × (w.new.bytes ≡ w.old.bytes)) }
+    ensures order { w.new.order ≡ w.old.order }
+{
     match label_for(alloc, home, name, desk.next_number()) {
         Ok(label) => put_first(alloc, n, label, left, limits, desk, w),
         Err(memory) => {
