@@ -14,7 +14,7 @@ use crate::query::query_told;
 use crate::references::{reference_told, target_told};
 use crate::types::{TypeItems, items_told};
 use std::alloc::Global;
-use td_cdr::{Memory, Text};
+use td_cdr::{Memory, Text, share_owned_three};
 use td_ops::{AddLink, Call, Change, Look};
 use td_tool::{ExportWords, LinkWords, QueryWords, TypeWords, Wanted};
 use td_value::SpecifiedServiceTypes;
@@ -55,6 +55,10 @@ fn export_told(alloc: Global, words: &ExportWords<'_>) -> Result<Change, AskFaul
     let service_type = Text::from_slice(alloc, words.service.as_bytes())?;
     let reference = reference_told(alloc, words.object)?;
     let properties = properties_told(alloc, words.properties.as_slice())?;
+    let (reference, (service_type, properties)) = share_owned_three(
+        alloc,
+        (reference, (service_type, properties)),
+    )?;
     Ok(Change::Export {
         reference,
         service_type,

@@ -145,6 +145,40 @@ pub fn share_three<A: Twin + Drop, B: Twin + Drop, C: Twin + Drop>(
     Ok((first, others))
 }
 
+/// Blocks with two values.
+///
+/// # Errors
+///
+/// `Memory` for want of memory alone; the values are then dropped.
+pub fn share_owned_two<A: Drop, B: Drop>(
+    alloc: Global,
+    owned: (A, B),
+) -> Result<(Shared<A>, Shared<B>), Memory>
+    ensures { IfOk result (λ shared. (shared.0 ≡ owned.0) × (shared.1 ≡ owned.1)) }
+{
+    let (first, second) = owned;
+    let first = Shared::new(alloc, first)?;
+    let second = Shared::new(alloc, second)?;
+    Ok((first, second))
+}
+
+/// Blocks with three values.
+///
+/// # Errors
+///
+/// `Memory` for want of memory alone; the values are then dropped.
+pub fn share_owned_three<A: Drop, B: Drop, C: Drop>(
+    alloc: Global,
+    owned: (A, (B, C)),
+) -> Result<(Shared<A>, (Shared<B>, Shared<C>)), Memory>
+    ensures { IfOk result (λ shared. (shared.0 ≡ owned.0) × (shared.1.0 ≡ owned.1.0) × (shared.1.1 ≡ owned.1.1)) }
+{
+    let (first, others) = owned;
+    let first = Shared::new(alloc, first)?;
+    let others = share_owned_two(alloc, others)?;
+    Ok((first, others))
+}
+
 /// Blocks with copies of four values.
 ///
 /// # Errors

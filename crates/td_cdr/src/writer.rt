@@ -82,11 +82,10 @@ impl Writer {
         requires { count ≤ 8 }
         ensures { Adds (replicate count 0) self.old self.new result }
     {
-        if count == 0 {
-            return Ok(());
-        }
         self.reserve(count)?;
-        self.bytes.resize(self.bytes.len() + count, 0)?;
+        for _ in 0..count {
+            self.bytes.push_reserved(0);
+        }
         Ok(())
     }
 
@@ -99,7 +98,9 @@ impl Writer {
     {
         self.reserve(pad + cell.len())?;
         self.put_zeros(pad)?;
-        self.bytes.extend_from_slice(cell)?;
+        for &octet in cell {
+            self.bytes.push_reserved(octet);
+        }
         Ok(())
     }
 

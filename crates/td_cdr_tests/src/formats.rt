@@ -4,7 +4,7 @@ use std::alloc::Global;
 use td_cdr::{
     Boxed, CdrFault, List, Memory, Octets, Order, Reader, Shared, Spelled, Text, Twin, ValueFault,
     Writer, copy_four, copy_three, copy_two, put_five, put_four, put_six, put_three, put_two,
-    read_whole, share_four, write_whole,
+    read_whole, share_four, share_owned_three, write_whole,
 };
 
 const BIG: Order = Order::Big;
@@ -250,7 +250,16 @@ fn values_shared_one_after_another(rt: HostRuntime) {
 
 fn are_shared(alloc: Global) -> Result<bool, Memory> {
     let (first, (second, (third, fourth))) = share_four(alloc, &1u32, &2u32, &3u32, &true)?;
-    Ok(*first.get() == 1 && *second.get() == 2 && *third.get() == 3 && *fourth.get())
+    let (fifth, (sixth, seventh)) = share_owned_three(alloc, (5u32, (6u16, false)))?;
+    Ok(
+        *first.get() == 1
+            && *second.get() == 2
+            && *third.get() == 3
+            && *fourth.get()
+            && *fifth.get() == 5
+            && *sixth.get() == 6
+            && !*seventh.get(),
+    )
 }
 
 #[test]

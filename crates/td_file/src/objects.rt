@@ -6,7 +6,7 @@ ghost use Rattle.td_file.specs.Objects.{admin_of, key, link_of, lookup_of, objec
 ghost use Rattle.td_file.specs.Objects.{register_of, types_of};
 
 use std::alloc::Global;
-use td_cdr::{Memory, Octets, Shared, Text};
+use td_cdr::{Memory, Octets, Text, share_owned_two};
 use td_ior::{Kind, ObjectKey, make_ior, write_key};
 use td_lines::Home;
 use td_policy::OwnReferences;
@@ -132,16 +132,6 @@ pub(crate) fn ends_of(alloc: Global, home: &Home, name: &[u8]) -> Result<(Ior, I
     }
 }
 
-/// Two references, in a block each.
-fn shared(alloc: Global, two: (Ior, Ior)) -> Result<(Shared<Ior>, Shared<Ior>), Memory>
-    ensures { IfOk result (λ p. (p.0 ≡ two.0) × (p.1 ≡ two.1)) }
-{
-    let (first, second) = two;
-    let first = Shared::new(alloc, first)?;
-    let second = Shared::new(alloc, second)?;
-    Ok((first, second))
-}
-
 /// Its Link and its Proxy.
 fn link_and_proxy(alloc: Global, home: &Home, name: &[u8]) -> Result<(Ior, Ior), Memory>
     requires { HasNoNul home.now.host }
@@ -178,9 +168,9 @@ pub(crate) fn own(alloc: Global, home: &Home, name: &[u8]) -> Result<OwnReferenc
     requires { HasNoNul home.now.host }
     ensures { IfOk result (λ o. o ≡ own home.now name.now) }
 {
-    let (lookup, register) = shared(alloc, ends_of(alloc, home, name)?)?;
-    let (link, proxy) = shared(alloc, link_and_proxy(alloc, home, name)?)?;
-    let (admin, types) = shared(alloc, admin_and_types(alloc, home, name)?)?;
+    let (lookup, register) = share_owned_two(alloc, ends_of(alloc, home, name)?)?;
+    let (link, proxy) = share_owned_two(alloc, link_and_proxy(alloc, home, name)?)?;
+    let (admin, types) = share_owned_two(alloc, admin_and_types(alloc, home, name)?)?;
     Ok(OwnReferences {
         lookup,
         register,

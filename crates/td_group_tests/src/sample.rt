@@ -1,7 +1,7 @@
 //! Groups of traders with the type Printer, and what a session does at one of them.
 
 use std::alloc::Global;
-use td_cdr::{List, Memory, Text};
+use td_cdr::{List, Memory, Text, share_owned_three};
 use td_file::{Opened, read_file};
 use td_ops::{Change, Desired, Look, Outcome, Query, Reply};
 use td_policy::octets_policy;
@@ -72,10 +72,14 @@ pub(crate) fn exports<T: Traders>(alloc: Global, traders: &mut T, at: usize) -> 
 
 fn exported(alloc: Global) -> Result<Change, Memory> {
     let service_type = text(alloc, "Printer")?;
+    let (reference, (service_type, properties)) = share_owned_three(
+        alloc,
+        (reference(alloc)?, (service_type, List::new(alloc))),
+    )?;
     Ok(Change::Export {
-        reference: reference(alloc)?,
+        reference,
         service_type,
-        properties: List::new(alloc),
+        properties,
     })
 }
 

@@ -1,13 +1,13 @@
 //! Entries to which no more line belongs.
 
-ghost use Rattle.std.specs.Prelude.{◌≡◌, [], OnOk};
+ghost use Rattle.std.specs.Prelude.{◌≡◌, [], IfOk, OnOk};
 ghost use Rattle.td_lines.specs.Drafts.{adding, closed, closed_with, exporting};
 
 use crate::draft::{Draft, Open, OpenOffer, OpenType};
 use crate::entry::Entry;
 use std::alloc::Global;
 use std::mem;
-use td_cdr::{List, Memory};
+use td_cdr::{List, Memory, share_owned_three};
 use td_ops::Change;
 
 /// The change that a type asks for.
@@ -23,8 +23,8 @@ fn adding(one: OpenType) -> Change
 }
 
 /// The change that an offer asks for.
-fn exporting(alloc: Global, offer: OpenOffer) -> Change
-    ensures { result ≡ exporting offer offer.proxy }
+fn exporting(alloc: Global, offer: OpenOffer) -> Result<Change, Memory>
+    ensures { IfOk result (λ change. change ≡ exporting offer offer.proxy) }
 {
     let OpenOffer {
         line: _,
@@ -33,20 +33,24 @@ fn exporting(alloc: Global, offer: OpenOffer) -> Change
         proxy,
         properties,
     } = offer;
+    let (reference, (service_type, properties)) = share_owned_three(
+        alloc,
+        (reference, (service_type, properties)),
+    )?;
     match proxy {
-        None => Change::Export {
+        None => Ok(Change::Export {
             reference,
             service_type,
             properties,
-        },
-        Some(proxy) => Change::ExportProxy {
+        }),
+        Some(proxy) => Ok(Change::ExportProxy {
             target: reference,
             service_type,
             properties,
             if_match_all: proxy.if_match_all,
             recipe: proxy.recipe,
             policies: List::new(alloc),
-        },
+        }),
     }
 }
 
@@ -69,7 +73,11 @@ impl Draft {
         match above {
             Open::Nothing => Ok(()),
             Open::Type(one) => self.put(one.line, Entry::Change(adding(one))),
-            Open::Offer(one) => self.put(one.line, Entry::Change(exporting(alloc, one))),
+            Open::Offer(one) => {
+                let line = one.line;
+                let change = exporting(alloc, one)?;
+                self.put(line, Entry::Change(change))
+            },
         }
     }
 }

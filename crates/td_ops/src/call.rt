@@ -6,7 +6,9 @@ ghost use Rattle.td_ops.specs.Parameters.{add_link, query};
 
 use crate::attribute::{Attribute, FollowAttribute, NumberAttribute, TruthAttribute};
 use std::alloc::Global;
-use td_cdr::{List, Memory, Octets, Reader, Spelled, Text, ValueFault, Writer, put_four, put_six};
+use td_cdr::{
+    List, Memory, Octets, Reader, Shared, Spelled, Text, ValueFault, Writer, put_four, put_six,
+};
 use td_value::{
     FollowOption, Ior, Policy, PropStruct, Property, SpecifiedProps, SpecifiedServiceTypes,
 };
@@ -32,9 +34,9 @@ pub enum Call {
 #[derive(Drop)]
 pub enum Change {
     Export {
-        reference: Ior,
-        service_type: Text,
-        properties: List<Property>,
+        reference: Shared<Ior>,
+        service_type: Shared<Text>,
+        properties: Shared<List<Property>>,
     },
     Withdraw {
         id: Text,
@@ -64,9 +66,9 @@ pub enum Change {
         limiting: FollowOption,
     },
     ExportProxy {
-        target: Ior,
-        service_type: Text,
-        properties: List<Property>,
+        target: Shared<Ior>,
+        service_type: Shared<Text>,
+        properties: Shared<List<Property>>,
         if_match_all: bool,
         recipe: Text,
         policies: List<Policy>,

@@ -5,7 +5,7 @@ ghost use Rattle.td_ops.specs.declared.call.Change.TheVariants as change;
 
 use crate::call::{AddLink, Call, Change, IterCall, Look, Query};
 use std::alloc::Global;
-use td_cdr::{List, Memory, Text, Twin, copy_four, copy_three, copy_two};
+use td_cdr::{List, Memory, Shared, Text, Twin, copy_four, copy_three, copy_two};
 use td_value::{FollowOption, Ior, Policy, PropStruct, Property};
 
 impl Twin for Call {
@@ -195,9 +195,9 @@ impl Twin for IterCall {
 /// A copy of an offer that is to be exported.
 fn copy_exported(
     alloc: Global,
-    reference: &Ior,
-    service_type: &Text,
-    properties: &List<Property>,
+    reference: &Shared<Ior>,
+    service_type: &Shared<Text>,
+    properties: &Shared<List<Property>>,
 ) -> Result<Change, Memory>
     ensures { IfOk result (λ twin. twin ≡ change.Export reference.now service_type.now properties.now) }
 {
@@ -302,9 +302,9 @@ fn copy_register(alloc: Global, register: &Option<Ior>) -> Result<Option<Ior>, M
 /// A copy of a proxy offer that is to be exported.
 fn copy_exported_proxy(
     alloc: Global,
-    target: &Ior,
-    service_type: &Text,
-    properties: &List<Property>,
+    target: &Shared<Ior>,
+    service_type: &Shared<Text>,
+    properties: &Shared<List<Property>>,
     if_match_all: bool,
     recipe: &Text,
     policies: &List<Policy>,

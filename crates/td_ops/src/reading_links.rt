@@ -9,7 +9,7 @@ ghost use Rattle.td_ops.specs.Proxies.{proxy_row};
 use crate::call::{AddLink, Call, Change, Look};
 use crate::operation::{LinkOperation, ProxyOperation};
 use std::alloc::Global;
-use td_cdr::{List, Reader, Spelled, Text, ValueFault};
+use td_cdr::{List, Reader, Shared, Spelled, Text, ValueFault};
 use td_value::{FollowOption, Ior, Policy, Property};
 
 /// The parameters of an operation of Link. Where they are refused, the reader may have moved.
@@ -53,8 +53,11 @@ pub(crate) fn read_proxy(
     match operation {
         ProxyOperation::ExportProxy => {
             let (target, (service_type, (properties, (if_match_all, (recipe, policies))))) = <(
-                Ior,
-                (Text, (List<Property>, (bool, (Text, List<Policy>)))),
+                Shared<Ior>,
+                (
+                    Shared<Text>,
+                    (Shared<List<Property>>, (bool, (Text, List<Policy>))),
+                ),
             )>::read(alloc, r)?;
             Ok(Call::Change(Change::ExportProxy {
                 target,

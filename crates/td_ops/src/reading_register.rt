@@ -9,7 +9,7 @@ ghost use Rattle.td_ops.specs.declared.operation.RegisterOperation.TheVariants a
 use crate::call::{Call, Change, Look};
 use crate::operation::RegisterOperation;
 use std::alloc::Global;
-use td_cdr::{List, Reader, Spelled, Text, ValueFault};
+use td_cdr::{List, Reader, Shared, Spelled, Text, ValueFault};
 use td_value::{Ior, Property};
 
 /// The parameters of an operation of Register. Where they are refused, the reader may have moved.
@@ -37,7 +37,10 @@ pub(crate) fn read_register(
 fn read_export(alloc: Global, r: &mut Reader) -> Result<Call, ValueFault>
     ensures { Gives is_memory r.new result ((register_row register.Export).body.format.reads r.old) }
 {
-    let (reference, (service_type, properties)) = <(Ior, (Text, List<Property>))>::read(alloc, r)?;
+    let (reference, (service_type, properties)) = <(
+        Shared<Ior>,
+        (Shared<Text>, Shared<List<Property>>),
+    )>::read(alloc, r)?;
     Ok(Call::Change(Change::Export {
         reference,
         service_type,

@@ -18,7 +18,7 @@ use crate::named::{check_interface, check_open};
 use crate::properties::{check_missing, check_properties, check_size};
 use crate::refusal::{Fault, Refusal, raised};
 use std::alloc::Global;
-use td_cdr::{List, Memory, Text, Twin, share_three};
+use td_cdr::{List, Memory, Shared, Text, Twin, copy_three};
 use td_exceptions::UserException;
 use td_ior::is_nil;
 use td_ops::{Change, Reply};
@@ -122,14 +122,14 @@ pub(crate) fn incarnation_now(store: &Store, type_name: &Text) -> u64
 fn new_offer(
     alloc: Global,
     store: &Store,
-    reference: &Ior,
-    type_name: &Text,
-    properties: &List<Property>,
+    reference: &Shared<Ior>,
+    type_name: &Shared<Text>,
+    properties: &Shared<List<Property>>,
 ) -> Result<OfferRecord, Memory>
     requires { store.now.last_offer < last_number }
     ensures { IfOk result (λ o. o ≡ exported store.now reference.now type_name.now properties.now) }
 {
-    let (reference, (service_type, properties)) = share_three(
+    let (reference, (service_type, properties)) = copy_three(
         alloc, reference, type_name, properties,
     )?;
     let incarnation = incarnation_now(store, type_name);
@@ -164,9 +164,9 @@ pub(crate) fn add_offer(alloc: Global, store: &mut Store, offer: OfferRecord) ->
 fn prepared(
     alloc: Global,
     store: &Store,
-    reference: &Ior,
-    type_name: &Text,
-    properties: &List<Property>,
+    reference: &Shared<Ior>,
+    type_name: &Shared<Text>,
+    properties: &Shared<List<Property>>,
 ) -> Result<OfferRecord, Fault>
     ensures { Yields (front_cause store.now reference.now type_name.now properties.now)
         (exported store.now reference.now type_name.now properties.now) result }
@@ -186,9 +186,9 @@ fn prepared(
 pub fn export(
     alloc: Global,
     store: &mut Store,
-    reference: Ior,
-    service_type: Text,
-    properties: List<Property>,
+    reference: Shared<Ior>,
+    service_type: Shared<Text>,
+    properties: Shared<List<Property>>,
 ) -> Result<Accepted, Fault>
     // The numbers of the offers were given.
     requires given { AllByRecursion (λ (o : Kept). (0 < o.number) × (o.number ≤ store.old.last_offer))

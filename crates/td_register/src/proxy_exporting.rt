@@ -17,7 +17,7 @@ use crate::history::{Accepted, entry_of};
 use crate::named::check_open;
 use crate::refusal::{Fault, Refusal, invalid_lookup, raised};
 use std::alloc::Global;
-use td_cdr::{List, Memory, Text, Twin, nothing_seen, see, share_four};
+use td_cdr::{List, Memory, Shared, Text, Twin, copy_three, nothing_seen, see};
 use td_exceptions::UserException;
 use td_ior::{IorFault, iiop_of};
 use td_lang::{LangFault, read_recipe};
@@ -154,18 +154,17 @@ pub fn check_export_proxy(
 fn new_proxy(
     alloc: Global,
     store: &Store,
-    target: &Ior,
-    type_name: &Text,
-    properties: &List<Property>,
+    target: &Shared<Ior>,
+    type_name: &Shared<Text>,
+    properties: &Shared<List<Property>>,
     part: &ProxyPart,
 ) -> Result<OfferRecord, Memory>
     requires { store.now.last_offer < last_number }
     ensures { IfOk result (λ o.
         o ≡ exported_proxy store.now target.now type_name.now properties.now part.now) }
 {
-    let (reference, (service_type, (properties, part))) = share_four(
-        alloc, target, type_name, properties, part,
-    )?;
+    let part = Shared::of(alloc, part)?;
+    let (reference, (service_type, properties)) = copy_three(alloc, target, type_name, properties)?;
     let incarnation = incarnation_now(store, type_name);
     Ok(OfferRecord {
         number: store.last_offer + 1,
@@ -181,9 +180,9 @@ fn new_proxy(
 fn prepared_proxy(
     alloc: Global,
     store: &Store,
-    target: &Ior,
-    type_name: &Text,
-    properties: &List<Property>,
+    target: &Shared<Ior>,
+    type_name: &Shared<Text>,
+    properties: &Shared<List<Property>>,
     part: &ProxyPart,
 ) -> Result<OfferRecord, Fault>
     ensures { Yields (proxy_front_cause store.now target.now type_name.now properties.now part.now.recipe
@@ -205,9 +204,9 @@ fn prepared_proxy(
 pub fn export_proxy(
     alloc: Global,
     store: &mut Store,
-    target: Ior,
-    service_type: Text,
-    properties: List<Property>,
+    target: Shared<Ior>,
+    service_type: Shared<Text>,
+    properties: Shared<List<Property>>,
     if_match_all: bool,
     recipe: Text,
     policies: List<Policy>,

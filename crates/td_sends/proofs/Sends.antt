@@ -125,7 +125,7 @@ store_field =
 
 -- ---- a history
 change_field : IsSend (change.the_field).row
-change_field = search valued depth 30 fits 20000
+change_field = search (property_sync, seen, valued) depth 30 fits 20000
 
 offer_info_field : IsSend (offer_info.the_field).row
 offer_info_field = search valued depth 20

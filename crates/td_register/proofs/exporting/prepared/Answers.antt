@@ -5,5 +5,5 @@ use Rattle.td_register.proofs.exporting.prepared.Goals as goal
 pub new_offer-requires : goal.new_offer-requires
 new_offer-requires c =
     number_left last_number c.args.store.now.last_offer
-    ((limits c.args.store.now c.args.reference.now c.args.type_name.now c.args.properties.now).left
+    ((limits c.args.store.now c.deref.result.now c.deref-2.result.now c.deref-3.result.now).left
     c.in_ok-check_export.ensures)

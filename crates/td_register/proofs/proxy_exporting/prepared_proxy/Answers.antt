@@ -6,6 +6,6 @@ use Rattle.td_register.proofs.proxy_exporting.prepared_proxy.Goals as goal
 pub new_proxy-requires : goal.new_proxy-requires
 new_proxy-requires c =
     number_left last_number c.args.store.now.last_offer
-    ((limits c.args.store.now c.args.target.now c.args.type_name.now c.args.properties.now c.args.part.now.recipe
+    ((limits c.args.store.now c.deref.result.now c.deref-2.result.now c.deref-3.result.now c.args.part.now.recipe
     c.args.part.now.policies).left
     c.in_ok-check_export_proxy.ensures)
