@@ -1,7 +1,6 @@
-//! Constraints, preferences and recipes as they are read, printed and copied.
+//! Constraints, preferences and recipes as they are read and printed.
 
 mod constraints;
-mod copies;
 mod preferences;
 mod printing;
 mod recipes;

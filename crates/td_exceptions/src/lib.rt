@@ -2,7 +2,6 @@
 //! Object Service, modules CosTrading, CosTradingDynamic and CosTradingRepos).
 #![tactic(auto)]
 
-mod copying;
 mod exception;
 mod ids;
 mod laws;

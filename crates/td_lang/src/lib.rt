@@ -3,7 +3,6 @@
 #![tactic(auto)]
 
 mod constraint;
-mod copy;
 mod expr;
 mod fault;
 pub mod laws;

@@ -163,33 +163,3 @@ pub(crate) fn follow_setting_name(attribute: FollowAttribute) -> &'static str
         FollowAttribute::MaxLinkFollowPolicy => "set_max_link_follow_policy",
     }
 }
-
-impl Twin for ReferenceAttribute {
-    fn copy(&self, _alloc: Global) -> Result<ReferenceAttribute, Memory> {
-        Ok(*self)
-    }
-}
-
-impl Twin for TruthAttribute {
-    fn copy(&self, _alloc: Global) -> Result<TruthAttribute, Memory> {
-        Ok(*self)
-    }
-}
-
-impl Twin for NumberAttribute {
-    fn copy(&self, _alloc: Global) -> Result<NumberAttribute, Memory> {
-        Ok(*self)
-    }
-}
-
-impl Twin for FollowAttribute {
-    fn copy(&self, _alloc: Global) -> Result<FollowAttribute, Memory> {
-        Ok(*self)
-    }
-}
-
-impl Twin for Attribute {
-    fn copy(&self, _alloc: Global) -> Result<Attribute, Memory> {
-        Ok(*self)
-    }
-}

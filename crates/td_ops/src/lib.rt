@@ -7,7 +7,6 @@ mod attribute;
 mod call;
 mod called;
 mod copying;
-mod copying_outcomes;
 mod fault;
 mod finding;
 mod laws;

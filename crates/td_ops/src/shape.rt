@@ -25,9 +25,3 @@ pub enum Shape {
     Batch,
     IdBatch,
 }
-
-impl Twin for Shape {
-    fn copy(&self, _alloc: Global) -> Result<Shape, Memory> {
-        Ok(*self)
-    }
-}

@@ -5,11 +5,11 @@ use crate::vectors::{CALLS, FAULTS, SHORT_CALLS};
 use std::alloc::Global;
 use std::process::Abort;
 use std::test::Fail;
-use td_cdr::{Boxed, Memory, Order, Reader, Twin, Writer};
+use td_cdr::{Boxed, Memory, Order, Reader, Writer};
 use td_ops::{Call, OpsFault, operation_of, read_call, write_call};
 use td_value::Kind;
 
-/// Whether the call has this name, and its copy is written as the body.
+/// Whether the call has this name, and is written as the body.
 fn is_call(
     alloc: Global,
     call: &Boxed<Call>,
@@ -17,9 +17,8 @@ fn is_call(
     body: &[u8],
     order: Order,
 ) -> Result<bool, Memory> {
-    let twin = call.copy(alloc)?;
     let mut writer = Writer::new(alloc, order);
-    write_call(alloc, &mut writer, twin.get())?;
+    write_call(alloc, &mut writer, call.get())?;
     Ok(operation_of(call.get()) == name && writer.bytes() == body)
 }
 

@@ -4,11 +4,11 @@
 #[cfg(test)]
 mod calls;
 #[cfg(test)]
-mod copies;
-#[cfg(test)]
 mod exceptions;
 #[cfg(test)]
 mod lines;
+#[cfg(test)]
+mod links;
 #[cfg(test)]
 mod replies;
 #[cfg(test)]

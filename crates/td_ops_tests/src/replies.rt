@@ -6,13 +6,13 @@ use crate::vectors::{REPLY_FAULTS, RESULTS, SYSTEM_EXCEPTIONS, USER_EXCEPTIONS};
 use std::alloc::Global;
 use std::process::Abort;
 use std::test::Fail;
-use td_cdr::{Boxed, List, Memory, Order, Reader, Text, Twin, Writer};
+use td_cdr::{Boxed, List, Memory, Order, Reader, Text, Writer};
 use td_ops::{
     Answered, Call, OpsFault, Outcome, Reply, SystemKind, read_outcome, status_of, user_id,
     write_outcome,
 };
 
-/// A copy of what a reply with this body tells, and the place behind it.
+/// What a reply with this body tells, and the place behind it.
 fn answer_in(
     alloc: Global,
     call: &Call,
@@ -25,10 +25,10 @@ fn answer_in(
     }
     let mut reader = Reader::new(bytes, 0, order);
     let answer = Boxed::new(alloc, read_outcome(alloc, call, status, &mut reader)?)?;
-    Ok((answer.copy(alloc)?, reader.place()))
+    Ok((answer, reader.place()))
 }
 
-/// Whether the copy of the outcome has the status and is written as the body.
+/// Whether the outcome has the status and is written as the body.
 fn is_written(
     alloc: Global,
     outcome: &Boxed<Outcome>,
@@ -36,17 +36,16 @@ fn is_written(
     body: &[u8],
     order: Order,
 ) -> Result<bool, Memory> {
-    let twin = outcome.copy(alloc)?;
     let mut writer = Writer::new(alloc, order);
-    write_outcome(alloc, &mut writer, twin.get())?;
-    Ok(writer.bytes() == body && status_of(twin.get()) == status)
+    write_outcome(alloc, &mut writer, outcome.get())?;
+    Ok(writer.bytes() == body && status_of(outcome.get()) == status)
 }
 
 /// Whether the answer is a result that is written as the body.
-fn is_result(alloc: Global, answer: &Answered, body: &[u8], order: Order) -> Result<bool, Memory> {
+fn is_result(alloc: Global, answer: Answered, body: &[u8], order: Order) -> Result<bool, Memory> {
     match answer {
         Answered::Done(reply) => {
-            let outcome = Boxed::new(alloc, Outcome::Done(reply.copy(alloc)?))?;
+            let outcome = Boxed::new(alloc, Outcome::Done(reply))?;
             is_written(alloc, &outcome, 0, body, order)
         }
         _ => Ok(false),
@@ -70,7 +69,7 @@ fn is_result_read(alloc: Global, line: &str, order: Order) -> Result<bool, Fail>
     let bytes = bytes_of(alloc, "", body_in(bodies, order), "ff00ff")?;
     let (answer, place) = answer_in(alloc, call.get(), 0, &bytes, order)?;
     let body = bytes.strip_suffix(b"\xff\x00\xff").unwrap_or(b"");
-    Ok(place as usize == body.len() && is_result(alloc, answer.get(), body, order)?)
+    Ok(place as usize == body.len() && is_result(alloc, answer.into_inner(), body, order)?)
 }
 
 #[test]

@@ -149,19 +149,6 @@ pub struct OwnReferences {
     pub types: Shared<Ior>,
 }
 
-impl Twin for OwnReferences {
-    fn copy(&self, alloc: Global) -> Result<OwnReferences, Memory> {
-        Ok(OwnReferences {
-            lookup: self.lookup.copy(alloc)?,
-            register: self.register.copy(alloc)?,
-            link: self.link.copy(alloc)?,
-            proxy: self.proxy.copy(alloc)?,
-            admin: self.admin.copy(alloc)?,
-            types: self.types.copy(alloc)?,
-        })
-    }
-}
-
 /// The attributes of a new trader: all kinds of offers are supported, every rule is `always`, and
 /// the stem is the trader's name.
 ///

@@ -38,18 +38,6 @@ impl Drop for Effective {
     }
 }
 
-impl Twin for Effective {
-    fn copy(&self, alloc: Global) -> Result<Effective, Memory> {
-        Ok(Effective {
-            hops: self.hops,
-            match_card: self.match_card,
-            return_card: self.return_card,
-            search_card: self.search_card,
-            over: self.over.copy(alloc)?,
-        })
-    }
-}
-
 /// The cardinalities and the hop count that a query is served with: of each the lesser of the
 /// trader's maximum and the stated value, or of the maximum and the default where none is stated.
 ///

@@ -7,7 +7,6 @@ mod codes;
 mod effective;
 mod fault;
 mod laws;
-mod optional;
 mod reading;
 mod rules;
 mod stated;

@@ -1,6 +1,5 @@
 //! The policies that an importer stated.
 
-use crate::optional::copy_optional;
 use std::alloc::Global;
 use td_cdr::{List, Memory, Octets, Text, Twin};
 use td_value::FollowOption;
@@ -47,23 +46,5 @@ impl Drop for Stated {
             use_proxy: _use_proxy,
             request_id: _request_id,
         } = self;
-    }
-}
-
-impl Twin for Stated {
-    fn copy(&self, alloc: Global) -> Result<Stated, Memory> {
-        Ok(Stated {
-            exact: self.exact,
-            hops: self.hops,
-            follow: self.follow,
-            match_card: self.match_card,
-            return_card: self.return_card,
-            search_card: self.search_card,
-            start: copy_optional(alloc, &self.start)?,
-            use_dynamic: self.use_dynamic,
-            use_modifiable: self.use_modifiable,
-            use_proxy: self.use_proxy,
-            request_id: copy_optional(alloc, &self.request_id)?,
-        })
     }
 }

@@ -110,9 +110,9 @@ fn ask(
 ) -> Result<(), Memory> {
     match word {
         "query" | "conforming" => query(alloc, store, word, rest, told),
-        "serve" | "copied_serve" => serve(alloc, &store.attributes, word, rest, told),
+        "serve" => serve(alloc, &store.attributes, rest, told),
         "read" => read(alloc, rest, told),
-        "state" | "copied_state" => state(alloc, word, rest, told),
+        "state" => state(alloc, rest, told),
         "attributes" | "copied_attributes" => see_attributes(alloc, &store.attributes, word, told),
         "how_many_offers" => put_number(alloc, told, Some(store.offers.len() as u64)),
         "offer" | "copied_offer" => see_offer(alloc, &store.offers, word, rest, told),

@@ -17,12 +17,6 @@ pub enum FollowOption {
     Always,
 }
 
-impl Twin for FollowOption {
-    fn copy(&self, _alloc: Global) -> Result<FollowOption, Memory> {
-        Ok(*self)
-    }
-}
-
 impl FollowOption {
     /// The number that spells it.
     pub fn number(self) -> u32
@@ -66,12 +60,6 @@ pub enum HowManyProps {
     None,
     Some,
     All,
-}
-
-impl Twin for HowManyProps {
-    fn copy(&self, _alloc: Global) -> Result<HowManyProps, Memory> {
-        Ok(*self)
-    }
 }
 
 impl HowManyProps {
@@ -170,12 +158,6 @@ impl Spelled for PropertyMode {
 pub enum ListOption {
     All,
     Since,
-}
-
-impl Twin for ListOption {
-    fn copy(&self, _alloc: Global) -> Result<ListOption, Memory> {
-        Ok(*self)
-    }
 }
 
 impl ListOption {

@@ -33,18 +33,3 @@ impl Drop for ObjectKey {
         } = self;
     }
 }
-
-impl Twin for Kind {
-    fn copy(&self, _alloc: Global) -> Result<Kind, Memory> {
-        Ok(*self)
-    }
-}
-
-impl Twin for ObjectKey {
-    fn copy(&self, alloc: Global) -> Result<ObjectKey, Memory> {
-        Ok(ObjectKey {
-            trader: self.trader.copy(alloc)?,
-            kind: self.kind,
-        })
-    }
-}

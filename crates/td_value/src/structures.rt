@@ -264,16 +264,6 @@ impl Drop for OfferInfo {
     }
 }
 
-impl Twin for OfferInfo {
-    fn copy(&self, alloc: Global) -> Result<OfferInfo, Memory> {
-        Ok(OfferInfo {
-            reference: self.reference.copy(alloc)?,
-            service_type: self.service_type.copy(alloc)?,
-            properties: self.properties.copy(alloc)?,
-        })
-    }
-}
-
 impl Spelled for OfferInfo {
     ghost format = { offer_info.format };
 
@@ -311,17 +301,6 @@ pub struct LinkInfo {
     pub target_reg: Ior,
     pub def_pass_on_follow_rule: FollowOption,
     pub limiting_follow_rule: FollowOption,
-}
-
-impl Twin for LinkInfo {
-    fn copy(&self, alloc: Global) -> Result<LinkInfo, Memory> {
-        Ok(LinkInfo {
-            target: self.target.copy(alloc)?,
-            target_reg: self.target_reg.copy(alloc)?,
-            def_pass_on_follow_rule: self.def_pass_on_follow_rule,
-            limiting_follow_rule: self.limiting_follow_rule,
-        })
-    }
 }
 
 impl Spelled for LinkInfo {
@@ -379,19 +358,6 @@ impl Drop for ProxyInfo {
     }
 }
 
-impl Twin for ProxyInfo {
-    fn copy(&self, alloc: Global) -> Result<ProxyInfo, Memory> {
-        Ok(ProxyInfo {
-            service_type: self.service_type.copy(alloc)?,
-            target: self.target.copy(alloc)?,
-            properties: self.properties.copy(alloc)?,
-            if_match_all: self.if_match_all,
-            recipe: self.recipe.copy(alloc)?,
-            policies_to_pass_on: self.policies_to_pass_on.copy(alloc)?,
-        })
-    }
-}
-
 impl Spelled for ProxyInfo {
     ghost format = { proxy_info.format };
 
@@ -435,18 +401,6 @@ pub struct TypeStruct {
     pub super_types: List<Text>,
     pub masked: bool,
     pub incarnation: IncarnationNumber,
-}
-
-impl Twin for TypeStruct {
-    fn copy(&self, alloc: Global) -> Result<TypeStruct, Memory> {
-        Ok(TypeStruct {
-            if_name: self.if_name.copy(alloc)?,
-            props: self.props.copy(alloc)?,
-            super_types: self.super_types.copy(alloc)?,
-            masked: self.masked,
-            incarnation: self.incarnation.copy(alloc)?,
-        })
-    }
 }
 
 impl Spelled for TypeStruct {
@@ -496,16 +450,6 @@ impl Drop for DynamicProp {
             returned_type: _returned_type,
             extra_info: _extra_info,
         } = self;
-    }
-}
-
-impl Twin for DynamicProp {
-    fn copy(&self, alloc: Global) -> Result<DynamicProp, Memory> {
-        Ok(DynamicProp {
-            eval_if: self.eval_if.copy(alloc)?,
-            returned_type: self.returned_type.copy(alloc)?,
-            extra_info: self.extra_info.copy(alloc)?,
-        })
     }
 }
 

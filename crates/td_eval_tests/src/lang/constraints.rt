@@ -1,11 +1,10 @@
 //! Constraints and the trees that they are read as.
 
-use crate::lang::support::{constraint_fault, constraint_of, copy_of, cut, has_tree, long_text};
+use crate::lang::support::{constraint_fault, constraint_of, cut, has_tree, long_text};
 use std::alloc::Global;
 use std::process::Abort;
 use std::test::Fail;
 use td_cdr::Memory;
-use td_lang::Constraint;
 
 /// A constraint of each production, from the weakest, and its tree: operators before operands in parentheses.
 const PRODUCTIONS: &str = "a or b => (or a b)
@@ -94,15 +93,10 @@ const LONG: &str = r"|n|256|
 |a+|2047|a
 |0|4096|";
 
-/// Whether a text is read as a constraint of this tree, and so is its copy.
+/// Whether a text is read as a constraint of this tree.
 fn is_read(alloc: Global, text: &[u8], tree: &str) -> Result<bool, Fail> {
     let found = constraint_of(alloc, text)?;
-    Ok(has_tree(alloc, found.get(), tree)? && is_copied(alloc, found.get(), tree)?)
-}
-
-fn is_copied(alloc: Global, constraint: &Constraint, tree: &str) -> Result<bool, Memory> {
-    let twin = copy_of(alloc, constraint)?;
-    has_tree(alloc, twin.get(), tree)
+    Ok(has_tree(alloc, found.get(), tree)?)
 }
 
 fn is_line_read(alloc: Global, line: &str) -> Result<bool, Fail> {

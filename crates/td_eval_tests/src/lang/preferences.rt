@@ -4,7 +4,7 @@ use crate::lang::support::{cut, fault_of, long_text, put_tree};
 use std::alloc::{AllocError, Global};
 use std::process::Abort;
 use std::test::Fail;
-use td_cdr::{Boxed, Memory, Twin};
+use td_cdr::{Boxed, Memory};
 use td_lang::{Expr, LangFault, Preference, print_preference, read_preference};
 
 /// A preference, how it is printed, and its tree behind its form.
@@ -85,23 +85,10 @@ fn is_printed(alloc: Global, preference: &Preference, printed: &[u8]) -> Result<
     Ok(text.as_slice() == printed)
 }
 
-fn is_copied(
-    alloc: Global,
-    preference: &Preference,
-    printed: &[u8],
-    tree: &[u8],
-) -> Result<bool, Memory> {
-    let twin = Boxed::new(alloc, preference.copy(alloc)?)?;
-    is_preference(alloc, twin.get(), printed, tree)
-}
-
-/// Whether the text is read as the preference, and so is its copy.
+/// Whether the text is read as the preference.
 fn is_read(alloc: Global, text: &[u8], printed: &[u8], tree: &[u8]) -> Result<bool, Fail> {
     let found = Boxed::new(alloc, read_preference(alloc, text)?)?;
-    Ok(
-        is_preference(alloc, found.get(), printed, tree)?
-            && is_copied(alloc, found.get(), printed, tree)?,
-    )
+    Ok(is_preference(alloc, found.get(), printed, tree)?)
 }
 
 /// Whether the text is read and printed, and what is printed is read as the same.

@@ -4,7 +4,7 @@ use crate::lang::support::{cut, fault_of, long_text, put};
 use std::alloc::{AllocError, Global};
 use std::process::Abort;
 use std::test::Fail;
-use td_cdr::{Memory, Twin};
+use td_cdr::Memory;
 use td_lang::{LangFault, Part, Recipe, read_recipe};
 
 /// A recipe, and its parts: `<*>` for the importer's constraint, and `<name>` for a property.
@@ -62,15 +62,10 @@ fn has_parts(alloc: Global, recipe: &Recipe, parts: &[u8]) -> Result<bool, Memor
     Ok(out.as_slice() == parts)
 }
 
-fn is_copied(alloc: Global, recipe: &Recipe, parts: &[u8]) -> Result<bool, Memory> {
-    let twin = recipe.copy(alloc)?;
-    has_parts(alloc, &twin, parts)
-}
-
-/// Whether the text is read as a recipe of these parts, and so is its copy.
+/// Whether the text is read as a recipe of these parts.
 fn is_read(alloc: Global, text: &[u8], parts: &[u8]) -> Result<bool, Fail> {
     let found = read_recipe(alloc, text)?;
-    Ok(has_parts(alloc, &found, parts)? && is_copied(alloc, &found, parts)?)
+    Ok(has_parts(alloc, &found, parts)?)
 }
 
 fn is_line_read(alloc: Global, line: &str) -> Result<bool, Fail> {

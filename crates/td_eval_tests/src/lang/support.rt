@@ -2,7 +2,7 @@
 
 use std::alloc::{AllocError, Global};
 use std::test::Fail;
-use td_cdr::{Boxed, Memory, Twin};
+use td_cdr::{Boxed, Memory};
 use td_lang::{Constraint, Expr, LangFault, Op, read_constraint};
 
 fn sign(op: Op) -> &'static str {
@@ -104,10 +104,6 @@ pub fn constraint_of(alloc: Global, text: &[u8]) -> Result<Boxed<Constraint>, Fa
     Ok(Boxed::new(alloc, read_constraint(alloc, text)?)?)
 }
 
-pub fn copy_of(alloc: Global, constraint: &Constraint) -> Result<Boxed<Constraint>, Memory> {
-    Boxed::new(alloc, constraint.copy(alloc)?)
-}
-
 /// Why a text is no constraint.
 pub fn constraint_fault(alloc: Global, text: &[u8]) -> Option<LangFault> {
     read_constraint(alloc, text).err()
@@ -131,7 +127,7 @@ pub fn fault_of(told: &str) -> LangFault {
 }
 
 /// `count` times the piece between two others.
-pub fn repeated(
+fn repeated(
     alloc: Global,
     before: &[u8],
     piece: &[u8],

@@ -5,7 +5,7 @@ use crate::policies::stated_of;
 use crate::telling::{put_names, put_number};
 use std::alloc::Global;
 use std::test::Fail;
-use td_cdr::{Memory, Twin};
+use td_cdr::Memory;
 use td_policy::{Attributes, Effective, effective_of};
 
 /// Of each number that is stated, below its maximum, at it and above: the hop count and the cardinalities of matching,
@@ -51,28 +51,23 @@ const ABOVE: &str = "set max_match_card 200 =
 set max_return_card 300 =
 set max_search_card 400 =
 set max_follow_policy 1 =
-copied_serve search_card:number:999 return_card:number:999 match_card:number:999 link_follow_rule:rule:2 hop_count:number:99 = 10 200 300 400 hop_count,link_follow_rule,match_card,return_card,search_card";
+serve search_card:number:999 return_card:number:999 match_card:number:999 link_follow_rule:rule:2 hop_count:number:99 = 10 200 300 400 hop_count,link_follow_rule,match_card,return_card,search_card";
 
 #[test]
 fn all_above(rt: HostRuntime) -> Result<(), Fail> {
     follows(&rt, rt.alloc(), &EMPTY, ABOVE)
 }
 
-/// Tells what a query is served with where these policies are stated, or a copy of that.
+/// Tells what a query is served with where these policies are stated.
 pub(crate) fn serve(
     alloc: Global,
     attributes: &Attributes,
-    word: &str,
     words: &str,
     told: &mut Vec<u8>,
 ) -> Result<(), Memory> {
     let stated = stated_of(alloc, words)?;
     let effective = effective_of(alloc, stated.get(), attributes)?;
-    if word == "serve" {
-        return put_effective(alloc, told, &effective);
-    }
-    let twin = effective.copy(alloc)?;
-    put_effective(alloc, told, &twin)
+    put_effective(alloc, told, &effective)
 }
 
 fn put_effective(alloc: Global, told: &mut Vec<u8>, e: &Effective) -> Result<(), Memory> {

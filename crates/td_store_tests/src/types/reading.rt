@@ -5,7 +5,7 @@ use crate::policies::{policies, stated_of};
 use crate::telling::{put, put_all, put_names, put_number, put_truth};
 use std::alloc::Global;
 use std::test::Fail;
-use td_cdr::{Boxed, Memory, Twin};
+use td_cdr::{Boxed, Memory};
 use td_policy::{PolicyFault, Stated, read_policies};
 
 /// What a list of policies is answered: each policy with its type, an alias of that and another one; then names,
@@ -70,10 +70,9 @@ fn lists(rt: HostRuntime) -> Result<(), Fail> {
     follows(&rt, rt.alloc(), &EMPTY, LISTS)
 }
 
-/// All policies at once, in another order than that of the fields: what is stated, and a copy of that.
+/// All policies at once, in another order than that of the fields: what is stated.
 const ALL: &str =
-    "state request_id:octets:q*3 use_proxy_offers:truth use_modifiable_properties:truth use_dynamic_properties:truth starting_trader:texts:b*2 search_card:number:7 return_card:number:7 match_card:number:7 link_follow_rule:rule:1 hop_count:number:7 exact_type_match:truth = yes yes yes yes 7 7 7 7 1 b,b qqq
-copied_state request_id:octets:q*3 use_proxy_offers:truth use_modifiable_properties:truth use_dynamic_properties:truth starting_trader:texts:b*2 search_card:number:7 return_card:number:7 match_card:number:7 link_follow_rule:rule:1 hop_count:number:7 exact_type_match:truth = yes yes yes yes 7 7 7 7 1 b,b qqq";
+    "state request_id:octets:q*3 use_proxy_offers:truth use_modifiable_properties:truth use_dynamic_properties:truth starting_trader:texts:b*2 search_card:number:7 return_card:number:7 match_card:number:7 link_follow_rule:rule:1 hop_count:number:7 exact_type_match:truth = yes yes yes yes 7 7 7 7 1 b,b qqq";
 
 #[test]
 fn each_field(rt: HostRuntime) -> Result<(), Fail> {
@@ -99,19 +98,10 @@ fn put_fault(told: &mut Vec<u8>, fault: &PolicyFault) -> Result<(), Memory> {
     }
 }
 
-/// Tells what policies state, or a copy of that.
-pub(crate) fn state(
-    alloc: Global,
-    word: &str,
-    words: &str,
-    told: &mut Vec<u8>,
-) -> Result<(), Memory> {
+/// Tells what policies state.
+pub(crate) fn state(alloc: Global, words: &str, told: &mut Vec<u8>) -> Result<(), Memory> {
     let stated = stated_of(alloc, words)?;
-    if word == "state" {
-        return put_stated(alloc, told, stated.get());
-    }
-    let twin = stated.copy(alloc)?;
-    put_stated(alloc, told, twin.get())
+    put_stated(alloc, told, stated.get())
 }
 
 /// The truth values, the numbers and the rule, the names, and the identifier.
