@@ -176,6 +176,25 @@ any-fails (suc levels) a b new t e some h =
     let less : suc levels - 1 ≡ levels = omega arith in
     rw less (unless-map (is_memory e) _ _ (λ g. rw (h, g) refl))
 
+-- no TypeCode is read for an any
+pub any-codeless : (levels : ℕ) (a new : At) (e : ValueFault)
+    → Gives is_memory new (error e) ((codes levels Outer).format.reads a)
+    → Gives is_memory new (error e) ((anys levels).format.reads a)
+unfolding anys
+any-codeless zero a new e = unless-map (is_memory e) _ _ (λ g. rw g refl)
+any-codeless (suc levels) a new e = unless-map (is_memory e) _ _ (λ g. rw g refl)
+
+-- its TypeCode and its value are read
+pub any-read : (levels : ℕ) (a b new : At) (t : TypeCode) (v : Value) → (levels ≡ 0 → ⊥)
+    → (codes levels Outer).format.reads a ≡ Ok (t, b)
+    → (values (anys (levels - 1)) (codes (levels - 1) Outer) levels t).format.reads b ≡ Ok (v, new)
+    → (anys levels).format.reads a ≡ Ok (record { code = t; value = v }, new)
+unfolding anys
+any-read zero a b new t v some h = absurd (some refl)
+any-read (suc levels) a b new t v some h =
+    let less : suc levels - 1 ≡ levels = omega arith in
+    rw less (λ g. rw (h, g) refl)
+
 pub values-reads : (any : Sound ValueFault Any) (code : Sound ValueFault TypeCode) (n : ℕ) (t : TypeCode) (l : Layer)
     → (n ≡ 0 → ⊥) → out-TypeCode t ≡ l → (a : At)
     → (values any code n t).format.reads a ≡ (layer any code (values any code (n - 1)) (n - 1) l).format.reads a

@@ -1,3 +1,7 @@
 pub mod Alike
 pub mod AtLayers
+pub mod CopiedParts
+pub mod OfEnclosed
+pub mod ReadParts
 pub mod Symmetry
+pub mod WrittenParts

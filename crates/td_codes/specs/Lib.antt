@@ -1,4 +1,5 @@
 pub mod Codes
+pub mod Enclosed
 pub mod Formats
 pub mod Kinds
 pub mod Labels

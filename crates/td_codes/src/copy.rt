@@ -11,10 +11,9 @@ use td_cdr::{Boxed, List, Memory, Text, Twin, copy_three, copy_two};
 impl Twin for Member {
     #[cycle(copy)]
     fn copy(&self, alloc: Global) -> Result<Member, Memory> {
-        Ok(Member {
-            name: self.name.copy(alloc)?,
-            code: self.code.copy(alloc)?,
-        })
+        let name = self.name.copy(alloc)?;
+        let code = self.code.copy(alloc)?;
+        Ok(Member { name, code })
     }
 }
 
@@ -88,7 +87,7 @@ fn copy_boxed(alloc: Global, code: &TypeCode) -> Result<Boxed<TypeCode>, Memory>
     ensures { IfOk result (λ twin. twin ≡ code.now) }
 {
     let twin = code.copy(alloc)?;
-    Ok(Boxed::new(alloc, twin)?)
+    Boxed::new(alloc, twin)
 }
 
 fn copy_object(alloc: Global, id: &Text, name: &Text) -> Result<TypeCode, Memory>
@@ -247,7 +246,7 @@ fn copy_boxed_value(alloc: Global, value: &Value) -> Result<Boxed<Value>, Memory
     ensures { IfOk result (λ twin. twin ≡ value.now) }
 {
     let twin = value.copy(alloc)?;
-    Ok(Boxed::new(alloc, twin)?)
+    Boxed::new(alloc, twin)
 }
 
 impl Twin for Any {

@@ -10,7 +10,7 @@ use crate::mode::Mode;
 use td_cdr::{Reader, ValueFault};
 
 /// The kinds of TypeCodes that this project has (CORBA, General Inter-ORB Protocol, "TypeCode").
-#[derive(Clone, Copy, PartialEq, Eq)]
+#[derive(Clone, Copy)]
 pub enum CodeKind {
     Null,
     Void,

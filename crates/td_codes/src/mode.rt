@@ -1,7 +1,7 @@
 //! Where a TypeCode stands.
 
 /// Where a TypeCode stands, which decides the kinds that it may have.
-#[derive(Clone, Copy, PartialEq, Eq)]
+#[derive(Clone, Copy)]
 pub enum Mode {
     /// In a body, or as the type of an any.
     Outer,

@@ -12,6 +12,7 @@ ghost use Rattle.td_codes.specs.Labels.{labels};
 ghost use Rattle.td_codes.specs.Codes.{codes, header, positive, object_code, struct_code, except_code, enum_code};
 ghost use Rattle.td_codes.specs.Codes.{sequence_code, array_code, alias_code, union_code, head, counted_arms, member};
 ghost use Rattle.td_codes.specs.Codes.{arm_of, parameters, default_index, arm_count};
+ghost use Rattle.td_codes.specs.Enclosed.{enclosed};
 
 use crate::code::{Arm, Member, TypeCode};
 use crate::kinds::{CodeKind, deep_kind, kind_at, under};
@@ -76,14 +77,31 @@ fn parameters_of(
         CodeKind::LongLong => Ok(TypeCode::LongLong),
         CodeKind::ULongLong => Ok(TypeCode::ULongLong),
         CodeKind::Str => Ok(TypeCode::Str { bound: r.u32()? }),
-        CodeKind::ObjRef => object_of(alloc, &mut r.encapsulation()?),
-        CodeKind::Struct => struct_of(alloc, &mut r.encapsulation()?, levels),
-        CodeKind::Union => union_of(alloc, &mut r.encapsulation()?, levels),
-        CodeKind::Enum => enum_of(alloc, &mut r.encapsulation()?),
-        CodeKind::Sequence => sequence_of(alloc, &mut r.encapsulation()?, levels),
-        CodeKind::Array => array_of(alloc, &mut r.encapsulation()?, levels),
-        CodeKind::Alias => alias_of(alloc, &mut r.encapsulation()?, levels, under(mode)),
-        CodeKind::Except => except_of(alloc, &mut r.encapsulation()?, levels),
+        _ => enclosed_of(alloc, &mut r.encapsulation()?, levels, mode, kind),
+    }
+}
+
+/// What stands in the encapsulation behind the kind, where it has one.
+#[cycle(reading)]
+fn enclosed_of(
+    alloc: Global,
+    r: &mut Reader,
+    levels: u32,
+    mode: Mode,
+    kind: CodeKind,
+) -> Result<TypeCode, ValueFault>
+    ensures { Gives is_memory r.new result ((enclosed levels (codes levels) mode kind).format.reads r.old) }
+{
+    match kind {
+        CodeKind::ObjRef => object_of(alloc, r),
+        CodeKind::Struct => struct_of(alloc, r, levels),
+        CodeKind::Union => union_of(alloc, r, levels),
+        CodeKind::Enum => enum_of(alloc, r),
+        CodeKind::Sequence => sequence_of(alloc, r, levels),
+        CodeKind::Array => array_of(alloc, r, levels),
+        CodeKind::Alias => alias_of(alloc, r, levels, under(mode)),
+        CodeKind::Except => except_of(alloc, r, levels),
+        _ => Err(ValueFault::BadValue(r.aligned())),
     }
 }
 
@@ -91,9 +109,7 @@ fn parameters_of(
 fn header_of(alloc: Global, r: &mut Reader) -> Result<(Text, Text), ValueFault>
     ensures { Gives is_memory r.new result (header.format.reads r.old) }
 {
-    let id = Text::read(alloc, r)?;
-    let name = Text::read(alloc, r)?;
-    Ok((id, name))
+    <(Text, Text)>::read(alloc, r)
 }
 
 /// A count that is not 0.

@@ -7,8 +7,8 @@ ghost use Rattle.td_codes.specs.References.{profile, reference};
 
 use std::alloc::Global;
 use td_cdr::{
-    List, Memory, Octets, Reader, Spelled, Text, Twin, ValueFault, Writer, put_two, read_whole,
-    write_whole,
+    List, Memory, Octets, Reader, Spelled, Text, Twin, ValueFault, Writer, copy_two, put_two,
+    read_whole, write_whole,
 };
 
 /// How an object may be reached by one protocol. The octets are kept as they came.
@@ -55,10 +55,8 @@ impl Twin for Profile {
 
 impl Twin for Ior {
     fn copy(&self, alloc: Global) -> Result<Ior, Memory> {
-        Ok(Ior {
-            id: self.id.copy(alloc)?,
-            profiles: self.profiles.copy(alloc)?,
-        })
+        let (id, profiles) = copy_two(alloc, &self.id, &self.profiles)?;
+        Ok(Ior { id, profiles })
     }
 }
 
@@ -68,10 +66,8 @@ impl Spelled for Profile {
     ghost faults = { profile.faults };
 
     fn read(alloc: Global, r: &mut Reader) -> Result<Profile, ValueFault> {
-        Ok(Profile {
-            tag: u32::read(alloc, r)?,
-            octets: Octets::read(alloc, r)?,
-        })
+        let (tag, octets) = <(u32, Octets)>::read(alloc, r)?;
+        Ok(Profile { tag, octets })
     }
 
     fn write(&self, alloc: Global, w: &mut Writer) -> Result<(), Memory> {
@@ -89,10 +85,8 @@ impl Spelled for Ior {
     ghost faults = { reference.faults };
 
     fn read(alloc: Global, r: &mut Reader) -> Result<Ior, ValueFault> {
-        Ok(Ior {
-            id: Text::read(alloc, r)?,
-            profiles: List::read(alloc, r)?,
-        })
+        let (id, profiles) = <(Text, List<Profile>)>::read(alloc, r)?;
+        Ok(Ior { id, profiles })
     }
 
     fn write(&self, alloc: Global, w: &mut Writer) -> Result<(), Memory> {

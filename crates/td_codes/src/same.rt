@@ -9,6 +9,7 @@ ghost use Rattle.td_codes.specs.Same.{items_shape};
 
 use crate::code::{Arm, Member, TypeCode};
 use crate::label::{label_of, same_label};
+use td_cdr::Text;
 
 /// Whether the TypeCodes are the same without their aliases, names not counted, and ids only where
 /// neither is empty. Takes no memory.
@@ -20,9 +21,9 @@ pub fn same_type(a: &TypeCode, b: &TypeCode) -> bool
     match a {
         TypeCode::Alias { item, .. } => same_type(item.get(), b),
         TypeCode::Str { bound } => same_str(*bound, b),
-        TypeCode::ObjRef { id, .. } => same_object(id.as_slice(), b),
-        TypeCode::Struct { id, members, .. } => same_struct(id.as_slice(), members.as_slice(), b),
-        TypeCode::Except { id, members, .. } => same_except(id.as_slice(), members.as_slice(), b),
+        TypeCode::ObjRef { id, .. } => same_object(id, b),
+        TypeCode::Struct { id, members, .. } => same_struct(id, members.as_slice(), b),
+        TypeCode::Except { id, members, .. } => same_except(id, members.as_slice(), b),
         TypeCode::Union {
             id,
             switch,
@@ -38,13 +39,13 @@ pub fn same_type(a: &TypeCode, b: &TypeCode) -> bool
                 ..
             } => {
                 *default == *other_default
-                    && ids_agree(id.as_slice(), other_id.as_slice())
+                    && ids_agree(id, other_id)
                     && same_type(switch.get(), other_switch.get())
                     && same_arms(arms.as_slice(), other_arms.as_slice())
             }
             _ => false,
         },
-        TypeCode::Enum { id, labels, .. } => same_enum(id.as_slice(), labels.len(), b),
+        TypeCode::Enum { id, labels, .. } => same_enum(id, labels.len(), b),
         TypeCode::Sequence { item, bound } => same_sequence(item.get(), *bound, b),
         TypeCode::Array { item, len } => same_array(item.get(), *len, b),
         TypeCode::Null => matches!(b, TypeCode::Null),
@@ -84,18 +85,18 @@ fn same_str(bound: u32, b: &TypeCode) -> bool
     }
 }
 
-fn same_object(id: &[u8], b: &TypeCode) -> bool
+fn same_object(id: &Text, b: &TypeCode) -> bool
     requires { is_alias (out-TypeCode b.now) ≡ false }
     ensures { result ≡ like (object_shape id.now) (shape b.now) }
 {
     match b {
-        TypeCode::ObjRef { id: other, .. } => ids_agree(id, other.as_slice()),
+        TypeCode::ObjRef { id: other, .. } => ids_agree(id, other),
         _ => false,
     }
 }
 
 #[cycle(same)]
-fn same_struct(id: &[u8], members: &[Member], b: &TypeCode) -> bool
+fn same_struct(id: &Text, members: &[Member], b: &TypeCode) -> bool
     requires { is_alias (out-TypeCode b.now) ≡ false }
     ensures { result ≡ like (fields_shape kind.Struct id.now (map member_entry members.now)) (shape b.now) }
 {
@@ -104,13 +105,13 @@ fn same_struct(id: &[u8], members: &[Member], b: &TypeCode) -> bool
             id: other,
             members: others,
             ..
-        } => ids_agree(id, other.as_slice()) && same_members(members, others.as_slice()),
+        } => ids_agree(id, other) && same_members(members, others.as_slice()),
         _ => false,
     }
 }
 
 #[cycle(same)]
-fn same_except(id: &[u8], members: &[Member], b: &TypeCode) -> bool
+fn same_except(id: &Text, members: &[Member], b: &TypeCode) -> bool
     requires { is_alias (out-TypeCode b.now) ≡ false }
     ensures { result ≡ like (fields_shape kind.Except id.now (map member_entry members.now)) (shape b.now) }
 {
@@ -119,12 +120,12 @@ fn same_except(id: &[u8], members: &[Member], b: &TypeCode) -> bool
             id: other,
             members: others,
             ..
-        } => ids_agree(id, other.as_slice()) && same_members(members, others.as_slice()),
+        } => ids_agree(id, other) && same_members(members, others.as_slice()),
         _ => false,
     }
 }
 
-fn same_enum(id: &[u8], count: usize, b: &TypeCode) -> bool
+fn same_enum(id: &Text, count: usize, b: &TypeCode) -> bool
     requires { is_alias (out-TypeCode b.now) ≡ false }
     ensures { result ≡ like (enum_shape id.now count) (shape b.now) }
 {
@@ -133,7 +134,7 @@ fn same_enum(id: &[u8], count: usize, b: &TypeCode) -> bool
             id: other,
             labels,
             ..
-        } => count == labels.len() && ids_agree(id, other.as_slice()),
+        } => count == labels.len() && ids_agree(id, other),
         _ => false,
     }
 }
@@ -213,8 +214,10 @@ fn same_arm(a: &Arm, b: &Arm) -> bool
 }
 
 /// Whether the ids are equal or one of them is empty.
-fn ids_agree(a: &[u8], b: &[u8]) -> bool
+fn ids_agree(a: &Text, b: &Text) -> bool
     ensures { result ≡ ids_agree a.now b.now }
 {
+    let a = a.as_slice();
+    let b = b.as_slice();
     a.is_empty() || b.is_empty() || a == b
 }

@@ -10,10 +10,11 @@ ghost use Rattle.td_codes.specs.declared.code.Value.TheVariants as value;
 ghost use Rattle.td_codes.specs.declared.mode.Mode.TheVariants.{Outer};
 ghost use Rattle.td_codes.specs.Codes.{codes};
 ghost use Rattle.td_codes.specs.Labels.{labels};
-ghost use Rattle.td_codes.specs.Layers.{value-any, value-str};
+ghost use Rattle.td_codes.specs.Layers.{value-any, value-code, value-object, value-str};
+ghost use Rattle.td_codes.specs.References.{reference};
 ghost use Rattle.td_codes.specs.Values.{anys, values, each, branch, branch_of, bounded_text, count_within};
 ghost use Rattle.td_codes.specs.Values.{struct_value, union_value, sequence_value, array_value, index_of, is_default};
-ghost use Rattle.td_codes.specs.Values.{is_chosen, default_arm, any_in, text_in};
+ghost use Rattle.td_codes.specs.Values.{is_chosen, default_arm, any_in, code_in, reference_in, text_in};
 
 use crate::code::{Any, Arm, Member, TypeCode, Value};
 use crate::kinds::CodeKind;
@@ -95,9 +96,9 @@ fn value_at(
         TypeCode::LongLong => longlong_at(r),
         TypeCode::ULongLong => ulonglong_at(r),
         TypeCode::AnyCode => inner_any_at(alloc, r, levels),
-        TypeCode::Code => Ok(Value::Code(boxed_at(alloc, r, levels, Mode::Outer)?)),
+        TypeCode::Code => inner_code_at(alloc, r, levels),
         TypeCode::Str { bound } => string_at(alloc, r, *bound),
-        TypeCode::ObjRef { .. } => Ok(Value::ObjRef(Ior::read(alloc, r)?)),
+        TypeCode::ObjRef { .. } => reference_at(alloc, r),
         TypeCode::Struct { members, .. } => {
             struct_at(alloc, r, levels, depth, members.as_slice())
         }
@@ -123,6 +124,28 @@ fn value_at(
         TypeCode::Alias { item, .. } => value_at(alloc, r, levels, depth, item.get()),
         TypeCode::Except { .. } => Err(ValueFault::Unsupported(CodeKind::Except.number())),
     }
+}
+
+/// A value that is a TypeCode which may hold so many levels.
+fn inner_code_at(alloc: Global, r: &mut Reader, levels: u32) -> Result<Value, ValueFault>
+    ensures { Gives is_memory r.new result
+        ((variant (λ t. value.Code t) (λ v. code_in (out-Value v)) (λ t. ap code_in (value-code t))
+        (codes levels Outer)).format.reads
+        r.old) }
+{
+    let code = boxed_at(alloc, r, levels, Mode::Outer)?;
+    Ok(Value::Code(code))
+}
+
+/// A value that is an object reference.
+fn reference_at(alloc: Global, r: &mut Reader) -> Result<Value, ValueFault>
+    ensures { Gives is_memory r.new result
+        ((variant (λ i. value.ObjRef i) (λ v. reference_in (out-Value v)) (λ i. ap reference_in (value-object i))
+        reference).format.reads
+        r.old) }
+{
+    let ior = Ior::read(alloc, r)?;
+    Ok(Value::ObjRef(ior))
 }
 
 /// A string of at most `bound` bytes, 0 being no bound.

@@ -38,16 +38,9 @@ pub fn write_typecode(alloc: Global, w: &mut Writer, code: &TypeCode) -> Result<
         TypeCode::LongLong => write_kind(w, CodeKind::LongLong),
         TypeCode::ULongLong => write_kind(w, CodeKind::ULongLong),
         TypeCode::Str { bound } => write_two(w, CodeKind::Str, *bound),
-        TypeCode::ObjRef { id, name } => write_object(alloc, w, id.as_slice(), name.as_slice()),
+        TypeCode::ObjRef { id, name } => write_object(alloc, w, id, name),
         TypeCode::Struct { id, name, members } => {
-            write_fields(
-                alloc,
-                w,
-                CodeKind::Struct,
-                id.as_slice(),
-                name.as_slice(),
-                members.as_slice(),
-            )
+            write_fields(alloc, w, CodeKind::Struct, id, name, members.as_slice())
         }
         TypeCode::Union {
             id,
@@ -57,18 +50,12 @@ pub fn write_typecode(alloc: Global, w: &mut Writer, code: &TypeCode) -> Result<
             arms,
         } => {
             let mut inner = Writer::inside(alloc, w.order())?;
-            write_front(
-                alloc,
-                &mut inner,
-                id.as_slice(),
-                name.as_slice(),
-                switch.get(),
-            )?;
+            write_front(alloc, &mut inner, id, name, switch.get())?;
             write_back(alloc, &mut inner, default, arms.as_slice())?;
             write_encapsulation(w, CodeKind::Union, &inner)
         }
         TypeCode::Enum { id, name, labels } => {
-            write_enumeration(alloc, w, id.as_slice(), name.as_slice(), labels.as_slice())
+            write_enumeration(alloc, w, id, name, labels.as_slice())
         }
         TypeCode::Sequence { item, bound } => {
             write_items(alloc, w, CodeKind::Sequence, item.get(), *bound)
@@ -76,18 +63,9 @@ pub fn write_typecode(alloc: Global, w: &mut Writer, code: &TypeCode) -> Result<
         TypeCode::Array { item, len } => {
             write_items(alloc, w, CodeKind::Array, item.get(), *len)
         }
-        TypeCode::Alias { id, name, item } => {
-            write_alias(alloc, w, id.as_slice(), name.as_slice(), item.get())
-        }
+        TypeCode::Alias { id, name, item } => { write_alias(alloc, w, id, name, item.get()) }
         TypeCode::Except { id, name, members } => {
-            write_fields(
-                alloc,
-                w,
-                CodeKind::Except,
-                id.as_slice(),
-                name.as_slice(),
-                members.as_slice(),
-            )
+            write_fields(alloc, w, CodeKind::Except, id, name, members.as_slice())
         }
     }
 }
@@ -130,7 +108,7 @@ fn write_encapsulation(w: &mut Writer, kind: CodeKind, inner: &Writer) -> Result
 }
 
 /// An object reference's TypeCode, or nothing.
-fn write_object(alloc: Global, w: &mut Writer, id: &[u8], name: &[u8]) -> Result<(), Memory>
+fn write_object(alloc: Global, w: &mut Writer, id: &Text, name: &Text) -> Result<(), Memory>
     ensures { Appends (kind_piece kind.ObjRef then encapsulation_piece (header_piece id.now name.now)) w.old w.new
         result }
 {
@@ -161,8 +139,8 @@ fn write_items(
 fn write_alias(
     alloc: Global,
     w: &mut Writer,
-    id: &[u8],
-    name: &[u8],
+    id: &Text,
+    name: &Text,
     item: &TypeCode,
 ) -> Result<(), Memory>
     ensures { Appends (kind_piece kind.Alias
@@ -178,8 +156,8 @@ fn write_alias(
 fn write_enumeration(
     alloc: Global,
     w: &mut Writer,
-    id: &[u8],
-    name: &[u8],
+    id: &Text,
+    name: &Text,
     names: &[Text],
 ) -> Result<(), Memory>
     ensures { Appends (kind_piece kind.Enum
@@ -206,11 +184,11 @@ fn write_item_and_size(
     w.u32(bound)
 }
 
-fn write_texts(w: &mut Writer, id: &[u8], name: &[u8]) -> Result<(), Memory>
+fn write_texts(w: &mut Writer, id: &Text, name: &Text) -> Result<(), Memory>
     ensures { Writes (header_piece id.now name.now) w.old w.new result }
 {
-    w.string(id)?;
-    w.string(name)
+    w.string(id.as_slice())?;
+    w.string(name.as_slice())
 }
 
 /// A number of items.
@@ -224,7 +202,7 @@ pub fn write_count(w: &mut Writer, count: usize) -> Result<(), Memory>
 }
 
 /// The parameters of an enumeration.
-fn write_enum(w: &mut Writer, id: &[u8], name: &[u8], names: &[Text]) -> Result<(), Memory>
+fn write_enum(w: &mut Writer, id: &Text, name: &Text, names: &[Text]) -> Result<(), Memory>
     ensures { Writes (header_piece id.now name.now then (number 4).writes (length names.now)
         then row (map text.writes names.now))
         w.old w.new result }
@@ -255,8 +233,8 @@ fn write_fields(
     alloc: Global,
     w: &mut Writer,
     kind: CodeKind,
-    id: &[u8],
-    name: &[u8],
+    id: &Text,
+    name: &Text,
     members: &[Member],
 ) -> Result<(), Memory>
     ensures { Appends (kind_piece kind
@@ -274,8 +252,8 @@ fn write_fields(
 fn write_struct(
     alloc: Global,
     w: &mut Writer,
-    id: &[u8],
-    name: &[u8],
+    id: &Text,
+    name: &Text,
     members: &[Member],
 ) -> Result<(), Memory>
     ensures { Writes (header_piece id.now name.now then (number 4).writes (length members.now)
@@ -310,8 +288,8 @@ fn write_member(alloc: Global, w: &mut Writer, member: &Member) -> Result<(), Me
 fn write_front(
     alloc: Global,
     w: &mut Writer,
-    id: &[u8],
-    name: &[u8],
+    id: &Text,
+    name: &Text,
     item: &TypeCode,
 ) -> Result<(), Memory>
     ensures { Writes (header_piece id.now name.now then code_piece item.now) w.old w.new result }

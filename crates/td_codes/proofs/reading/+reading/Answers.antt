@@ -4,12 +4,16 @@ use Rattle.td_cdr.specs.ValueFaults.{is_memory}
 use Rattle.td_cdr.proofs.SequenceReading.{goes_on, ends, is_done}
 use Rattle.td_codes.specs.declared.mode.Mode.TheVariants.{Inner}
 use Rattle.td_codes.specs.Labels.{labels}
-use Rattle.td_codes.specs.Codes.{codes, member, arm_of}
-use Rattle.std.proofs.Common.{◌≡◌, ◌-◌, refl, sym}
+use Rattle.td_codes.specs.Codes.{codes, header, member, arm_of}
+use Rattle.std.proofs.Common.{◌≡◌, ◌-◌, ◌∙◌, refl, sym, true≢false, arith}
 use Rattle.std.specs.Int.{w32}
 use Rattle.std.proofs.Math.Facts.{to_z-of_z}
 use mir.Val.{to_z, of_z}
 use Rattle.td_codes.proofs.AtLayers.{union-fails, union-read, codes-reads, kind-fails, kind-read}
+use Rattle.td_codes.proofs.ReadParts.{begins, both-read, struct-read, except-read, sequence-read, array-read, alias-read}
+use Rattle.td_codes.proofs.ReadParts.{member-read, arm-read, nonempty-fails, nonempty-read, within}
+use Rattle.td_codes.proofs.OfEnclosed.{enclosed-reads, enclosed-none}
+use Rattle.td_codes.specs.Enclosed.{enclosed}
 use Rattle.td_codes.proofs.reading.+reading.Goals as goal
 
 pub members_of-returns-in_err-member : goal.members_of-returns-in_err-member
@@ -121,3 +125,127 @@ parameters_of-returns-in-LongLong t c = rw c.in-LongLong.is refl
 
 pub parameters_of-returns-in-ULongLong : goal.parameters_of-returns-in-ULongLong
 parameters_of-returns-in-ULongLong t c = rw c.in-ULongLong.is refl
+
+pub front_of-returns : goal.front_of-returns
+front_of-returns t c =
+    both-read header (codes c.args.levels c.args.mode) c.args.r.now c.header_of.new.r c.boxed_at.new.r
+    c.in_ok-header.header c.in_ok-code.code c.in_ok-header.ensures c.in_ok-code.ensures
+
+pub boxed_at-returns : goal.boxed_at-returns
+boxed_at-returns t c = rw c.in_ok-new.ensures c.in_ok-code.ensures
+
+pub struct_of-returns : goal.struct_of-returns
+struct_of-returns t c =
+    struct-read (codes c.args.levels Inner) c.args.r.now c.header_of.new.r c.fields_of.new.r c.in_ok-header.header
+    c.in_ok-members.members c.in_ok-header.ensures c.in_ok-members.ensures
+
+pub except_of-returns : goal.except_of-returns
+except_of-returns t c =
+    except-read (codes c.args.levels Inner) c.args.r.now c.header_of.new.r c.members_at.new.r c.in_ok-header.header
+    c.in_ok-members.members c.in_ok-header.ensures c.in_ok-members.ensures
+
+pub sequence_of-returns : goal.sequence_of-returns
+sequence_of-returns t c =
+    sequence-read (codes c.args.levels Inner) c.args.r.now c.boxed_at.new.r c.u32.new.self c.in_ok-item.item
+    c.in_ok-bound.bound c.in_ok-item.ensures c.in_ok-bound.ensures.gives
+
+pub array_of-returns : goal.array_of-returns
+array_of-returns t c =
+    array-read (codes c.args.levels Inner) c.args.r.now c.boxed_at.new.r c.count_of.new.r c.in_ok-item.item
+    c.in_ok-len.len c.in_ok-item.ensures c.in_ok-len.ensures
+
+pub alias_of-returns : goal.alias_of-returns
+alias_of-returns t c =
+    alias-read (codes c.args.levels c.args.mode) c.args.r.now c.front_of.new.r c.in_ok-header.header
+    c.in_ok-header.item c.in_ok-header.ensures
+
+pub member_of-returns : goal.member_of-returns
+member_of-returns t c =
+    member-read (codes c.args.levels Inner) c.args.r.now c.read.new.r c.code_at.new.r c.in_ok-name.name
+    c.in_ok-code.code c.in_ok-name.ensures c.in_ok-code.ensures
+
+pub arm_at-returns-in-Ok : goal.arm_at-returns-in-Ok
+arm_at-returns-in-Ok t c =
+    rw c.labelled.ensures (arm-read (labels c.args.levels c.args.switch.now) (codes c.args.levels Inner) c.args.r.now
+    c.label_at.new.r c.member_of.new.r c.in_ok-label.label c.in-Ok.member c.in_ok-label.ensures c.in-Ok.ensures)
+
+pub fields_of-returns-then-is_empty : goal.fields_of-returns-then-is_empty
+fields_of-returns-then-is_empty t c =
+    rw c.aligned-place.ensures (nonempty-fails (member (codes c.args.levels Inner)) c.args.r.now c.members_at.new.r
+    c.in_ok-members.members c.in_ok-members.ensures (c.is_empty.ensures.0 c.if-is_empty.true))
+
+pub fields_of-returns : goal.fields_of-returns
+fields_of-returns t c =
+    nonempty-read (member (codes c.args.levels Inner)) c.args.r.now c.members_at.new.r c.in_ok-members.members
+    c.in_ok-members.ensures (λ none. true≢false (sym (c.is_empty.ensures.1 none) ∙ c.if-is_empty.false))
+
+pub members_of-loop-init : goal.members_of-loop-init
+members_of-loop-init t c =
+    begins (member (codes c.args.levels Inner)).format c.new-members.result c.args.count (c.args.count - 0)
+    c.args.r.now c.new-members.ensures (omega arith)
+
+pub arms_of-loop-init : goal.arms_of-loop-init
+arms_of-loop-init t c =
+    begins (arm_of (labels c.args.levels c.args.switch.now) (codes c.args.levels Inner)).format c.new-arms.result
+    c.args.count (c.args.count - 0) c.args.r.now c.new-arms.ensures (omega arith)
+
+pub enclosed_of-returns-in-ObjRef : goal.enclosed_of-returns-in-ObjRef
+enclosed_of-returns-in-ObjRef t c = rw c.in-ObjRef.is c.object_of.ensures
+
+pub enclosed_of-returns-in-Struct : goal.enclosed_of-returns-in-Struct
+enclosed_of-returns-in-Struct t c = rw c.in-Struct.is c.struct_of.ensures
+
+pub enclosed_of-returns-in-Union : goal.enclosed_of-returns-in-Union
+enclosed_of-returns-in-Union t c = rw c.in-Union.is c.union_of.ensures
+
+pub enclosed_of-returns-in-Enum : goal.enclosed_of-returns-in-Enum
+enclosed_of-returns-in-Enum t c = rw c.in-Enum.is c.enum_of.ensures
+
+pub enclosed_of-returns-in-Sequence : goal.enclosed_of-returns-in-Sequence
+enclosed_of-returns-in-Sequence t c = rw c.in-Sequence.is c.sequence_of.ensures
+
+pub enclosed_of-returns-in-Array : goal.enclosed_of-returns-in-Array
+enclosed_of-returns-in-Array t c = rw c.in-Array.is c.array_of.ensures
+
+pub enclosed_of-returns-in-Except : goal.enclosed_of-returns-in-Except
+enclosed_of-returns-in-Except t c = rw c.in-Except.is c.except_of.ensures
+
+pub enclosed_of-returns-in-Alias : goal.enclosed_of-returns-in-Alias
+enclosed_of-returns-in-Alias t c = rw (c.in-Alias.is, ← c.under.ensures) c.alias_of.ensures
+
+pub enclosed_of-returns-in_default : goal.enclosed_of-returns-in_default
+enclosed_of-returns-in_default t c =
+    let n = c.in_default in
+    rw (
+      enclosed-none c.args.levels (codes c.args.levels) c.args.mode c.args.kind n.not-ObjRef n.not-Struct n.not-Union
+          n.not-Enum n.not-Sequence n.not-Array n.not-Alias n.not-Except c.args.r.now,
+      c.aligned.ensures,
+    )
+    refl
+
+pub parameters_of-returns-in_ok-encapsulation-in_default : goal.parameters_of-returns-in_ok-encapsulation-in_default
+parameters_of-returns-in_ok-encapsulation-in_default t c =
+    let n = c.in_default in
+    let k = c.args.kind in
+    rw
+    (enclosed-reads c.args.levels (codes c.args.levels) c.args.mode k n.not-Null n.not-Void n.not-Short n.not-Long
+    n.not-UShort n.not-ULong n.not-Boolean n.not-Char n.not-Octet n.not-AnyCode n.not-Code n.not-LongLong
+    n.not-ULongLong n.not-Str c.args.r.now)
+    (within (enclosed c.args.levels (codes c.args.levels) c.args.mode k) c.args.r.now
+    c.in_ok-encapsulation-in_default.field-0 c.encapsulation.new.self c.enclosed_of.new.r c.enclosed_of.result
+    c.in_ok-encapsulation-in_default.ensures c.enclosed_of.ensures)
+
+pub parameters_of-returns-in_err-encapsulation-in_default : goal.parameters_of-returns-in_err-encapsulation-in_default
+parameters_of-returns-in_err-encapsulation-in_default t c =
+    let n = c.in_default in
+    let r = c.from_residual-in_err-encapsulation-in_default in
+    let p = err_from_is_err_and r.result r.ensures.1 in
+    rw (
+      p.1,
+      p.2,
+      enclosed-reads c.args.levels (codes c.args.levels) c.args.mode c.args.kind n.not-Null n.not-Void n.not-Short
+          n.not-Long n.not-UShort n.not-ULong n.not-Boolean n.not-Char n.not-Octet n.not-AnyCode n.not-Code
+          n.not-LongLong n.not-ULongLong n.not-Str c.args.r.now,
+      c.in_err-encapsulation-in_default.ensures.0,
+    )
+    refl

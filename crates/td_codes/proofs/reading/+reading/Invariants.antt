@@ -54,6 +54,9 @@ decreases-array_of l = 9 * l.levels + 5
 abbrev pub decreases-alias_of : goal.decreases-alias_of
 decreases-alias_of l = 9 * l.levels + 5
 
+abbrev pub decreases-enclosed_of : goal.decreases-enclosed_of
+decreases-enclosed_of l = 9 * l.levels + 7
+
 abbrev pub decreases-parameters_of : goal.decreases-parameters_of
 decreases-parameters_of l = 9 * l.levels + 8
 

@@ -1,6 +1,6 @@
 use Rattle.std.proofs.Common.{◌<◌, length, sym, ◌∙◌, arith}
 use Rattle.td_codes.specs.Same.{member_entry, arm_entry}
-use Rattle.td_codes.proofs.Alike.{here-long, here-fails, here-next}
+use Rattle.td_codes.proofs.Alike.{here-long, here-end, here-fails, here-next}
 use Rattle.td_codes.proofs.same.+same.Goals as goal
 
 pub same_members-returns-then-a-b : goal.same_members-returns-then-a-b
@@ -44,3 +44,13 @@ same_arms-loop-i-preserved t c =
           c.loop-i-test.true low c.index-a-i.is c.index-b-i.is c.if-not-same_arm.ensures
           ∙ c.loop-i.invariant.so_far;
     }
+
+pub same_members-returns : goal.same_members-returns
+same_members-returns t c =
+    sym (here-end member_entry c.loop-i.i c.args.a.now c.args.b.now c.loop-i.invariant.long c.loop-i-test.false)
+    ∙ c.loop-i.invariant.so_far
+
+pub same_arms-returns : goal.same_arms-returns
+same_arms-returns t c =
+    sym (here-end arm_entry c.loop-i.i c.args.a.now c.args.b.now c.loop-i.invariant.long c.loop-i-test.false)
+    ∙ c.loop-i.invariant.so_far

@@ -1,4 +1,4 @@
-use Rattle.std.proofs.Common.{refl}
+use Rattle.std.proofs.Common.{◌-◌, refl, arith}
 use Rattle.std.proofs.lemmas.Result.{err_from_is_err_and}
 use Rattle.td_cdr.specs.Format.{array_format}
 use Rattle.td_cdr.specs.ValueFaults.{is_memory}
@@ -10,8 +10,10 @@ use Rattle.td_codes.specs.Codes.{codes}
 use Rattle.td_codes.specs.Layers.{code-null, code-void, code-short, code-long, code-ushort, code-ulong, code-boolean}
 use Rattle.td_codes.specs.Layers.{code-char, code-octet, code-longlong, code-ulonglong, code-struct, code-union}
 use Rattle.td_codes.specs.Layers.{code-enum, code-sequence, code-array, code-alias, code-any, code-str}
-use Rattle.td_codes.specs.Values.{anys, values}
-use Rattle.td_codes.proofs.AtLayers.{values-reads, any-fails}
+use Rattle.td_codes.specs.Layers.{code-code, code-object, code-except}
+use Rattle.td_codes.specs.Values.{anys, values, each}
+use Rattle.td_codes.proofs.AtLayers.{values-reads, any-fails, any-codeless, any-read}
+use Rattle.td_codes.proofs.ReadParts.{front-none, begins, each-goes-on, each-fails, each-done}
 use Rattle.td_codes.proofs.values.+values.Goals as goal
 
 pub items_at-returns-in_err-value : goal.items_at-returns-in_err-value
@@ -230,3 +232,97 @@ value_at-returns-in-Str t c =
           (layer_of.TypeCode::Str c.in-Str.bound) c.if-depth-eq0.false (code-str c.in-Str.bound) c.args.r.now,
     )
     c.string_at.ensures
+
+pub value_at-returns-in-Code : goal.value_at-returns-in-Code
+value_at-returns-in-Code t c =
+    rw (
+      c.in-Code.is,
+      values-reads (anys c.args.levels) (codes c.args.levels Outer) c.args.depth code.Code layer_of.TypeCode::Code
+          c.if-depth-eq0.false code-code c.args.r.now,
+    )
+    c.inner_code_at.ensures
+
+pub value_at-returns-in-ObjRef : goal.value_at-returns-in-ObjRef
+value_at-returns-in-ObjRef t c =
+    rw (
+      c.in-ObjRef.is,
+      values-reads (anys c.args.levels) (codes c.args.levels Outer) c.args.depth
+          (code.ObjRef c.in-ObjRef.id c.in-ObjRef.name) (layer_of.TypeCode::ObjRef c.in-ObjRef.id c.in-ObjRef.name)
+          c.if-depth-eq0.false (code-object c.in-ObjRef.id c.in-ObjRef.name) c.args.r.now,
+    )
+    c.reference_at.ensures
+
+pub value_at-returns-in-Except : goal.value_at-returns-in-Except
+value_at-returns-in-Except t c =
+    rw (
+      c.in-Except.is,
+      values-reads (anys c.args.levels) (codes c.args.levels Outer) c.args.depth
+          (code.Except c.in-Except.id c.in-Except.name c.in-Except.members)
+          (layer_of.Except c.in-Except.id c.in-Except.name c.in-Except.members) c.if-depth-eq0.false
+          (code-except c.in-Except.id c.in-Except.name c.in-Except.members) c.args.r.now,
+      c.number.ensures,
+    )
+    refl
+
+pub boxed_value_at-returns : goal.boxed_value_at-returns
+boxed_value_at-returns t c = rw c.in_ok-new.ensures c.in_ok-value.ensures
+
+pub inner_any_at-returns : goal.inner_any_at-returns
+inner_any_at-returns t c = rw (c.in_ok-new.ensures, c.in_ok-any.ensures) refl
+
+pub struct_at-returns : goal.struct_at-returns
+struct_at-returns t c = rw c.in_ok-values.ensures refl
+
+pub array_at-returns : goal.array_at-returns
+array_at-returns t c = rw c.in_ok-items.ensures refl
+
+pub sequence_at-returns : goal.sequence_at-returns
+sequence_at-returns t c = rw (c.in_ok-count.ensures, c.in_ok-items.ensures) refl
+
+pub any_at-returns-in_err-code : goal.any_at-returns-in_err-code
+any_at-returns-in_err-code t c =
+    let p = err_from_is_err_and c.from_residual.result c.from_residual.ensures.1 in
+    rw (p.1, p.2) (any-codeless c.args.levels c.args.r.now c.code_at.new.r _ c.in_err-code.ensures)
+
+pub any_at-returns-in-Ok : goal.any_at-returns-in-Ok
+any_at-returns-in-Ok t c =
+    any-read c.args.levels c.args.r.now c.code_at.new.r c.value_at.new.r c.in_ok-code.code c.in-Ok.value
+    c.if-levels-eq0.false c.in_ok-code.ensures c.in-Ok.ensures
+
+pub items_at-loop-init : goal.items_at-loop-init
+items_at-loop-init t c =
+    begins ((values (anys c.args.levels) (codes c.args.levels Outer) c.args.depth) c.args.item.now).format
+    c.new-values.result c.args.count (c.args.count - 0) c.args.r.now c.new-values.ensures (omega arith)
+
+pub each_at-loop-member-init : goal.each_at-loop-member-init
+each_at-loop-member-init t c =
+    let inner = (values (anys c.args.levels) (codes c.args.levels Outer) c.args.depth) in
+    front-none c.new-values.result
+    ((each (anys c.args.levels) (codes c.args.levels Outer) inner c.args.members.now).format.reads c.args.r.now)
+    c.new-values.ensures
+
+pub each_at-loop-member-preserved : goal.each_at-loop-member-preserved
+each_at-loop-member-preserved t c =
+    let inner = (values (anys c.args.levels) (codes c.args.levels Outer) c.args.depth) in
+    rw c.in_ok-push.ensures.ok
+    (each-goes-on (anys c.args.levels) (codes c.args.levels Outer) inner c.loop-member.values c.args.members.now
+    c.loop-member.member-index c.member-item.result c.loop-member.r _ _
+    ((each (anys c.args.levels) (codes c.args.levels Outer) inner c.args.members.now).format.reads c.args.r.now)
+    c.loop-member-test.true c.member-item.is c.in_ok-value.ensures c.loop-member.invariant)
+
+pub each_at-returns-in_err-value : goal.each_at-returns-in_err-value
+each_at-returns-in_err-value t c =
+    let p = err_from_is_err_and c.from_residual.result c.from_residual.ensures.1 in
+    let inner = (values (anys c.args.levels) (codes c.args.levels Outer) c.args.depth) in
+    rw (p.1, p.2) (each-fails (anys c.args.levels) (codes c.args.levels Outer) inner c.loop-member.values
+    c.args.members.now c.loop-member.member-index c.member-item.result c.loop-member.r c.value_at.new.r _
+    ((each (anys c.args.levels) (codes c.args.levels Outer) inner c.args.members.now).format.reads c.args.r.now)
+    c.loop-member-test.true c.member-item.is c.in_err-value.ensures c.loop-member.invariant)
+
+pub each_at-returns : goal.each_at-returns
+each_at-returns t c =
+    let inner = (values (anys c.args.levels) (codes c.args.levels Outer) c.args.depth) in
+    each-done (anys c.args.levels) (codes c.args.levels Outer) inner c.loop-member.values c.args.members.now
+    c.loop-member.member-index c.loop-member.r
+    ((each (anys c.args.levels) (codes c.args.levels Outer) inner c.args.members.now).format.reads c.args.r.now)
+    c.loop-member-test.false c.loop-member.invariant

@@ -1,5 +1,8 @@
 use Rattle.std.proofs.Common.{◌<◌, ◌≤◌, ◌-◌, length, min, ◌∙◌, arith}
+use Rattle.std.proofs.Common.{map, take}
 use Rattle.std.proofs.lemmas.List.{take_all, append-nil}
+use Rattle.std.proofs.lemmas.Result.{err_from_is_err_and}
+use Rattle.td_cdr.specs.Format.{number, row}
 use Rattle.td_cdr.proofs.SequenceWriting.{goes_on}
 use Rattle.td_cdr.proofs.Appending.{puts-then}
 use Rattle.td_codes.specs.declared.code.TypeCode.{TypeCode}
@@ -7,15 +10,17 @@ use Rattle.td_codes.specs.declared.code.TypeCode.TheVariants as code
 use Rattle.td_codes.specs.declared.code.TypeCode.TheOpen as layer_of
 use Rattle.td_codes.specs.declared.code.Value.{Value}
 use Rattle.td_codes.specs.declared.mode.Mode.TheVariants.{Outer}
-use Rattle.td_codes.specs.Codes.{codes}
+use Rattle.td_codes.specs.Codes.{codes, code_formats}
 use Rattle.td_codes.specs.Labels.{plain_piece}
 use Rattle.td_codes.specs.Layers.{code-short, code-long, code-ushort, code-ulong, code-boolean, code-char, code-octet}
 use Rattle.td_codes.specs.Layers.{code-any, code-longlong, code-ulonglong, code-struct, code-union, code-enum}
-use Rattle.td_codes.specs.Layers.{code-sequence, code-array, code-alias, value-union}
-use Rattle.td_codes.specs.Values.{anys, values, branch_of, branch_piece}
+use Rattle.td_codes.specs.Layers.{code-sequence, code-array, code-alias, code-code, code-str}
+use Rattle.td_codes.specs.Layers.{code-object, value-any, value-struct, value-union, value-items}
+use Rattle.td_codes.specs.Values.{anys, values, branch_of, branch_piece, items_piece}
 use Rattle.td_codes.specs.WritingCodes.{code_piece}
 use Rattle.td_codes.proofs.AtLayers.{values-writes, any-writes, any-writes-none, each-row, member_pairs}
 use Rattle.td_codes.proofs.AtLayers.{member_pairs-at, member_pairs-length}
+use Rattle.td_codes.proofs.WrittenParts.{kept-whole}
 use Rattle.td_codes.proofs.writing_values.+putting.Goals as goal
 
 pub put_any-returns-then-levels-eq0 : goal.put_any-returns-then-levels-eq0
@@ -260,3 +265,104 @@ put_value-returns-in-AnyCode t c =
           layer_of.AnyCode c.args.value.now c.if-depth-eq0.false code-any,
     )
     c.put_any_in.ensures
+
+pub put_count_and_items-returns : goal.put_count_and_items-returns
+put_count_and_items-returns t c =
+    let inner = (values (anys c.args.levels) (codes c.args.levels Outer) c.args.depth) in
+    let items = c.args.items.now in
+    puts-then ((number 4).writes (length items)) (items_piece (anys c.args.levels) (codes c.args.levels Outer) inner c.args.item.now items) c.args.w.now
+    c.write_count.new.w c.put_items.new.w c.put_items.result c.in_ok-write_count.ensures.done
+    c.in_ok-write_count.ensures.order c.put_items.ensures
+
+pub put_items-returns-in_err-put_value : goal.put_items-returns-in_err-put_value
+put_items-returns-in_err-put_value t c =
+    let p = err_from_is_err_and c.from_residual.result c.from_residual.ensures.1 in
+    let w = ((values (anys c.args.levels) (codes c.args.levels Outer) c.args.depth) c.args.item.now).format.writes in
+    let whole =
+    puts-then (row (map w (take c.loop-value.value-index c.args.items.now))) (w c.value-item.result) c.args.w.now
+    c.loop-value.w c.put_value.new.w _ c.loop-value.invariant.bytes c.loop-value.invariant.order
+    c.in_err-put_value.ensures in
+    rw p.1 (record { done = tt; order = whole.order; kept = whole.kept })
+
+pub put_fields-returns-in_err-put_value : goal.put_fields-returns-in_err-put_value
+put_fields-returns-in_err-put_value t c =
+    let p = err_from_is_err_and c.from_residual.result c.from_residual.ensures.1 in
+    let inner = (values (anys c.args.levels) (codes c.args.levels Outer) c.args.depth) in
+    let pairs = member_pairs c.args.members.now c.args.held.now in
+    let e = rw (← c.index-members-i.is) at c.in_err-put_value.ensures in
+    let whole =
+    puts-then (row (map (λ (p : TypeCode × Value). (inner p.0).format.writes p.1) (take c.loop-i.i pairs)))
+    ((inner c.index-members-i.result.code).format.writes c.index-held-i.result) c.args.w.now c.loop-i.w
+    c.put_value.new.w _ c.loop-i.invariant.bytes c.loop-i.invariant.order e in
+    rw p.1 (record { done = tt; order = whole.order; kept = whole.kept })
+
+pub put_value-returns-in-Code : goal.put_value-returns-in-Code
+put_value-returns-in-Code t c =
+    rw (
+      c.in-Code.is,
+      values-writes (anys c.args.levels) (codes c.args.levels Outer) c.args.depth code.Code layer_of.TypeCode::Code c.args.value.now c.if-depth-eq0.false code-code,
+      (code_formats c.args.levels Outer).writes,
+    )
+    c.put_code_in.ensures
+
+pub put_value-returns-in-Str : goal.put_value-returns-in-Str
+put_value-returns-in-Str t c =
+    rw (
+      c.in-Str.is,
+      values-writes (anys c.args.levels) (codes c.args.levels Outer) c.args.depth (code.Str c.in-Str.bound)
+          (layer_of.TypeCode::Str c.in-Str.bound) c.args.value.now c.if-depth-eq0.false (code-str c.in-Str.bound),
+    )
+    c.put_text_in.ensures
+
+pub put_value-returns-in-ObjRef : goal.put_value-returns-in-ObjRef
+put_value-returns-in-ObjRef t c =
+    rw (
+      c.in-ObjRef.is,
+      values-writes (anys c.args.levels) (codes c.args.levels Outer) c.args.depth
+          (code.ObjRef c.in-ObjRef.id c.in-ObjRef.name) (layer_of.TypeCode::ObjRef c.in-ObjRef.id c.in-ObjRef.name)
+          c.args.value.now c.if-depth-eq0.false (code-object c.in-ObjRef.id c.in-ObjRef.name),
+    )
+    c.put_reference_in.ensures
+
+pub put_items-returns : goal.put_items-returns
+put_items-returns t c = record {
+  done =
+      rw (take_all c.loop-value.value-index c.args.items.now c.loop-value-test.false) at
+      c.loop-value.invariant.bytes;
+  order = c.loop-value.invariant.order;
+  kept = tt;
+}
+
+pub put_any-returns-in_err-write_typecode : goal.put_any-returns-in_err-write_typecode
+put_any-returns-in_err-write_typecode t c =
+    let p = err_from_is_err_and c.from_residual.result c.from_residual.ensures.1 in
+    let e = c.in_err-write_typecode.ensures in
+    rw p.1 (record { done = tt; order = e.order; kept = kept-whole c.args.w.now c.write_typecode.new.w e.refused })
+
+pub put_count_and_items-returns-in_err-write_count : goal.put_count_and_items-returns-in_err-write_count
+put_count_and_items-returns-in_err-write_count t c =
+    let p = err_from_is_err_and c.from_residual.result c.from_residual.ensures.1 in
+    let e = c.in_err-write_count.ensures in
+    rw p.1 (record { done = tt; order = e.order; kept = kept-whole c.args.w.now c.write_count.new.w e.refused })
+
+pub put_union-returns-in_err-write_label-in-Union : goal.put_union-returns-in_err-write_label-in-Union
+put_union-returns-in_err-write_label-in-Union t c =
+    let p = err_from_is_err_and c.from_residual.result c.from_residual.ensures.1 in
+    let e = c.in_err-write_label-in-Union.ensures in
+    rw p.1 (record { done = tt; order = e.order; kept = kept-whole c.args.w.now c.write_label.new.w e.refused })
+
+pub put_struct-returns-in-Struct : goal.put_struct-returns-in-Struct
+put_struct-returns-in-Struct t c =
+    rw (c.in-Struct.is, value-struct c.in-Struct.held) (rw c.as_slice.ensures at c.put_fields.ensures)
+
+pub put_sequence-returns-in-Items : goal.put_sequence-returns-in-Items
+put_sequence-returns-in-Items t c =
+    rw (c.in-Items.is, value-items c.in-Items.items) (rw c.as_slice.ensures at c.put_count_and_items.ensures)
+
+pub put_array-returns-in-Items : goal.put_array-returns-in-Items
+put_array-returns-in-Items t c =
+    rw (c.in-Items.is, value-items c.in-Items.items) (rw c.as_slice.ensures at c.put_items.ensures)
+
+pub put_any_in-returns-in-AnyValue : goal.put_any_in-returns-in-AnyValue
+put_any_in-returns-in-AnyValue t c =
+    rw (c.in-AnyValue.is, value-any c.in-AnyValue.any) (rw c.get.ensures at c.put_any.ensures)

@@ -1,0 +1,63 @@
+-- What is written part by part.
+use Rattle.std.proofs.Common.{◌≡◌, ℕ, [], ◌∷◌, ◌++◌, length, take, Result, Ok, Err, ap, ◌∙◌, arith}
+use Rattle.std.proofs.lemmas.List.{take_all}
+use Rattle.td_cdr.specs.declared.order.Order.{Order}
+use Rattle.td_cdr.specs.Format.{Piece, ◌then◌, Puts, Appends, octets}
+use Rattle.td_cdr.specs.Gap.{flag}
+use Rattle.td_cdr.specs.Writing.{Draft, Adds}
+use Rattle.td_cdr.proofs.Appending.{puts-then}
+use Rattle.td_codes.specs.WritingCodes.{Writes, encapsulation_piece}
+
+-- one piece was written, and another behind it
+pub writes-then : {E : Type 0} (p q : Piece) (old mid new : Draft) (result : Result (Unit {0}) E)
+    → mid.bytes ≡ old.bytes ++ p old.order (length old.bytes) → mid.order ≡ old.order → Writes q mid new result
+    → Writes (p then q) old new result
+writes-then {E = E} p q old mid new (Ok u) e o s =
+    let second : Puts {E = E} q mid new (Ok u) = record { done = s.done; order = s.order; kept = tt } in
+    let whole = puts-then p q old mid new (Ok u) e o second in
+    record { done = whole.done; order = whole.order }
+writes-then p q old mid new (Err d) e o s = record { done = tt; order = s.order ∙ o }
+
+-- what is appended or else nothing
+pub writes-whole : {E : Type 0} (p : Piece) (old new : Draft) (result : Result (Unit {0}) E)
+    → Appends p old new result → Writes p old new result
+writes-whole p old new result s = record { done = s.done; order = s.order }
+
+-- what a call of the writer adds
+pub writes-added : {E : Type 0} (p : Piece) (old new : Draft) (result : Result (Unit {0}) E)
+    → Adds (p old.order (length old.bytes)) old new result → Writes p old new result
+writes-added p old new (Ok u) s = record { done = s.done.0; order = s.done.1 }
+writes-added p old new (Err d) s = record { done = tt; order = ap (λ (w : Draft). w.order) s.refused.0 }
+
+-- a piece that was written into an encapsulation, and this behind the kind
+pub encapsulated : {E : Type 0} (k p : Piece) (order : Order) (start inner old new : Draft)
+    (result : Result (Unit {0}) E)
+    → start.bytes ≡ flag order ∷ [] → start.order ≡ order → order ≡ old.order
+    → inner.bytes ≡ start.bytes ++ p start.order (length start.bytes)
+    → Appends (k then octets.writes inner.bytes) old new result → Appends (k then encapsulation_piece p) old new result
+encapsulated k p order start inner old new result s o same e a =
+    let bytes : inner.bytes ≡ flag order ∷ p order 1 = rw (s, o) at e in
+    let inside : inner.bytes ≡ flag old.order ∷ p old.order 1 = rw same at bytes in
+    record { done = rw inside at a.done; order = a.order; refused = a.refused }
+
+-- ---- where some may have been written
+
+-- what was there is kept where nothing was written
+pub kept-whole : (old new : Draft) → new.bytes ≡ old.bytes → take (length old.bytes) new.bytes ≡ old.bytes
+kept-whole old new same = rw same (take_all (length old.bytes) old.bytes (omega arith))
+
+pub puts-whole : {E : Type 0} (p : Piece) (old new : Draft) (result : Result (Unit {0}) E)
+    → Appends p old new result → Puts p old new result
+puts-whole p old new (Ok u) s = record { done = s.done; order = s.order; kept = tt }
+puts-whole p old new (Err d) s = record { done = tt; order = s.order; kept = kept-whole old new s.refused }
+
+pub puts-added : {E : Type 0} (p : Piece) (old new : Draft) (result : Result (Unit {0}) E)
+    → Adds (p old.order (length old.bytes)) old new result → Puts p old new result
+puts-added p old new (Ok u) s = record { done = s.done.0; order = s.done.1; kept = tt }
+puts-added p old new (Err d) s =
+    let same = s.refused.0 in
+    record {
+      done = tt;
+      order = ap (λ (w : Draft). w.order) same;
+      kept = kept-whole old new (ap (λ (w : Draft). w.bytes) same);
+    }
