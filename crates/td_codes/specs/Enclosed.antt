@@ -9,7 +9,8 @@ use Rattle.td_codes.specs.declared.mode.Mode.{Mode}
 use Rattle.td_codes.specs.declared.mode.Mode.TheVariants.{Inner}
 use Rattle.td_codes.specs.Kinds.{under}
 use Rattle.td_codes.specs.Labels.{no_value}
-use Rattle.td_codes.specs.Codes.{object_code, struct_code, except_code, enum_code, sequence_code, array_code, alias_code}
+use Rattle.td_codes.specs.Codes.{object_code, struct_code, except_code, enum_code}
+use Rattle.td_codes.specs.Codes.{sequence_code, array_code, alias_code}
 use Rattle.td_codes.specs.Codes.{union_code}
 
 -- nothing where the kind has none

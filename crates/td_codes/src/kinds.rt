@@ -3,9 +3,11 @@
 ghost use Rattle.std.specs.Prelude.{◌≡◌};
 ghost use Rattle.td_cdr.specs.Format.{Gives};
 ghost use Rattle.td_cdr.specs.ValueFaults.{is_memory};
+ghost use Rattle.td_codes.specs.Codes.{kind_of};
 ghost use Rattle.td_codes.specs.Kinds.{number_of, kind_by_number, all_kinds, may_switch, may_stand, under};
 ghost use Rattle.td_codes.specs.Kinds.{indirection_fault, kind_in, kind_at, deep_kind};
 
+use crate::code::TypeCode;
 use crate::mode::Mode;
 use td_cdr::{Reader, ValueFault};
 
@@ -97,6 +99,36 @@ impl CodeKind {
             CodeKind::LongLong => 23,
             CodeKind::ULongLong => 24,
         }
+    }
+}
+
+/// The kind of a TypeCode.
+pub fn kind_of(code: &TypeCode) -> CodeKind
+    ensures { result ≡ kind_of code.now }
+{
+    match code {
+        TypeCode::Null => CodeKind::Null,
+        TypeCode::Void => CodeKind::Void,
+        TypeCode::Short => CodeKind::Short,
+        TypeCode::Long => CodeKind::Long,
+        TypeCode::UShort => CodeKind::UShort,
+        TypeCode::ULong => CodeKind::ULong,
+        TypeCode::Boolean => CodeKind::Boolean,
+        TypeCode::Char => CodeKind::Char,
+        TypeCode::Octet => CodeKind::Octet,
+        TypeCode::AnyCode => CodeKind::AnyCode,
+        TypeCode::Code => CodeKind::Code,
+        TypeCode::LongLong => CodeKind::LongLong,
+        TypeCode::ULongLong => CodeKind::ULongLong,
+        TypeCode::Str { .. } => CodeKind::Str,
+        TypeCode::ObjRef { .. } => CodeKind::ObjRef,
+        TypeCode::Struct { .. } => CodeKind::Struct,
+        TypeCode::Union { .. } => CodeKind::Union,
+        TypeCode::Enum { .. } => CodeKind::Enum,
+        TypeCode::Sequence { .. } => CodeKind::Sequence,
+        TypeCode::Array { .. } => CodeKind::Array,
+        TypeCode::Alias { .. } => CodeKind::Alias,
+        TypeCode::Except { .. } => CodeKind::Except,
     }
 }
 

@@ -8,6 +8,7 @@ ghost use Rattle.td_codes.specs.Same.{is_alias, kind_shape, str_shape, object_sh
 ghost use Rattle.td_codes.specs.Same.{items_shape};
 
 use crate::code::{Arm, Member, TypeCode};
+use crate::kinds::kind_of;
 use crate::label::{label_of, same_label};
 use td_cdr::Text;
 
@@ -48,19 +49,7 @@ pub fn same_type(a: &TypeCode, b: &TypeCode) -> bool
         TypeCode::Enum { id, labels, .. } => same_enum(id, labels.len(), b),
         TypeCode::Sequence { item, bound } => same_sequence(item.get(), *bound, b),
         TypeCode::Array { item, len } => same_array(item.get(), *len, b),
-        TypeCode::Null => matches!(b, TypeCode::Null),
-        TypeCode::Void => matches!(b, TypeCode::Void),
-        TypeCode::Short => matches!(b, TypeCode::Short),
-        TypeCode::Long => matches!(b, TypeCode::Long),
-        TypeCode::UShort => matches!(b, TypeCode::UShort),
-        TypeCode::ULong => matches!(b, TypeCode::ULong),
-        TypeCode::Boolean => matches!(b, TypeCode::Boolean),
-        TypeCode::Char => matches!(b, TypeCode::Char),
-        TypeCode::Octet => matches!(b, TypeCode::Octet),
-        TypeCode::AnyCode => matches!(b, TypeCode::AnyCode),
-        TypeCode::Code => matches!(b, TypeCode::Code),
-        TypeCode::LongLong => matches!(b, TypeCode::LongLong),
-        TypeCode::ULongLong => matches!(b, TypeCode::ULongLong),
+        _ => kind_of(a).number() == kind_of(b).number(),
     }
 }
 

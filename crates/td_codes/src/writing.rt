@@ -9,7 +9,7 @@ ghost use Rattle.td_codes.specs.WritingCodes.{Writes, encapsulation_piece, kind_
 ghost use Rattle.td_codes.specs.WritingCodes.{arm_piece, member_piece, head_piece};
 
 use crate::code::{Arm, Member, TypeCode};
-use crate::kinds::CodeKind;
+use crate::kinds::{CodeKind, kind_of};
 use crate::label::{Label, label_of};
 use std::alloc::Global;
 use td_cdr::{Memory, Text, Writer};
@@ -24,19 +24,6 @@ pub fn write_typecode(alloc: Global, w: &mut Writer, code: &TypeCode) -> Result<
     ensures { Appends (code_piece code.now) w.old w.new result }
 {
     match code {
-        TypeCode::Null => write_kind(w, CodeKind::Null),
-        TypeCode::Void => write_kind(w, CodeKind::Void),
-        TypeCode::Short => write_kind(w, CodeKind::Short),
-        TypeCode::Long => write_kind(w, CodeKind::Long),
-        TypeCode::UShort => write_kind(w, CodeKind::UShort),
-        TypeCode::ULong => write_kind(w, CodeKind::ULong),
-        TypeCode::Boolean => write_kind(w, CodeKind::Boolean),
-        TypeCode::Char => write_kind(w, CodeKind::Char),
-        TypeCode::Octet => write_kind(w, CodeKind::Octet),
-        TypeCode::AnyCode => write_kind(w, CodeKind::AnyCode),
-        TypeCode::Code => write_kind(w, CodeKind::Code),
-        TypeCode::LongLong => write_kind(w, CodeKind::LongLong),
-        TypeCode::ULongLong => write_kind(w, CodeKind::ULongLong),
         TypeCode::Str { bound } => write_two(w, CodeKind::Str, *bound),
         TypeCode::ObjRef { id, name } => write_object(alloc, w, id, name),
         TypeCode::Struct { id, name, members } => {
@@ -67,6 +54,7 @@ pub fn write_typecode(alloc: Global, w: &mut Writer, code: &TypeCode) -> Result<
         TypeCode::Except { id, name, members } => {
             write_fields(alloc, w, CodeKind::Except, id, name, members.as_slice())
         }
+        _ => write_kind(w, kind_of(code)),
     }
 }
 

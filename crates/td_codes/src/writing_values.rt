@@ -56,15 +56,6 @@ fn put_value(
     match code {
         TypeCode::Null => Ok(()),
         TypeCode::Void => Ok(()),
-        TypeCode::Short => put_plain(w, value),
-        TypeCode::Long => put_plain(w, value),
-        TypeCode::UShort => put_plain(w, value),
-        TypeCode::ULong => put_plain(w, value),
-        TypeCode::Boolean => put_plain(w, value),
-        TypeCode::Char => put_plain(w, value),
-        TypeCode::Octet => put_plain(w, value),
-        TypeCode::LongLong => put_plain(w, value),
-        TypeCode::ULongLong => put_plain(w, value),
         TypeCode::AnyCode => put_any_in(alloc, w, levels, value),
         TypeCode::Code => put_code_in(alloc, w, value),
         TypeCode::Str { .. } => put_text_in(w, value),
@@ -83,13 +74,13 @@ fn put_value(
                 value,
             )
         }
-        TypeCode::Enum { .. } => put_plain(w, value),
         TypeCode::Sequence { item, .. } => {
             put_sequence(alloc, w, levels, depth, item.get(), value)
         }
         TypeCode::Array { item, .. } => put_array(alloc, w, levels, depth, item.get(), value),
         TypeCode::Alias { item, .. } => put_value(alloc, w, levels, depth, item.get(), value),
         TypeCode::Except { .. } => Ok(()),
+        _ => put_plain(w, value),
     }
 }
 

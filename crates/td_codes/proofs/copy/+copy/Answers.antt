@@ -9,15 +9,18 @@ use Rattle.td_codes.proofs.copy.+copy.Goals as goal
 
 pub copy_members-loop-member-preserved : goal.copy_members-loop-member-preserved
 copy_members-loop-member-preserved t c =
-    took-more c.args.members.now c.loop-member.member-index c.member-item.result _ c.loop-member.twin _ c.loop-member-test.true c.member-item.is
+    took-more c.args.members.now c.loop-member.member-index c.member-item.result _ c.loop-member.twin _
+    c.loop-member-test.true c.member-item.is
     c.loop-member.invariant c.in_ok-copy.ensures c.in_ok-push.ensures.ok
 
 pub copy_members-returns : goal.copy_members-returns
-copy_members-returns t c = c.loop-member.invariant ∙ take_all c.loop-member.member-index c.args.members.now c.loop-member-test.false
+copy_members-returns t c =
+    c.loop-member.invariant ∙ take_all c.loop-member.member-index c.args.members.now c.loop-member-test.false
 
 pub copy_arms-loop-arm-preserved : goal.copy_arms-loop-arm-preserved
 copy_arms-loop-arm-preserved t c =
-    took-more c.args.arms.now c.loop-arm.arm-index c.arm-item.result _ c.loop-arm.twin _ c.loop-arm-test.true c.arm-item.is
+    took-more c.args.arms.now c.loop-arm.arm-index c.arm-item.result _ c.loop-arm.twin _ c.loop-arm-test.true
+    c.arm-item.is
     c.loop-arm.invariant c.in_ok-copy.ensures c.in_ok-push.ensures.ok
 
 pub copy_arms-returns : goal.copy_arms-returns
@@ -25,11 +28,13 @@ copy_arms-returns t c = c.loop-arm.invariant ∙ take_all c.loop-arm.arm-index c
 
 pub copy_values-loop-value-preserved : goal.copy_values-loop-value-preserved
 copy_values-loop-value-preserved t c =
-    took-more c.args.values.now c.loop-value.value-index c.value-item.result _ c.loop-value.twin _ c.loop-value-test.true c.value-item.is
+    took-more c.args.values.now c.loop-value.value-index c.value-item.result _ c.loop-value.twin _
+    c.loop-value-test.true c.value-item.is
     c.loop-value.invariant c.in_ok-copy.ensures c.in_ok-push.ensures.ok
 
 pub copy_values-returns : goal.copy_values-returns
-copy_values-returns t c = c.loop-value.invariant ∙ take_all c.loop-value.value-index c.args.values.now c.loop-value-test.false
+copy_values-returns t c =
+    c.loop-value.invariant ∙ take_all c.loop-value.value-index c.args.values.now c.loop-value-test.false
 
 pub copy_boxed-returns : goal.copy_boxed-returns
 copy_boxed-returns t c = rw (← c.in_ok-twin.ensures) c.new.ensures
@@ -56,7 +61,8 @@ copy_alias-returns t c =
     ∙ ap (code.Alias c.args.id.now c.args.name.now) c.in_ok-item.ensures
 
 pub AnyTwin::copy-returns-in-Ok : goal.AnyTwin::copy-returns-in-Ok
-AnyTwin::copy-returns-in-Ok t c = any-same c.args.self.now c.in_ok-code.code c.in-Ok.value c.in_ok-code.ensures c.in-Ok.ensures
+AnyTwin::copy-returns-in-Ok t c =
+    any-same c.args.self.now c.in_ok-code.code c.in-Ok.value c.in_ok-code.ensures c.in-Ok.ensures
 
 pub ArmTwin::copy-returns-in-Ok : goal.ArmTwin::copy-returns-in-Ok
 ArmTwin::copy-returns-in-Ok t c =
@@ -124,9 +130,11 @@ TypeCodeTwin::copy-returns-in-Except t c = rw c.in-Except.is (rw c.as_slice-in-E
 pub TypeCodeTwin::copy-returns-in-Alias : goal.TypeCodeTwin::copy-returns-in-Alias
 TypeCodeTwin::copy-returns-in-Alias t c = rw c.in-Alias.is (rw c.get-in-Alias.ensures at c.copy_alias.ensures)
 
-pub TypeCodeTwin::copy-returns-in_ok-copy_boxed-in-Sequence : goal.TypeCodeTwin::copy-returns-in_ok-copy_boxed-in-Sequence
+pub TypeCodeTwin::copy-returns-in_ok-copy_boxed-in-Sequence :
+    goal.TypeCodeTwin::copy-returns-in_ok-copy_boxed-in-Sequence
 TypeCodeTwin::copy-returns-in_ok-copy_boxed-in-Sequence t c =
-    ap (λ (x : TypeCode). code.Sequence x c.in-Sequence.bound) (c.in_ok-copy_boxed-in-Sequence.ensures ∙ c.get-in-Sequence.ensures)
+    ap (λ (x : TypeCode). code.Sequence x c.in-Sequence.bound)
+    (c.in_ok-copy_boxed-in-Sequence.ensures ∙ c.get-in-Sequence.ensures)
     ∙ sym c.in-Sequence.is
 
 pub TypeCodeTwin::copy-returns-in_ok-copy_boxed-in-Array : goal.TypeCodeTwin::copy-returns-in_ok-copy_boxed-in-Array
@@ -165,7 +173,8 @@ pub ValueTwin::copy-returns-in_ok-copy-in-ObjRef : goal.ValueTwin::copy-returns-
 ValueTwin::copy-returns-in_ok-copy-in-ObjRef t c = ap variant.ObjRef c.in_ok-copy-in-ObjRef.ensures ∙ sym c.in-ObjRef.is
 
 pub ValueTwin::copy-returns-in_ok-copy_boxed-in-Code : goal.ValueTwin::copy-returns-in_ok-copy_boxed-in-Code
-ValueTwin::copy-returns-in_ok-copy_boxed-in-Code t c = ap variant.Code (c.in_ok-copy_boxed-in-Code.ensures ∙ c.get-in-Code.ensures) ∙ sym c.in-Code.is
+ValueTwin::copy-returns-in_ok-copy_boxed-in-Code t c =
+    ap variant.Code (c.in_ok-copy_boxed-in-Code.ensures ∙ c.get-in-Code.ensures) ∙ sym c.in-Code.is
 
 pub ValueTwin::copy-returns-in-AnyValue : goal.ValueTwin::copy-returns-in-AnyValue
 ValueTwin::copy-returns-in-AnyValue t c = rw c.in-AnyValue.is (rw c.get.ensures at c.copy_any.ensures)

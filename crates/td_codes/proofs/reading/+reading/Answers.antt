@@ -10,7 +10,8 @@ use Rattle.std.specs.Int.{w32}
 use Rattle.std.proofs.Math.Facts.{to_z-of_z}
 use mir.Val.{to_z, of_z}
 use Rattle.td_codes.proofs.AtLayers.{union-fails, union-read, codes-reads, kind-fails, kind-read}
-use Rattle.td_codes.proofs.ReadParts.{begins, both-read, struct-read, except-read, sequence-read, array-read, alias-read}
+use Rattle.td_codes.proofs.ReadParts.{begins, both-read, struct-read, except-read}
+use Rattle.td_codes.proofs.ReadParts.{sequence-read, array-read, alias-read}
 use Rattle.td_codes.proofs.ReadParts.{member-read, arm-read, nonempty-fails, nonempty-read, within}
 use Rattle.td_codes.proofs.OfEnclosed.{enclosed-reads, enclosed-none}
 use Rattle.td_codes.specs.Enclosed.{enclosed}

@@ -1,5 +1,6 @@
-use Rattle.std.proofs.Common.{◌<◌, length, sym, ◌∙◌, arith}
-use Rattle.td_codes.specs.Same.{member_entry, arm_entry}
+use Rattle.std.proofs.Common.{◌<◌, length, sym, ap, ◌∙◌, arith}
+use Rattle.td_codes.specs.Same.{member_entry, arm_entry, like, shape}
+use Rattle.td_codes.proofs.OfPlainKind.{plain-else, plain-same}
 use Rattle.td_codes.proofs.Alike.{here-long, here-end, here-fails, here-next}
 use Rattle.td_codes.proofs.same.+same.Goals as goal
 
@@ -54,3 +55,12 @@ pub same_arms-returns : goal.same_arms-returns
 same_arms-returns t c =
     sym (here-end arm_entry c.loop-i.i c.args.a.now c.args.b.now c.loop-i.invariant.long c.loop-i-test.false)
     ∙ c.loop-i.invariant.so_far
+
+pub same_type-returns-in_default : goal.same_type-returns-in_default
+same_type-returns-in_default t c =
+    let n = c.in_default in
+    let plain = plain-else c.args.a.now n.not-Str n.not-ObjRef n.not-Struct n.not-Union n.not-Enum n.not-Sequence
+    n.not-Array n.not-Alias n.not-Except in
+    rw (c.number.ensures, c.number-in_default.ensures, c.kind_of.ensures, c.kind_of-in_default.ensures)
+    (plain-same c.args.a.now c.bare-b.result.now plain c.bare-b.ensures.bare
+    ∙ ap (like (shape c.args.a.now)) c.bare-b.ensures.same)

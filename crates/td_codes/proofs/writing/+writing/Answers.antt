@@ -10,10 +10,9 @@ use Rattle.td_codes.specs.WritingCodes.{code_piece, header_piece, head_piece, ki
 use Rattle.td_codes.proofs.WrittenParts.{writes-then, writes-whole, writes-added, encapsulated}
 use Rattle.td_codes.specs.declared.code.TypeCode.TheVariants as code
 use Rattle.td_codes.specs.declared.code.TypeCode.TheOpen as layer_of
-use Rattle.td_codes.specs.Layers.{code-null, code-void, code-short, code-long, code-ushort, code-ulong, code-boolean}
-use Rattle.td_codes.specs.Layers.{code-char, code-octet, code-any, code-code, code-longlong, code-ulonglong}
 use Rattle.td_codes.proofs.AtLayers.{code_piece-at, object-piece, struct-piece, except-piece, union-piece, enum-piece}
 use Rattle.td_codes.proofs.AtLayers.{sequence-piece, array-piece, alias-piece, str-piece, encapsulation-two}
+use Rattle.td_codes.proofs.OfPlainKind.{plain-else, plain-piece}
 use Rattle.td_codes.proofs.writing.+writing.Goals as goal
 
 pub write_members-loop-member-preserved : goal.write_members-loop-member-preserved
@@ -33,61 +32,6 @@ write_arms-loop-arm-preserved t c = record {
       (rw c.loop-arm.invariant.order at c.in_ok-write_arm.ensures.done);
   order = c.in_ok-write_arm.ensures.order ∙ c.loop-arm.invariant.order;
 }
-
-pub write_typecode-returns-in-Null : goal.write_typecode-returns-in-Null
-write_typecode-returns-in-Null t c =
-    rw (c.in-Null.is, code_piece-at code.Null layer_of.Null code-null) c.write_kind.ensures
-
-pub write_typecode-returns-in-Void : goal.write_typecode-returns-in-Void
-write_typecode-returns-in-Void t c =
-    rw (c.in-Void.is, code_piece-at code.Void layer_of.Void code-void) c.write_kind-in-Void.ensures
-
-pub write_typecode-returns-in-Short : goal.write_typecode-returns-in-Short
-write_typecode-returns-in-Short t c =
-    rw (c.in-Short.is, code_piece-at code.Short layer_of.TypeCode::Short code-short) c.write_kind-in-Short.ensures
-
-pub write_typecode-returns-in-Long : goal.write_typecode-returns-in-Long
-write_typecode-returns-in-Long t c =
-    rw (c.in-Long.is, code_piece-at code.Long layer_of.TypeCode::Long code-long) c.write_kind-in-Long.ensures
-
-pub write_typecode-returns-in-UShort : goal.write_typecode-returns-in-UShort
-write_typecode-returns-in-UShort t c =
-    rw (c.in-UShort.is, code_piece-at code.UShort layer_of.TypeCode::UShort code-ushort) c.write_kind-in-UShort.ensures
-
-pub write_typecode-returns-in-ULong : goal.write_typecode-returns-in-ULong
-write_typecode-returns-in-ULong t c =
-    rw (c.in-ULong.is, code_piece-at code.ULong layer_of.TypeCode::ULong code-ulong) c.write_kind-in-ULong.ensures
-
-pub write_typecode-returns-in-Boolean : goal.write_typecode-returns-in-Boolean
-write_typecode-returns-in-Boolean t c =
-    rw (c.in-Boolean.is, code_piece-at code.Boolean layer_of.TypeCode::Boolean code-boolean)
-    c.write_kind-in-Boolean.ensures
-
-pub write_typecode-returns-in-Char : goal.write_typecode-returns-in-Char
-write_typecode-returns-in-Char t c =
-    rw (c.in-Char.is, code_piece-at code.Char layer_of.TypeCode::Char code-char) c.write_kind-in-Char.ensures
-
-pub write_typecode-returns-in-Octet : goal.write_typecode-returns-in-Octet
-write_typecode-returns-in-Octet t c =
-    rw (c.in-Octet.is, code_piece-at code.Octet layer_of.TypeCode::Octet code-octet) c.write_kind-in-Octet.ensures
-
-pub write_typecode-returns-in-AnyCode : goal.write_typecode-returns-in-AnyCode
-write_typecode-returns-in-AnyCode t c =
-    rw (c.in-AnyCode.is, code_piece-at code.AnyCode layer_of.AnyCode code-any) c.write_kind-in-AnyCode.ensures
-
-pub write_typecode-returns-in-Code : goal.write_typecode-returns-in-Code
-write_typecode-returns-in-Code t c =
-    rw (c.in-Code.is, code_piece-at code.Code layer_of.TypeCode::Code code-code) c.write_kind-in-Code.ensures
-
-pub write_typecode-returns-in-LongLong : goal.write_typecode-returns-in-LongLong
-write_typecode-returns-in-LongLong t c =
-    rw (c.in-LongLong.is, code_piece-at code.LongLong layer_of.TypeCode::LongLong code-longlong)
-    c.write_kind-in-LongLong.ensures
-
-pub write_typecode-returns-in-ULongLong : goal.write_typecode-returns-in-ULongLong
-write_typecode-returns-in-ULongLong t c =
-    rw (c.in-ULongLong.is, code_piece-at code.ULongLong layer_of.TypeCode::ULongLong code-ulonglong)
-    c.write_kind-in-ULongLong.ensures
 
 pub write_typecode-returns-in-Str : goal.write_typecode-returns-in-Str
 write_typecode-returns-in-Str t c =
@@ -238,3 +182,11 @@ write_members-returns t c = record {
       c.loop-member.invariant.bytes;
   order = c.loop-member.invariant.order;
 }
+
+pub write_typecode-returns-in_default : goal.write_typecode-returns-in_default
+write_typecode-returns-in_default t c =
+    let n = c.in_default in
+    let plain =
+    plain-else c.args.code.now n.not-Str n.not-ObjRef n.not-Struct n.not-Union n.not-Enum n.not-Sequence n.not-Array
+    n.not-Alias n.not-Except in
+    rw (plain-piece c.args.code.now plain) (rw c.kind_of.ensures at c.write_kind.ensures)

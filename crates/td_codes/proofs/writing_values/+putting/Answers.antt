@@ -1,19 +1,18 @@
 use Rattle.std.proofs.Common.{◌<◌, ◌≤◌, ◌-◌, length, min, ◌∙◌, arith}
-use Rattle.std.proofs.Common.{map, take}
+use Rattle.std.proofs.Common.{map, take, refl}
 use Rattle.std.proofs.lemmas.List.{take_all, append-nil}
 use Rattle.std.proofs.lemmas.Result.{err_from_is_err_and}
 use Rattle.td_cdr.specs.Format.{number, row}
 use Rattle.td_cdr.proofs.SequenceWriting.{goes_on}
 use Rattle.td_cdr.proofs.Appending.{puts-then}
-use Rattle.td_codes.specs.declared.code.TypeCode.{TypeCode}
+use Rattle.td_codes.specs.declared.code.TypeCode.{TypeCode, out-TypeCode}
 use Rattle.td_codes.specs.declared.code.TypeCode.TheVariants as code
 use Rattle.td_codes.specs.declared.code.TypeCode.TheOpen as layer_of
 use Rattle.td_codes.specs.declared.code.Value.{Value}
 use Rattle.td_codes.specs.declared.mode.Mode.TheVariants.{Outer}
 use Rattle.td_codes.specs.Codes.{codes, code_formats}
 use Rattle.td_codes.specs.Labels.{plain_piece}
-use Rattle.td_codes.specs.Layers.{code-short, code-long, code-ushort, code-ulong, code-boolean, code-char, code-octet}
-use Rattle.td_codes.specs.Layers.{code-any, code-longlong, code-ulonglong, code-struct, code-union, code-enum}
+use Rattle.td_codes.specs.Layers.{code-any, code-struct, code-union}
 use Rattle.td_codes.specs.Layers.{code-sequence, code-array, code-alias, code-code, code-str}
 use Rattle.td_codes.specs.Layers.{code-object, value-any, value-struct, value-union, value-items}
 use Rattle.td_codes.specs.Values.{anys, values, branch_of, branch_piece, items_piece}
@@ -21,6 +20,7 @@ use Rattle.td_codes.specs.WritingCodes.{code_piece}
 use Rattle.td_codes.proofs.AtLayers.{values-writes, any-writes, any-writes-none, each-row, member_pairs}
 use Rattle.td_codes.proofs.AtLayers.{member_pairs-at, member_pairs-length}
 use Rattle.td_codes.proofs.WrittenParts.{kept-whole}
+use Rattle.td_codes.proofs.OfPlainKind.{number-else, number-piece}
 use Rattle.td_codes.proofs.writing_values.+putting.Goals as goal
 
 pub put_any-returns-then-levels-eq0 : goal.put_any-returns-then-levels-eq0
@@ -153,98 +153,6 @@ put_value-returns-in-Union t c =
       ← c.index_of.ensures,
     ) c.put_union.ensures
 
-pub put_value-returns-in-Short : goal.put_value-returns-in-Short
-put_value-returns-in-Short t c =
-    rw (
-      c.in-Short.is,
-      values-writes (anys c.args.levels) (codes c.args.levels Outer) c.args.depth code.Short
-          layer_of.TypeCode::Short c.args.value.now c.if-depth-eq0.false code-short,
-    )
-    c.put_plain.ensures
-
-pub put_value-returns-in-Long : goal.put_value-returns-in-Long
-put_value-returns-in-Long t c =
-    rw (
-      c.in-Long.is,
-      values-writes (anys c.args.levels) (codes c.args.levels Outer) c.args.depth code.Long
-          layer_of.TypeCode::Long c.args.value.now c.if-depth-eq0.false code-long,
-    )
-    c.put_plain-in-Long.ensures
-
-pub put_value-returns-in-UShort : goal.put_value-returns-in-UShort
-put_value-returns-in-UShort t c =
-    rw (
-      c.in-UShort.is,
-      values-writes (anys c.args.levels) (codes c.args.levels Outer) c.args.depth code.UShort
-          layer_of.TypeCode::UShort c.args.value.now c.if-depth-eq0.false code-ushort,
-    )
-    c.put_plain-in-UShort.ensures
-
-pub put_value-returns-in-ULong : goal.put_value-returns-in-ULong
-put_value-returns-in-ULong t c =
-    rw (
-      c.in-ULong.is,
-      values-writes (anys c.args.levels) (codes c.args.levels Outer) c.args.depth code.ULong
-          layer_of.TypeCode::ULong c.args.value.now c.if-depth-eq0.false code-ulong,
-    )
-    c.put_plain-in-ULong.ensures
-
-pub put_value-returns-in-Boolean : goal.put_value-returns-in-Boolean
-put_value-returns-in-Boolean t c =
-    rw (
-      c.in-Boolean.is,
-      values-writes (anys c.args.levels) (codes c.args.levels Outer) c.args.depth code.Boolean
-          layer_of.TypeCode::Boolean c.args.value.now c.if-depth-eq0.false code-boolean,
-    )
-    c.put_plain-in-Boolean.ensures
-
-pub put_value-returns-in-Char : goal.put_value-returns-in-Char
-put_value-returns-in-Char t c =
-    rw (
-      c.in-Char.is,
-      values-writes (anys c.args.levels) (codes c.args.levels Outer) c.args.depth code.Char
-          layer_of.TypeCode::Char c.args.value.now c.if-depth-eq0.false code-char,
-    )
-    c.put_plain-in-Char.ensures
-
-pub put_value-returns-in-Octet : goal.put_value-returns-in-Octet
-put_value-returns-in-Octet t c =
-    rw (
-      c.in-Octet.is,
-      values-writes (anys c.args.levels) (codes c.args.levels Outer) c.args.depth code.Octet
-          layer_of.TypeCode::Octet c.args.value.now c.if-depth-eq0.false code-octet,
-    )
-    c.put_plain-in-Octet.ensures
-
-pub put_value-returns-in-LongLong : goal.put_value-returns-in-LongLong
-put_value-returns-in-LongLong t c =
-    rw (
-      c.in-LongLong.is,
-      values-writes (anys c.args.levels) (codes c.args.levels Outer) c.args.depth code.LongLong
-          layer_of.TypeCode::LongLong c.args.value.now c.if-depth-eq0.false code-longlong,
-    )
-    c.put_plain-in-LongLong.ensures
-
-pub put_value-returns-in-ULongLong : goal.put_value-returns-in-ULongLong
-put_value-returns-in-ULongLong t c =
-    rw (
-      c.in-ULongLong.is,
-      values-writes (anys c.args.levels) (codes c.args.levels Outer) c.args.depth code.ULongLong
-          layer_of.TypeCode::ULongLong c.args.value.now c.if-depth-eq0.false code-ulonglong,
-    )
-    c.put_plain-in-ULongLong.ensures
-
-pub put_value-returns-in-Enum : goal.put_value-returns-in-Enum
-put_value-returns-in-Enum t c =
-    rw (
-      c.in-Enum.is,
-      values-writes (anys c.args.levels) (codes c.args.levels Outer) c.args.depth
-          (code.Enum c.in-Enum.id c.in-Enum.name c.in-Enum.labels)
-          (layer_of.TypeCode::Enum c.in-Enum.id c.in-Enum.name c.in-Enum.labels) c.args.value.now c.if-depth-eq0.false
-          (code-enum c.in-Enum.id c.in-Enum.name c.in-Enum.labels),
-    )
-    c.put_plain-in-Enum.ensures
-
 pub put_value-returns-in-Alias : goal.put_value-returns-in-Alias
 put_value-returns-in-Alias t c =
     rw (
@@ -270,7 +178,8 @@ pub put_count_and_items-returns : goal.put_count_and_items-returns
 put_count_and_items-returns t c =
     let inner = (values (anys c.args.levels) (codes c.args.levels Outer) c.args.depth) in
     let items = c.args.items.now in
-    puts-then ((number 4).writes (length items)) (items_piece (anys c.args.levels) (codes c.args.levels Outer) inner c.args.item.now items) c.args.w.now
+    puts-then ((number 4).writes (length items)) (items_piece (anys c.args.levels) (codes c.args.levels Outer) inner
+    c.args.item.now items) c.args.w.now
     c.write_count.new.w c.put_items.new.w c.put_items.result c.in_ok-write_count.ensures.done
     c.in_ok-write_count.ensures.order c.put_items.ensures
 
@@ -300,7 +209,8 @@ pub put_value-returns-in-Code : goal.put_value-returns-in-Code
 put_value-returns-in-Code t c =
     rw (
       c.in-Code.is,
-      values-writes (anys c.args.levels) (codes c.args.levels Outer) c.args.depth code.Code layer_of.TypeCode::Code c.args.value.now c.if-depth-eq0.false code-code,
+      values-writes (anys c.args.levels) (codes c.args.levels Outer) c.args.depth code.Code layer_of.TypeCode::Code
+      c.args.value.now c.if-depth-eq0.false code-code,
       (code_formats c.args.levels Outer).writes,
     )
     c.put_code_in.ensures
@@ -366,3 +276,17 @@ put_array-returns-in-Items t c =
 pub put_any_in-returns-in-AnyValue : goal.put_any_in-returns-in-AnyValue
 put_any_in-returns-in-AnyValue t c =
     rw (c.in-AnyValue.is, value-any c.in-AnyValue.any) (rw c.get.ensures at c.put_any.ensures)
+
+pub put_value-returns-in_default : goal.put_value-returns-in_default
+put_value-returns-in_default t c =
+    let n = c.in_default in
+    let is = number-else c.args.code.now n.not-Null n.not-Void n.not-AnyCode n.not-Code n.not-Str n.not-ObjRef
+    n.not-Struct n.not-Union n.not-Sequence n.not-Array n.not-Alias n.not-Except in
+    let l = out-TypeCode c.args.code.now in
+    let one = (values (anys c.args.levels) (codes c.args.levels Outer) (c.args.depth - 1)) in
+    rw (
+      values-writes (anys c.args.levels) (codes c.args.levels Outer) c.args.depth c.args.code.now l c.args.value.now
+          c.if-depth-eq0.false refl,
+      number-piece (anys c.args.levels) (codes c.args.levels Outer) one (c.args.depth - 1) l c.args.value.now is,
+    )
+    c.put_plain.ensures
