@@ -23,7 +23,7 @@ use Rattle.td_codes.specs.declared.kinds.CodeKind.{CodeKind}
 use Rattle.td_codes.specs.declared.kinds.CodeKind.TheVariants as kind
 use Rattle.td_codes.specs.declared.mode.Mode.{Mode}
 use Rattle.td_codes.specs.declared.mode.Mode.TheVariants.{Outer, Inner, Switch}
-use Rattle.td_codes.specs.Labels.{Layer, labels, spelled_labels, label_layer}
+use Rattle.td_codes.specs.Labels.{Layer, labels, spelled_labels, label_layer, no_value}
 use Rattle.td_codes.specs.Layers.{code-object, code-struct, code-union, code-enum, code-str, code-sequence, code-array}
 use Rattle.td_codes.specs.Layers.{code-alias, code-except}
 use Rattle.td_codes.specs.Kinds.{kind_at}
@@ -183,6 +183,13 @@ pub any-codeless : (levels : ℕ) (a new : At) (e : ValueFault)
 unfolding anys
 any-codeless zero a new e = unless-map (is_memory e) _ _ (λ g. rw g refl)
 any-codeless (suc levels) a new e = unless-map (is_memory e) _ _ (λ g. rw g refl)
+
+-- no value is read where no level is left
+pub any-none : (levels : ℕ) (a b : At) (t : TypeCode) → levels ≡ 0 → (codes levels Outer).format.reads a ≡ Ok (t, b)
+    → (anys levels).format.reads a ≡ Err (no_value b)
+unfolding anys
+any-none zero a b t none h = rw h refl
+any-none (suc levels) a b t none h = absurd (let e : ⊥ = omega arith in e)
 
 -- its TypeCode and its value are read
 pub any-read : (levels : ℕ) (a b new : At) (t : TypeCode) (v : Value) → (levels ≡ 0 → ⊥)

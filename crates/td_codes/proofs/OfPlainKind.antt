@@ -1,5 +1,6 @@
 -- The kinds of TypeCodes that have no parameters.
 use Rattle.std.proofs.Common.{◌≡◌, ℕ, ℤ, Bool, true, false, ◌&&◌, List, [], nat_eq, refl, sym, ap, ◌∙◌, true≢false}
+use Rattle.std.proofs.Common.{arith}
 use Rattle.td_cdr.specs.declared.value_fault.ValueFault.{ValueFault}
 use Rattle.td_cdr.specs.Sound.{Sound}
 use Rattle.std.specs.Cmp.Lexicographic.{pointwise}
@@ -16,13 +17,14 @@ use Rattle.td_codes.specs.declared.code.Member.{Member}
 use Rattle.td_codes.specs.declared.kinds.CodeKind.{CodeKind}
 use Rattle.td_codes.specs.declared.kinds.CodeKind.TheVariants as kind
 use Rattle.td_codes.specs.Kinds.{number_of}
-use Rattle.td_codes.specs.Labels.{Layer, label_of_layer, plain_piece}
+use Rattle.td_codes.specs.Labels.{Layer, label_of_layer, plain_piece, labels}
+use Rattle.td_cdr.specs.Place.{At}
 use Rattle.td_codes.specs.Values.{layer}
 use Rattle.td_codes.specs.Codes.{kind_of}
 use Rattle.td_codes.specs.WritingCodes.{kind_of_layer, kind_piece, code_piece}
 use Rattle.td_codes.specs.Same.{Shape, Entry, empty, alike, like, ids_agree, shape, shape_layer, kind_shape}
 use Rattle.td_codes.specs.Same.{any_layer, arm_layer, member_layer, arm_entry, member_entry, is_alias}
-use Rattle.td_codes.proofs.AtLayers.{code_piece-at}
+use Rattle.td_codes.proofs.AtLayers.{code_piece-at, labels-reads}
 
 abbrev pub is_plain : Layer → Bool
 is_plain (c.TypeCode::ObjRef id name) = false
@@ -337,3 +339,133 @@ number-piece any code inner n (c.Sequence item bound) v is = absurd (true≢fals
 number-piece any code inner n (c.Array item len) v is = absurd (true≢false (sym is))
 number-piece any code inner n (c.Alias id name item) v is = absurd (true≢false (sym is))
 number-piece any code inner n (c.Except id name members) v is = absurd (true≢false (sym is))
+
+-- ---- the kinds whose values are read as those of a discriminator
+
+abbrev pub is_label : Layer → Bool
+is_label c.TypeCode::Short = true
+is_label c.TypeCode::Long = true
+is_label c.TypeCode::UShort = true
+is_label c.TypeCode::ULong = true
+is_label c.TypeCode::Boolean = true
+is_label c.TypeCode::Char = true
+is_label c.TypeCode::LongLong = true
+is_label c.TypeCode::ULongLong = true
+is_label (c.TypeCode::Enum id name names) = true
+is_label l = false
+
+label-at : (t : TypeCode) (l : Layer) → out-TypeCode t ≡ l
+    → (t ≡ code.Null → ⊥) → (t ≡ code.Void → ⊥) → (t ≡ code.AnyCode → ⊥)
+    → (t ≡ code.Code → ⊥) → (t ≡ code.Octet → ⊥)
+    → ((bound : ℕ) → t ≡ code.Str bound → ⊥)
+    → ((id name : List ℕ) → t ≡ code.ObjRef id name → ⊥)
+    → ((id name : List ℕ) (members : List Member) → t ≡ code.Struct id name members → ⊥)
+    → ((id name : List ℕ) (switch : TypeCode) (default : ℤ) (arms : List Arm)
+    → t ≡ code.Union id name switch default arms → ⊥)
+    → ((item : TypeCode) (bound : ℕ) → t ≡ code.Sequence item bound → ⊥)
+    → ((item : TypeCode) (len : ℕ) → t ≡ code.Array item len → ⊥)
+    → ((id name : List ℕ) (item : TypeCode) → t ≡ code.Alias id name item → ⊥)
+    → ((id name : List ℕ) (members : List Member) → t ≡ code.Except id name members → ⊥)
+    → is_label l ≡ true
+label-at t c.TypeCode::Short is m0 m1 m2 m3 m4 n0 n1 n2 n3 n4 n5 n6 n7 = refl
+label-at t c.TypeCode::Long is m0 m1 m2 m3 m4 n0 n1 n2 n3 n4 n5 n6 n7 = refl
+label-at t c.TypeCode::UShort is m0 m1 m2 m3 m4 n0 n1 n2 n3 n4 n5 n6 n7 = refl
+label-at t c.TypeCode::ULong is m0 m1 m2 m3 m4 n0 n1 n2 n3 n4 n5 n6 n7 = refl
+label-at t c.TypeCode::Boolean is m0 m1 m2 m3 m4 n0 n1 n2 n3 n4 n5 n6 n7 = refl
+label-at t c.TypeCode::Char is m0 m1 m2 m3 m4 n0 n1 n2 n3 n4 n5 n6 n7 = refl
+label-at t c.TypeCode::LongLong is m0 m1 m2 m3 m4 n0 n1 n2 n3 n4 n5 n6 n7 = refl
+label-at t c.TypeCode::ULongLong is m0 m1 m2 m3 m4 n0 n1 n2 n3 n4 n5 n6 n7 = refl
+label-at t (c.TypeCode::Enum id name names) is m0 m1 m2 m3 m4 n0 n1 n2 n3 n4 n5 n6 n7 = refl
+label-at t c.Null is m0 m1 m2 m3 m4 n0 n1 n2 n3 n4 n5 n6 n7 =
+    absurd (m0 (rolled t c.Null is ∙ code.rolls-Null))
+label-at t c.Void is m0 m1 m2 m3 m4 n0 n1 n2 n3 n4 n5 n6 n7 =
+    absurd (m1 (rolled t c.Void is ∙ code.rolls-Void))
+label-at t c.AnyCode is m0 m1 m2 m3 m4 n0 n1 n2 n3 n4 n5 n6 n7 =
+    absurd (m2 (rolled t c.AnyCode is ∙ code.rolls-AnyCode))
+label-at t c.TypeCode::Code is m0 m1 m2 m3 m4 n0 n1 n2 n3 n4 n5 n6 n7 =
+    absurd (m3 (rolled t c.TypeCode::Code is ∙ code.rolls-Code))
+label-at t c.TypeCode::Octet is m0 m1 m2 m3 m4 n0 n1 n2 n3 n4 n5 n6 n7 =
+    absurd (m4 (rolled t c.TypeCode::Octet is ∙ code.rolls-Octet))
+label-at t (c.TypeCode::Str bound) is m0 m1 m2 m3 m4 n0 n1 n2 n3 n4 n5 n6 n7 =
+    absurd (n0 bound
+    (rolled t (c.TypeCode::Str bound) is ∙ code.rolls-Str bound))
+label-at t (c.TypeCode::ObjRef id name) is m0 m1 m2 m3 m4 n0 n1 n2 n3 n4 n5 n6 n7 =
+    absurd (n1 id name
+    (rolled t (c.TypeCode::ObjRef id name) is ∙ code.rolls-ObjRef id name))
+label-at t (c.TypeCode::Struct id name members) is m0 m1 m2 m3 m4 n0 n1 n2 n3 n4 n5 n6 n7 =
+    absurd (n2 id name members
+    (rolled t (c.TypeCode::Struct id name members) is ∙ code.rolls-Struct id name members))
+label-at t (c.TypeCode::Union id name switch default arms) is m0 m1 m2 m3 m4 n0 n1 n2 n3 n4 n5 n6 n7 =
+    absurd (n3 id name switch default arms
+    (rolled t (c.TypeCode::Union id name switch default arms) is ∙ code.rolls-Union id name switch default arms))
+label-at t (c.Sequence item bound) is m0 m1 m2 m3 m4 n0 n1 n2 n3 n4 n5 n6 n7 =
+    absurd (n4 item bound
+    (rolled t (c.Sequence item bound) is ∙ code.rolls-Sequence item bound))
+label-at t (c.Array item len) is m0 m1 m2 m3 m4 n0 n1 n2 n3 n4 n5 n6 n7 =
+    absurd (n5 item len
+    (rolled t (c.Array item len) is ∙ code.rolls-Array item len))
+label-at t (c.Alias id name item) is m0 m1 m2 m3 m4 n0 n1 n2 n3 n4 n5 n6 n7 =
+    absurd (n6 id name item
+    (rolled t (c.Alias id name item) is ∙ code.rolls-Alias id name item))
+label-at t (c.Except id name members) is m0 m1 m2 m3 m4 n0 n1 n2 n3 n4 n5 n6 n7 =
+    absurd (n7 id name members
+    (rolled t (c.Except id name members) is ∙ code.rolls-Except id name members))
+
+pub label-else : (t : TypeCode)
+    → (t ≡ code.Null → ⊥) → (t ≡ code.Void → ⊥) → (t ≡ code.AnyCode → ⊥)
+    → (t ≡ code.Code → ⊥) → (t ≡ code.Octet → ⊥)
+    → ((bound : ℕ) → t ≡ code.Str bound → ⊥)
+    → ((id name : List ℕ) → t ≡ code.ObjRef id name → ⊥)
+    → ((id name : List ℕ) (members : List Member) → t ≡ code.Struct id name members → ⊥)
+    → ((id name : List ℕ) (switch : TypeCode) (default : ℤ) (arms : List Arm)
+    → t ≡ code.Union id name switch default arms → ⊥)
+    → ((item : TypeCode) (bound : ℕ) → t ≡ code.Sequence item bound → ⊥)
+    → ((item : TypeCode) (len : ℕ) → t ≡ code.Array item len → ⊥)
+    → ((id name : List ℕ) (item : TypeCode) → t ≡ code.Alias id name item → ⊥)
+    → ((id name : List ℕ) (members : List Member) → t ≡ code.Except id name members → ⊥)
+    → is_label (out-TypeCode t) ≡ true
+label-else t m0 m1 m2 m3 m4 n0 n1 n2 n3 n4 n5 n6 n7 =
+    label-at t (out-TypeCode t) refl m0 m1 m2 m3 m4 n0 n1 n2 n3 n4 n5 n6 n7
+
+one : ◌≡◌ {A = ℕ} 1 0 → ⊥
+one e = let no_one : ⊥ = omega arith in no_one
+
+label-reads-at : (any : Sound ValueFault Any) (code : Sound ValueFault TypeCode)
+    (inner : TypeCode → Sound ValueFault Value) (n : ℕ) (t : TypeCode) (l : Layer) → out-TypeCode t ≡ l
+    → is_label l ≡ true → (a : At) → (layer any code inner n l).format.reads a ≡ (labels 1 t).format.reads a
+label-reads-at any code inner n t c.TypeCode::Short is ok a = sym (labels-reads 1 t c.TypeCode::Short one is a)
+label-reads-at any code inner n t c.TypeCode::Long is ok a = sym (labels-reads 1 t c.TypeCode::Long one is a)
+label-reads-at any code inner n t c.TypeCode::UShort is ok a = sym (labels-reads 1 t c.TypeCode::UShort one is a)
+label-reads-at any code inner n t c.TypeCode::ULong is ok a = sym (labels-reads 1 t c.TypeCode::ULong one is a)
+label-reads-at any code inner n t c.TypeCode::Boolean is ok a = sym (labels-reads 1 t c.TypeCode::Boolean one is a)
+label-reads-at any code inner n t c.TypeCode::Char is ok a = sym (labels-reads 1 t c.TypeCode::Char one is a)
+label-reads-at any code inner n t c.TypeCode::LongLong is ok a = sym (labels-reads 1 t c.TypeCode::LongLong one is a)
+label-reads-at any code inner n t c.TypeCode::ULongLong is ok a = sym (labels-reads 1 t c.TypeCode::ULongLong one is a)
+label-reads-at any code inner n t (c.TypeCode::Enum id name names) is ok a =
+    sym (labels-reads 1 t (c.TypeCode::Enum id name names) one is a)
+label-reads-at any code inner n t c.Null is ok a = absurd (true≢false (sym ok))
+label-reads-at any code inner n t c.Void is ok a = absurd (true≢false (sym ok))
+label-reads-at any code inner n t c.AnyCode is ok a = absurd (true≢false (sym ok))
+label-reads-at any code inner n t c.TypeCode::Code is ok a = absurd (true≢false (sym ok))
+label-reads-at any code inner n t c.TypeCode::Octet is ok a = absurd (true≢false (sym ok))
+label-reads-at any code inner n t (c.TypeCode::Str bound) is ok a =
+    absurd (true≢false (sym ok))
+label-reads-at any code inner n t (c.TypeCode::ObjRef id name) is ok a =
+    absurd (true≢false (sym ok))
+label-reads-at any code inner n t (c.TypeCode::Struct id name members) is ok a =
+    absurd (true≢false (sym ok))
+label-reads-at any code inner n t (c.TypeCode::Union id name switch default arms) is ok a =
+    absurd (true≢false (sym ok))
+label-reads-at any code inner n t (c.Sequence item bound) is ok a =
+    absurd (true≢false (sym ok))
+label-reads-at any code inner n t (c.Array item len) is ok a =
+    absurd (true≢false (sym ok))
+label-reads-at any code inner n t (c.Alias id name item) is ok a =
+    absurd (true≢false (sym ok))
+label-reads-at any code inner n t (c.Except id name members) is ok a =
+    absurd (true≢false (sym ok))
+
+pub label-reads : (any : Sound ValueFault Any) (code : Sound ValueFault TypeCode)
+    (inner : TypeCode → Sound ValueFault Value) (n : ℕ) (t : TypeCode) → is_label (out-TypeCode t) ≡ true → (a : At)
+    → (layer any code inner n (out-TypeCode t)).format.reads a ≡ (labels 1 t).format.reads a
+label-reads any code inner n t ok a = label-reads-at any code inner n t (out-TypeCode t) refl ok a

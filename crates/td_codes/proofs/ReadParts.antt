@@ -22,6 +22,9 @@ use Rattle.td_codes.specs.Codes.{alias_code, object_code, enum_code}
 use Rattle.td_codes.specs.declared.code.Any.{Any}
 use Rattle.td_codes.specs.Values.{each}
 
+abbrev failed : {F A : Type 0} → F → Result A F
+failed e = Err e
+
 with-none : {F X : Type 0} (r : Read F (List X)) → with_front [] r ≡ r
 with-none (Ok x) = refl
 with-none (Err e) = refl
@@ -83,6 +86,12 @@ pub arm-read : (label : Sound ValueFault Value) (inner : Sound ValueFault TypeCo
     → (arm_of label inner).format.reads a ≡ Ok (record { label = l; name = m.name; code = m.code }, new)
 arm-read label inner a b new l m f g = rw (f, g) refl
 
+pub arm-fails : (label : Sound ValueFault Value) (inner : Sound ValueFault TypeCode) (a b new : At) (l : Value)
+    (e : ValueFault)
+    → label.format.reads a ≡ Ok (l, b) → Gives is_memory new (failed e) ((member inner).format.reads b)
+    → Gives is_memory new (failed e) ((arm_of label inner).format.reads a)
+arm-fails label inner a b new l e f = unless-map (is_memory e) _ _ (λ g. rw (f, g) refl)
+
 pub nonempty-fails : {X : Type 0} (g : Sound ValueFault X) (a new : At) (xs : List X)
     → (sequence g).format.reads a ≡ Ok (xs, new) → xs ≡ []
     → (nonempty_sequence g).format.reads a ≡ Err (BadValue (aligned 4 a))
@@ -112,9 +121,6 @@ regroup : {F X : Type 0} (front : List X) (m : X) (r : Read F (List X))
     → with_front front (paired m r >>= λ o. Ok (o.0.0 ∷ o.0.1, o.1)) ≡ with_front (front ++ m ∷ []) r
 regroup {X = X} front m (Ok x) = ap (λ (ms : List X). Ok (ms, x.1)) (simp append_assoc)
 regroup front m (Err e) = refl
-
-abbrev failed : {F A : Type 0} → F → Result A F
-failed e = Err e
 
 module _ (any : Sound ValueFault Any) (code : Sound ValueFault TypeCode) (inner : TypeCode → Sound ValueFault Value)
   where

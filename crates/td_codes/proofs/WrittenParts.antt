@@ -1,6 +1,6 @@
 -- What is written part by part.
-use Rattle.std.proofs.Common.{◌≡◌, ℕ, [], ◌∷◌, ◌++◌, length, take, Result, Ok, Err, ap, ◌∙◌, arith}
-use Rattle.std.proofs.lemmas.List.{take_all}
+use Rattle.std.proofs.Common.{◌≡◌, ℕ, List, [], ◌∷◌, ◌++◌, length, take, Result, Ok, Err, refl, ap, ◌∙◌, arith}
+use Rattle.std.proofs.lemmas.List.{take_all, take_at}
 use Rattle.td_cdr.specs.declared.order.Order.{Order}
 use Rattle.td_cdr.specs.Format.{Piece, ◌then◌, Puts, Appends, octets}
 use Rattle.td_cdr.specs.Gap.{flag}
@@ -60,4 +60,37 @@ puts-added p old new (Err d) s =
       done = tt;
       order = ap (λ (w : Draft). w.order) same;
       kept = kept-whole old new (ap (λ (w : Draft). w.bytes) same);
+    }
+
+-- ---- what is appended or else nothing
+
+pub appends-two : {E : Type 0} (p q : Piece) (old mid new : Draft)
+    → mid.bytes ≡ old.bytes ++ p old.order (length old.bytes) → mid.order ≡ old.order
+    → Adds {E = E} (q mid.order (length mid.bytes)) mid new (Ok tt) → Appends {E = E} (p then q) old new (Ok tt)
+appends-two p q old mid new e o s =
+    let whole = writes-then p q old mid new (Ok tt) e o (writes-added q mid new (Ok tt) s) in
+    record { done = whole.done; order = whole.order; refused = tt }
+
+-- what was written of it is cut off
+pub appends-none : {E : Type 0} (p : Piece) (old mid last new : Draft) (held : ℕ) (more : List ℕ) (d : E)
+    → held ≡ length old.bytes → mid.bytes ≡ old.bytes ++ more → mid.order ≡ old.order → last ≡ mid
+    → new ≡ record last { bytes = take held last.bytes } → Appends {E = E} p old new (Err d)
+appends-none p old mid last new held more d h e o same cut =
+    let front : take held (old.bytes ++ more) ≡ old.bytes = rw h (take_at old.bytes more (length old.bytes) refl) in
+    record {
+      done = tt;
+      order = ap (λ (w : Draft). w.order) cut ∙ ap (λ (w : Draft). w.order) same ∙ o;
+      refused =
+          ap (λ (w : Draft). w.bytes) cut ∙ ap (λ (w : Draft). take held w.bytes) same ∙ ap (take held) e ∙ front;
+    }
+
+pub appends-added : {E : Type 0} (p : Piece) (old new : Draft) (result : Result (Unit {0}) E)
+    → Adds (p old.order (length old.bytes)) old new result → Appends p old new result
+appends-added p old new (Ok u) s = record { done = s.done.0; order = s.done.1; refused = tt }
+appends-added p old new (Err d) s =
+    let same = s.refused.0 in
+    record {
+      done = tt;
+      order = ap (λ (w : Draft). w.order) same;
+      refused = ap (λ (w : Draft). w.bytes) same;
     }

@@ -19,12 +19,9 @@ ghost use Rattle.td_codes.specs.Values.{is_chosen, default_arm, any_in, code_in,
 use crate::code::{Any, Arm, Member, TypeCode, Value};
 use crate::kinds::CodeKind;
 use crate::label::{label_of, same_label};
-use crate::labels::{label_at, one_of};
+use crate::labels::label_at;
 use crate::mode::Mode;
-use crate::plain::{
-    boolean_at, char_at, long_at, longlong_at, octet_at, short_at, ulong_at, ulonglong_at,
-    ushort_at,
-};
+use crate::plain::octet_at;
 use crate::reading::{boxed_at, code_at};
 use crate::reference::Ior;
 use std::alloc::Global;
@@ -64,7 +61,8 @@ fn inner_any_at(alloc: Global, r: &mut Reader, levels: u32) -> Result<Value, Val
     Ok(Value::AnyValue(Boxed::new(alloc, any)?))
 }
 
-/// A value under a TypeCode of at most `depth` levels, in which an any may have `levels` more.
+/// A value under a TypeCode of at most `depth` levels, in which an any may have `levels` more. What may
+/// discriminate a union is read as it is there.
 #[cycle(values)]
 #[tactic(auto, unfolding(crate::specs::Values::values))]
 fn value_at(
@@ -86,15 +84,7 @@ fn value_at(
     match code {
         TypeCode::Null => Ok(Value::Empty),
         TypeCode::Void => Ok(Value::Empty),
-        TypeCode::Short => short_at(r),
-        TypeCode::Long => long_at(r),
-        TypeCode::UShort => ushort_at(r),
-        TypeCode::ULong => ulong_at(r),
-        TypeCode::Boolean => boolean_at(r),
-        TypeCode::Char => char_at(r),
         TypeCode::Octet => octet_at(r),
-        TypeCode::LongLong => longlong_at(r),
-        TypeCode::ULongLong => ulonglong_at(r),
         TypeCode::AnyCode => inner_any_at(alloc, r, levels),
         TypeCode::Code => inner_code_at(alloc, r, levels),
         TypeCode::Str { bound } => string_at(alloc, r, *bound),
@@ -116,13 +106,13 @@ fn value_at(
             index_of(default),
             arms.as_slice(),
         ),
-        TypeCode::Enum { labels, .. } => one_of(r, labels.len()),
         TypeCode::Sequence { item, bound } => {
             sequence_at(alloc, r, levels, depth, item.get(), *bound)
         }
         TypeCode::Array { item, len } => array_at(alloc, r, levels, depth, item.get(), *len),
         TypeCode::Alias { item, .. } => value_at(alloc, r, levels, depth, item.get()),
         TypeCode::Except { .. } => Err(ValueFault::Unsupported(CodeKind::Except.number())),
+        _ => label_at(r, 1, code),
     }
 }
 

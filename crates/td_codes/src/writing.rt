@@ -54,15 +54,8 @@ pub fn write_typecode(alloc: Global, w: &mut Writer, code: &TypeCode) -> Result<
         TypeCode::Except { id, name, members } => {
             write_fields(alloc, w, CodeKind::Except, id, name, members.as_slice())
         }
-        _ => write_kind(w, kind_of(code)),
+        _ => w.u32(kind_of(code).number()),
     }
-}
-
-/// The number of a kind, or nothing.
-fn write_kind(w: &mut Writer, kind: CodeKind) -> Result<(), Memory>
-    ensures { Appends (kind_piece kind) w.old w.new result }
-{
-    w.u32(kind.number())
 }
 
 /// A kind and a number, or nothing.

@@ -7,7 +7,6 @@ ghost use Rattle.td_cdr.specs.Sound.{text};
 ghost use Rattle.td_codes.specs.declared.code.Value.{out-Value};
 ghost use Rattle.td_codes.specs.declared.mode.Mode.TheVariants.{Outer};
 ghost use Rattle.td_codes.specs.Codes.{codes};
-ghost use Rattle.td_codes.specs.Labels.{plain_piece};
 ghost use Rattle.td_codes.specs.References.{reference};
 ghost use Rattle.td_codes.specs.Values.{anys, values, each, text_in, any_in, code_in, reference_in, items_in};
 ghost use Rattle.td_codes.specs.Values.{struct_value, items_piece, sequence_piece, branch_piece, union_piece};
@@ -80,15 +79,8 @@ fn put_value(
         TypeCode::Array { item, .. } => put_array(alloc, w, levels, depth, item.get(), value),
         TypeCode::Alias { item, .. } => put_value(alloc, w, levels, depth, item.get(), value),
         TypeCode::Except { .. } => Ok(()),
-        _ => put_plain(w, value),
+        _ => write_label(w, label_of(value)),
     }
-}
-
-/// The number that spells a plain value.
-fn put_plain(w: &mut Writer, value: &Value) -> Result<(), Memory>
-    ensures { Puts (plain_piece value.now) w.old w.new result }
-{
-    write_label(w, label_of(value))
 }
 
 /// The any that the value is.

@@ -12,7 +12,7 @@ use mir.Val.{to_z, of_z}
 use Rattle.td_codes.proofs.AtLayers.{union-fails, union-read, codes-reads, kind-fails, kind-read}
 use Rattle.td_codes.proofs.ReadParts.{begins, both-read, struct-read, except-read}
 use Rattle.td_codes.proofs.ReadParts.{sequence-read, array-read, alias-read}
-use Rattle.td_codes.proofs.ReadParts.{member-read, arm-read, nonempty-fails, nonempty-read, within}
+use Rattle.td_codes.proofs.ReadParts.{member-read, arm-read, arm-fails, nonempty-fails, nonempty-read, within}
 use Rattle.td_codes.proofs.OfEnclosed.{enclosed-reads, enclosed-none}
 use Rattle.td_codes.specs.Enclosed.{enclosed}
 use Rattle.td_codes.proofs.reading.+reading.Goals as goal
@@ -250,3 +250,11 @@ parameters_of-returns-in_err-encapsulation-in_default t c =
       c.in_err-encapsulation-in_default.ensures.0,
     )
     refl
+
+pub arm_at-returns-in-Err : goal.arm_at-returns-in-Err
+arm_at-returns-in-Err t c =
+    arm-fails (labels c.args.levels c.args.switch.now) (codes c.args.levels Inner) c.args.r.now c.label_at.new.r
+    c.member_of.new.r c.in_ok-label.label c.in-Err.fault c.in_ok-label.ensures c.in-Err.ensures
+
+pub parameters_of-returns-in_ok-u32-in-Str : goal.parameters_of-returns-in_ok-u32-in-Str
+parameters_of-returns-in_ok-u32-in-Str t c = rw (c.in-Str.is, c.in_ok-u32-in-Str.ensures.gives) refl

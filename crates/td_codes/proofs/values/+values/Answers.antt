@@ -4,15 +4,17 @@ use Rattle.td_cdr.specs.Format.{array_format}
 use Rattle.td_cdr.specs.ValueFaults.{is_memory}
 use Rattle.td_cdr.proofs.SequenceReading.{goes_on, ends, is_done}
 use Rattle.td_codes.specs.declared.mode.Mode.TheVariants.{Outer}
+use Rattle.td_codes.specs.declared.code.TypeCode.{out-TypeCode}
 use Rattle.td_codes.specs.declared.code.TypeCode.TheVariants as code
 use Rattle.td_codes.specs.declared.code.TypeCode.TheOpen as layer_of
 use Rattle.td_codes.specs.Codes.{codes}
-use Rattle.td_codes.specs.Layers.{code-null, code-void, code-short, code-long, code-ushort, code-ulong, code-boolean}
-use Rattle.td_codes.specs.Layers.{code-char, code-octet, code-longlong, code-ulonglong, code-struct, code-union}
-use Rattle.td_codes.specs.Layers.{code-enum, code-sequence, code-array, code-alias, code-any, code-str}
+use Rattle.td_codes.specs.Layers.{code-null, code-void}
+use Rattle.td_codes.specs.Layers.{code-octet, code-struct, code-union}
+use Rattle.td_codes.specs.Layers.{code-sequence, code-array, code-alias, code-any, code-str}
 use Rattle.td_codes.specs.Layers.{code-code, code-object, code-except}
 use Rattle.td_codes.specs.Values.{anys, values, each}
-use Rattle.td_codes.proofs.AtLayers.{values-reads, any-fails, any-codeless, any-read}
+use Rattle.td_codes.proofs.AtLayers.{values-reads, any-fails, any-codeless, any-none, any-read}
+use Rattle.td_codes.proofs.OfPlainKind.{label-else, label-reads}
 use Rattle.td_codes.proofs.ReadParts.{front-none, begins, each-goes-on, each-fails, each-done}
 use Rattle.td_codes.proofs.values.+values.Goals as goal
 
@@ -63,18 +65,6 @@ value_at-returns-in-Union t c =
     )
     c.union_at.ensures
 
-pub value_at-returns-in-Enum : goal.value_at-returns-in-Enum
-value_at-returns-in-Enum t c =
-    rw (
-      c.in-Enum.is,
-      values-reads (anys c.args.levels) (codes c.args.levels Outer) c.args.depth
-          (code.Enum c.in-Enum.id c.in-Enum.name c.in-Enum.labels)
-          (layer_of.TypeCode::Enum c.in-Enum.id c.in-Enum.name c.in-Enum.labels) c.if-depth-eq0.false
-          (code-enum c.in-Enum.id c.in-Enum.name c.in-Enum.labels) c.args.r.now,
-      ← c.len.ensures,
-    )
-    c.one_of.ensures
-
 pub value_at-returns-in-Sequence : goal.value_at-returns-in-Sequence
 value_at-returns-in-Sequence t c =
     rw (
@@ -104,60 +94,6 @@ any_at-returns-in-Err t c =
     any-fails c.args.levels c.args.r.now c.code_at.new.r c.value_at.new.r c.in_ok-code.code c.in-Err.fault
     c.if-levels-eq0.false c.in_ok-code.ensures c.in-Err.ensures
 
-pub value_at-returns-in-Short : goal.value_at-returns-in-Short
-value_at-returns-in-Short t c =
-    rw (
-      c.in-Short.is,
-      values-reads (anys c.args.levels) (codes c.args.levels Outer) c.args.depth code.Short
-          layer_of.TypeCode::Short c.if-depth-eq0.false code-short c.args.r.now,
-    )
-    c.short_at.ensures
-
-pub value_at-returns-in-Long : goal.value_at-returns-in-Long
-value_at-returns-in-Long t c =
-    rw (
-      c.in-Long.is,
-      values-reads (anys c.args.levels) (codes c.args.levels Outer) c.args.depth code.Long
-          layer_of.TypeCode::Long c.if-depth-eq0.false code-long c.args.r.now,
-    )
-    c.long_at.ensures
-
-pub value_at-returns-in-UShort : goal.value_at-returns-in-UShort
-value_at-returns-in-UShort t c =
-    rw (
-      c.in-UShort.is,
-      values-reads (anys c.args.levels) (codes c.args.levels Outer) c.args.depth code.UShort
-          layer_of.TypeCode::UShort c.if-depth-eq0.false code-ushort c.args.r.now,
-    )
-    c.ushort_at.ensures
-
-pub value_at-returns-in-ULong : goal.value_at-returns-in-ULong
-value_at-returns-in-ULong t c =
-    rw (
-      c.in-ULong.is,
-      values-reads (anys c.args.levels) (codes c.args.levels Outer) c.args.depth code.ULong
-          layer_of.TypeCode::ULong c.if-depth-eq0.false code-ulong c.args.r.now,
-    )
-    c.ulong_at.ensures
-
-pub value_at-returns-in-Boolean : goal.value_at-returns-in-Boolean
-value_at-returns-in-Boolean t c =
-    rw (
-      c.in-Boolean.is,
-      values-reads (anys c.args.levels) (codes c.args.levels Outer) c.args.depth code.Boolean
-          layer_of.TypeCode::Boolean c.if-depth-eq0.false code-boolean c.args.r.now,
-    )
-    c.boolean_at.ensures
-
-pub value_at-returns-in-Char : goal.value_at-returns-in-Char
-value_at-returns-in-Char t c =
-    rw (
-      c.in-Char.is,
-      values-reads (anys c.args.levels) (codes c.args.levels Outer) c.args.depth code.Char
-          layer_of.TypeCode::Char c.if-depth-eq0.false code-char c.args.r.now,
-    )
-    c.char_at.ensures
-
 pub value_at-returns-in-Octet : goal.value_at-returns-in-Octet
 value_at-returns-in-Octet t c =
     rw (
@@ -166,24 +102,6 @@ value_at-returns-in-Octet t c =
           layer_of.TypeCode::Octet c.if-depth-eq0.false code-octet c.args.r.now,
     )
     c.octet_at.ensures
-
-pub value_at-returns-in-LongLong : goal.value_at-returns-in-LongLong
-value_at-returns-in-LongLong t c =
-    rw (
-      c.in-LongLong.is,
-      values-reads (anys c.args.levels) (codes c.args.levels Outer) c.args.depth code.LongLong
-          layer_of.TypeCode::LongLong c.if-depth-eq0.false code-longlong c.args.r.now,
-    )
-    c.longlong_at.ensures
-
-pub value_at-returns-in-ULongLong : goal.value_at-returns-in-ULongLong
-value_at-returns-in-ULongLong t c =
-    rw (
-      c.in-ULongLong.is,
-      values-reads (anys c.args.levels) (codes c.args.levels Outer) c.args.depth code.ULongLong
-          layer_of.TypeCode::ULongLong c.if-depth-eq0.false code-ulonglong c.args.r.now,
-    )
-    c.ulonglong_at.ensures
 
 pub value_at-returns-in-Null : goal.value_at-returns-in-Null
 value_at-returns-in-Null t c =
@@ -326,3 +244,24 @@ each_at-returns t c =
     c.loop-member.member-index c.loop-member.r
     ((each (anys c.args.levels) (codes c.args.levels Outer) inner c.args.members.now).format.reads c.args.r.now)
     c.loop-member-test.false c.loop-member.invariant
+
+pub value_at-returns-in_default : goal.value_at-returns-in_default
+value_at-returns-in_default t c =
+    let n = c.in_default in
+    let is =
+    label-else c.args.code.now n.not-Null n.not-Void n.not-AnyCode n.not-Code n.not-Octet n.not-Str
+    n.not-ObjRef n.not-Struct
+    n.not-Union n.not-Sequence n.not-Array n.not-Alias n.not-Except in
+    let code = c.args.code.now in
+    let one = values (anys c.args.levels) (codes c.args.levels Outer) (c.args.depth - 1) in
+    rw (
+      values-reads (anys c.args.levels) (codes c.args.levels Outer) c.args.depth code (out-TypeCode code)
+          c.if-depth-eq0.false refl c.args.r.now,
+      label-reads (anys c.args.levels) (codes c.args.levels Outer) one (c.args.depth - 1) code is c.args.r.now,
+    )
+    c.label_at.ensures
+
+pub any_at-returns-then-levels-eq0 : goal.any_at-returns-then-levels-eq0
+any_at-returns-then-levels-eq0 t c =
+    rw c.aligned.ensures
+    (any-none c.args.levels c.args.r.now c.code_at.new.r c.in_ok-code.code c.if-levels-eq0.true c.in_ok-code.ensures)

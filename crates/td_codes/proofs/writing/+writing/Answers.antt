@@ -5,9 +5,10 @@ use Rattle.std.proofs.Common.{length, map}
 use Rattle.std.proofs.lemmas.List.{take_all}
 use Rattle.td_cdr.specs.Format.{row, number, text, ◌then◌}
 use Rattle.td_codes.specs.declared.kinds.CodeKind.TheVariants as kind
+use Rattle.td_codes.specs.Codes.{kind_of}
 use Rattle.td_codes.specs.Labels.{label_of, label_piece}
 use Rattle.td_codes.specs.WritingCodes.{code_piece, header_piece, head_piece, kind_piece, arm_piece-is, member_piece-is}
-use Rattle.td_codes.proofs.WrittenParts.{writes-then, writes-whole, writes-added, encapsulated}
+use Rattle.td_codes.proofs.WrittenParts.{writes-then, writes-whole, writes-added, appends-added, encapsulated}
 use Rattle.td_codes.specs.declared.code.TypeCode.TheVariants as code
 use Rattle.td_codes.specs.declared.code.TypeCode.TheOpen as layer_of
 use Rattle.td_codes.proofs.AtLayers.{code_piece-at, object-piece, struct-piece, except-piece, union-piece, enum-piece}
@@ -189,4 +190,6 @@ write_typecode-returns-in_default t c =
     let plain =
     plain-else c.args.code.now n.not-Str n.not-ObjRef n.not-Struct n.not-Union n.not-Enum n.not-Sequence n.not-Array
     n.not-Alias n.not-Except in
-    rw (plain-piece c.args.code.now plain) (rw c.kind_of.ensures at c.write_kind.ensures)
+    rw (plain-piece c.args.code.now plain)
+    (appends-added (kind_piece (kind_of c.args.code.now)) c.args.w.now c.u32.new.self c.u32.result
+    (rw (c.number.ensures, c.kind_of.ensures) at c.u32.ensures))

@@ -19,7 +19,7 @@ use Rattle.td_codes.specs.Values.{anys, values, branch_of, branch_piece, items_p
 use Rattle.td_codes.specs.WritingCodes.{code_piece}
 use Rattle.td_codes.proofs.AtLayers.{values-writes, any-writes, any-writes-none, each-row, member_pairs}
 use Rattle.td_codes.proofs.AtLayers.{member_pairs-at, member_pairs-length}
-use Rattle.td_codes.proofs.WrittenParts.{kept-whole}
+use Rattle.td_codes.proofs.WrittenParts.{kept-whole, puts-whole}
 use Rattle.td_codes.proofs.OfPlainKind.{number-else, number-piece}
 use Rattle.td_codes.proofs.writing_values.+putting.Goals as goal
 
@@ -210,7 +210,7 @@ put_value-returns-in-Code t c =
     rw (
       c.in-Code.is,
       values-writes (anys c.args.levels) (codes c.args.levels Outer) c.args.depth code.Code layer_of.TypeCode::Code
-      c.args.value.now c.if-depth-eq0.false code-code,
+          c.args.value.now c.if-depth-eq0.false code-code,
       (code_formats c.args.levels Outer).writes,
     )
     c.put_code_in.ensures
@@ -289,4 +289,5 @@ put_value-returns-in_default t c =
           c.if-depth-eq0.false refl,
       number-piece (anys c.args.levels) (codes c.args.levels Outer) one (c.args.depth - 1) l c.args.value.now is,
     )
-    c.put_plain.ensures
+    (puts-whole (plain_piece c.args.value.now) c.args.w.now c.write_label.new.w c.write_label.result
+    (rw c.label_of.ensures at c.write_label.ensures))
