@@ -1,0 +1,145 @@
+-- Each Request of a run has an outcome that can be written, and each Reply spells it.
+use Rattle.std.proofs.Common.{◌≡◌, ℕ, List, [], ◌∷◌, ◌++◌, append-nil, Option, None, Some, inl, inr, sym, subst}
+use Rattle.std.specs.List.{AllByRecursion}
+use Rattle.td_cdr.specs.Marks.{Marks}
+use Rattle.td_cdr.specs.Place.{At}
+use Rattle.td_cdr.specs.Writing.{Draft}
+use Rattle.td_fed.proofs.Rising.{flat-append}
+use Rattle.td_lookup.specs.Scenes.{Scene}
+use Rattle.td_lookup.specs.Unserved.{gave_in}
+use Rattle.td_ops.specs.declared.outcome.Outcome.{Outcome}
+use Rattle.td_register.specs.declared.history.Accepted.{Accepted}
+use Rattle.td_reply.specs.Judging.{judged}
+use Rattle.td_reply.specs.declared.entry.Entry.{Entry}
+use Rattle.td_reply.specs.declared.judging.Judged.TheVariants.{Call, Refused}
+use Rattle.td_reply.specs.declared.judging.Judged.{Judged}
+use Rattle.td_serve.specs.Requests.{Answers, Comes}
+use Rattle.td_trader_laws.specs.WritableWorlds.{OthersAreAdmitted}
+use Rattle.td_turns.specs.Journals.{all_gave}
+use Rattle.td_turns.specs.Messages.{order_of}
+use Rattle.td_turns.specs.Turns.{IsTurn, Noted, Run, ServesRequest, Turn, cancel, locate, noted_in, noted_of, request}
+use Rattle.td_turns_laws.proofs.Calling.{calls-write, unserved-writes}
+use Rattle.td_turns_laws.proofs.Judgements.{judged-fits, refused-writes}
+use Rattle.td_turns_laws.proofs.ReadingCalls.{IsBody, judged-admits, request-body}
+use Rattle.td_turns_laws.proofs.TellingReplies.{reply-told}
+use Rattle.td_turns_laws.specs.Replies.{AreSent, IsSent, IsToldOf, IsTurnTold, OutcomesAreWritable, RepliesSpell}
+use Rattle.td_turns_laws.specs.Spelled.{AdmitsAnswer, IsAnswered}
+use Rattle.td_turns_laws.specs.Writable.{AdmitsGift, AdmitsGifts, IsWritableScene}
+use Rattle.td_walk.specs.declared.trace.Address.{Address}
+
+-- ---- lists
+
+all-joined : {X : Type 0} (P : X → Type 0) (xs ys : List X) → AllByRecursion P xs → AllByRecursion P ys
+    → AllByRecursion P (xs ++ ys)
+all-joined P [] ys h k = k
+all-joined P (x ∷ xs) ys h k = (h.0, all-joined P xs ys h.1 k)
+
+all-parts : {X : Type 0} (P : X → Type 0) (xs ys : List X) → AllByRecursion P (xs ++ ys)
+    → AllByRecursion P xs × AllByRecursion P ys
+all-parts P [] ys h = (tt, h)
+all-parts P (x ∷ xs) ys h = let rest = all-parts P xs ys h.1 in ((h.0, rest.0), rest.1)
+
+-- what peers gave for Requests, and for those behind them
+gifts-parts : (ns ms : List Noted) → AdmitsGifts (all_gave (ns ++ ms))
+    → AdmitsGifts (all_gave ns) × AdmitsGifts (all_gave ms)
+gifts-parts ns ms gifts =
+    all-parts AdmitsGift (all_gave ns) (all_gave ms)
+    (subst AdmitsGifts (flat-append (λ (n : Noted). gave_in n.entry) ns ms) gifts)
+
+-- ---- a turn
+
+-- the outcome that is noted can be written, the reply tells it, and what is left can be written
+record TurnWrites (o : Option Noted) (t : Turn) : Type 0 where
+  answered : AllByRecursion IsAnswered (noted_in o)
+  told : IsToldOf o t
+  after : IsWritableScene t.after
+
+-- where nothing is noted and nothing changes
+quiet-writes : (s : Scene) (t : Turn) → t.request ≡ None → t.after ≡ s → IsWritableScene s → TurnWrites t.request t
+quiet-writes s t none kept scene =
+    subst (λ (o : Option Noted). TurnWrites o t) (sym none)
+    (record { answered = tt; told = tt; after = subst IsWritableScene (sym kept) scene })
+
+module _ (others : List Accepted → Type 0) (later : Marks → Marks → Type 0) (home : Address) where
+  comes-writes : (key operation : List ℕ) (body : At) → IsBody body → OthersAreAdmitted others → (j : Judged)
+      (draft : Draft) (s t : Scene) (o : Outcome) (e : Entry) → j ≡ judged s.world s.desk key operation body
+      → IsWritableScene s → AdmitsGifts (gave_in e) → Comes others later home j draft s o e t
+      → AdmitsAnswer j o × IsWritableScene t
+  comes-writes key operation body h admitted (Call x c) draft s t o e asks scene gifts comes =
+      calls-write others later home x c draft s t o e admitted scene
+      (judged-admits s.world s.desk key operation body h x c (sym asks))
+      (judged-fits s.world s.desk key operation body x c h.within (sym asks)) comes gifts
+  comes-writes key operation body h admitted (Refused r) draft s t o e asks scene gifts comes =
+      refused-writes others later home s.world s.desk key operation body r draft s t o e (sym asks) scene comes
+
+  answers-write : (key operation : List ℕ) (body : At) → IsBody body → OthersAreAdmitted others → (j : Judged)
+      (draft : Draft) (s t : Scene) (o : Outcome) (e : Entry) → j ≡ judged s.world s.desk key operation body
+      → IsWritableScene s → AdmitsGifts (gave_in e) → Answers others later home j draft s o e t
+      → AdmitsAnswer j o × IsWritableScene t
+  answers-write key operation body h admitted j draft s t o e asks scene gifts (inl comes) =
+      comes-writes key operation body h admitted j draft s t o e asks scene gifts comes
+  answers-write key operation body h admitted j draft s t o e asks scene gifts (inr unserved) =
+      unserved-writes others later j s t o e admitted scene unserved
+
+  request-writes : (s : Scene) (t : Turn) → (h : ServesRequest others later home s t) → OthersAreAdmitted others
+      → IsWritableScene s → IsSent t → AdmitsGifts (all_gave (noted_in (Some h.noted)))
+      → TurnWrites (Some h.noted) t
+  request-writes s t h admitted scene sent gifts =
+      let n = h.noted in
+      let body = request-body t.message h.head h.body sent.octets h.read in
+      let here =
+      answers-write h.head.key h.head.operation h.body body admitted n.judged h.served.draft s t.after
+      n.outcome n.entry h.asks scene (subst AdmitsGifts (append-nil (gave_in n.entry)) gifts) h.served.answers in
+      record {
+        answered = (here.0, tt);
+        told = record {
+          head = h.head;
+          body = h.body;
+          read = h.read;
+          told = reply-told n (order_of t.message) h.head.id h.head.answered t.reply here.0 sent.short h.served.reply;
+        };
+        after = here.1;
+      }
+
+  turn-writes : (s : Scene) (t : Turn) → OthersAreAdmitted others → IsWritableScene s → IsSent t
+      → AdmitsGifts (all_gave (noted_in t.request)) → IsTurn others later home s t → TurnWrites t.request t
+  turn-writes s t admitted scene sent gifts (request h) =
+      subst (λ (o : Option Noted). TurnWrites o t) (sym h.request)
+      (request-writes s t h admitted scene sent
+      (subst (λ (o : Option Noted). AdmitsGifts (all_gave (noted_in o))) h.request gifts))
+  turn-writes s t admitted scene sent gifts (locate h) = quiet-writes s t h.request h.kept scene
+  turn-writes s t admitted scene sent gifts (cancel h) = quiet-writes s t h.request h.kept scene
+
+-- ---- a run
+
+record RunWrites (ts : List Turn) (u : Scene) : Type 0 where
+  answered : AllByRecursion IsAnswered (noted_of ts)
+  told : AllByRecursion IsTurnTold ts
+  after : IsWritableScene u
+
+module _ (others : List Accepted → Type 0) (later : Marks → Marks → Type 0) (home : Address) where
+  run-writes : (ts : List Turn) (s u : Scene) → OthersAreAdmitted others → IsWritableScene s → AreSent ts
+      → AdmitsGifts (all_gave (noted_of ts)) → Run others later home s ts u → RunWrites ts u
+  run-writes [] s u admitted scene sent gifts run =
+      record { answered = tt; told = tt; after = subst IsWritableScene (sym run) scene }
+  run-writes (t ∷ ts) s u admitted scene sent gifts run =
+      let parts = gifts-parts (noted_in t.request) (noted_of ts) gifts in
+      let first = turn-writes others later home s t admitted scene sent.0 parts.0 run.0 in
+      let rest = run-writes ts t.after u admitted first.after sent.1 parts.1 run.1 in
+      record {
+        answered = all-joined IsAnswered (noted_in t.request) (noted_of ts) first.answered rest.answered;
+        told = (first.told, rest.told);
+        after = rest.after;
+      }
+
+-- ---- the laws
+
+module _ (others : List Accepted → Type 0) (later : Marks → Marks → Type 0) where
+  pub outcomes-writable : OutcomesAreWritable others later
+  outcomes-writable home s u ts begins run =
+      let all = run-writes others later home ts s u begins.others_are begins.scene begins.sent begins.gifts run in
+      (all.answered, all.after)
+
+  pub replies-spell : RepliesSpell others later
+  replies-spell home s u ts begins run =
+      (run-writes others later home ts s u begins.others_are begins.scene begins.sent begins.gifts run).told

@@ -1,0 +1,49 @@
+-- Worked examples: what spells a truth, as `_is_a` answers it, in big order from place 24 on, where the head of a Reply
+-- ends; and what does not.
+use Rattle.std.specs.Prelude.{ℕ, true, List, [], ◌∷◌, ◌++◌, codes}
+use Rattle.td_cdr.specs.declared.order.Order.TheVariants.{Big}
+use Rattle.td_ops.specs.declared.call.Call.TheVariants as call
+use Rattle.td_ops.specs.declared.outcome.Outcome.TheVariants.{Done, System}
+use Rattle.td_ops.specs.declared.outcome.Outcome.{Outcome}
+use Rattle.td_ops.specs.declared.outcome.Reply.TheVariants.{Number, Truth}
+use Rattle.td_ops.specs.declared.outcome.SystemKind.TheVariants.{BadOperation}
+use Rattle.td_ops.specs.declared.shape.Shape.TheVariants as shape
+use Rattle.td_reply.specs.declared.entry.Entry.TheVariants.{Plain}
+use Rattle.td_reply.specs.declared.judging.Judged.TheVariants.{Call}
+use Rattle.td_reply.specs.declared.objects.Object.{Object}
+use Rattle.td_turns.specs.Turns.{Noted}
+use Rattle.td_turns_laws.specs.Spelled.{IsTold, SpellsOutcome}
+
+-- BAD_OPERATION with the minor code 0, of a call that wasn't done
+abbrev pub bad_operation : Outcome
+bad_operation = System BadOperation 0 1
+
+-- its repository id behind its length, with a NUL, and then two ulongs
+abbrev pub bad_operation_told : (completion : ℕ) → List ℕ
+bad_operation_told completion =
+    0 ∷ 0 ∷ 0 ∷ 36 ∷ codes "IDL:omg.org/CORBA/BAD_OPERATION:1.0"
+    ++ 0 ∷ 0 ∷ 0 ∷ 0 ∷ 0 ∷ 0 ∷ 0 ∷ 0 ∷ completion ∷ []
+
+-- an object says that it is of an interface
+abbrev pub is_one : Object → Noted
+is_one x = record {
+  judged = Call x (call.IsA (codes "IDL:omg.org/CORBA/Object:1.0"));
+  outcome = Done (Truth true);
+  entry = Plain;
+}
+
+-- the Reply to the Request 5, which ends with this octet
+abbrev pub is_one_told : (octet : ℕ) → List ℕ
+is_one_told octet =
+    71 ∷ 73 ∷ 79 ∷ 80 ∷ 1 ∷ 0 ∷ 0 ∷ 1 ∷ 0 ∷ 0 ∷ 0 ∷ 13 ∷ 0 ∷ 0 ∷ 0 ∷ 0 ∷ 0 ∷ 0 ∷ 0 ∷ 5 ∷ 0 ∷ 0 ∷ 0 ∷ 0 ∷ octet ∷ []
+
+pub record WorkedSpelling : Type 0 where
+  pub truth : SpellsOutcome shape.Truth (Done (Truth true)) Big 24 (1 ∷ [])
+  pub no_falsehood : SpellsOutcome shape.Truth (Done (Truth true)) Big 24 (0 ∷ []) → ⊥
+  -- a number is no truth, whatever its bytes
+  pub no_number : (b : List ℕ) → SpellsOutcome shape.Truth (Done (Number 1)) Big 24 b → ⊥
+  pub refusal : SpellsOutcome shape.Truth bad_operation Big 24 (bad_operation_told 1)
+  pub no_other_completion : SpellsOutcome shape.Truth bad_operation Big 24 (bad_operation_told 2) → ⊥
+  pub reply : (x : Object) → IsTold true 5 (is_one x) Big (is_one_told 1)
+  pub no_other_reply : (x : Object) → IsTold true 5 (is_one x) Big (is_one_told 0) → ⊥
+  pub no_reply : (x : Object) → IsTold true 5 (is_one x) Big [] → ⊥

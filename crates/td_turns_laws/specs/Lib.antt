@@ -1,0 +1,4 @@
+pub mod Examples
+pub mod Replies
+pub mod Spelled
+pub mod Writable

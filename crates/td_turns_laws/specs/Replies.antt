@@ -1,0 +1,59 @@
+-- Each reply of a session spells its outcome, where what its traders opened with can be written.
+use Rattle.std.specs.Prelude.{◌≡◌, ◌^◌, ◌<◌, List, length, Option, None, Some, Ok}
+use Rattle.std.specs.List.{AllByRecursion}
+use Rattle.td_cdr.specs.Lawful.{AreOctets}
+use Rattle.td_cdr.specs.Marks.{Marks}
+use Rattle.td_cdr.specs.Place.{At}
+use Rattle.td_giop.specs.Heads.{Request, request_at}
+use Rattle.td_lookup.specs.Scenes.{Scene}
+use Rattle.td_register.specs.declared.history.Accepted.{Accepted}
+use Rattle.td_trader_laws.specs.WritableWorlds.{OthersAreAdmitted}
+use Rattle.td_turns.specs.Journals.{all_gave}
+use Rattle.td_turns.specs.Messages.{behind, order_of}
+use Rattle.td_turns.specs.Turns.{Noted, Run, Turn, noted_of}
+use Rattle.td_turns_laws.specs.Spelled.{IsAnswered, IsTold}
+use Rattle.td_turns_laws.specs.Writable.{AdmitsGifts, IsWritableScene}
+use Rattle.td_walk.specs.declared.trace.Address.{Address}
+
+-- messages and replies as they go over a wire: octets, and fewer than 2^32 of them
+pub record IsSent (t : Turn) : Type 0 where
+  pub octets : AreOctets t.message
+  pub short : length t.reply < 2 ^ 32
+
+abbrev pub AreSent : List Turn → Type 0
+AreSent ts = AllByRecursion IsSent ts
+
+-- what a turn answers a Request with, by its head: a Reply under its id that spells the outcome, or nothing
+pub record IsRequestTold (n : Noted) (t : Turn) : Type 0 where
+  pub head : Request
+  pub body : At
+  pub read : request_at (behind t.message) ≡ Ok (head, body)
+  pub told : IsTold head.answered head.id n (order_of t.message) t.reply
+
+abbrev pub IsToldOf : Option Noted → Turn → Type 0
+IsToldOf None t = Unit {0}
+IsToldOf (Some n) t = IsRequestTold n t
+
+abbrev pub IsTurnTold : Turn → Type 0
+IsTurnTold t = IsToldOf t.request t
+
+-- Where a session begins at traders whose values can be written, others make only changes whose values can be, and
+-- peers give only such values.
+pub record BeginsWritably (others : List Accepted → Type 0) (s : Scene) (ts : List Turn) : Type 0 where
+  pub others_are : OthersAreAdmitted others
+  pub scene : IsWritableScene s
+  pub sent : AreSent ts
+  pub gifts : AdmitsGifts (all_gave (noted_of ts))
+
+module _ (others : List Accepted → Type 0) (later : Marks → Marks → Type 0) where
+  -- each Request has an outcome that can be written, and what it leaves can be written again
+  abbrev pub OutcomesAreWritable : Type 0
+  OutcomesAreWritable =
+      (home : Address) (s u : Scene) (ts : List Turn) → BeginsWritably others s ts → Run others later home s ts u
+      → AllByRecursion IsAnswered (noted_of ts) × IsWritableScene u
+
+  -- each reply spells the outcome of its Request
+  abbrev pub RepliesSpell : Type 0
+  RepliesSpell =
+      (home : Address) (s u : Scene) (ts : List Turn) → BeginsWritably others s ts → Run others later home s ts u
+      → AllByRecursion IsTurnTold ts

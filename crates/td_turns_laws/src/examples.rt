@@ -1,0 +1,8 @@
+//! Worked examples of what spells an outcome.
+
+ghost use Rattle.td_turns_laws.specs.Examples.{WorkedSpelling};
+
+/// The bytes of a truth, of a system exception and of a whole Reply; and bytes that don't spell them.
+pub fn worked_spelling()
+    ensures { WorkedSpelling }
+{}
