@@ -9,12 +9,12 @@ use td_iter::{Desk, Item};
 
 /// Adds an iterator over one id of the trader A, and answers its number.
 fn add(alloc: Global, desk: &mut Desk) -> Result<u64, Fail> {
-    let item = Item::Ids(ids(alloc, 1, b"1")?);
-    let trader = Text::from_slice(alloc, b"A")?;
     if desk.next_number() >= 1 << 63 {
         return Err("no number".into());
     }
-    Ok(desk.add(trader, item))
+    let trader = Text::from_slice(alloc, b"A")?;
+    let ids = ids(alloc, 1, b"1")?;
+    Ok(desk.add(trader, Item::Ids(ids)))
 }
 
 /// How many are left on the iterator of this trader and number.
@@ -29,22 +29,18 @@ fn left(alloc: Global, desk: &mut Desk, trader: &[u8], number: u64) -> Result<Op
 
 /// The 257th drops the first, and a number that was dropped isn't given again.
 #[test]
-fn many_items(rt: HostRuntime) -> Result<(), Fail> {
+fn desks(rt: HostRuntime) -> Result<(), Fail> {
     assert!(rt; holds_256(rt.alloc())?);
+    assert!(rt; removes_one(rt.alloc())?);
     Ok(())
 }
 
 fn holds_256(alloc: Global) -> Result<bool, Fail> {
     let mut desk = Desk::new(alloc, 1)?;
-    add_256(alloc, &mut desk)?;
-    Ok(drops_the_first(alloc, &mut desk)? && has_the_second(alloc, &mut desk)?)
-}
-
-fn add_256(alloc: Global, desk: &mut Desk) -> Result<(), Fail> {
     for _ in 0..256 {
-        let _number = add(alloc, desk)?;
+        let _number = add(alloc, &mut desk)?;
     }
-    Ok(())
+    drops_the_first(alloc, &mut desk)
 }
 
 fn drops_the_first(alloc: Global, desk: &mut Desk) -> Result<bool, Fail> {
@@ -52,27 +48,17 @@ fn drops_the_first(alloc: Global, desk: &mut Desk) -> Result<bool, Fail> {
         left(alloc, desk, b"A", 1)? == Some(1)
             && add(alloc, desk)? == 257
             && desk.next_number() == 258
-            && left(alloc, desk, b"A", 1)? == None,
+            && left(alloc, desk, b"A", 1)? == None
+            && left(alloc, desk, b"A", 2)? == Some(1)
+            && left(alloc, desk, b"B", 2)? == None,
     )
-}
-
-fn has_the_second(alloc: Global, desk: &mut Desk) -> Result<bool, Fail> {
-    Ok(left(alloc, desk, b"A", 2)? == Some(1) && left(alloc, desk, b"B", 2)? == None)
-}
-
-#[test]
-fn removed(rt: HostRuntime) -> Result<(), Fail> {
-    assert!(rt; removes_one(rt.alloc())?);
-    Ok(())
 }
 
 fn removes_one(alloc: Global) -> Result<bool, Fail> {
     let mut desk = Desk::new(alloc, 7)?;
-    removes_the_seventh(alloc, &mut desk)
-}
-
-fn removes_the_seventh(alloc: Global, desk: &mut Desk) -> Result<bool, Fail> {
-    let _number = add(alloc, desk)?;
+    let _number = add(alloc, &mut desk)?;
     let trader = Text::from_slice(alloc, b"A")?;
-    Ok(desk.remove(&trader, 7) && !desk.remove(&trader, 7) && add(alloc, desk)? == 8)
+    let good = desk.remove(&trader, 7) && !desk.remove(&trader, 7);
+    drop(trader);
+    Ok(good && add(alloc, &mut desk)? == 8)
 }

@@ -1,4 +1,4 @@
-//! The entries of worked files.
+//! The entries of a worked file.
 
 use crate::refusals::{file_of, script_of};
 use std::alloc::Global;
@@ -6,7 +6,7 @@ use std::test::Fail;
 use td_cdr::{Boxed, List, Text};
 use td_lines::{Entry, Numbered, Script, TraderScript};
 use td_ops::Change;
-use td_value::{Any, PropStruct, Property, PropertyMode, TypeCode, Value};
+use td_value::{PropStruct, Property, PropertyMode, TypeCode, Value};
 
 /// A trader with a type of two properties, an offer with two and an evaluated one, a proxy offer and two links.
 const WORKED: &str = "# a file|address host 2809|trader A|interface i j k|type B i S T|\
@@ -16,61 +16,28 @@ proxy B ref:x,h,9,p2 match Cost < $(Cost)|with ulong Cost 7|link l A local_only 
 link m ref:x,h,9,l ref:x,h,9,r if_no_local if_no_local|\
 link n ref:x,h,9,l IOR:00000000000000010000000000000000 always always";
 
-fn worked(alloc: Global) -> Result<Boxed<Script>, Fail> {
-    let text = file_of(alloc, WORKED)?;
-    Ok(Boxed::new(alloc, script_of(alloc, text.as_slice())?)?)
+/// Whether a file is read to its end, with this home, a seed of zeros, and the worked trader alone.
+fn is_worked(script: &Script) -> bool {
+    let Some(home) = &script.home else {
+        return false;
+    };
+    home.host.as_slice() == b"host".as_slice()
+        && home.port == 2809
+        && script.seed.as_slice() == [0u8; 32].as_slice()
+        && script.refused == None
+        && is_only_trader(script.traders.as_slice())
 }
 
-/// The trader of the file, where it has one.
-fn only_trader(script: &Script) -> Option<&TraderScript> {
-    match script.traders.as_slice() {
-        [trader] => Some(trader),
-        _ => None,
+/// Whether the one trader is A, with the interface i and its two bases.
+fn is_only_trader(traders: &[TraderScript]) -> bool {
+    match traders {
+        [trader] => {
+            trader.name.as_slice() == b"A".as_slice()
+                && are_interfaces(trader.interfaces.as_slice())
+                && are_worked(trader.entries.as_slice())
+        }
+        _ => false,
     }
-}
-
-fn line_at(trader: &TraderScript, index: usize) -> Option<u32> {
-    match trader.entries.get(index) {
-        Some(one) => Some(one.line),
-        None => None,
-    }
-}
-
-/// Each entry has its first line's number, comments counted.
-#[test]
-fn numbers(rt: HostRuntime) -> Result<(), Fail> {
-    let script = worked(rt.alloc())?;
-    assert_eq!(rt; script.get().refused, None);
-    let trader = only_trader(script.get()).ok_or("a trader")?;
-    assert_eq!(rt; trader.entries.len(), 6);
-    for (index, line) in [5u32, 8, 12, 14, 15, 16].iter().enumerate() {
-        assert_eq!(rt; line_at(trader, index), Some(*line));
-    }
-    Ok(())
-}
-
-fn is_home(script: &Script) -> bool {
-    match &script.home {
-        Some(home) => home.host.as_slice() == b"host".as_slice() && home.port == 2809,
-        None => false,
-    }
-}
-
-fn is_zero(seed: &[u8]) -> bool {
-    seed.len() == 32 && seed.iter().all(|octet| *octet == 0)
-}
-
-#[test]
-fn home_and_seed(rt: HostRuntime) -> Result<(), Fail> {
-    let script = worked(rt.alloc())?;
-    assert!(rt; is_home(script.get()));
-    assert!(rt; is_zero(script.get().seed.as_slice()));
-    Ok(())
-}
-
-/// Whether the trader is A, with the interface i and its two bases.
-fn is_worked_trader(trader: &TraderScript) -> bool {
-    trader.name.as_slice() == b"A".as_slice() && are_interfaces(trader.interfaces.as_slice())
 }
 
 fn are_interfaces(interfaces: &[(Text, List<Text>)]) -> bool {
@@ -80,15 +47,13 @@ fn are_interfaces(interfaces: &[(Text, List<Text>)]) -> bool {
     }
 }
 
-fn is_cost(prop: &PropStruct) -> bool {
-    prop.name.as_slice() == b"Cost".as_slice()
-        && prop.mode == PropertyMode::Mandatory
-        && matches!(&prop.value_type, TypeCode::ULong)
-}
-
 fn are_props(props: &[PropStruct]) -> bool {
     match props {
-        [cost, _rooms] => is_cost(cost),
+        [cost, _rooms] => {
+            cost.name.as_slice() == b"Cost".as_slice()
+                && cost.mode == PropertyMode::Mandatory
+                && matches!(&cost.value_type, TypeCode::ULong)
+        }
         _ => false,
     }
 }
@@ -112,23 +77,12 @@ fn is_type(one: &Numbered) -> bool {
     }
 }
 
-fn is_five(any: &Any) -> bool {
-    match &any.value {
-        Value::ULong(n) => *n == 5,
-        _ => false,
-    }
-}
-
-fn are_two_texts(any: &Any) -> bool {
-    match &any.value {
-        Value::Items(items) => items.len() == 2,
-        _ => false,
-    }
-}
-
-fn is_dynamic(any: &Any) -> bool {
-    match &any.value {
-        Value::Struct(members) => members.len() == 3 && td_value::is_dynamic(&any.code),
+/// Whether the values are 5, two texts, and an evaluated one.
+fn are_values(cost: &Value, rooms: &Value, queue: &Value) -> bool {
+    match (cost, rooms, queue) {
+        (Value::ULong(number), Value::Items(items), Value::Struct(members)) => {
+            *number == 5 && items.len() == 2 && members.len() == 3
+        }
         _ => false,
     }
 }
@@ -136,7 +90,8 @@ fn is_dynamic(any: &Any) -> bool {
 fn are_properties(properties: &[Property]) -> bool {
     match properties {
         [cost, rooms, queue] => {
-            is_five(&cost.value) && are_two_texts(&rooms.value) && is_dynamic(&queue.value)
+            are_values(&cost.value.value, &rooms.value.value, &queue.value.value)
+                && td_value::is_dynamic(&queue.value.code)
         }
         _ => false,
     }
@@ -190,10 +145,23 @@ fn is_outside(one: &Numbered, with_register: bool) -> bool {
     }
 }
 
+/// Whether each entry has its first line's number, comments counted.
+fn are_at(entries: &[Numbered], lines: &[u32]) -> bool {
+    let mut rest = lines;
+    for one in entries {
+        match rest.split_first() {
+            Some((line, behind)) if *line == one.line => rest = behind,
+            _ => return false,
+        }
+    }
+    rest.is_empty()
+}
+
 fn are_worked(entries: &[Numbered]) -> bool {
     match entries {
         [service_type, offer, proxy, inside, outside, nil] => {
-            is_type(service_type)
+            are_at(entries, &[5, 8, 12, 14, 15, 16])
+                && is_type(service_type)
                 && is_offer(offer)
                 && is_proxy(proxy)
                 && is_inside(inside)
@@ -204,11 +172,14 @@ fn are_worked(entries: &[Numbered]) -> bool {
     }
 }
 
+fn reads_worked(alloc: Global) -> Result<bool, Fail> {
+    let text = file_of(alloc, WORKED)?;
+    let script = Boxed::new(alloc, script_of(alloc, text.as_slice())?)?;
+    Ok(is_worked(script.get()))
+}
+
 #[test]
-fn worked_entries(rt: HostRuntime) -> Result<(), Fail> {
-    let script = worked(rt.alloc())?;
-    let trader = only_trader(script.get()).ok_or("a trader")?;
-    assert!(rt; is_worked_trader(trader));
-    assert!(rt; are_worked(trader.entries.as_slice()));
+fn worked_file(rt: HostRuntime) -> Result<(), Fail> {
+    assert!(rt; reads_worked(rt.alloc())?);
     Ok(())
 }

@@ -7,6 +7,15 @@ use std::test::Fail;
 use td_cdr::Order;
 use td_iter::IdIter;
 
+/// The first batch of two ids.
+const FIRST: &str = "0000000200000002370000000000000237000000000000010000000000000000";
+
+/// TRUE, and none.
+const NONE: &str = "0100000000000000";
+
+/// FALSE, and the last.
+const LAST: &str = "0000000001000000020000003700";
+
 /// Whether `next_n` gives these bytes, and tells whether some are left.
 fn gives(
     alloc: Global,
@@ -28,27 +37,7 @@ fn gives_first(alloc: Global, left: &mut IdIter, n: u32, digits: &str) -> Result
     Ok(more && is_body(alloc, &w, digits)?)
 }
 
-/// The first batch of two ids.
-const FIRST: &str = "0000000200000002370000000000000237000000000000010000000000000000";
-
-/// TRUE, and none.
-const NONE: &str = "0100000000000000";
-
-/// FALSE, and the last.
-const LAST: &str = "0000000001000000020000003700";
-
 /// The first batch of three ids for two, and what `next_n` then gives.
-#[test]
-fn three_ids(rt: HostRuntime) -> Result<(), Fail> {
-    assert!(rt; gives_three(rt.alloc())?);
-    Ok(())
-}
-
-fn gives_three(alloc: Global) -> Result<bool, Fail> {
-    let mut left = ids(alloc, 3, b"7")?;
-    gives_batches(alloc, &mut left)
-}
-
 fn gives_batches(alloc: Global, left: &mut IdIter) -> Result<bool, Fail> {
     Ok(
         gives_first(alloc, left, 2, FIRST)?
@@ -58,20 +47,23 @@ fn gives_batches(alloc: Global, left: &mut IdIter) -> Result<bool, Fail> {
     )
 }
 
-/// Of ids with 256 bytes each in a message, as many as fit into 16 MiB.
-#[test]
-fn cut_by_bytes(rt: HostRuntime) -> Result<(), Fail> {
-    assert!(rt; fills_a_message(rt.alloc())?);
-    Ok(())
+fn gives_three(alloc: Global) -> Result<bool, Fail> {
+    let mut left = ids(alloc, 3, b"7")?;
+    gives_batches(alloc, &mut left)
 }
 
+/// Whether of ids with 256 bytes each in a message as many are given as fit into 16 MiB.
 fn fills_a_message(alloc: Global) -> Result<bool, Fail> {
     let mut left = ids(alloc, 65540, &[55; 251])?;
-    is_filled(alloc, &mut left)
-}
-
-fn is_filled(alloc: Global, left: &mut IdIter) -> Result<bool, Fail> {
     let mut w = started(alloc, Order::Big)?;
     let more = left.next_n(alloc, u32::MAX, &mut w)?;
     Ok(more && left.max_left() == 5 && w.len() == 16776992)
+}
+
+#[test]
+fn batches_of_ids(rt: HostRuntime) -> Result<(), Fail> {
+    let alloc = rt.alloc();
+    assert!(rt; gives_three(alloc)?);
+    assert!(rt; fills_a_message(alloc)?);
+    Ok(())
 }

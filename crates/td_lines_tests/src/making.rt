@@ -91,16 +91,8 @@ pub fn ids(alloc: Global, count: usize, id: &[u8]) -> Result<IdIter, Fail> {
     Ok(IdIter::new(left))
 }
 
-/// The bytes behind those that stand before a reply's body.
-fn body(w: &Writer) -> &[u8] {
-    match w.bytes().get(24..) {
-        Some(bytes) => bytes,
-        None => &[],
-    }
-}
-
 /// Whether these are the bytes behind what stands before the body.
 pub fn is_body(alloc: Global, w: &Writer, digits: &str) -> Result<bool, Fail> {
     let bytes = hex::decode(alloc, digits.as_bytes())?;
-    Ok(body(w) == bytes.as_slice())
+    Ok(w.bytes().get(24..) == Some(bytes.as_slice()))
 }

@@ -1,4 +1,4 @@
-//! The worked example: seven offers.
+//! Batches of offers.
 
 use crate::making::{is_body, nil, no_limits, offers, started};
 use std::alloc::Global;
@@ -7,25 +7,8 @@ use std::test::Fail;
 use td_cdr::Order;
 use td_iter::OfferIter;
 
-/// Whether `next_n` gives these bytes, and tells whether some are left.
-fn gives(
-    alloc: Global,
-    left: &mut OfferIter,
-    n: u32,
-    digits: &str,
-    more: bool,
-) -> Result<bool, Fail> {
-    let mut w = started(alloc, Order::Little)?;
-    let told = left.next_n(alloc, n, &mut w)?;
-    Ok(told == more && is_body(alloc, &w, digits)?)
-}
-
-/// Whether the first batch for n has these bytes, and some are left.
-fn gives_first(alloc: Global, left: &mut OfferIter, n: u32, digits: &str) -> Result<bool, Fail> {
-    let mut w = started(alloc, Order::Big)?;
-    let more = left.first_batch(alloc, n, &mut w, &nil(alloc), &no_limits(alloc))?;
-    Ok(more && is_body(alloc, &w, digits)?)
-}
+/// How many offers are asked for, the bytes of the batch, whether some are left, and how many.
+type Batch = (u32, &'static str, bool, u32);
 
 /// The first batch of 1 and 2.
 const FIRST: &str =
@@ -48,46 +31,54 @@ const EMPTY: &str = "0000000000000001000000000000000000000000";
 /// TRUE, and none.
 const NONE: &str = "0100000000000000";
 
-#[test]
-fn seven_offers(rt: HostRuntime) -> Result<(), Fail> {
-    assert!(rt; gives_seven(rt.alloc())?);
-    Ok(())
-}
-
-fn gives_seven(alloc: Global) -> Result<bool, Fail> {
-    let mut left = offers(alloc, b"1234567")?;
-    gives_batches(alloc, &mut left)
-}
-
-fn gives_batches(alloc: Global, left: &mut OfferIter) -> Result<bool, Fail> {
-    Ok(
-        gives_first(alloc, left, 2, FIRST)?
-            && left.max_left() == 5
-            && gives(alloc, left, 3, NEXT, true)?
-            && gives(alloc, left, 9, LAST, false)?
-            && gives(alloc, left, 1, ENDED, false)?,
-    )
-}
+/// The worked example: of seven offers the first two, and then the others.
+const SEVEN: [Batch; 4] = [
+    (2, FIRST, true, 5),
+    (3, NEXT, true, 2),
+    (9, LAST, false, 0),
+    (1, ENDED, false, 0),
+];
 
 /// With no offer a query gives, all are left, and `next_n` for none leaves them.
+const TWO: [Batch; 2] = [(0, EMPTY, true, 2), (0, NONE, true, 2)];
+
+/// Whether this is the first batch.
+fn gives_first(alloc: Global, left: &mut OfferIter, batch: &Batch) -> Result<bool, Fail> {
+    let (n, digits, more, count) = batch;
+    let mut w = started(alloc, Order::Big)?;
+    let told = left.first_batch(alloc, *n, &mut w, &nil(alloc), &no_limits(alloc))?;
+    Ok(told == *more && left.max_left() == *count && is_body(alloc, &w, digits)?)
+}
+
+/// Whether `next_n` gives this batch.
+fn gives(alloc: Global, left: &mut OfferIter, batch: &Batch) -> Result<bool, Fail> {
+    let (n, digits, more, count) = batch;
+    let mut w = started(alloc, Order::Little)?;
+    let told = left.next_n(alloc, *n, &mut w)?;
+    Ok(told == *more && left.max_left() == *count && is_body(alloc, &w, digits)?)
+}
+
+fn gives_all(alloc: Global, left: &mut OfferIter, batches: &[Batch]) -> Result<bool, Fail> {
+    let (first, rest) = batches.split_first().ok_or("a batch")?;
+    let mut good = gives_first(alloc, left, first)?;
+    for batch in rest {
+        good = good && gives(alloc, left, batch)?;
+    }
+    Ok(good)
+}
+
+/// Whether an iterator over offers of these ids gives these batches.
+fn passes(alloc: Global, ids: &[u8], batches: &[Batch]) -> Result<bool, Fail> {
+    let mut left = offers(alloc, ids)?;
+    gives_all(alloc, &mut left, batches)
+}
+
 #[test]
-fn empty_batches(rt: HostRuntime) -> Result<(), Fail> {
-    assert!(rt; gives_none(rt.alloc())?);
+fn batches_of_offers(rt: HostRuntime) -> Result<(), Fail> {
+    let alloc = rt.alloc();
+    assert!(rt; passes(alloc, b"1234567", &SEVEN)?);
+    assert!(rt; passes(alloc, b"12", &TWO)?);
     Ok(())
-}
-
-fn gives_none(alloc: Global) -> Result<bool, Fail> {
-    let mut left = offers(alloc, b"12")?;
-    leaves_all(alloc, &mut left)
-}
-
-fn leaves_all(alloc: Global, left: &mut OfferIter) -> Result<bool, Fail> {
-    Ok(
-        gives_first(alloc, left, 0, EMPTY)?
-            && left.max_left() == 2
-            && gives(alloc, left, 0, NONE, true)?
-            && left.max_left() == 2,
-    )
 }
 
 /// Whether the batch for n that has all offers has these bytes; or there is none, and nothing was written.

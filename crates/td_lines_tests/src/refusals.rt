@@ -1,12 +1,13 @@
 //! Files that are read to their end, and files with a line that is refused, by the rules for the server's file.
 
-use std::alloc::Global;
-use std::process::Abort;
+use std::alloc::{AllocError, Global};
 use std::test::Fail;
+use td_cdr::Memory;
 use td_lines::{LineCause, Refused, Script, read_script};
 
-/// Files, with `|` for each line feed, and how many traders and entries of traders they have.
-const WHOLE: &str = "address h 9 => 0
+/// Files in the words of `file_of`; of those that are read how many traders and entries of traders they have, and of
+/// the others the line at which they are refused, and why.
+const FILES: &str = "address h 9 => 0
 address h 9| => 0
 # one||address h 9|#two|trader A|# end => 1
 address h 0\r|trader A\r| => 1
@@ -19,10 +20,10 @@ address h 9|trader A|type B -|prop normal short X||# between|prop mandatory seq:
 address h 9|trader A|offer B ref:x,h,1,k|with short X -5|dynamic long Y ref:e,h,2,e|with string Z  => 2
 address h 9|trader A|offer B ref:x,h,1,k|with short X -5|link l A always local_only => 3
 address h 9|trader A|proxy B ref:x,h,1,k all $*|with string Z a b|proxy B ref:x,h,1,k match  => 3
-address h 9|trader A|link l ref:x,h,1,k ref:x,h,1,r always if_no_local => 2";
-
-/// Files, the line at which they are refused, and why.
-const REFUSED: &str = "# only|| => 1 place
+address h 9|trader A|link l ref:x,h,1,k ref:x,h,1,r always if_no_local => 2
+address ~ 9 => 0
+address h 9|^ => 64
+# only|| => 1 place
 trader A| => 1 place
 #|trader A => 2 place
 prop normal short X => 1 place
@@ -100,23 +101,47 @@ address h 9|trader A|link l A always often => 3 name
 address h 9|trader A|link l x ref:x,h,1,r often always => 3 reference
 address h 9|trader A|link l ref:x,h,1,k r always always => 3 reference
 address h 9|trader A|link l ref:x,h,1,k ref:x,h,1,r always often => 3 name
-address h 9|trader A|type B -|trader B|interface a|prop normal short X => 6 place";
+address h 9|trader A|type B -|trader B|interface a|prop normal short X => 6 place
+ => 1 place
+address h~ 9 => 1 name
+address h 9|^trader A/B| => 66 place";
 
-/// A file whose line feeds are written as `|`.
-pub(crate) fn file_of(alloc: Global, told: &str) -> Result<Vec<u8>, Fail> {
+/// Traders of 64 names, a line each.
+fn add_traders(text: &mut Vec<u8>) -> Result<(), AllocError> {
+    for number in 0u8..64 {
+        text.extend_from_slice(b"trader T")?;
+        text.push(b'A' + number / 8)?;
+        text.push(b'0' + number % 8)?;
+        text.push(b'\n')?;
+    }
+    Ok(())
+}
+
+fn add_byte(text: &mut Vec<u8>, byte: u8) -> Result<(), AllocError> {
+    match byte {
+        b'|' => text.push(b'\n')?,
+        b'~' => text.extend_from_slice(&[b'h'; 1000])?,
+        b'^' => add_traders(text)?,
+        _ => text.push(byte)?,
+    }
+    Ok(())
+}
+
+/// A file whose line feeds are written as `|`, a thousand `h` as `~`, and 64 traders as `^`.
+pub(crate) fn file_of(alloc: Global, told: &str) -> Result<Vec<u8>, AllocError> {
     let mut text = Vec::new(alloc);
     for byte in told.as_bytes() {
-        text.push(if *byte == b'|' { b'\n' } else { *byte })?;
+        add_byte(&mut text, *byte)?;
     }
     Ok(text)
 }
 
-/// What a file of at most 100,000 bytes says.
-pub(crate) fn script_of(alloc: Global, text: &[u8]) -> Result<Script, Fail> {
+/// What a file of at most 100,000 bytes says; of a longer one nothing is read.
+pub(crate) fn script_of(alloc: Global, text: &[u8]) -> Result<Script, Memory> {
     if text.len() > 100000 {
-        return Err("too long".into());
+        return Err(Memory);
     }
-    Ok(read_script(alloc, text)?)
+    read_script(alloc, text)
 }
 
 /// How many traders and entries there are.
@@ -126,23 +151,6 @@ fn count_of(script: &Script) -> usize {
         count = count.saturating_add(trader.entries.len()).saturating_add(1);
     }
     count
-}
-
-/// How many traders and entries there are, and the refusal.
-fn told_by(alloc: Global, text: &[u8]) -> Result<(usize, Option<Refused>), Fail> {
-    let script = script_of(alloc, text)?;
-    let told = (count_of(&script), script.refused);
-    drop(script);
-    Ok(told)
-}
-
-fn whole_line(rt: &impl Abort, alloc: Global, line: &str) -> Result<(), Fail> {
-    let (told, count) = line.split_once(" => ").ok_or("a count")?;
-    let text = file_of(alloc, told)?;
-    let (entries, refused) = told_by(alloc, text.as_slice())?;
-    assert_eq!(rt; refused, None, "{told}");
-    assert_eq!(rt; entries, count.parse::<usize>()?, "{told}");
-    Ok(())
 }
 
 fn cause_named(word: &str) -> Option<LineCause> {
@@ -158,101 +166,39 @@ fn cause_named(word: &str) -> Option<LineCause> {
     }
 }
 
-fn refused_line(rt: &impl Abort, alloc: Global, row: &str) -> Result<(), Fail> {
-    let (told, refusal) = row.split_once(" => ").ok_or("a refusal")?;
-    let (line, cause) = refusal.split_once(" ").ok_or("a cause")?;
-    let line = line.parse::<u32>()?;
-    let cause = cause_named(cause).ok_or("a cause")?;
-    let text = file_of(alloc, told)?;
-    let (_entries, refused) = told_by(alloc, text.as_slice())?;
-    assert_eq!(rt; refused, Some(Refused { line, cause }), "{told}");
-    Ok(())
-}
-
-#[test]
-fn whole_files(rt: HostRuntime) -> Result<(), Fail> {
-    let alloc = rt.alloc();
-    for row in WHOLE.lines() {
-        whole_line(&rt, alloc, row)?;
+/// Whether the line and the cause are these.
+fn is_refused(refused: &Refused, told: &str) -> bool {
+    match told.split_once(' ') {
+        Some((line, cause)) => {
+            line.parse::<u32>().ok() == Some(refused.line)
+                && cause_named(cause) == Some(refused.cause)
+        }
+        None => false,
     }
-    Ok(())
 }
 
-#[test]
-fn refused_files(rt: HostRuntime) -> Result<(), Fail> {
-    let alloc = rt.alloc();
-    for row in REFUSED.lines() {
-        refused_line(&rt, alloc, row)?;
+/// Whether a file says what a row tells of it.
+fn says(script: &Script, told: &str) -> bool {
+    match &script.refused {
+        Some(refused) => is_refused(refused, told),
+        None => told.parse::<usize>().ok() == Some(count_of(script)),
     }
-    Ok(())
+}
+
+fn passes(alloc: Global, row: &str) -> Result<bool, Fail> {
+    let (file, told) = row.split_once(" => ").ok_or("two parts")?;
+    let text = file_of(alloc, file)?;
+    let script = script_of(alloc, text.as_slice())?;
+    let good = says(&script, told);
+    drop(script);
+    Ok(good)
 }
 
 #[test]
-fn no_file(rt: HostRuntime) -> Result<(), Fail> {
-    let (entries, refused) = told_by(rt.alloc(), b"")?;
-    assert_eq!(rt; entries, 0);
-    assert_eq!(rt;
-        refused,
-        Some(Refused {
-            line: 1,
-            cause: LineCause::Place
-        })
-    );
-    Ok(())
-}
-
-/// A file of this beginning, with `count` times the piece behind it.
-fn filled(alloc: Global, front: &[u8], piece: &[u8], count: usize) -> Result<Vec<u8>, Fail> {
-    let mut text = Vec::from_slice(alloc, front)?;
-    for _ in 0..count {
-        text.extend_from_slice(piece)?;
-    }
-    Ok(text)
-}
-
-/// A host of 1,000 bytes, and one of 1,001.
-#[test]
-fn hosts(rt: HostRuntime) -> Result<(), Fail> {
+fn files_are_read_or_refused(rt: HostRuntime) -> Result<(), Fail> {
     let alloc = rt.alloc();
-    let mut text = filled(alloc, b"address ", b"h", 1000)?;
-    text.extend_from_slice(b" 9")?;
-    let (_entries, refused) = told_by(alloc, text.as_slice())?;
-    assert_eq!(rt; refused, None);
-    let mut text = filled(alloc, b"address ", b"h", 1001)?;
-    text.extend_from_slice(b" 9")?;
-    let (_entries, refused) = told_by(alloc, text.as_slice())?;
-    assert_eq!(rt;
-        refused,
-        Some(Refused {
-            line: 1,
-            cause: LineCause::Name
-        })
-    );
-    Ok(())
-}
-
-/// 64 traders, and one more.
-#[test]
-fn traders(rt: HostRuntime) -> Result<(), Fail> {
-    let alloc = rt.alloc();
-    let mut text = Vec::from_slice(alloc, b"address h 9\n")?;
-    for number in 0u8..64 {
-        text.extend_from_slice(b"trader T")?;
-        text.push(b'A' + number / 8)?;
-        text.push(b'0' + number % 8)?;
-        text.push(b'\n')?;
+    for row in FILES.lines() {
+        assert!(rt; passes(alloc, row)?, "{row}");
     }
-    let (entries, refused) = told_by(alloc, text.as_slice())?;
-    assert_eq!(rt; entries, 64);
-    assert_eq!(rt; refused, None);
-    text.extend_from_slice(b"trader A/B\n")?;
-    let (_entries, refused) = told_by(alloc, text.as_slice())?;
-    assert_eq!(rt;
-        refused,
-        Some(Refused {
-            line: 66,
-            cause: LineCause::Place
-        })
-    );
     Ok(())
 }
