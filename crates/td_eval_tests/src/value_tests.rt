@@ -3,11 +3,9 @@
 use crate::lang::support::{constraint_of, cut};
 use crate::making::properties;
 use std::alloc::Global;
-use std::process::Abort;
-use std::test::Fail;
 use td_cdr::{Boxed, List, Memory, Text};
 use td_eval::{Simple, matches, names_asked, value_of};
-use td_lang::{Constraint, Expr, read_preference};
+use td_lang::{Constraint, Expr, LangFault, read_preference};
 use td_value::Property;
 
 /// The properties that the tables speak of.
@@ -59,7 +57,7 @@ fn is_valued(alloc: Global, e: &Expr, map: &List<Property>, wanted: &str) -> Res
 }
 
 /// Whether the expression of a line has the value of that line.
-fn has_value(alloc: Global, line: &str) -> Result<bool, Fail> {
+fn has_value(alloc: Global, line: &str) -> Result<bool, LangFault> {
     let (expression, wanted) = cut(line);
     let map = properties(alloc, MAP)?;
     let constraint = constraint_of(alloc, expression.as_bytes())?;
@@ -69,14 +67,7 @@ fn has_value(alloc: Global, line: &str) -> Result<bool, Fail> {
     }
 }
 
-fn have_values(rt: &impl Abort, alloc: Global, table: &str) -> Result<(), Fail> {
-    for line in table.lines() {
-        assert!(rt; has_value(alloc, line)?, "at {line}");
-    }
-    Ok(())
-}
-
-/// Expressions and their values, as in the tables that follow.
+/// Properties give values by their kinds. The tables have an expression and its value in a line.
 const KINDS: &str = "Cost => 5/1
 Low => none
 High => none
@@ -94,11 +85,7 @@ List => none
 Absent => none
 Twice => 1/1";
 
-#[test]
-fn properties_give_values_by_their_kinds(rt: HostRuntime) -> Result<(), Fail> {
-    have_values(&rt, rt.alloc(), KINDS)
-}
-
+/// Fractions are never reduced, and stay in range.
 const FRACTIONS: &str = "1 / 3 + 1 / 6 => 9/18
 1 / 3 + 1 / 6 == 1 / 2 => true
 1 / 2 - 3 / 4 => -2/8
@@ -120,12 +107,8 @@ Cost - Own => none
 Kind * Cost => none
 List / Cost => none";
 
-#[test]
-fn fractions_are_never_reduced_and_stay_in_range(rt: HostRuntime) -> Result<(), Fail> {
-    have_values(&rt, rt.alloc(), FRACTIONS)
-}
-
-/// The greatest number is 2^63 - 1, the least one its opposite, for a numerator and for a denominator.
+/// Every operator keeps the bounds of 64 bits: the greatest number is 2^63 - 1, the least one its opposite, for a
+/// numerator and for a denominator.
 const BOUNDS: &str = "Most => 9223372036854775807/1
 Most + 0 => 9223372036854775807/1
 Most + 1 => none
@@ -159,12 +142,8 @@ Most in Extremes => true
 0 - Most in Extremes => true
 Most - 1 in Extremes => false";
 
-#[test]
-fn every_operator_keeps_the_bounds_of_64_bits(rt: HostRuntime) -> Result<(), Fail> {
-    have_values(&rt, rt.alloc(), BOUNDS)
-}
-
-/// A number, a text, a truth value, a list and nothing as the left and as the right side of each form.
+/// Each form wants its kinds of operands: a number, a text, a truth value, a list and nothing as the left and as the
+/// right side.
 const OPERANDS: &str = "Cost + Cost => 10/1
 Kind + Kind => none
 Own + Own => none
@@ -204,11 +183,7 @@ Letter in Letters => false
 Letter in Alias => true
 Byte in List => false";
 
-#[test]
-fn each_form_wants_its_kinds_of_operands(rt: HostRuntime) -> Result<(), Fail> {
-    have_values(&rt, rt.alloc(), OPERANDS)
-}
-
+/// Comparisons want one kind.
 const COMPARISONS: &str = "1 / 3 < 2 / 5 => true
 2 / 4 <= 1 / 2 => true
 2 / 4 < 1 / 2 => false
@@ -228,11 +203,7 @@ List == List => none
 'laserx' ~ Kind => false
 Kind ~ 1 => none";
 
-#[test]
-fn comparisons_want_one_kind(rt: HostRuntime) -> Result<(), Fail> {
-    have_values(&rt, rt.alloc(), COMPARISONS)
-}
-
+/// Truth values are joined left to right.
 const TRUTHS: &str = "FALSE and Absent => false
 TRUE and Absent => none
 Absent and FALSE => none
@@ -248,11 +219,7 @@ not Cost => none
 exist Other => true
 exist Absent => false";
 
-#[test]
-fn truth_values_are_joined_left_to_right(rt: HostRuntime) -> Result<(), Fail> {
-    have_values(&rt, rt.alloc(), TRUTHS)
-}
-
+/// Lists hold items of one kind.
 const LISTS: &str = "2 in List => true
 4 / 2 in List => true
 4 in List => false
@@ -270,11 +237,24 @@ FALSE in Flags => true
 Absent in List => none";
 
 #[test]
-fn lists_hold_items_of_one_kind(rt: HostRuntime) -> Result<(), Fail> {
-    have_values(&rt, rt.alloc(), LISTS)
+fn expressions_have_the_values_of_the_tables(rt: HostRuntime) {
+    let alloc = rt.alloc();
+    for table in [
+        KINDS,
+        FRACTIONS,
+        BOUNDS,
+        OPERANDS,
+        COMPARISONS,
+        TRUTHS,
+        LISTS,
+    ] {
+        for line in table.lines() {
+            assert!(rt; has_value(alloc, line) == Ok(true), "at {line}");
+        }
+    }
 }
 
-fn is_match(alloc: Global, constraint: &str, map: &str) -> Result<bool, Fail> {
+fn is_match(alloc: Global, constraint: &str, map: &str) -> Result<bool, LangFault> {
     let map = properties(alloc, map)?;
     let constraint = constraint_of(alloc, constraint.as_bytes())?;
     Ok(matches(constraint.get(), &map)?)
@@ -289,18 +269,17 @@ Cost long  6;Color string  red;Kind string  laser => true
 Cost long  5 => false
 Kind string  laser => false";
 
-fn is_matched(alloc: Global, line: &str) -> Result<bool, Fail> {
+fn is_matched(alloc: Global, line: &str) -> Result<bool, LangFault> {
     let (map, wanted) = cut(line);
     Ok(is_match(alloc, ASKED, map)? == (wanted == "true"))
 }
 
 #[test]
-fn a_constraint_matches_where_it_is_true(rt: HostRuntime) -> Result<(), Fail> {
+fn a_constraint_matches_where_it_is_true(rt: HostRuntime) {
     for line in MATCHES.lines() {
-        assert!(rt; is_matched(rt.alloc(), line)?, "at {line}");
+        assert!(rt; is_matched(rt.alloc(), line) == Ok(true), "at {line}");
     }
-    assert!(rt; is_match(rt.alloc(), " ", "")?);
-    Ok(())
+    assert!(rt; is_match(rt.alloc(), " ", "") == Ok(true));
 }
 
 /// Whether these are the names, one behind the other.
@@ -312,7 +291,7 @@ fn are_names(alloc: Global, names: &List<Text>, wanted: &[u8]) -> Result<bool, M
     Ok(joined.as_slice() == wanted)
 }
 
-fn asks_in_order(alloc: Global) -> Result<bool, Fail> {
+fn asks_in_order(alloc: Global) -> Result<bool, LangFault> {
     let constraint = constraint_of(alloc, b"B > 1 and exist A or C in D and B < 'E'")?;
     let preference = Boxed::new(alloc, read_preference(alloc, b"max A + F")?)?;
     let names = names_asked(alloc, constraint.get(), preference.get())?;
@@ -320,7 +299,6 @@ fn asks_in_order(alloc: Global) -> Result<bool, Fail> {
 }
 
 #[test]
-fn names_are_asked_once_in_the_order_of_mention(rt: HostRuntime) -> Result<(), Fail> {
-    assert!(rt; asks_in_order(rt.alloc())?);
-    Ok(())
+fn names_are_asked_once_in_the_order_of_mention(rt: HostRuntime) {
+    assert!(rt; asks_in_order(rt.alloc()) == Ok(true));
 }

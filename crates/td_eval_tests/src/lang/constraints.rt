@@ -2,9 +2,8 @@
 
 use crate::lang::support::{constraint_fault, constraint_of, cut, has_tree, long_text};
 use std::alloc::Global;
-use std::process::Abort;
-use std::test::Fail;
 use td_cdr::Memory;
+use td_lang::LangFault;
 
 /// A constraint of each production, from the weakest, and its tree: operators before operands in parentheses.
 const PRODUCTIONS: &str = "a or b => (or a b)
@@ -94,18 +93,18 @@ const LONG: &str = r"|n|256|
 |0|4096|";
 
 /// Whether a text is read as a constraint of this tree.
-fn is_read(alloc: Global, text: &[u8], tree: &str) -> Result<bool, Fail> {
+fn is_read(alloc: Global, text: &[u8], tree: &str) -> Result<bool, LangFault> {
     let found = constraint_of(alloc, text)?;
     Ok(has_tree(alloc, found.get(), tree)?)
 }
 
-fn is_line_read(alloc: Global, line: &str) -> Result<bool, Fail> {
+fn is_line_read(alloc: Global, line: &str) -> Result<bool, LangFault> {
     let (text, tree) = cut(line);
     is_read(alloc, text.as_bytes(), tree)
 }
 
 #[test]
-fn trees(rt: HostRuntime) -> Result<(), Fail> {
+fn trees(rt: HostRuntime) {
     let alloc = rt.alloc();
     for table in [
         PRODUCTIONS,
@@ -118,21 +117,19 @@ fn trees(rt: HostRuntime) -> Result<(), Fail> {
         WHOLE,
     ] {
         for line in table.lines() {
-            assert!(rt; is_line_read(alloc, line)?, "at {line}");
+            assert!(rt; is_line_read(alloc, line) == Ok(true), "at {line}");
         }
     }
-    Ok(())
 }
 
 /// Blanks alone are the empty constraint; others stand anywhere between tokens.
 #[test]
-fn blanks(rt: HostRuntime) -> Result<(), Fail> {
+fn blanks(rt: HostRuntime) {
     let alloc = rt.alloc();
-    assert!(rt; are_blanks_read(alloc)?);
-    Ok(())
+    assert!(rt; are_blanks_read(alloc) == Ok(true));
 }
 
-fn are_blanks_read(alloc: Global) -> Result<bool, Fail> {
+fn are_blanks_read(alloc: Global) -> Result<bool, LangFault> {
     Ok(
         is_read(alloc, b"".as_slice(), "")?
             && is_read(alloc, b" \t\r\n".as_slice(), "")?
@@ -147,10 +144,9 @@ fn is_long_read(alloc: Global, line: &str) -> Result<bool, Memory> {
 }
 
 #[test]
-fn long_texts(rt: HostRuntime) -> Result<(), Fail> {
+fn long_texts(rt: HostRuntime) {
     let alloc = rt.alloc();
     for line in LONG.lines() {
-        assert!(rt; is_long_read(alloc, line)?, "at {line}");
+        assert!(rt; is_long_read(alloc, line) == Ok(true), "at {line}");
     }
-    Ok(())
 }

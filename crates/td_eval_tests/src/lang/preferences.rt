@@ -2,8 +2,6 @@
 
 use crate::lang::support::{cut, fault_of, long_text, put_tree};
 use std::alloc::{AllocError, Global};
-use std::process::Abort;
-use std::test::Fail;
 use td_cdr::{Boxed, Memory};
 use td_lang::{Expr, LangFault, Preference, print_preference, read_preference};
 
@@ -86,13 +84,13 @@ fn is_printed(alloc: Global, preference: &Preference, printed: &[u8]) -> Result<
 }
 
 /// Whether the text is read as the preference.
-fn is_read(alloc: Global, text: &[u8], printed: &[u8], tree: &[u8]) -> Result<bool, Fail> {
+fn is_read(alloc: Global, text: &[u8], printed: &[u8], tree: &[u8]) -> Result<bool, LangFault> {
     let found = Boxed::new(alloc, read_preference(alloc, text)?)?;
     Ok(is_preference(alloc, found.get(), printed, tree)?)
 }
 
 /// Whether the text is read and printed, and what is printed is read as the same.
-fn is_line_read(alloc: Global, line: &str) -> Result<bool, Fail> {
+fn is_line_read(alloc: Global, line: &str) -> Result<bool, LangFault> {
     let (text, rest) = cut(line);
     let (printed, tree) = cut(rest);
     let (printed, tree) = (printed.as_bytes(), tree.as_bytes());
@@ -100,15 +98,14 @@ fn is_line_read(alloc: Global, line: &str) -> Result<bool, Fail> {
 }
 
 #[test]
-fn preferences(rt: HostRuntime) -> Result<(), Fail> {
+fn preferences(rt: HostRuntime) {
     let alloc = rt.alloc();
     let (none, empty) = (b"".as_slice(), b"empty".as_slice());
-    assert!(rt; is_read(alloc, none, none, empty)?);
-    assert!(rt; is_read(alloc, b" \t".as_slice(), none, empty)?);
+    assert!(rt; is_read(alloc, none, none, empty) == Ok(true));
+    assert!(rt; is_read(alloc, b" \t".as_slice(), none, empty) == Ok(true));
     for line in PREFERENCES.lines() {
-        assert!(rt; is_line_read(alloc, line)?, "at {line}");
+        assert!(rt; is_line_read(alloc, line) == Ok(true), "at {line}");
     }
-    Ok(())
 }
 
 fn preference_fault(alloc: Global, text: &[u8]) -> Option<LangFault> {
@@ -122,12 +119,11 @@ fn is_refused(alloc: Global, line: &str) -> bool {
 }
 
 #[test]
-fn faults(rt: HostRuntime) -> Result<(), Fail> {
+fn faults(rt: HostRuntime) {
     let alloc = rt.alloc();
     for line in FAULTS.lines() {
         assert!(rt; is_refused(alloc, line), "at {line}");
     }
-    Ok(())
 }
 
 /// What stands before the pieces, the piece, how many times it stands, and the fault of the whole.
@@ -143,10 +139,9 @@ fn is_long_refused(alloc: Global, line: &str) -> Result<bool, Memory> {
 }
 
 #[test]
-fn long_preferences(rt: HostRuntime) -> Result<(), Fail> {
+fn long_preferences(rt: HostRuntime) {
     let alloc = rt.alloc();
     for line in LONG.lines() {
-        assert!(rt; is_long_refused(alloc, line)?, "at {line}");
+        assert!(rt; is_long_refused(alloc, line) == Ok(true), "at {line}");
     }
-    Ok(())
 }

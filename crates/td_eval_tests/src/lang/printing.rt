@@ -2,8 +2,6 @@
 
 use crate::lang::support::{constraint_fault, constraint_of, cut};
 use std::alloc::Global;
-use std::process::Abort;
-use std::test::Fail;
 use td_cdr::{Boxed, Memory, Text};
 use td_lang::{Constraint, Expr, LangFault, print_constraint};
 
@@ -84,29 +82,28 @@ TRUE==FALSE => TRUE == FALSE
 (('las')~((Kind))) => 'las' ~ Kind";
 
 /// Whether the text is read and printed, and what is printed is printed again.
-fn is_line_printed(alloc: Global, line: &str) -> Result<bool, Fail> {
+fn is_line_printed(alloc: Global, line: &str) -> Result<bool, LangFault> {
     let (text, printed) = cut(line);
     let printed = printed.as_bytes();
     Ok(is_printed(alloc, text.as_bytes(), printed)? && is_printed(alloc, printed, printed)?)
 }
 
-fn is_printed(alloc: Global, text: &[u8], printed: &[u8]) -> Result<bool, Fail> {
+fn is_printed(alloc: Global, text: &[u8], printed: &[u8]) -> Result<bool, LangFault> {
     let found = constraint_of(alloc, text)?;
     let out = print_constraint(alloc, found.get())?;
     Ok(out.as_slice() == printed)
 }
 
 #[test]
-fn constraints(rt: HostRuntime) -> Result<(), Fail> {
+fn constraints(rt: HostRuntime) {
     let alloc = rt.alloc();
-    assert!(rt; is_printed(alloc, b"".as_slice(), b"".as_slice())?);
-    assert!(rt; is_printed(alloc, b" a\t\r\n".as_slice(), b"a".as_slice())?);
+    assert!(rt; is_printed(alloc, b"".as_slice(), b"".as_slice()) == Ok(true));
+    assert!(rt; is_printed(alloc, b" a\t\r\n".as_slice(), b"a".as_slice()) == Ok(true));
     for table in [PLAIN, SPARE, WEAKER, SAME, NO_ROW, SIGNS, NAMES, VALUES] {
         for line in table.lines() {
-            assert!(rt; is_line_printed(alloc, line)?, "at {line}");
+            assert!(rt; is_line_printed(alloc, line) == Ok(true), "at {line}");
         }
     }
-    Ok(())
 }
 
 fn printed_number(alloc: Global, n: i64) -> Result<Text, Memory> {
@@ -116,11 +113,10 @@ fn printed_number(alloc: Global, n: i64) -> Result<Text, Memory> {
 
 /// The least number has no spelling that is read, and its neighbour has.
 #[test]
-fn least_numbers(rt: HostRuntime) -> Result<(), Fail> {
+fn least_numbers(rt: HostRuntime) {
     let alloc = rt.alloc();
-    assert!(rt; is_least_refused(alloc)?);
-    assert!(rt; is_next_read(alloc)?);
-    Ok(())
+    assert!(rt; is_least_refused(alloc) == Ok(true));
+    assert!(rt; is_next_read(alloc) == Ok(true));
 }
 
 fn is_least_refused(alloc: Global) -> Result<bool, Memory> {
@@ -155,9 +151,8 @@ fn denied_fault(alloc: Global, count: usize) -> Result<Option<LangFault>, Memory
 
 /// Of 65 negations in a row the inner 64 stand in parentheses, and of 66 too many.
 #[test]
-fn deep_trees(rt: HostRuntime) -> Result<(), Fail> {
+fn deep_trees(rt: HostRuntime) {
     let alloc = rt.alloc();
-    assert!(rt; denied_fault(alloc, 64)?.is_none());
-    assert!(rt; denied_fault(alloc, 65)? == Some(LangFault::Depth(388)));
-    Ok(())
+    assert!(rt; denied_fault(alloc, 64) == Ok(None));
+    assert!(rt; denied_fault(alloc, 65) == Ok(Some(LangFault::Depth(388))));
 }

@@ -1,7 +1,6 @@
 //! Trees as text, faults by their names, and long texts.
 
 use std::alloc::{AllocError, Global};
-use std::test::Fail;
 use td_cdr::{Boxed, Memory};
 use td_lang::{Constraint, Expr, LangFault, Op, read_constraint};
 
@@ -100,7 +99,7 @@ pub fn has_tree(alloc: Global, constraint: &Constraint, tree: &str) -> Result<bo
     Ok(out.as_slice() == tree.as_bytes())
 }
 
-pub fn constraint_of(alloc: Global, text: &[u8]) -> Result<Boxed<Constraint>, Fail> {
+pub fn constraint_of(alloc: Global, text: &[u8]) -> Result<Boxed<Constraint>, LangFault> {
     Ok(Boxed::new(alloc, read_constraint(alloc, text)?)?)
 }
 
