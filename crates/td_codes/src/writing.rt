@@ -47,10 +47,8 @@ pub fn write_typecode(alloc: Global, w: &mut Writer, code: &TypeCode) -> Result<
         TypeCode::Sequence { item, bound } => {
             write_items(alloc, w, CodeKind::Sequence, item.get(), *bound)
         }
-        TypeCode::Array { item, len } => {
-            write_items(alloc, w, CodeKind::Array, item.get(), *len)
-        }
-        TypeCode::Alias { id, name, item } => { write_alias(alloc, w, id, name, item.get()) }
+        TypeCode::Array { item, len } => write_items(alloc, w, CodeKind::Array, item.get(), *len),
+        TypeCode::Alias { id, name, item } => write_alias(alloc, w, id, name, item.get()),
         TypeCode::Except { id, name, members } => {
             write_fields(alloc, w, CodeKind::Except, id, name, members.as_slice())
         }
