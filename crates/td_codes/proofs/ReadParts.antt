@@ -15,7 +15,6 @@ use Rattle.td_codes.specs.declared.code.TypeCode.{TypeCode}
 use Rattle.td_codes.specs.declared.code.TypeCode.TheVariants as code
 use Rattle.td_codes.specs.declared.code.Value.{Value}
 use Rattle.td_codes.specs.declared.code.Member.{Member}
-use Rattle.td_codes.specs.declared.code.Arm.{Arm}
 use Rattle.td_codes.specs.Formats.{nonempty_sequence}
 use Rattle.td_codes.specs.Codes.{header, positive, member, arm_of, struct_code, except_code, sequence_code, array_code}
 use Rattle.td_codes.specs.Codes.{alias_code, object_code, enum_code}

@@ -9,9 +9,7 @@ use Rattle.td_codes.specs.Codes.{kind_of}
 use Rattle.td_codes.specs.Labels.{label_of, label_piece}
 use Rattle.td_codes.specs.WritingCodes.{code_piece, header_piece, head_piece, kind_piece, arm_piece-is, member_piece-is}
 use Rattle.td_codes.proofs.WrittenParts.{writes-then, writes-whole, writes-added, appends-added, encapsulated}
-use Rattle.td_codes.specs.declared.code.TypeCode.TheVariants as code
-use Rattle.td_codes.specs.declared.code.TypeCode.TheOpen as layer_of
-use Rattle.td_codes.proofs.AtLayers.{code_piece-at, object-piece, struct-piece, except-piece, union-piece, enum-piece}
+use Rattle.td_codes.proofs.AtLayers.{object-piece, struct-piece, except-piece, union-piece, enum-piece}
 use Rattle.td_codes.proofs.AtLayers.{sequence-piece, array-piece, alias-piece, str-piece, encapsulation-two}
 use Rattle.td_codes.proofs.OfPlainKind.{plain-else, plain-piece}
 use Rattle.td_codes.proofs.writing.+writing.Goals as goal
