@@ -9,7 +9,7 @@ use Rattle.td_codes.specs.declared.reference.Ior.{Ior}
 use Rattle.td_fed.proofs.Points.{begun-rise, watched-length}
 use Rattle.td_fed.specs.Entering.{Asks, Enters, IsAsked, IsEntered, asking_of, begin_item, entry_of}
 use Rattle.td_fed.specs.Entering.{answered as has-answer, begun as has-begun, opens, refused, repeated}
-use Rattle.td_fed.specs.Targets.{inside_group}
+use Rattle.td_places.specs.Targets.{inside_group}
 use Rattle.td_fed.specs.Trails.{IsShown, marks_of, own_marks_at}
 use Rattle.td_fed.specs.Visiting.{Begins, course, start_of}
 use Rattle.td_fed.specs.declared.entering.Entry.{Entry}

@@ -8,7 +8,7 @@ use Rattle.td_fed.proofs.Showing.{shown-none, shown-on}
 use Rattle.td_fed.proofs.Turned.{AllRead, Walking, ended-at-once, first-open, last, less-left, none-left}
 use Rattle.td_fed.proofs.Turned.{still-read, turned}
 use Rattle.td_fed.specs.Entering.{IsEntered}
-use Rattle.td_fed.specs.Targets.{inside_group}
+use Rattle.td_places.specs.Targets.{inside_group}
 use Rattle.td_fed.specs.Trails.{DrawsOn, Goes, IsShown}
 use Rattle.td_fed.specs.Turning.{IsTurn}
 use Rattle.td_fed.specs.Visiting.{Begins, Visited, course}

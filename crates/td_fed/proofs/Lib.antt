@@ -6,7 +6,6 @@ pub mod Members
 pub mod Moving
 pub mod Opening
 pub mod Pending
-pub mod Places
 pub mod Points
 pub mod Quiet
 pub mod Resolved

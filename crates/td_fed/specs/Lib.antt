@@ -1,7 +1,6 @@
 pub mod Calling
 pub mod Entering
 pub mod Resolving
-pub mod Targets
 pub mod Trails
 pub mod Turning
 pub mod Visiting

@@ -7,7 +7,7 @@ use Rattle.td_cdr.specs.Marks.{Marks}
 use Rattle.td_cdr.specs.Names.{word_name}
 use Rattle.td_codes.specs.declared.reference.Ior.{Ior}
 use Rattle.td_exceptions.specs.declared.exception.UserException.TheVariants.{IllegalTraderName, UnknownTraderName}
-use Rattle.td_fed.specs.Targets.{register_inside}
+use Rattle.td_places.specs.Targets.{register_inside}
 use Rattle.td_fed.specs.declared.resolving.Lead.{Lead}
 use Rattle.td_fed.specs.declared.resolving.Lead.TheVariants as lead
 use Rattle.td_fed.specs.declared.resolving.NameAnswer.{NameAnswer}

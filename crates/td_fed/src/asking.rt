@@ -3,7 +3,7 @@
 ghost use Rattle.std.specs.Prelude.{◌≡◌, ◌<◌, ◌≤◌, ℕ, List, [], ◌∷◌, ◌++◌, vec_len, vec_capacity, is_some, IfOk};
 ghost use Rattle.td_fed.specs.Calling.{IsPeered};
 ghost use Rattle.td_fed.specs.Entering.{IsAsked, NotesFault, asking_of};
-ghost use Rattle.td_fed.specs.Targets.{inside_group};
+ghost use Rattle.td_places.specs.Targets.{inside_group};
 ghost use Rattle.td_fed.specs.Trails.{Goes, IsShown};
 ghost use Rattle.td_fed.specs.Visiting.{Begins, course};
 ghost use Rattle.td_walk_laws.specs.Walks.{answer_in};
@@ -14,11 +14,11 @@ ghost use Rattle.td_ior.specs.Profiles.{iiop_of};
 ghost use Rattle.td_trader.specs.Worlds.{View};
 
 use crate::entering::{Entry, enter, nothing};
-use crate::target::inside_group;
 use std::alloc::Global;
 use td_cdr::{Boxed, Memory, Text, Twin};
 use td_ior::{IorFault, iiop_of};
 use td_ops::Query;
+use td_places::inside_group;
 use td_trader::Traders;
 use td_value::{Any, Ior, TypeCode};
 use td_visit::Frame;

@@ -6,9 +6,7 @@ mod asking;
 mod entering;
 mod innermost;
 mod resolving;
-mod target;
 mod visiting;
 
 pub use resolving::{NameAnswer, resolve};
-pub use target::{inside_group, place_of};
 pub use visiting::visit;

@@ -13,11 +13,11 @@ ghost use Rattle.td_ops.specs.declared.outcome.SystemKind.TheVariants.{NoMemory}
 ghost use Rattle.td_register.specs.Causes.{system};
 ghost use Rattle.td_trader.specs.Worlds.{View, history_at};
 
-use crate::target::register_inside;
 use std::alloc::Global;
 use td_cdr::{List, Memory, Text, Twin, is_word_name};
 use td_exceptions::UserException;
 use td_ops::{COMPLETED_NO, Look, Outcome, Reply, SystemKind};
+use td_places::register_inside;
 use td_policy::MOST_NAMES;
 use td_trader::Traders;
 use td_value::Ior;

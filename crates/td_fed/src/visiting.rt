@@ -2,7 +2,7 @@
 
 ghost use Rattle.std.specs.Prelude.{◌≡◌, ◌<◌, ◌≤◌, ℕ, List, [], ◌∷◌, ◌++◌, length, None, IfOk, OnOk};
 ghost use Rattle.td_fed.specs.Entering.{IsEntered};
-ghost use Rattle.td_fed.specs.Targets.{inside_group};
+ghost use Rattle.td_places.specs.Targets.{inside_group};
 ghost use Rattle.td_fed.specs.Trails.{DrawsOn, Goes, IsShown};
 ghost use Rattle.td_fed.specs.Turning.{Asks, IsTurn};
 ghost use Rattle.td_fed.specs.Visiting.{Begins, Visited, course};

@@ -7,7 +7,7 @@ use mathlib.Core.Path.{fun_ext}
 use Rattle.td_codes.specs.declared.code.Any.{Any}
 use Rattle.td_codes.specs.declared.reference.Ior.{Ior}
 use Rattle.td_fed.proofs.Members.{Insides, same-view}
-use Rattle.td_fed.specs.Targets.{inside_group}
+use Rattle.td_places.specs.Targets.{inside_group}
 use Rattle.td_fed.specs.Visiting.{Begins, course, start_of}
 use Rattle.td_fed_laws.specs.WalkLaws.{WalksAreDetermined}
 use Rattle.td_fed_laws.proofs.Alone.{alone}

@@ -6,7 +6,7 @@ use Rattle.td_cdr.specs.Marks.{Marks}
 use Rattle.td_changes.specs.Histories.{at}
 use Rattle.td_codes.specs.declared.reference.Ior.{Ior}
 use Rattle.td_fed.proofs.Members.{Beginnings, Insides}
-use Rattle.td_fed.specs.Targets.{inside_group}
+use Rattle.td_places.specs.Targets.{inside_group}
 use Rattle.td_fed_laws.specs.Traces.{first_point, first_searched, hops_in, searched_at}
 use Rattle.td_fed.specs.Visiting.{Begins}
 use Rattle.td_fed_laws.specs.WalkLaws.{WalksStayWithinTheirHops}

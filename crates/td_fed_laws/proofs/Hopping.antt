@@ -4,7 +4,7 @@ use Rattle.std.proofs.Common.{ap, subst, ◌∙◌, arith, le_refl}
 use Rattle.td_cdr.specs.Marks.{Marks}
 use Rattle.td_codes.specs.declared.reference.Ior.{Ior}
 use Rattle.td_fed.proofs.Members.{Beginnings, Insides}
-use Rattle.td_fed.specs.Targets.{inside_group}
+use Rattle.td_places.specs.Targets.{inside_group}
 use Rattle.td_fed_laws.specs.Traces.{hops_in, waiting, waiting_after}
 use Rattle.td_fed.specs.Visiting.{Begins}
 use Rattle.td_fed_laws.specs.WalkLaws.{VisitsEnd, WalksStayWithinStatedHops}

@@ -7,7 +7,7 @@ use Rattle.td_cdr.specs.Marks.{Holds, Later, Marks, entry_of, marked, remembered
 use Rattle.td_cdr.proofs.Marking.{is_not_held, newest}
 use Rattle.td_codes.specs.declared.reference.Ior.{Ior}
 use Rattle.td_fed.proofs.Members.{Beginnings, Insides, get-set_other, get-set_same, same-view}
-use Rattle.td_fed.specs.Targets.{inside_group}
+use Rattle.td_places.specs.Targets.{inside_group}
 use Rattle.td_fed.specs.Visiting.{Begins}
 use Rattle.td_fed_laws.specs.WalkLaws.{WalksSearchFarApart, ring_at, ring_in}
 use Rattle.td_fed_laws.proofs.Alone.{known}

@@ -5,8 +5,8 @@ use Rattle.std.specs.Prelude.{IfErr, Result, Ok, Err}
 use Rattle.td_cdr.specs.Marks.{Marks}
 use Rattle.td_cdr.specs.declared.memory.Memory.{Memory}
 use Rattle.td_codes.specs.declared.reference.Ior.{Ior}
-use Rattle.td_fed.proofs.Resolved.{inside-within}
-use Rattle.td_fed.specs.Targets.{inside_group}
+use Rattle.td_places.proofs.Within.{inside-within}
+use Rattle.td_places.specs.Targets.{inside_group}
 use Rattle.td_ior.specs.Profiles.{iiop_of}
 use Rattle.td_ior.specs.declared.profile.Iiop.{Iiop}
 use Rattle.td_ops.specs.declared.call.AddLink.{AddLink}

@@ -4,7 +4,7 @@ use Rattle.std.proofs.Common.{ap, subst, ◌∙◌, arith, Option, Some, None, I
 use Rattle.std.specs.Prelude.{option_map}
 use Rattle.std.specs.Str.{bytes_eq}
 use Rattle.td_cdr.specs.Names.{IsTraderName}
-use Rattle.td_fed.specs.Targets.{place_of}
+use Rattle.td_places.specs.Targets.{place_of}
 use Rattle.td_ior.proofs.Keys.{bind-Some, keys-agree, same-bytes, some-is}
 use Rattle.td_ior.specs.Keys.{key_of}
 use Rattle.td_iter.specs.Desks.{Live}

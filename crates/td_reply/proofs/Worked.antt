@@ -1,7 +1,7 @@
 -- Worked examples.
 use Rattle.std.proofs.Common.{◌≡◌, codes, refl}
 use Rattle.td_cdr.specs.Place.{At}
-use Rattle.td_fed.specs.Targets.{place_of}
+use Rattle.td_places.specs.Targets.{place_of}
 use Rattle.td_ior.specs.Keys.{key_of}
 use Rattle.td_ior.specs.Number.{number_below}
 use Rattle.td_trader.specs.Worlds.{View}

@@ -4,7 +4,7 @@
 use Rattle.std.specs.Prelude.{ℕ, ◌<◌, List, length, Option, Some, option_map}
 use Rattle.td_cdr.specs.Names.{IsTraderName}
 use Rattle.td_ior.specs.Keys.{◌>>=◌, key_of}
-use Rattle.td_fed.specs.Targets.{place_of}
+use Rattle.td_places.specs.Targets.{place_of}
 use Rattle.td_iter.specs.Desks.{Live, item_of}
 use Rattle.td_iter.specs.declared.item.Item.{Item}
 use Rattle.td_iter.specs.declared.item.Item.TheVariants.{Offers, Ids}

@@ -2,7 +2,7 @@
 -- General Inter-ORB Protocol, "IIOP IOR Profiles").
 use Rattle.std.specs.Prelude.{ℕ, List, Option, None, Some}
 use Rattle.td_codes.specs.declared.reference.Ior.{Ior}
-use Rattle.td_fed.specs.Targets.{inside_group}
+use Rattle.td_places.specs.Targets.{inside_group}
 use Rattle.td_ior.specs.Profiles.{iiop_of}
 use Rattle.td_ior.specs.declared.profile.Iiop.{Iiop}
 use Rattle.td_trader.specs.Worlds.{View}

@@ -7,9 +7,9 @@ ghost use Rattle.td_reply.specs.Objects.{key_with, object_of};
 
 use crate::interface::Interface;
 use td_cdr::Text;
-use td_fed::place_of;
 use td_ior::{Kind, key_parts};
 use td_iter::{Desk, Item};
+use td_places::place_of;
 use td_trader::Traders;
 
 /// An object: which one of the trader of this number, and its own interface.

@@ -1,13 +1,13 @@
 //! Where a target is: in the group, outside, or nowhere that can be reached.
 
 ghost use Rattle.std.specs.Prelude.{◌≡◌, IfOk};
-ghost use Rattle.td_fed.specs.Targets.{inside_group};
+ghost use Rattle.td_places.specs.Targets.{inside_group};
 ghost use Rattle.td_reply.specs.Targets.{reached, target_of};
 
 use std::alloc::Global;
 use td_cdr::Memory;
-use td_fed::inside_group;
 use td_ior::{IorFault, iiop_of};
+use td_places::inside_group;
 use td_trader::Traders;
 use td_value::Ior;
 use td_walk::Address;

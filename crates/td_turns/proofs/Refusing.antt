@@ -6,7 +6,7 @@ use Rattle.td_cdr.specs.Writing.{Draft}
 use Rattle.td_changes.specs.Histories.{is_done}
 use Rattle.td_codes.specs.declared.reference.Ior.{Ior}
 use Rattle.td_fed.proofs.Members.{Beginnings, Insides}
-use Rattle.td_fed.specs.Targets.{inside_group}
+use Rattle.td_places.specs.Targets.{inside_group}
 use Rattle.td_fed.specs.Trails.{Goes, began, marks_of, own_at, own_marks_at, stays, watched}
 use Rattle.td_fed.specs.Visiting.{Begins, course}
 use Rattle.td_iter.specs.Desks.{Live, item_of}

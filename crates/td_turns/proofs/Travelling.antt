@@ -8,7 +8,7 @@ use Rattle.td_fed.proofs.Moving.{draws-after, draws-none, has-drawn}
 use Rattle.td_fed.proofs.Rising.{flat-append}
 use Rattle.td_fed.proofs.Showing.{marks-append}
 use Rattle.td_fed.specs.Entering.{begin_item}
-use Rattle.td_fed.specs.Targets.{inside_group}
+use Rattle.td_places.specs.Targets.{inside_group}
 use Rattle.td_fed.specs.Trails.{DrawsOn, marks_of, point_of, points_of}
 use Rattle.td_fed.specs.Visiting.{Begins, Walks, start_of}
 use Rattle.td_ops.specs.declared.call.Query.{Query}

@@ -8,7 +8,7 @@ use Rattle.td_cdr.specs.Format.{value_named}
 use Rattle.td_cdr.specs.Marks.{Marks}
 use Rattle.td_cdr.specs.Place.{At}
 use Rattle.td_cdr.specs.Writing.{Draft}
-use Rattle.td_fed.specs.Targets.{place_of}
+use Rattle.td_places.specs.Targets.{place_of}
 use Rattle.td_ior.specs.Keys.{◌>>=◌, key_of}
 use Rattle.td_iter.specs.Desks.{Live, item_of}
 use Rattle.td_iter.specs.declared.item.Item.{Item}

@@ -9,7 +9,7 @@ use Rattle.td_cdr.specs.Writing.{Draft}
 use Rattle.td_codes.specs.Formats.{is_some}
 use Rattle.td_codes.specs.References.{reference}
 use Rattle.td_fed.proofs.Members.{Beginnings, Insides}
-use Rattle.td_fed.specs.Targets.{inside_group}
+use Rattle.td_places.specs.Targets.{inside_group}
 use Rattle.td_fed.specs.Visiting.{Begins, Walks, course}
 use Rattle.td_ior.proofs.Texts.{made-admitted}
 use Rattle.td_ior.specs.Keys.{written_key}

@@ -3,7 +3,7 @@ use Rattle.td_fed.proofs.Called.{evaluates, peered-asked}
 use Rattle.td_fed.proofs.Moving.{goes-none}
 use Rattle.td_fed.proofs.asking.ask.Goals as goal
 use Rattle.td_fed.specs.Entering.{IsAsked}
-use Rattle.td_fed.specs.Targets.{inside_group}
+use Rattle.td_places.specs.Targets.{inside_group}
 use Rattle.td_fed.specs.Visiting.{Begins, course}
 use Rattle.td_fed.specs.declared.asking.Asking.TheVariants.{Answered}
 use Rattle.td_walk.specs.declared.answer.Next.{Next}

@@ -2,11 +2,11 @@ use Rattle.std.proofs.Common.{◌≡◌, None, Some, rules, sym, subst}
 use Rattle.td_fed.proofs.Called.{outsides, peered-asked}
 use Rattle.td_fed.proofs.Entered.{entered-asked}
 use Rattle.td_fed.proofs.Moving.{goes-none}
-use Rattle.td_fed.proofs.Resolved.{inside-within}
+use Rattle.td_places.proofs.Within.{inside-within}
 use Rattle.td_fed.proofs.Showing.{shown-none}
 use Rattle.td_fed.proofs.asking.forward.Goals as goal
 use Rattle.td_fed.specs.Entering.{IsAsked}
-use Rattle.td_fed.specs.Targets.{inside_group}
+use Rattle.td_places.specs.Targets.{inside_group}
 use Rattle.td_fed.specs.Visiting.{Begins, course}
 use Rattle.td_fed.specs.declared.asking.Asking.{Asking}
 use Rattle.td_walk.specs.declared.answer.Next.TheVariants.{Forward}

@@ -1,6 +1,7 @@
 use Rattle.std.proofs.Common.{◌<◌, length, arith, rules}
 use Rattle.td_fed.proofs.Moving.{goes-after}
-use Rattle.td_fed.proofs.Resolved.{follows-so, is-inside, other-words, register-inside-within}
+use Rattle.td_fed.proofs.Resolved.{follows-so, is-inside, other-words}
+use Rattle.td_places.proofs.Within.{register-inside-within}
 use Rattle.td_fed.proofs.resolving.+follow.Goals as goal
 
 pub returns-in_ok-answer-in-Inside-clause-follows : goal.returns-in_ok-answer-in-Inside-clause-follows

@@ -1,6 +1,6 @@
 use Rattle.td_fed.proofs.Stacked.{one-asks, turn-answered, turn-opened}
 use Rattle.td_fed.proofs.visiting.ask_innermost.Goals as goal
-use Rattle.td_fed.specs.Targets.{inside_group}
+use Rattle.td_places.specs.Targets.{inside_group}
 use Rattle.td_fed.specs.Visiting.{Begins, course}
 
 pub answer_innermost-requires : goal.answer_innermost-requires

@@ -3,7 +3,7 @@ use Rattle.td_fed.proofs.Moving.{draws-none, goes-none}
 use Rattle.td_fed.proofs.Showing.{shown-none}
 use Rattle.td_fed.proofs.Stacked.{turn-closes}
 use Rattle.td_fed.proofs.visiting.turn.Goals as goal
-use Rattle.td_fed.specs.Targets.{inside_group}
+use Rattle.td_places.specs.Targets.{inside_group}
 use Rattle.td_fed.specs.Turning.{IsTurn}
 use Rattle.td_fed.specs.Visiting.{Begins, course}
 use Rattle.td_visit.specs.Standing.{Standing as Frame}

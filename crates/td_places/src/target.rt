@@ -1,8 +1,8 @@
 //! Which reference is an object of the group.
 
 ghost use Rattle.std.specs.Prelude.{◌≡◌, IfOk};
-ghost use Rattle.td_fed.specs.Targets.{home_key, inside_group, key_at, lookup_of, place_of, register_inside};
-ghost use Rattle.td_fed.specs.Targets.{register_of};
+ghost use Rattle.td_places.specs.Targets.{home_key, inside_group, key_at, lookup_of, place_of, register_inside};
+ghost use Rattle.td_places.specs.Targets.{register_of};
 
 use std::alloc::Global;
 use td_cdr::Memory;
@@ -36,7 +36,7 @@ pub fn inside_group<T: Traders>(
 /// # Errors
 ///
 /// `Memory` for want of memory alone.
-pub(crate) fn register_inside<T: Traders>(
+pub fn register_inside<T: Traders>(
     alloc: Global,
     traders: &T,
     home: &Address,

@@ -1,8 +1,8 @@
 use Rattle.std.proofs.Common.{◌≡◌, ◌<◌, ◌∙◌, sym, arith, rules, length, true, false}
 use Rattle.std.specs.Str.{bytes_eq}
 use Rattle.td_trader.specs.Worlds.{name_at}
-use Rattle.td_fed.proofs.Places.{placed-behind, placed-here, placed-last}
-use Rattle.td_fed.proofs.target.place_of.Goals as goal
+use Rattle.td_places.proofs.Places.{placed-behind, placed-here, placed-last}
+use Rattle.td_places.proofs.target.place_of.Goals as goal
 
 pub returns-then-eq : goal.returns-then-eq
 returns-then-eq g c =

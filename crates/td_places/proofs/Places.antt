@@ -4,7 +4,7 @@ use Rattle.std.proofs.Common.{arith, Bool, true, false}
 use Rattle.std.specs.Prelude.{Option, None, Some}
 use Rattle.std.specs.Option.{option_map}
 use Rattle.std.specs.Str.{bytes_eq}
-use Rattle.td_fed.specs.Targets.{place_of}
+use Rattle.td_places.specs.Targets.{place_of}
 use Rattle.td_trader.specs.Worlds.{View, name_at}
 
 -- what is left of the traders is looked through, and so many come before

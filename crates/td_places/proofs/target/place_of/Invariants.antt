@@ -1,7 +1,7 @@
 use Rattle.std.proofs.Common.{◌-◌, ◌≡◌, ◌≤◌, length, drop}
-use Rattle.td_fed.specs.Targets.{place_of}
-use Rattle.td_fed.proofs.Places.{placed}
-use Rattle.td_fed.proofs.target.place_of.Given as goal
+use Rattle.td_places.specs.Targets.{place_of}
+use Rattle.td_places.proofs.Places.{placed}
+use Rattle.td_places.proofs.target.place_of.Given as goal
 
 abbrev pub invariant-loop-place : goal.invariant-loop-place
 invariant-loop-place g l =
