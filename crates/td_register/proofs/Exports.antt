@@ -1,6 +1,6 @@
 -- An offer that is exported.
 use Rattle.std.proofs.Common.{◌≡◌, ℕ, ◌+◌, ◌<◌, ◌≤◌, List, [], ◌∷◌, false, None, Ok, Err, length, nat_le, arith}
-use Rattle.std.proofs.Common.{refl}
+use Rattle.std.proofs.Common.{Result, MatchResult, refl}
 use Rattle.std.proofs.lemmas.Bool.Decides.{nat_tests}
 use Rattle.std.specs.List.{AllByRecursion}
 use Rattle.td_codes.specs.declared.reference.Ior.{Ior}
@@ -82,3 +82,13 @@ added s new reference type_name properties id none is =
     (front_cause s reference type_name properties) (export_cause s reference type_name properties)
     (id_of (s.last_offer + 1)) id (exported s reference type_name properties) s new
     (limits s reference type_name properties) none is refl
+
+-- what adding it comes to, where nothing else is at fault
+pub done : (s new : Store) (reference : Ior) (type_name : List ℕ) (properties : List Property)
+    (r : Result (List ℕ) Fault) → front_cause s reference type_name properties ≡ None →
+    IsAdded (exported s reference type_name properties) s new r →
+    MatchResult r (λ (id : List ℕ). export s reference type_name properties ≡ Ok (reply.Id id, new))
+    (λ (f : Fault). Accepts (change.Export reference type_name properties) (export s reference type_name properties) s
+    new (Err f))
+done s new reference type_name properties (Ok id) none is = added s new reference type_name properties id none is
+done s new reference type_name properties (Err f) none is = unadded s new reference type_name properties f none is

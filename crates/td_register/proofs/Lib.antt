@@ -4,6 +4,7 @@ pub mod Limits
 pub mod Modifies
 pub mod OneByOne
 pub mod Otherwise
+pub mod PolicyNames
 pub mod ProxyExports
 pub mod RecipeTest
 pub mod Renewing

@@ -1,6 +1,6 @@
 -- Causes one after the other.
 use Rattle.std.proofs.Common.{◌≡◌, Bool, true, false, List, ℕ, Option, Some, None, Ok, Err, refl, cond, not, is_some}
-use Rattle.std.proofs.Common.{ap, ◌∙◌}
+use Rattle.std.proofs.Common.{Result, ap, ◌∙◌}
 use Rattle.td_cdr.specs.Names.{word_name}
 use Rattle.td_exceptions.specs.declared.exception.UserException.{UserException}
 use Rattle.td_exceptions.specs.declared.exception.UserException.TheVariants as user
@@ -8,8 +8,8 @@ use Rattle.td_types.specs.Repository.{mask_in, type_named}
 use Rattle.td_types.specs.declared.entry.ServiceType.{ServiceType}
 use Rattle.td_ops.specs.declared.call.Change.{Change}
 use Rattle.td_ops.specs.declared.outcome.Reply.{Reply}
-use Rattle.td_register.specs.Causes.{Cause, Found, given, raise, there, unless, ◌otherwise◌}
-use Rattle.td_register.specs.Judged.{Accepts, IsMet}
+use Rattle.td_register.specs.Causes.{Cause, Found, given, raise, raise_if, there, unless, ◌otherwise◌}
+use Rattle.td_register.specs.Judged.{Accepts, IsMet, Judges}
 use Rattle.td_register.specs.Named.{open_type, unmasked}
 use Rattle.td_register.specs.Registers.{no_more}
 use Rattle.td_register.specs.declared.refusal.Fault.{Fault}
@@ -27,8 +27,24 @@ first a b Memory h = tt
 pub second : (a b : Cause) (f : Fault) → a ≡ None → IsMet b f → IsMet (a otherwise b) f
 second a b f e h = rw e h
 
+-- the same of a call that judges by the second
+pub later : {X : Type 0} (a b : Cause) (r : Result X Fault) → a ≡ None → Judges b r → Judges (a otherwise b) r
+later a b r e h = rw e h
+
 pub neither : (a b : Cause) → a ≡ None → b ≡ None → (a otherwise b) ≡ None
 neither a b e h = rw e h
+
+-- an exception that is raised, alone or in front of other causes
+pub raises : (so : Bool) (e : UserException) → so ≡ true → IsMet (raise_if so e) (Refused (Raised e))
+raises so e h = rw h refl
+
+pub raises_first : (so : Bool) (e : UserException) (b : Cause) → so ≡ true →
+    IsMet (raise_if so e otherwise b) (Refused (Raised e))
+raises_first so e b h = rw h refl
+
+-- one that isn't
+pub not_raised : (so : Bool) (e : UserException) → so ≡ false → raise_if so e ≡ None
+not_raised so e h = rw h refl
 
 pub grouped : (a b c : Cause) → ((a otherwise b) otherwise c) ≡ (a otherwise (b otherwise c))
 grouped None b c = refl

@@ -1,5 +1,6 @@
 -- A proxy offer that is exported.
 use Rattle.std.proofs.Common.{◌≡◌, ℕ, ◌+◌, List, [], not, is_some, None, Ok, Err, length, nat_le, refl}
+use Rattle.std.proofs.Common.{Result, MatchResult}
 use Rattle.td_codes.specs.declared.reference.Ior.{Ior}
 use Rattle.td_exceptions.specs.declared.exception.UserException.TheVariants.{IllegalRecipe, InvalidLookupRef}
 use Rattle.td_ior.specs.Profiles.{iiop_of}
@@ -87,3 +88,16 @@ added s new target type_name properties part id none is =
     (export_proxy_cause s target type_name properties part.recipe part.policies)
     (id_of (s.last_offer + 1)) id (exported_proxy s target type_name properties part) s new
     (limits s target type_name properties part.recipe part.policies) none is refl
+
+-- what adding it comes to, where nothing else is at fault
+pub done : (s new : Store) (target : Ior) (type_name : List ℕ) (properties : List Property) (part : ProxyPart)
+    (r : Result (List ℕ) Fault) → proxy_front_cause s target type_name properties part.recipe part.policies ≡ None →
+    IsAdded (exported_proxy s target type_name properties part) s new r →
+    MatchResult r (λ (id : List ℕ). export_proxy s target type_name properties part.if_match_all part.recipe
+    part.policies ≡ Ok (reply.Id id, new))
+    (λ (f : Fault). Accepts (change.ExportProxy target type_name properties part.if_match_all part.recipe part.policies)
+    (export_proxy s target type_name properties part.if_match_all part.recipe part.policies) s new (Err f))
+done s new target type_name properties part (Ok id) none is =
+    added s new target type_name properties part id none is
+done s new target type_name properties part (Err f) none is =
+    unadded s new target type_name properties part f none is

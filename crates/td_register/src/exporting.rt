@@ -1,15 +1,15 @@
 //! Offers that are exported (OMG's Trading Object Service, interface Register, export).
 
-ghost use Rattle.std.specs.Prelude.{◌≡◌, ◌≤◌, ◌<◌, IfOk};
+ghost use Rattle.std.specs.Prelude.{◌≡◌, ◌≤◌, ◌<◌, Ok, Err, IfOk, MatchResult};
 ghost use Rattle.std.specs.List.{AllByRecursion};
 ghost use Rattle.td_ior.specs.Nil.{is_nil};
 ghost use Rattle.td_ops.specs.declared.call.Change.TheVariants as change;
+ghost use Rattle.td_ops.specs.declared.outcome.Reply.TheVariants as reply;
 ghost use Rattle.td_exceptions.specs.declared.exception.UserException.TheVariants as user;
 ghost use Rattle.td_store.specs.declared.record.OfferRecord.{OfferRecord as Kept};
-ghost use Rattle.td_register.specs.Causes.{given, raise_if};
-ghost use Rattle.td_register.specs.Judged.{Accepts, IsAdded, Judges, Yields, front_cause, size_cause};
-ghost use Rattle.td_register.specs.Named.{open_type};
-ghost use Rattle.td_register.specs.Registers.{export, exported, incarnation_now, interface_cause, last_number};
+ghost use Rattle.td_register.specs.Causes.{raise_if};
+ghost use Rattle.td_register.specs.Judged.{Accepts, IsAdded, Judges, front_cause, size_cause};
+ghost use Rattle.td_register.specs.Registers.{export, exported, incarnation_now, last_number};
 ghost use Rattle.td_register.specs.Registers.{offer_cause};
 
 use crate::history::{Accepted, entry_of};
@@ -37,17 +37,6 @@ fn check_reference(alloc: Global, reference: &Ior) -> Result<(), Fault>
     Ok(())
 }
 
-/// Refuses a type that isn't open to the offer.
-#[tactic(auto, using(crate::proofs::Otherwise::opened))]
-fn check_type(alloc: Global, store: &Store, name: &Text, reference: &Ior) -> Result<(), Fault>
-    ensures { Judges (given (open_type store.now.types.types name.now)
-        (interface_cause store.now name.now reference.now)) result }
-{
-    check_open(alloc, &store.types, name)?;
-    check_interface(alloc, store, name, reference)?;
-    Ok(())
-}
-
 /// Refuses properties that a new offer of the type can't have.
 pub(crate) fn check_offer(
     alloc: Global,
@@ -65,8 +54,7 @@ pub(crate) fn check_offer(
         demanded,
         properties,
     )?;
-    check_missing(alloc, type_name, demanded, properties)?;
-    Ok(())
+    check_missing(alloc, type_name, demanded, properties)
 }
 
 /// Refuses an offer where no number is left, or that is too large.
@@ -102,10 +90,10 @@ pub fn check_export(
     ensures { Judges (front_cause store.now reference.now type_name.now properties.now) result }
 {
     check_reference(alloc, reference)?;
-    check_type(alloc, store, type_name, reference)?;
+    check_open(alloc, &store.types, type_name)?;
+    check_interface(alloc, store, type_name, reference)?;
     check_offer(alloc, store, type_name, properties.as_slice())?;
-    check_limits(alloc, store, reference, properties)?;
-    Ok(())
+    check_limits(alloc, store, reference, properties)
 }
 
 /// The incarnation that the type of a name has, 0 where there is none.
@@ -160,20 +148,24 @@ pub(crate) fn add_offer(alloc: Global, store: &mut Store, offer: OfferRecord) ->
     }
 }
 
-/// The offer that is exported, where nothing is at fault with it.
-fn prepared(
+/// Exports an offer where nothing is at fault with it, and answers its id.
+fn add_export(
     alloc: Global,
-    store: &Store,
+    store: &mut Store,
     reference: &Shared<Ior>,
-    type_name: &Shared<Text>,
+    service_type: &Shared<Text>,
     properties: &Shared<List<Property>>,
-) -> Result<OfferRecord, Fault>
-    ensures { Yields (front_cause store.now reference.now type_name.now properties.now)
-        (exported store.now reference.now type_name.now properties.now) result }
+) -> Result<Text, Fault>
+    requires given { AllByRecursion (λ (o : Kept). (0 < o.number) × (o.number ≤ store.old.last_offer))
+        store.old.offers }
+    ensures { MatchResult result
+        (λ id. export store.old reference.now service_type.now properties.now ≡ Ok (reply.Id id, store.new))
+        (λ f. Accepts (change.Export reference.now service_type.now properties.now)
+        (export store.old reference.now service_type.now properties.now) store.old store.new (Err f)) }
 {
-    check_export(alloc, store, reference, type_name, properties)?;
-    let offer = new_offer(alloc, store, reference, type_name, properties)?;
-    Ok(offer)
+    check_export(alloc, store, reference, service_type, properties)?;
+    let offer = new_offer(alloc, store, reference, service_type, properties)?;
+    add_offer(alloc, store, offer)
 }
 
 /// Exports an offer, and answers its id.
@@ -182,7 +174,6 @@ fn prepared(
 ///
 /// `InvalidObjectRef`; `IllegalServiceType`, `UnknownServiceType`; `InterfaceTypeMismatch`; what is at
 /// fault with a property; IMP_LIMIT; `Memory` for want of memory.
-#[tactic(auto, unfolding(crate::specs::Registers::export))]
 pub fn export(
     alloc: Global,
     store: &mut Store,
@@ -196,8 +187,7 @@ pub fn export(
     ensures { Accepts (change.Export reference service_type properties) (export store.old reference service_type
         properties) store.old store.new result }
 {
-    let offer = prepared(alloc, store, &reference, &service_type, &properties)?;
-    let id = add_offer(alloc, store, offer)?;
+    let id = add_export(alloc, store, &reference, &service_type, &properties)?;
     Ok(entry_of(
         Change::Export {
             reference,

@@ -2,7 +2,6 @@
 
 ghost use Rattle.std.specs.Prelude.{◌≡◌, ◌++◌, List, ℕ, [], IfOk, OnOk, map, filter, not};
 ghost use Rattle.td_cdr.specs.Seen.{HaveSeen};
-ghost use Rattle.td_exceptions.specs.declared.exception.UserException.TheVariants as user;
 ghost use Rattle.td_ops.specs.declared.call.Change.TheVariants as change;
 ghost use Rattle.td_types.specs.Repository.{is_among};
 ghost use Rattle.td_value.specs.declared.structures.Property.{Property as Kept};
@@ -11,8 +10,6 @@ ghost use Rattle.td_register.specs.Judged.{Accepts, IsRenewal, Judges, Yields};
 ghost use Rattle.td_register.specs.Properties.{carries};
 ghost use Rattle.td_register.specs.Registers.{changes_cause, deletion_cause, deletions_cause, modified, modify};
 ghost use Rattle.td_register.specs.Registers.{offer_changes_cause, readonly_cause, renewed};
-ghost use Rattle.td_register.specs.declared.refusal.Fault.TheVariants as fault;
-ghost use Rattle.td_register.specs.declared.refusal.Refusal.TheVariants as refusal;
 
 use crate::history::{Accepted, entry_of};
 use crate::named::demanded;
@@ -28,14 +25,6 @@ use td_ops::{Change, Reply, is_among};
 use td_store::{OfferRecord, Store};
 use td_types::{is_mandatory, is_readonly};
 use td_value::{PropStruct, Property};
-
-fn readonly_property(alloc: Global, service_type: &Text, name: &Text) -> Result<Fault, Memory>
-    ensures { IfOk result (λ f.
-        f ≡ fault.Refused (refusal.Raised (user.ReadonlyProperty service_type.now name.now))) }
-{
-    let (service_type, name) = copy_two(alloc, service_type, name)?;
-    Ok(raised(UserException::ReadonlyProperty { service_type, name }))
-}
 
 /// Refuses to delete a property that the offer lacks or must keep.
 fn check_deletion(
@@ -57,7 +46,8 @@ fn check_deletion(
         return Err(raised(UserException::MandatoryProperty { service_type, name }));
     }
     if is_readonly(mode) {
-        return Err(readonly_property(alloc, &offer.service_type, name)?);
+        let (service_type, name) = copy_two(alloc, offer.service_type.get(), name)?;
+        return Err(raised(UserException::ReadonlyProperty { service_type, name }));
     }
     Ok(())
 }
@@ -93,7 +83,8 @@ fn check_readonly(
     if is_readonly(mode_of(demanded, name.as_slice()))
         && carries(offer.properties.as_slice(), name.as_slice())
     {
-        return Err(readonly_property(alloc, &offer.service_type, name)?);
+        let (service_type, name) = copy_two(alloc, offer.service_type.get(), name)?;
+        return Err(raised(UserException::ReadonlyProperty { service_type, name }));
     }
     Ok(())
 }
@@ -132,8 +123,7 @@ fn check_modify(
 {
     let mut seen = nothing_seen(alloc);
     check_deletions(alloc, demanded, offer, &mut seen, deleted)?;
-    check_changes(alloc, supported, demanded, offer, &mut seen, changed)?;
-    Ok(())
+    check_changes(alloc, supported, demanded, offer, &mut seen, changed)
 }
 
 /// The property that is given in place of this one, or else this one.

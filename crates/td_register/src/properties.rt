@@ -8,21 +8,24 @@ ghost use Rattle.td_register.specs.Properties.{carries, is_too_large, mismatches
 ghost use Rattle.td_register.specs.Properties.{properties_cause, value_cause};
 
 use crate::refusal::{Fault, Refusal, raised};
-use crate::typing::{is_dynamic, is_typed, mode_of, property_named};
+use crate::typing::{is_typed, mode_of, property_named};
 use std::alloc::Global;
 use std::collections::BTreeSet;
 use td_cdr::{List, Memory, Text, Twin, copy_two, is_identifier, nothing_seen, see};
 use td_exceptions::UserException;
 use td_types::{MOST_BYTES, MOST_PROPERTIES, is_mandatory, is_readonly};
-use td_value::{Ior, PropStruct, Property, offer_size};
+use td_value::{Ior, PropStruct, Property, is_dynamic, offer_size};
 
 /// Whether one of these has the name.
 pub(crate) fn carries(properties: &[Property], name: &[u8]) -> bool
     ensures { result ≡ carries properties.now name.now }
 {
-    properties
-        .iter()
-        .any(|property| property.name.as_slice() == name)
+    for property in properties {
+        if property.name.as_slice() == name {
+            return true;
+        }
+    }
+    false
 }
 
 /// Puts a copy of a property behind the others.
@@ -65,7 +68,7 @@ fn mismatches(supported: bool, demanded: &[PropStruct], property: &Property) -> 
     ensures { result ≡ mismatches supported demanded.now property.now }
 {
     let declared = property_named(demanded, property.name.as_slice());
-    (is_dynamic(&property.value) && !supported) || !is_typed(declared, &property.value)
+    (is_dynamic(&property.value.code) && !supported) || !is_typed(declared, &property.value)
 }
 
 /// Refuses a value that the type doesn't let stand there.
@@ -85,7 +88,9 @@ pub(crate) fn check_value(
             property,
         }));
     }
-    if is_dynamic(&property.value) && is_readonly(mode_of(demanded, property.name.as_slice())) {
+    if is_dynamic(&property.value.code)
+        && is_readonly(mode_of(demanded, property.name.as_slice()))
+    {
         let (service_type, name) = copy_two(alloc, type_name, &property.name)?;
         return Err(raised(UserException::ReadonlyDynamicProperty { service_type, name }));
     }

@@ -1,13 +1,14 @@
 //! Proxy offers that are exported (OMG's Trading Object Service, interface Proxy, export_proxy).
 
-ghost use Rattle.std.specs.Prelude.{◌≡◌, ◌≤◌, ◌<◌, not, is_some, Some, [], IfOk};
+ghost use Rattle.std.specs.Prelude.{◌≡◌, ◌≤◌, ◌<◌, not, is_some, [], Ok, Err, IfOk, MatchResult};
 ghost use Rattle.std.specs.List.{AllByRecursion};
 ghost use Rattle.td_exceptions.specs.declared.exception.UserException.TheVariants as user;
 ghost use Rattle.td_ior.specs.Profiles.{iiop_of};
 ghost use Rattle.td_ops.specs.declared.call.Change.TheVariants as change;
+ghost use Rattle.td_ops.specs.declared.outcome.Reply.TheVariants as reply;
 ghost use Rattle.td_store.specs.declared.record.OfferRecord.{OfferRecord as Kept};
 ghost use Rattle.td_register.specs.Causes.{raise_if, given, unless_supported};
-ghost use Rattle.td_register.specs.Judged.{Accepts, Judges, Yields, later_proxy_cause, proxy_front_cause};
+ghost use Rattle.td_register.specs.Judged.{Accepts, Judges, proxy_front_cause};
 ghost use Rattle.td_register.specs.Judged.{told};
 ghost use Rattle.td_register.specs.Proxies.{export_proxy, exported_proxy, is_recipe, policies_cause};
 ghost use Rattle.td_register.specs.Registers.{last_number};
@@ -106,25 +107,6 @@ fn check_policies(alloc: Global, policies: &[Policy]) -> Result<(), Fault>
     Ok(())
 }
 
-/// Refuses properties, a recipe, policies and sizes that a proxy offer can't have.
-fn check_parts(
-    alloc: Global,
-    store: &Store,
-    target: &Ior,
-    type_name: &Text,
-    properties: &List<Property>,
-    part: &ProxyPart,
-) -> Result<(), Fault>
-    ensures { Judges (later_proxy_cause store.now target.now type_name.now properties.now part.now.recipe
-        part.now.policies) result }
-{
-    check_offer(alloc, store, type_name, properties.as_slice())?;
-    check_recipe(alloc, &part.recipe)?;
-    check_policies(alloc, part.policies.as_slice())?;
-    check_limits(alloc, store, target, properties)?;
-    Ok(())
-}
-
 /// Refuses a proxy offer that can't be exported.
 ///
 /// # Errors
@@ -146,8 +128,10 @@ pub fn check_export_proxy(
     check_supported(store.attributes.supports_proxy_offers)?;
     check_open(alloc, &store.types, type_name)?;
     check_target(alloc, target)?;
-    check_parts(alloc, store, target, type_name, properties, part)?;
-    Ok(())
+    check_offer(alloc, store, type_name, properties.as_slice())?;
+    check_recipe(alloc, &part.recipe)?;
+    check_policies(alloc, part.policies.as_slice())?;
+    check_limits(alloc, store, target, properties)
 }
 
 /// The proxy offer that is exported, as the store keeps it.
@@ -176,22 +160,28 @@ fn new_proxy(
     })
 }
 
-/// The proxy offer that is exported, where nothing is at fault with it.
-fn prepared_proxy(
+/// Exports a proxy offer where nothing is at fault with it, and answers its id.
+fn add_proxy(
     alloc: Global,
-    store: &Store,
+    store: &mut Store,
     target: &Shared<Ior>,
-    type_name: &Shared<Text>,
+    service_type: &Shared<Text>,
     properties: &Shared<List<Property>>,
     part: &ProxyPart,
-) -> Result<OfferRecord, Fault>
-    ensures { Yields (proxy_front_cause store.now target.now type_name.now properties.now part.now.recipe
-        part.now.policies)
-        (exported_proxy store.now target.now type_name.now properties.now part.now) result }
+) -> Result<Text, Fault>
+    requires given { AllByRecursion (λ (o : Kept). (0 < o.number) × (o.number ≤ store.old.last_offer))
+        store.old.offers }
+    ensures { MatchResult result
+        (λ id. export_proxy store.old target.now service_type.now properties.now part.now.if_match_all part.now.recipe
+        part.now.policies ≡ Ok (reply.Id id, store.new))
+        (λ f. Accepts (change.ExportProxy target.now service_type.now properties.now part.now.if_match_all
+        part.now.recipe part.now.policies)
+        (export_proxy store.old target.now service_type.now properties.now part.now.if_match_all part.now.recipe
+        part.now.policies) store.old store.new (Err f)) }
 {
-    check_export_proxy(alloc, store, target, type_name, properties, part)?;
-    let offer = new_proxy(alloc, store, target, type_name, properties, part)?;
-    Ok(offer)
+    check_export_proxy(alloc, store, target, service_type, properties, part)?;
+    let offer = new_proxy(alloc, store, target, service_type, properties, part)?;
+    add_offer(alloc, store, offer)
 }
 
 /// Exports a proxy offer, and answers its id.
@@ -200,7 +190,6 @@ fn prepared_proxy(
 ///
 /// NO_IMPLEMENT; `IllegalServiceType`, `UnknownServiceType`; `InvalidLookupRef`; what is at fault with a
 /// property; `IllegalRecipe`; `DuplicatePolicyName`; IMP_LIMIT; `Memory` for want of memory.
-#[tactic(auto, unfolding(crate::specs::Proxies::export_proxy))]
 pub fn export_proxy(
     alloc: Global,
     store: &mut Store,
@@ -223,8 +212,7 @@ pub fn export_proxy(
         recipe,
         policies,
     };
-    let offer = prepared_proxy(alloc, store, &target, &service_type, &properties, &part)?;
-    let id = add_offer(alloc, store, offer)?;
+    let id = add_proxy(alloc, store, &target, &service_type, &properties, &part)?;
     Ok(entry_of(
         Change::ExportProxy {
             target,

@@ -2,7 +2,7 @@
 
 ghost use Rattle.std.specs.Prelude.{◌≡◌, IfOk};
 ghost use Rattle.td_exceptions.specs.declared.exception.UserException.TheVariants as user;
-ghost use Rattle.td_register.specs.Causes.{system, refused};
+ghost use Rattle.td_register.specs.Causes.{refused};
 ghost use Rattle.td_register.specs.declared.refusal.Fault.TheVariants as fault;
 ghost use Rattle.td_register.specs.declared.refusal.Refusal.TheVariants as refusal;
 
@@ -72,24 +72,21 @@ pub fn invalid_lookup(alloc: Global, target: &Ior) -> Result<Fault, Memory>
     }))
 }
 
-/// A system exception of a call that wasn't done.
-fn system(kind: SystemKind) -> Outcome
-    ensures { result ≡ system kind }
-{
-    Outcome::System {
-        kind,
-        minor: 0,
-        completion: COMPLETED_NO,
-    }
-}
-
 /// The outcome of a call that is refused.
 pub fn refused(refusal: Refusal) -> Outcome
     ensures { result ≡ refused refusal }
 {
     match refusal {
         Refusal::Raised(exception) => Outcome::User(exception),
-        Refusal::NotSupported => system(SystemKind::NoImplement),
-        Refusal::Limit => system(SystemKind::ImpLimit),
+        Refusal::NotSupported => Outcome::System {
+            kind: SystemKind::NoImplement,
+            minor: 0,
+            completion: COMPLETED_NO,
+        },
+        Refusal::Limit => Outcome::System {
+            kind: SystemKind::ImpLimit,
+            minor: 0,
+            completion: COMPLETED_NO,
+        },
     }
 }

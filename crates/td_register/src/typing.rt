@@ -5,17 +5,10 @@ ghost use Rattle.std.specs.Prelude.{◌≡◌, option_copied};
 ghost use Rattle.td_codes.specs.Values.{code_in};
 ghost use Rattle.td_codes.specs.declared.code.Value.{out-Value};
 ghost use Rattle.td_types.specs.Properties.{property_named};
-ghost use Rattle.td_register.specs.Properties.{has_type, is_dynamic, is_typed, mode_of, returned_type};
+ghost use Rattle.td_register.specs.Properties.{has_type, is_typed, mode_of, returned_type};
 ghost use Rattle.td_register.specs.Properties.{second_code};
 
-use td_value::{Any, PropStruct, PropertyMode, TypeCode, Value, same_type};
-
-/// Whether the any holds a property that is evaluated when it is asked for.
-pub(crate) fn is_dynamic(any: &Any) -> bool
-    ensures { result ≡ is_dynamic any.now }
-{
-    td_value::is_dynamic(&any.code)
-}
+use td_value::{Any, PropStruct, PropertyMode, TypeCode, Value, is_dynamic, same_type};
 
 /// The TypeCode that a value is.
 fn code_in(value: &Value) -> Option<&TypeCode>
@@ -51,7 +44,7 @@ fn returned_type(value: &Value) -> Option<&TypeCode>
 fn has_type(declared: &TypeCode, any: &Any) -> bool
     ensures { result ≡ has_type declared.now any.now }
 {
-    if !is_dynamic(any) {
+    if !is_dynamic(&any.code) {
         return same_type(&any.code, declared);
     }
     match returned_type(&any.value) {

@@ -2,7 +2,6 @@
 //! withdraw_using_constraint).
 
 ghost use Rattle.std.specs.Prelude.{◌≡◌, None, Ok, filter, map, not, IfOk, MatchResult};
-ghost use Rattle.td_exceptions.specs.declared.exception.UserException.TheVariants as user;
 ghost use Rattle.td_ops.specs.declared.call.Change.TheVariants as change;
 ghost use Rattle.td_store.specs.Candidates.{has_conforming_type};
 ghost use Rattle.td_register.specs.Causes.{given};
@@ -11,8 +10,6 @@ ghost use Rattle.td_register.specs.Named.{known};
 ghost use Rattle.td_register.specs.Registers.{asked_in, is_met, no_more, none_met, static_properties};
 ghost use Rattle.td_register.specs.Registers.{withdraw_met_cause, withdraw_using_constraint};
 ghost use Rattle.td_register.specs.Withdrawals.{IsWithdrawal, meets, without_offers};
-ghost use Rattle.td_register.specs.declared.refusal.Fault.TheVariants as fault;
-ghost use Rattle.td_register.specs.declared.refusal.Refusal.TheVariants as refusal;
 
 use crate::history::{Accepted, entry_of};
 use crate::properties::push_copy;
@@ -98,18 +95,7 @@ fn met_among(
 }
 
 /// The offers whose type conforms. It walks the chains of these types and no others.
-fn conforming<'a>(
-    alloc: Global,
-    store: &'a Store,
-    asked: &Text,
-) -> Result<Vec<&'a OfferRecord>, Memory>
-    ensures { IfOk result (λ v. map (λ r. r.now) v.items
-        ≡ filter (has_conforming_type store.now.types.types asked.now) store.now.offers) }
-{
-    counted_conforming::<Brand>(alloc, store, asked, Blank::new(1))
-}
-
-fn counted_conforming<'a, L: Ledger>(
+fn conforming<'a, L: Ledger>(
     alloc: Global,
     store: &'a Store,
     asked: &Text,
@@ -137,16 +123,8 @@ fn all_met(
     ensures { IfOk result (λ met. met
         ≡ map (λ o. o.number) (filter (is_met store.now.types.types asked.now constraint.now) store.now.offers)) }
 {
-    let offers = conforming(alloc, store, asked)?;
+    let offers = conforming::<Brand>(alloc, store, asked, Blank::new(1))?;
     met_among(alloc, constraint, offers.as_slice())
-}
-
-fn no_matching(alloc: Global, text: &Text) -> Result<Fault, Memory>
-    ensures { IfOk result (λ f. f ≡ fault.Refused (refusal.Raised (user.NoMatchingOffers text.now))) }
-{
-    Ok(raised(UserException::NoMatchingOffers {
-        constraint: text.copy(alloc)?,
-    }))
 }
 
 /// The numbers of the offers that are withdrawn, of which there must be one.
@@ -165,7 +143,9 @@ fn some_met(
 {
     let numbers = all_met(alloc, store, asked, constraint)?;
     if numbers.is_empty() {
-        return Err(no_matching(alloc, text)?);
+        return Err(raised(UserException::NoMatchingOffers {
+            constraint: text.copy(alloc)?,
+        }));
     }
     // The call says that numbers rise: each leads to one offer.
     let _count = store.offers.len();

@@ -20,7 +20,8 @@ pub returns-then-is_empty : goal.returns-then-is_empty
 returns-then-is_empty c =
     let p = is_met c.args.store.now.types.types c.args.asked.now c.args.constraint.now in
     let empty = is-empty c.is_empty.result c.in_ok-numbers.numbers c.is_empty.ensures c.if-is_empty.true in
-    rw c.in_ok-no_matching.ensures (ap (λ (b : Bool). raise_if (not b) (NoMatchingOffers c.args.text.now)) (none-passes
+    rw (c.raised.ensures, c.in_ok-copy.ensures) (ap (λ (b : Bool). raise_if (not b) (NoMatchingOffers
+    c.args.text.now)) (none-passes
     p c.args.store.now.offers (sym c.in_ok-numbers.ensures ∙ empty)))
 
 pub returns : goal.returns
