@@ -15,11 +15,10 @@ use crate::repository::{add_type, mask_type, remove_type, unmask_type};
 use crate::ruling::modify_link;
 use std::alloc::Global;
 use td_cdr::Memory;
+use td_export::{export, export_proxy};
+use td_modify::{modify, withdraw_using_constraint};
 use td_ops::{Change, Outcome};
-use td_register::{
-    Accepted, Fault, export, export_proxy, modify, refused, withdraw, withdraw_proxy,
-    withdraw_using_constraint,
-};
+use td_register::{Accepted, Fault, refused, withdraw, withdraw_proxy};
 use td_store::Store;
 
 /// Does a change, and gives it back with its reply.

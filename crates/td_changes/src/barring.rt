@@ -20,11 +20,10 @@ use crate::ruling::ruled_name;
 use std::alloc::Global;
 use td_cdr::{List, Memory, Text, Twin, is_word_name};
 use td_exceptions::UserException;
+use td_export::{check_export, check_export_proxy};
+use td_modify::{check_withdraw_met, renewal};
 use td_ops::{Change, Outcome};
-use td_register::{
-    Fault, Refusal, check_export, check_export_proxy, check_withdraw_met, is_proxy, number_in,
-    refused, renewal,
-};
+use td_register::{Fault, Refusal, is_proxy, number_in, refused};
 use td_store::{ProxyPart, Store};
 use td_types::{Judgement, TypesFault};
 use td_value::{FollowOption, Ior, PropStruct, Property};

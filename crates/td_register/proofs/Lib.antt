@@ -1,11 +1,4 @@
-pub mod Exports
 pub mod InOrder
 pub mod Limits
-pub mod Modifies
 pub mod OneByOne
 pub mod Otherwise
-pub mod PolicyNames
-pub mod ProxyExports
-pub mod RecipeTest
-pub mod Renewing
-pub mod Withdrawn

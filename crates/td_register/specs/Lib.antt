@@ -8,4 +8,3 @@ pub mod Properties
 pub mod Proxies
 pub mod Registers
 pub mod Stores
-pub mod Withdrawals

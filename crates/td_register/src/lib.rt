@@ -2,25 +2,22 @@
 //! interfaces Register and Proxy).
 #![tactic(auto)]
 
-mod exporting;
 mod history;
 mod ids;
-mod modifying;
 mod named;
 mod properties;
 mod proxies;
-mod proxy_exporting;
 mod refusal;
 mod register;
 mod typing;
-mod withdrawing;
 
-pub use exporting::{check_export, export};
 pub use history::{Accepted, entry_of};
 pub use ids::{id_of, number_in};
-pub use modifying::{modify, renewal};
+pub use named::{check_interface, check_open, demanded};
+pub use properties::{
+    carries, check_missing, check_name, check_properties, check_size, check_value, push_copy,
+};
 pub use proxies::{describe_proxy, withdraw_proxy};
-pub use proxy_exporting::{check_export_proxy, export_proxy};
 pub use refusal::{Fault, Refusal, illegal_type, invalid_lookup, raised, refused, unknown_type};
-pub use register::{describe, is_proxy, withdraw};
-pub use withdrawing::{check_withdraw_met, withdraw_using_constraint};
+pub use register::{describe, is_proxy, ordinary, withdraw};
+pub use typing::mode_of;

@@ -30,7 +30,7 @@ fn is_open(types: &Types, name: &[u8]) -> bool
 
 /// Refuses a name that no type has, or a masked one.
 #[tactic(auto, using(crate::proofs::Otherwise::nothing_there, crate::proofs::Otherwise::something_there))]
-pub(crate) fn check_open(alloc: Global, types: &Types, name: &Text) -> Result<(), Fault>
+pub fn check_open(alloc: Global, types: &Types, name: &Text) -> Result<(), Fault>
     ensures { Judges (given (open_type types.now.types name.now) no_more) result }
 {
     if !is_word_name(name.as_slice()) {
@@ -44,7 +44,7 @@ pub(crate) fn check_open(alloc: Global, types: &Types, name: &Text) -> Result<()
 
 /// Refuses a reference whose interface doesn't conform to the type's.
 #[tactic(auto, using(crate::proofs::Otherwise::none_there, crate::proofs::Otherwise::some_there))]
-pub(crate) fn check_interface(
+pub fn check_interface(
     alloc: Global,
     store: &Store,
     name: &Text,
@@ -70,7 +70,7 @@ pub(crate) fn check_interface(
 }
 
 /// What an offer's type demands of its properties; nothing where the offer belongs to none.
-pub(crate) fn demanded<'a>(types: &'a Types, offer: &OfferRecord) -> &'a [PropStruct]
+pub fn demanded<'a>(types: &'a Types, offer: &OfferRecord) -> &'a [PropStruct]
     ensures { result.now ≡ demanded types.now.types offer.now }
 {
     if belongs(types, offer) {

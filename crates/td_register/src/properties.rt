@@ -17,7 +17,7 @@ use td_types::{MOST_BYTES, MOST_PROPERTIES, is_mandatory, is_readonly};
 use td_value::{Ior, PropStruct, Property, is_dynamic, offer_size};
 
 /// Whether one of these has the name.
-pub(crate) fn carries(properties: &[Property], name: &[u8]) -> bool
+pub fn carries(properties: &[Property], name: &[u8]) -> bool
     ensures { result ≡ carries properties.now name.now }
 {
     for property in properties {
@@ -29,7 +29,7 @@ pub(crate) fn carries(properties: &[Property], name: &[u8]) -> bool
 }
 
 /// Puts a copy of a property behind the others.
-pub(crate) fn push_copy(
+pub fn push_copy(
     alloc: Global,
     properties: &mut List<Property>,
     property: &Property,
@@ -41,7 +41,7 @@ pub(crate) fn push_copy(
 }
 
 /// Refuses a name that is none, or that was met; and notes it as met.
-pub(crate) fn check_name<'a>(
+pub fn check_name<'a>(
     alloc: Global,
     seen: &mut BTreeSet<&'a [u8]>,
     name: &'a Text,
@@ -72,7 +72,7 @@ fn mismatches(supported: bool, demanded: &[PropStruct], property: &Property) -> 
 }
 
 /// Refuses a value that the type doesn't let stand there.
-pub(crate) fn check_value(
+pub fn check_value(
     alloc: Global,
     supported: bool,
     type_name: &Text,
@@ -98,7 +98,7 @@ pub(crate) fn check_value(
 }
 
 /// Refuses the first property that can't stand in an offer of the type.
-pub(crate) fn check_properties(
+pub fn check_properties(
     alloc: Global,
     supported: bool,
     type_name: &Text,
@@ -128,7 +128,7 @@ fn missing<'a>(demanded: &'a [PropStruct], properties: &[Property]) -> Option<&'
 }
 
 /// Refuses an offer that lacks a mandatory property.
-pub(crate) fn check_missing(
+pub fn check_missing(
     alloc: Global,
     type_name: &Text,
     demanded: &[PropStruct],
@@ -146,11 +146,7 @@ pub(crate) fn check_missing(
 }
 
 /// Refuses an offer with too many properties or encoded bytes.
-pub(crate) fn check_size(
-    alloc: Global,
-    reference: &Ior,
-    properties: &List<Property>,
-) -> Result<(), Fault>
+pub fn check_size(alloc: Global, reference: &Ior, properties: &List<Property>) -> Result<(), Fault>
     ensures { Judges (limit_if (is_too_large reference.now properties.now)) result }
 {
     if properties.len() > MOST_PROPERTIES {

@@ -30,11 +30,7 @@ pub fn is_proxy(offers: &Offers, number: u32) -> Option<bool>
 }
 
 /// The ordinary offer of an id.
-pub(crate) fn ordinary<'a>(
-    alloc: Global,
-    offers: &'a Offers,
-    id: &Text,
-) -> Result<&'a OfferRecord, Fault>
+pub fn ordinary<'a>(alloc: Global, offers: &'a Offers, id: &Text) -> Result<&'a OfferRecord, Fault>
     ensures { MatchResult result (λ o. ordinary offers.now id.now ≡ Ok o.now) (IsAbsent (ordinary offers.now id.now)) }
 {
     let Some(number) = number_in(id.as_slice()) else {

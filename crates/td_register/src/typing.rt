@@ -76,7 +76,7 @@ pub(crate) fn is_typed(declared: Option<&PropStruct>, any: &Any) -> bool
 }
 
 /// The mode of the property of a name; normal where the type doesn't name it.
-pub(crate) fn mode_of(demanded: &[PropStruct], name: &[u8]) -> PropertyMode
+pub fn mode_of(demanded: &[PropStruct], name: &[u8]) -> PropertyMode
     ensures { result ≡ mode_of demanded.now name.now }
 {
     match property_named(demanded, name) {

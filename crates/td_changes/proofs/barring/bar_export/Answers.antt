@@ -6,7 +6,7 @@ use Rattle.td_register.specs.Judged.{front_cause}
 use Rattle.td_register.specs.Properties.{is_too_large}
 use Rattle.td_register.specs.Registers.{export, export_cause, exported, last_number, with_offer}
 use Rattle.td_changes.proofs.Barred.{bars-new}
-use Rattle.td_register.proofs.Exports.{limits}
+use Rattle.td_export.proofs.Exports.{limits}
 use Rattle.td_changes.proofs.barring.bar_export.Goals as goal
 
 pub returns : goal.returns

@@ -7,7 +7,7 @@ use Rattle.td_register.specs.Properties.{is_too_large}
 use Rattle.td_register.specs.Proxies.{export_proxy, export_proxy_cause, exported_proxy}
 use Rattle.td_register.specs.Registers.{last_number, with_offer}
 use Rattle.td_changes.proofs.Barred.{bars-new}
-use Rattle.td_register.proofs.ProxyExports.{limits}
+use Rattle.td_export.proofs.ProxyExports.{limits}
 use Rattle.td_changes.proofs.barring.bar_export_proxy.Goals as goal
 
 pub returns : goal.returns

@@ -1,0 +1,4 @@
+pub mod Exports
+pub mod PolicyNames
+pub mod ProxyExports
+pub mod RecipeTest

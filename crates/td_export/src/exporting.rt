@@ -1,0 +1,198 @@
+//! Offers that are exported (OMG's Trading Object Service, interface Register, export).
+
+ghost use Rattle.std.specs.Prelude.{◌≡◌, ◌≤◌, ◌<◌, Ok, Err, IfOk, MatchResult};
+ghost use Rattle.std.specs.List.{AllByRecursion};
+ghost use Rattle.td_ior.specs.Nil.{is_nil};
+ghost use Rattle.td_ops.specs.declared.call.Change.TheVariants as change;
+ghost use Rattle.td_ops.specs.declared.outcome.Reply.TheVariants as reply;
+ghost use Rattle.td_exceptions.specs.declared.exception.UserException.TheVariants as user;
+ghost use Rattle.td_store.specs.declared.record.OfferRecord.{OfferRecord as Kept};
+ghost use Rattle.td_register.specs.Causes.{raise_if};
+ghost use Rattle.td_register.specs.Judged.{Accepts, IsAdded, Judges, front_cause, size_cause};
+ghost use Rattle.td_register.specs.Registers.{export, exported, incarnation_now, last_number};
+ghost use Rattle.td_register.specs.Registers.{offer_cause};
+
+use std::alloc::Global;
+use td_cdr::{List, Memory, Shared, Text, Twin, copy_three};
+use td_exceptions::UserException;
+use td_ior::is_nil;
+use td_ops::{Change, Reply};
+use td_register::{
+    Accepted, Fault, Refusal, check_interface, check_missing, check_open, check_properties,
+    check_size, entry_of, id_of, raised,
+};
+use td_store::{OfferRecord, Store, StoreFault};
+use td_value::{Ior, Property};
+
+/// Refuses a nil reference.
+fn check_reference(alloc: Global, reference: &Ior) -> Result<(), Fault>
+    ensures { Judges (raise_if (is_nil reference.now) (user.InvalidObjectRef reference.now)) result }
+{
+    if is_nil(reference) {
+        return Err(raised(UserException::InvalidObjectRef {
+            reference: reference.copy(alloc)?,
+        }));
+    }
+    Ok(())
+}
+
+/// Refuses properties that a new offer of the type can't have.
+pub(crate) fn check_offer(
+    alloc: Global,
+    store: &Store,
+    type_name: &Text,
+    properties: &[Property],
+) -> Result<(), Fault>
+    ensures { Judges (offer_cause store.now type_name.now properties.now) result }
+{
+    let demanded = store.types.full_properties(type_name.as_slice());
+    check_properties(
+        alloc,
+        store.attributes.supports_dynamic_properties,
+        type_name,
+        demanded,
+        properties,
+    )?;
+    check_missing(alloc, type_name, demanded, properties)
+}
+
+/// Refuses an offer where no number is left, or that is too large.
+pub(crate) fn check_limits(
+    alloc: Global,
+    store: &Store,
+    reference: &Ior,
+    properties: &List<Property>,
+) -> Result<(), Fault>
+    ensures { Judges (size_cause store.now reference.now properties.now) result }
+{
+    if store.last_offer == u32::MAX {
+        return Err(Fault::Refused(Refusal::Limit));
+    }
+    check_size(alloc, reference, properties)?;
+    Ok(())
+}
+
+/// Refuses an offer that can't be exported.
+///
+/// # Errors
+///
+/// `InvalidObjectRef`; `IllegalServiceType`, `UnknownServiceType`; `InterfaceTypeMismatch`; what is at
+/// fault with a property; IMP_LIMIT where no number is left or the offer is too large; `Memory` for want of
+/// memory.
+pub fn check_export(
+    alloc: Global,
+    store: &Store,
+    reference: &Ior,
+    type_name: &Text,
+    properties: &List<Property>,
+) -> Result<(), Fault>
+    ensures { Judges (front_cause store.now reference.now type_name.now properties.now) result }
+{
+    check_reference(alloc, reference)?;
+    check_open(alloc, &store.types, type_name)?;
+    check_interface(alloc, store, type_name, reference)?;
+    check_offer(alloc, store, type_name, properties.as_slice())?;
+    check_limits(alloc, store, reference, properties)
+}
+
+/// The incarnation that the type of a name has, 0 where there is none.
+pub(crate) fn incarnation_now(store: &Store, type_name: &Text) -> u64
+    ensures { result ≡ incarnation_now store.now type_name.now }
+{
+    match store.types.incarnation_of(type_name.as_slice()) {
+        Some(incarnation) => incarnation,
+        None => 0,
+    }
+}
+
+/// The offer that is exported, as the store keeps it.
+fn new_offer(
+    alloc: Global,
+    store: &Store,
+    reference: &Shared<Ior>,
+    type_name: &Shared<Text>,
+    properties: &Shared<List<Property>>,
+) -> Result<OfferRecord, Memory>
+    requires { store.now.last_offer < last_number }
+    ensures { IfOk result (λ o. o ≡ exported store.now reference.now type_name.now properties.now) }
+{
+    let (reference, (service_type, properties)) = copy_three(
+        alloc, reference, type_name, properties,
+    )?;
+    let incarnation = incarnation_now(store, type_name);
+    Ok(OfferRecord {
+        number: store.last_offer + 1,
+        reference,
+        service_type,
+        incarnation,
+        properties,
+        proxy: None,
+    })
+}
+
+/// Adds an offer of the next number, and answers its id.
+pub(crate) fn add_offer(alloc: Global, store: &mut Store, offer: OfferRecord) -> Result<Text, Fault>
+    requires { AllByRecursion (λ (o : Kept). o.number < offer.number) store.old.offers }
+    ensures { IsAdded offer store.old store.new result }
+{
+    let number = offer.number;
+    let id = id_of(alloc, number)?;
+    match store.offers.insert(offer) {
+        Ok(()) => {
+            store.last_offer = number;
+            Ok(id)
+        }
+        Err(StoreFault::Full) => Err(Fault::Refused(Refusal::Limit)),
+        Err(StoreFault::Memory) => Err(Fault::Memory),
+    }
+}
+
+/// Exports an offer where nothing is at fault with it, and answers its id.
+fn add_export(
+    alloc: Global,
+    store: &mut Store,
+    reference: &Shared<Ior>,
+    service_type: &Shared<Text>,
+    properties: &Shared<List<Property>>,
+) -> Result<Text, Fault>
+    requires given { AllByRecursion (λ (o : Kept). (0 < o.number) × (o.number ≤ store.old.last_offer))
+        store.old.offers }
+    ensures { MatchResult result
+        (λ id. export store.old reference.now service_type.now properties.now ≡ Ok (reply.Id id, store.new))
+        (λ f. Accepts (change.Export reference.now service_type.now properties.now)
+        (export store.old reference.now service_type.now properties.now) store.old store.new (Err f)) }
+{
+    check_export(alloc, store, reference, service_type, properties)?;
+    let offer = new_offer(alloc, store, reference, service_type, properties)?;
+    add_offer(alloc, store, offer)
+}
+
+/// Exports an offer, and answers its id.
+///
+/// # Errors
+///
+/// `InvalidObjectRef`; `IllegalServiceType`, `UnknownServiceType`; `InterfaceTypeMismatch`; what is at
+/// fault with a property; IMP_LIMIT; `Memory` for want of memory.
+pub fn export(
+    alloc: Global,
+    store: &mut Store,
+    reference: Shared<Ior>,
+    service_type: Shared<Text>,
+    properties: Shared<List<Property>>,
+) -> Result<Accepted, Fault>
+    // The numbers of the offers were given.
+    requires given { AllByRecursion (λ (o : Kept). (0 < o.number) × (o.number ≤ store.old.last_offer))
+        store.old.offers }
+    ensures { Accepts (change.Export reference service_type properties) (export store.old reference service_type
+        properties) store.old store.new result }
+{
+    let id = add_export(alloc, store, &reference, &service_type, &properties)?;
+    Ok(entry_of(
+        Change::Export {
+            reference,
+            service_type,
+            properties,
+        },
+        Reply::Id(id),
+    ))
+}

@@ -1,0 +1,9 @@
+//! New offers of one trader, and what each export comes to (OMG's Trading Object Service, interface Register, export,
+//! and interface Proxy, export_proxy).
+#![tactic(auto)]
+
+mod exporting;
+mod proxy_exporting;
+
+pub use exporting::{check_export, export};
+pub use proxy_exporting::{check_export_proxy, export_proxy};

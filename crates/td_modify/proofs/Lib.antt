@@ -1,0 +1,3 @@
+pub mod Modifies
+pub mod Renewing
+pub mod Withdrawn

@@ -1,0 +1,9 @@
+//! Offers that are modified, and offers that are withdrawn by a constraint (OMG's Trading Object Service, interface
+//! Register, modify and withdraw_using_constraint).
+#![tactic(auto)]
+
+mod modifying;
+mod withdrawing;
+
+pub use modifying::{modify, renewal};
+pub use withdrawing::{check_withdraw_met, withdraw_using_constraint};

@@ -1,4 +1,0 @@
-use Rattle.td_register.proofs.withdrawing.all_met.Given as goal
-
-abbrev pub ghosts-conforming : goal.ghosts-conforming
-ghosts-conforming a = record { name = a.blank.name; parts = a.blank.parts }
