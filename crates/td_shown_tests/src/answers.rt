@@ -1,7 +1,6 @@
 //! The lines of answers: results, and exceptions of both kinds.
 
 use std::alloc::Global;
-use std::test::Fail;
 use td_cdr::{List, Memory, Text};
 use td_ops::{Answered, Reply};
 use td_shown::put_answer;
@@ -14,14 +13,21 @@ fn names(alloc: Global) -> Result<List<Text>, Memory> {
     Ok(names)
 }
 
+/// The answer that a word names.
+fn answer_of(alloc: Global, word: &str) -> Result<Answered, Memory> {
+    match word {
+        "nothing" => Ok(Answered::Done(Reply::Nothing)),
+        "number" => Ok(Answered::Done(Reply::Number(3))),
+        "id" => id(alloc),
+        "names" => Ok(Answered::Done(Reply::Names(names(alloc)?))),
+        "user" => user(alloc),
+        _ => system(alloc),
+    }
+}
+
 fn id(alloc: Global) -> Result<Answered, Memory> {
     let id = Text::from_slice(alloc, b"17")?;
     Ok(Answered::Done(Reply::Id(id)))
-}
-
-fn listed(alloc: Global) -> Result<Answered, Memory> {
-    let names = names(alloc)?;
-    Ok(Answered::Done(Reply::Names(names)))
 }
 
 fn user(alloc: Global) -> Result<Answered, Memory> {
@@ -38,19 +44,16 @@ fn system(alloc: Global) -> Result<Answered, Memory> {
     })
 }
 
-/// Whether these lines are put, and no bytes where there are none.
-fn puts(alloc: Global, answer: &Answered, lines: Option<&[u8]>) -> bool {
+/// Whether these lines are put, and where there are none, nothing is and the answer tells so.
+fn puts(alloc: Global, answer: &Answered, lines: &str) -> bool {
     let mut out = Vec::new(alloc);
-    match (put_answer(alloc, &mut out, answer), lines) {
-        (Ok(true), Some(lines)) => out.as_slice() == lines,
-        (Ok(false), None) => out.is_empty(),
-        _ => false,
-    }
+    let put = put_answer(alloc, &mut out, answer);
+    put == Ok(!lines.is_empty()) && out.as_slice() == lines.as_bytes()
 }
 
-/// Whether these lines are put of an answer that was made.
-fn shows(alloc: Global, answer: Result<Answered, Memory>, lines: Option<&[u8]>) -> bool {
-    match answer {
+/// Whether these lines are put of the answer that a word names.
+fn shows(alloc: Global, word: &str, lines: &str) -> bool {
+    match answer_of(alloc, word) {
         Ok(answer) => {
             let passed = puts(alloc, &answer, lines);
             drop(answer);
@@ -60,43 +63,23 @@ fn shows(alloc: Global, answer: Result<Answered, Memory>, lines: Option<&[u8]>) 
     }
 }
 
-fn are_results_shown(alloc: Global) -> bool {
-    shows(
-        alloc,
-        Ok(Answered::Done(Reply::Nothing)),
-        Some(b"ok\n".as_slice()),
-    ) && shows(alloc, id(alloc), Some(b"id 17\n".as_slice()))
-        && shows(alloc, listed(alloc), Some(b"Laser\na name\n".as_slice()))
-}
+/// The word of an answer, and its lines: a result that no subcommand has isn't printed.
+const ANSWERS: [(&str, &str); 6] = [
+    ("nothing", "ok\n"),
+    ("id", "id 17\n"),
+    ("names", "Laser\na name\n"),
+    (
+        "user",
+        "exception IDL:omg.org/CosTrading/UnknownOfferId:1.0\n",
+    ),
+    ("system", "exception IDL:omg.org/CORBA/MARSHAL:1.0\n"),
+    ("number", ""),
+];
 
 #[test]
-fn results(rt: HostRuntime) -> Result<(), Fail> {
-    assert!(rt; are_results_shown(rt.alloc()));
-    Ok(())
-}
-
-fn are_exceptions_shown(alloc: Global) -> bool {
-    shows(
-        alloc,
-        user(alloc),
-        Some(b"exception IDL:omg.org/CosTrading/UnknownOfferId:1.0\n".as_slice()),
-    ) && shows(
-        alloc,
-        system(alloc),
-        Some(b"exception IDL:omg.org/CORBA/MARSHAL:1.0\n".as_slice()),
-    )
-}
-
-#[test]
-fn exceptions(rt: HostRuntime) -> Result<(), Fail> {
-    assert!(rt; are_exceptions_shown(rt.alloc()));
-    Ok(())
-}
-
-/// A result that no subcommand has is not printed.
-#[test]
-fn a_number_has_no_lines(rt: HostRuntime) -> Result<(), Fail> {
+fn answers(rt: HostRuntime) {
     let alloc = rt.alloc();
-    assert!(rt; shows(alloc, Ok(Answered::Done(Reply::Number(3))), None));
-    Ok(())
+    for (word, lines) in &ANSWERS {
+        assert!(rt; shows(alloc, word, lines), "{word}");
+    }
 }

@@ -3,4 +3,5 @@
 mod codes;
 mod forms;
 mod references;
+mod spelled;
 mod values;

@@ -1,9 +1,8 @@
 //! Spellings that were worked out from the rules of CORBA's chapters by another program, and by hand.
 
+use crate::forms::spelled::{are_copied, are_refused, is_copied, is_refused, line_of};
 use std::alloc::Global;
-use std::process::Abort;
-use std::test::Fail;
-use td_cdr::{Boxed, CdrFault, Order, Reader, Text, Twin, ValueFault, Writer, write_whole};
+use td_cdr::{Boxed, Order, Reader, ValueFault, Writer};
 use td_codes::*;
 
 /// Faults of anys: the fault, its place and the bytes.
@@ -14,7 +13,7 @@ Unsupported 22 0000001600000018000000000000000100000000000000025800000000000000
 Unsupported 7 00000007000000000000000000000000
 BadBoolean 4 0000000802";
 
-/// Anys in either order.
+/// Anys in either order: the order and the bytes.
 const ANYS: &str = "big 0000000500000007
 little 0500000007000000
 big 00000000
@@ -65,7 +64,8 @@ big 0000001500000018000000000000000100000000000000024c0000000000000300000006
 little 1500000018000000010000000100000000000000020000004c0000000300000006000000";
 
 /// Faults of TypeCodes: the fault, its place and the bytes.
-const FAULTS: &str = "BadValue 28 0000000f00000018000000000000000100000000000000025300000000000000
+const FAULTS: &str = "Short 0 000000
+BadValue 28 0000000f00000018000000000000000100000000000000025300000000000000
 BadValue 28 0000001100000018000000000000000100000000000000024500000000000000
 BadValue 36 0000001000000020000000000000000100000000000000025500000000000003ffffffff00000000
 BadValue 32 00000010000000200000000000000001000000000000000255000000000000030000000000000000
@@ -88,8 +88,35 @@ BadKind 0 0000001d
 Unsupported 6 00000006
 Unsupported 28 0000001c";
 
-/// TypeCodes in either order.
-const KINDS: &str = "big 0000000e0000001a000000000000000a49444c3a413a312e30000000000000024100
+/// TypeCodes in either order, the last of them FollowOption's: the order and the bytes.
+const KINDS: &str = "big 00000000
+little 00000000
+big 00000001
+little 01000000
+big 00000002
+little 02000000
+big 00000003
+little 03000000
+big 00000004
+little 04000000
+big 00000005
+little 05000000
+big 00000008
+little 08000000
+big 00000009
+little 09000000
+big 0000000a
+little 0a000000
+big 0000000b
+little 0b000000
+big 0000000c
+little 0c000000
+big 00000017
+little 17000000
+big 00000018
+little 18000000
+big 0000001200000102
+big 0000000e0000001a000000000000000a49444c3a413a312e30000000000000024100
 little 0e0000001a000000010000000a00000049444c3a413a312e30000000020000004100
 big 0000000f0000003c000000000000000a49444c3a533a312e3000000000000002530000000000000200000002610000000000000300000002620000000000001200000007
 little 0f0000003c000000010000000a00000049444c3a533a312e3000000002000000530000000200000002000000610000000300000002000000620000001200000007000000
@@ -108,90 +135,94 @@ little 1300000020000000010000001300000010000000010000001200000000000000000000000
 big 000000140000000c000000000000000900000004
 little 140000000c000000010000000900000004000000
 big 0000001500000020000000000000000a49444c3a4c3a312e30000000000000024c00000000000017
-little 1500000020000000010000000a00000049444c3a4c3a312e30000000020000004c00000017000000";
+little 1500000020000000010000000a00000049444c3a4c3a312e30000000020000004c00000017000000
+little 1100000073000000010000002800000049444c3a6f6d672e6f72672f436f7354726164696e672f466f6c6c6f774f7074696f6e3a312e30000d000000466f6c6c6f774f7074696f6e00000000030000000b0000006c6f63616c5f6f6e6c7900000c00000069665f6e6f5f6c6f63616c0007000000616c7761797300
+big 0000001100000073000000000000002849444c3a6f6d672e6f72672f436f7354726164696e672f466f6c6c6f774f7074696f6e3a312e30000000000d466f6c6c6f774f7074696f6e00000000000000030000000b6c6f63616c5f6f6e6c7900000000000c69665f6e6f5f6c6f63616c0000000007616c7761797300";
 
-/// The order that a word names.
-fn order_of(word: &str) -> Order {
-    if word == "big" {
-        Order::Big
-    } else {
-        Order::Little
+/// Whether two TypeCodes are the same type or others, and the order and the bytes of each: FollowOption in either order;
+/// references of A, of B and of no name; a list and its alias; numbers.
+const PAIRS: &str =
+    "same | big 0000001100000073000000000000002849444c3a6f6d672e6f72672f436f7354726164696e672f466f6c6c6f774f7074696f6e3a312e30000000000d466f6c6c6f774f7074696f6e00000000000000030000000b6c6f63616c5f6f6e6c7900000000000c69665f6e6f5f6c6f63616c0000000007616c7761797300 | little 1100000073000000010000002800000049444c3a6f6d672e6f72672f436f7354726164696e672f466f6c6c6f774f7074696f6e3a312e30000d000000466f6c6c6f774f7074696f6e00000000030000000b0000006c6f63616c5f6f6e6c7900000c00000069665f6e6f5f6c6f63616c0007000000616c7761797300
+same | big 0000000e00000019000000000000000a49444c3a413a312e300000000000000100 | big 0000000e000000110000000000000001000000000000000100
+same | big 0000000e000000110000000000000001000000000000000100 | big 0000000e00000019000000000000000a49444c3a423a312e300000000000000100
+other | big 0000000e00000019000000000000000a49444c3a413a312e300000000000000100 | big 0000000e00000019000000000000000a49444c3a423a312e300000000000000100
+same | big 000000130000002c000000000000000e00000019000000000000000a49444c3a413a312e30000000000000010000000000000003 | big 0000001500000050000000000000000a49444c3a4c3a312e300000000000000100000000000000130000002c000000000000000e00000019000000000000000a49444c3a413a312e30000000000000010000000000000003
+same | big 0000001500000050000000000000000a49444c3a4c3a312e300000000000000100000000000000130000002c000000000000000e00000019000000000000000a49444c3a413a312e30000000000000010000000000000003 | big 000000130000002c000000000000000e00000019000000000000000a49444c3a413a312e30000000000000010000000000000003
+other | big 000000130000002c000000000000000e00000019000000000000000a49444c3a413a312e30000000000000010000000000000003 | big 00000003
+other | big 00000003 | big 00000005";
+
+/// A reference of a printer.
+const PRINTER: &[u8] =
+    b"\x00\x00\x00\x10IDL:Printer:1.0\x00\x00\x00\x00\x01\x00\x00\x00\x00\x00\x00\x00\x12\x00\x01\x00\x00\x00\x00\x00\x02h\x00\x00\x09\x00\x00\x00\x02p1";
+
+#[test]
+fn codes_and_anys(rt: HostRuntime) {
+    let alloc = rt.alloc();
+    assert!(rt; are_copied::<TypeCode>(alloc, KINDS));
+    assert!(rt; are_refused::<TypeCode>(alloc, FAULTS));
+    assert!(rt; are_copied::<Any>(alloc, ANYS));
+    assert!(rt; are_refused::<Any>(alloc, ANY_FAULTS));
+}
+
+/// A long in so many sequences.
+fn nested(alloc: Global, count: u32) -> Result<Writer, ValueFault> {
+    let mut code = Boxed::new(alloc, TypeCode::Long)?;
+    for _ in 0..count {
+        let item = code;
+        code = Boxed::new(alloc, TypeCode::Sequence { item, bound: 0 })?;
     }
+    let mut writer = Writer::new(alloc, Order::Big);
+    write_typecode(alloc, &mut writer, code.get())?;
+    Ok(writer)
 }
 
-/// The fault that a word names, at a place.
-fn fault_of(word: &str, place: u32) -> ValueFault {
-    match word {
-        "BadValue" => ValueFault::BadValue(place),
-        "Unsupported" => ValueFault::Unsupported(place),
-        "BadKind" => ValueFault::BadKind(place),
-        "Indirection" => ValueFault::Indirection(place),
-        "BadBoolean" => ValueFault::Cdr(CdrFault::BadBoolean(place)),
-        _ => ValueFault::Depth(place),
+/// An any in so many others, and the value 7 of a long.
+fn anys_in_anys(alloc: Global, count: u32) -> Result<Writer, ValueFault> {
+    let mut writer = Writer::new(alloc, Order::Big);
+    for _ in 0..count {
+        writer.u32(11)?;
     }
+    writer.u32(3)?;
+    writer.u32(7)?;
+    Ok(writer)
 }
 
-/// A TypeCode's bytes behind their order.
-fn spelled_line(rt: &impl Abort, alloc: Global, line: &str) -> Result<(), Fail> {
-    let (order, digits) = line.split_once(' ').ok_or("an order")?;
-    let bytes = hex::decode(alloc, digits.as_bytes())?;
-    spelled(rt, alloc, &bytes, order_of(order))?;
-    Ok(())
+/// Whether 15 levels of sequences are read, and not 16.
+fn has_levels(alloc: Global) -> Result<bool, ValueFault> {
+    let most = nested(alloc, 15)?;
+    let good = is_copied::<TypeCode>(alloc, most.bytes(), Order::Big) == Ok(true);
+    drop(most);
+    let more = nested(alloc, 16)?;
+    Ok(good && is_refused::<TypeCode>(alloc, more.bytes(), ValueFault::Depth(192)))
 }
 
-/// An any's bytes behind their order.
-fn any_line(rt: &impl Abort, alloc: Global, line: &str) -> Result<(), Fail> {
-    let (order, digits) = line.split_once(' ').ok_or("an order")?;
-    let bytes = hex::decode(alloc, digits.as_bytes())?;
-    any_spelled(rt, alloc, &bytes, order_of(order))?;
-    Ok(())
+/// Whether 15 levels of anys are read, and not 16.
+fn has_any_levels(alloc: Global) -> Result<bool, ValueFault> {
+    let most = anys_in_anys(alloc, 15)?;
+    let good = is_copied::<Any>(alloc, most.bytes(), Order::Big) == Ok(true);
+    drop(most);
+    let more = anys_in_anys(alloc, 16)?;
+    Ok(good && is_refused::<Any>(alloc, more.bytes(), ValueFault::Depth(64)))
 }
 
-/// The fault, its place and the bytes.
-fn refused_line(rt: &impl Abort, alloc: Global, line: &str) -> Result<(), Fail> {
-    let (fault, rest) = line.split_once(' ').ok_or("a fault")?;
-    let (place, digits) = rest.split_once(' ').ok_or("a place")?;
-    let bytes = hex::decode(alloc, digits.as_bytes())?;
-    refused(rt, alloc, &bytes, fault_of(fault, place.parse::<u32>()?))
+/// The TypeCode of a line with an order and the bytes.
+fn code_of(alloc: Global, line: &str) -> Option<Boxed<TypeCode>> {
+    let (order, bytes) = line_of(alloc, line)?;
+    if bytes.len() >= 1000 {
+        return None;
+    }
+    let mut reader = Reader::new(bytes.as_slice(), 0, order);
+    Boxed::new(alloc, read_typecode(alloc, &mut reader).ok()?).ok()
 }
 
-/// The fault, its place and the bytes.
-fn any_refused_line(rt: &impl Abort, alloc: Global, line: &str) -> Result<(), Fail> {
-    let (fault, rest) = line.split_once(' ').ok_or("a fault")?;
-    let (place, digits) = rest.split_once(' ').ok_or("a place")?;
-    let bytes = hex::decode(alloc, digits.as_bytes())?;
-    any_refused(rt, alloc, &bytes, fault_of(fault, place.parse::<u32>()?))
+/// Whether two TypeCodes are the same type, or others, as a line tells.
+fn is_told(alloc: Global, line: &str) -> Option<bool> {
+    let (told, pair) = line.split_once(" | ")?;
+    let (first, second) = pair.split_once(" | ")?;
+    let first = code_of(alloc, first)?;
+    let second = code_of(alloc, second)?;
+    Some(same_type(first.get(), second.get()) == (told == "same"))
 }
-
-/// The TypeCode that fills the bytes.
-fn code_of(
-    rt: &impl Abort,
-    alloc: Global,
-    bytes: &[u8],
-    order: Order,
-) -> Result<Boxed<TypeCode>, Fail> {
-    assert!(rt; bytes.len() < 1000);
-    let mut reader = Reader::new(bytes, 0, order);
-    let code = Boxed::new(alloc, read_typecode(alloc, &mut reader)?)?;
-    assert_eq!(rt; reader.place() as usize, bytes.len());
-    Ok(code)
-}
-
-/// Reads a TypeCode that fills the bytes, and writes its copy.
-fn spelled(rt: &impl Abort, alloc: Global, bytes: &[u8], order: Order) -> Result<(), Fail> {
-    let code = code_of(rt, alloc, bytes, order)?;
-    let twin = Boxed::new(alloc, code.get().copy(alloc)?)?;
-    let mut writer = Writer::new(alloc, order);
-    write_whole(alloc, &mut writer, twin.get())?;
-    assert!(rt; writer.bytes() == bytes);
-    Ok(())
-}
-
-const BIG: &[u8] =
-    b"\x00\x00\x00\x11\x00\x00\x00s\x00\x00\x00\x00\x00\x00\x00(IDL:omg.org/CosTrading/FollowOption:1.0\x00\x00\x00\x00\x0dFollowOption\x00\x00\x00\x00\x00\x00\x00\x03\x00\x00\x00\x0blocal_only\x00\x00\x00\x00\x00\x0cif_no_local\x00\x00\x00\x00\x07always\x00";
-
-const LITTLE: &[u8] =
-    b"\x11\x00\x00\x00s\x00\x00\x00\x01\x00\x00\x00(\x00\x00\x00IDL:omg.org/CosTrading/FollowOption:1.0\x00\x0d\x00\x00\x00FollowOption\x00\x00\x00\x00\x03\x00\x00\x00\x0b\x00\x00\x00local_only\x00\x00\x0c\x00\x00\x00if_no_local\x00\x07\x00\x00\x00always\x00";
 
 /// Whether the TypeCode is that of FollowOption.
 fn is_follow_option(code: &TypeCode) -> bool {
@@ -205,230 +236,40 @@ fn is_follow_option(code: &TypeCode) -> bool {
     }
 }
 
-fn same_as_copy(alloc: Global, a: &TypeCode, b: &TypeCode) -> Result<bool, Fail> {
-    let twin = Boxed::new(alloc, b.copy(alloc)?)?;
-    Ok(same_type(a, twin.get()))
+/// Whether the last of the kinds is FollowOption's.
+fn ends_in_follow_option(alloc: Global) -> Option<bool> {
+    let code = code_of(alloc, KINDS.lines().last()?)?;
+    Some(is_follow_option(code.get()))
 }
 
 #[test]
-fn follow_option(rt: HostRuntime) -> Result<(), Fail> {
+fn same_types_and_levels(rt: HostRuntime) {
     let alloc = rt.alloc();
-    spelled(&rt, alloc, BIG, Order::Big)?;
-    spelled(&rt, alloc, LITTLE, Order::Little)?;
-    let big = code_of(&rt, alloc, BIG, Order::Big)?;
-    let little = code_of(&rt, alloc, LITTLE, Order::Little)?;
-    assert!(rt; same_as_copy(alloc, big.get(), little.get())?);
-    assert!(rt; is_follow_option(big.get()));
-    Ok(())
-}
-
-#[test]
-fn kinds(rt: HostRuntime) -> Result<(), Fail> {
-    let alloc = rt.alloc();
-    for kind in [0, 1, 2, 3, 4, 5, 8, 9, 10, 11, 12, 23, 24] {
-        spelled(&rt, alloc, &[0, 0, 0, kind], Order::Big)?;
-        spelled(&rt, alloc, &[kind, 0, 0, 0], Order::Little)?;
+    for line in PAIRS.lines() {
+        assert!(rt; is_told(alloc, line) == Some(true), "{line}");
     }
-    spelled(&rt, alloc, &[0, 0, 0, 18, 0, 0, 1, 2], Order::Big)?;
-    for line in KINDS.lines() {
-        spelled_line(&rt, alloc, line)?;
-    }
-    Ok(())
+    assert!(rt; ends_in_follow_option(alloc) == Some(true));
+    assert!(rt; has_levels(alloc) == Ok(true));
+    assert!(rt; has_any_levels(alloc) == Ok(true));
 }
 
-/// Why nothing is read, and the place where the reader is then.
-fn code_fault(alloc: Global, bytes: &[u8]) -> (Option<ValueFault>, u32) {
-    if bytes.len() >= 1000 {
-        return (None, 0);
-    }
-    let mut reader = Reader::new(bytes, 0, Order::Big);
-    let found = read_typecode(alloc, &mut reader).err();
-    (found, reader.place())
+/// Whether the reference is that of a printer, with one profile.
+fn is_printer(printer: &Ior) -> bool {
+    printer.id.as_slice() == b"IDL:Printer:1.0".as_slice() && printer.profiles.len() == 1
 }
 
-/// The bytes are refused, by a reader that is then unchanged.
-fn refused(rt: &impl Abort, alloc: Global, bytes: &[u8], want: ValueFault) -> Result<(), Fail> {
-    let (found, place) = code_fault(alloc, bytes);
-    assert!(rt; found == Some(want));
-    assert_eq!(rt; place, 0);
-    Ok(())
-}
-
-#[test]
-fn faults(rt: HostRuntime) -> Result<(), Fail> {
-    let alloc = rt.alloc();
-    refused(&rt, alloc, &[0, 0, 0], ValueFault::Cdr(CdrFault::Short(0)))?;
-    for line in FAULTS.lines() {
-        refused_line(&rt, alloc, line)?;
-    }
-    Ok(())
-}
-
-/// A long in so many sequences.
-fn nested(alloc: Global, count: u32) -> Result<Writer, Fail> {
-    let mut code = boxed(alloc, TypeCode::Long)?;
-    for _ in 0..count {
-        code = boxed(
-            alloc,
-            TypeCode::Sequence {
-                item: code,
-                bound: 0,
-            },
-        )?;
-    }
-    let mut writer = Writer::new(alloc, Order::Big);
-    write_typecode(alloc, &mut writer, code.get())?;
-    Ok(writer)
-}
-
-#[test]
-fn levels(rt: HostRuntime) -> Result<(), Fail> {
-    let alloc = rt.alloc();
-    spelled(&rt, alloc, nested(alloc, 15)?.bytes(), Order::Big)?;
-    refused(
-        &rt,
-        alloc,
-        nested(alloc, 16)?.bytes(),
-        ValueFault::Depth(192),
-    )
-}
-
-fn boxed(alloc: Global, code: TypeCode) -> Result<Boxed<TypeCode>, Fail> {
-    Ok(Boxed::new(alloc, code)?)
-}
-
-fn object(alloc: Global, id: &[u8]) -> Result<Boxed<TypeCode>, Fail> {
-    let id = Text::from_slice(alloc, id)?;
-    let name = Text::new(alloc);
-    boxed(alloc, TypeCode::ObjRef { id, name })
-}
-
-fn list_of(alloc: Global, item: Boxed<TypeCode>) -> Result<Boxed<TypeCode>, Fail> {
-    boxed(alloc, TypeCode::Sequence { item, bound: 3 })
-}
-
-fn alias_of(alloc: Global, item: &TypeCode) -> Result<Boxed<TypeCode>, Fail> {
-    let item = boxed(alloc, item.copy(alloc)?)?;
-    let id = Text::from_slice(alloc, b"IDL:L:1.0")?;
-    let name = Text::new(alloc);
-    boxed(alloc, TypeCode::Alias { id, name, item })
-}
-
-#[test]
-fn same_objects(rt: HostRuntime) -> Result<(), Fail> {
-    let alloc = rt.alloc();
-    let first = object(alloc, b"IDL:A:1.0")?;
-    let second = object(alloc, b"IDL:B:1.0")?;
-    let unnamed = object(alloc, b"")?;
-    assert!(rt; same_type(first.get(), unnamed.get()));
-    assert!(rt; same_type(unnamed.get(), second.get()));
-    assert!(rt; !same_type(first.get(), second.get()));
-    Ok(())
-}
-
-#[test]
-fn same_types(rt: HostRuntime) -> Result<(), Fail> {
-    let alloc = rt.alloc();
-    let list = list_of(alloc, object(alloc, b"IDL:A:1.0")?)?;
-    let alias = alias_of(alloc, list.get())?;
-    let long = boxed(alloc, TypeCode::Long)?;
-    let other = boxed(alloc, TypeCode::ULong)?;
-    assert!(rt; same_type(list.get(), alias.get()));
-    assert!(rt; same_type(alias.get(), list.get()));
-    assert!(rt; !same_type(list.get(), long.get()));
-    assert!(rt; !same_type(long.get(), other.get()));
-    Ok(())
-}
-
-/// The any that fills the bytes.
-fn any_of(rt: &impl Abort, alloc: Global, bytes: &[u8], order: Order) -> Result<Boxed<Any>, Fail> {
-    assert!(rt; bytes.len() < 1000);
-    let mut reader = Reader::new(bytes, 0, order);
-    let any = Boxed::new(alloc, read_any(alloc, &mut reader)?)?;
-    assert_eq!(rt; reader.place() as usize, bytes.len());
-    Ok(any)
-}
-
-/// Reads an any that fills the bytes, and writes its copy.
-fn any_spelled(rt: &impl Abort, alloc: Global, bytes: &[u8], order: Order) -> Result<(), Fail> {
-    let any = any_of(rt, alloc, bytes, order)?;
-    let twin = Boxed::new(alloc, any.get().copy(alloc)?)?;
-    let mut writer = Writer::new(alloc, order);
-    write_any(alloc, &mut writer, twin.get())?;
-    assert!(rt; writer.bytes() == bytes);
-    Ok(())
-}
-
-#[test]
-fn anys(rt: HostRuntime) -> Result<(), Fail> {
-    let alloc = rt.alloc();
-    for line in ANYS.lines() {
-        any_line(&rt, alloc, line)?;
-    }
-    Ok(())
-}
-
-/// Why nothing is read, and the place where the reader is then.
-fn any_fault(alloc: Global, bytes: &[u8]) -> (Option<ValueFault>, u32) {
-    if bytes.len() >= 1000 {
-        return (None, 0);
-    }
-    let mut reader = Reader::new(bytes, 0, Order::Big);
-    let found = read_any(alloc, &mut reader).err();
-    (found, reader.place())
-}
-
-/// The bytes are refused, by a reader that is then unchanged.
-fn any_refused(rt: &impl Abort, alloc: Global, bytes: &[u8], want: ValueFault) -> Result<(), Fail> {
-    let (found, place) = any_fault(alloc, bytes);
-    assert!(rt; found == Some(want));
-    assert_eq!(rt; place, 0);
-    Ok(())
-}
-
-#[test]
-fn any_faults(rt: HostRuntime) -> Result<(), Fail> {
-    let alloc = rt.alloc();
-    for line in ANY_FAULTS.lines() {
-        any_refused_line(&rt, alloc, line)?;
-    }
-    Ok(())
-}
-
-/// An any in so many others, and the value 7 of a long.
-fn anys_in_anys(alloc: Global, count: u32) -> Result<Writer, Fail> {
-    let mut writer = Writer::new(alloc, Order::Big);
-    for _ in 0..count {
-        writer.u32(11)?;
-    }
-    writer.u32(3)?;
-    writer.u32(7)?;
-    Ok(writer)
-}
-
-#[test]
-fn any_levels(rt: HostRuntime) -> Result<(), Fail> {
-    let alloc = rt.alloc();
-    any_spelled(&rt, alloc, anys_in_anys(alloc, 15)?.bytes(), Order::Big)?;
-    any_refused(
-        &rt,
-        alloc,
-        anys_in_anys(alloc, 16)?.bytes(),
-        ValueFault::Depth(64),
-    )
-}
-
-#[test]
-fn references(rt: HostRuntime) -> Result<(), Fail> {
-    let alloc = rt.alloc();
-    let bytes =
-        b"\x00\x00\x00\x10IDL:Printer:1.0\x00\x00\x00\x00\x01\x00\x00\x00\x00\x00\x00\x00\x12\x00\x01\x00\x00\x00\x00\x00\x02h\x00\x00\x09\x00\x00\x00\x02p1";
-    let mut reader = Reader::new(bytes, 0, Order::Big);
+/// Whether the reference of a printer is read, and written as it stands.
+fn keeps_printer(alloc: Global) -> Result<bool, ValueFault> {
+    let mut reader = Reader::new(PRINTER, 0, Order::Big);
     let printer = read_ior(alloc, &mut reader)?;
-    assert!(rt; printer.id.as_slice() == b"IDL:Printer:1.0".as_slice());
-    assert_eq!(rt; printer.profiles.len(), 1);
     let mut writer = Writer::new(alloc, Order::Big);
-    write_ior(alloc, &mut writer, &printer.copy(alloc)?)?;
-    assert!(rt; writer.bytes() == bytes.as_slice());
-    Ok(())
+    write_ior(alloc, &mut writer, &printer)?;
+    Ok(is_printer(&printer) && writer.bytes() == PRINTER)
+}
+
+#[test]
+fn references(rt: HostRuntime) {
+    let alloc = rt.alloc();
+    assert!(rt; keeps_printer(alloc) == Ok(true));
+    assert!(rt; is_copied::<Ior>(alloc, PRINTER, Order::Big) == Ok(true));
 }

@@ -1,7 +1,6 @@
 //! Values as people write them, by the rules for the server's file and for command lines.
 
 use std::alloc::Global;
-use std::test::Fail;
 use td_cdr::{Boxed, Memory};
 use td_forms::{code_of, mode_named, rule_named, truth_named, value_of, value_type_of};
 use td_ior::number_up_to;
@@ -58,39 +57,33 @@ seq:octet 256";
 /// Words that stand for no type.
 const NO_TYPES: &str = "float seq: seq:any seq:seq:long Long SEQ:long long,";
 
-fn is_spelled(alloc: Global, line: &str) -> Result<bool, Fail> {
-    let (word, text) = line.split_once(" ").ok_or("two words")?;
-    let value_type = value_type_of(word.as_bytes()).ok_or("a type")?;
-    let value = value_of(alloc, value_type, text.as_bytes())?;
-    let found = value.is_some();
-    drop(value);
-    Ok(found)
+/// Whether the text of a line spells a value of the type before it; `None` where that is no type.
+fn is_spelled(alloc: Global, line: &str) -> Option<bool> {
+    let (word, text) = line.split_once(' ')?;
+    let value_type = value_type_of(word.as_bytes())?;
+    match value_of(alloc, value_type, text.as_bytes()) {
+        Ok(value) => Some(value.is_some()),
+        Err(_) => None,
+    }
 }
 
 #[test]
-fn spelled(rt: HostRuntime) -> Result<(), Fail> {
+fn values_are_spelled(rt: HostRuntime) {
     let alloc = rt.alloc();
-    for line in SPELLED.lines() {
-        assert!(rt; is_spelled(alloc, line)?, "{line}");
+    for (table, spelled) in [(SPELLED, true), (UNSPELLED, false)] {
+        for line in table.lines() {
+            assert!(rt; is_spelled(alloc, line) == Some(spelled), "{line}");
+        }
     }
-    Ok(())
 }
 
-#[test]
-fn unspelled(rt: HostRuntime) -> Result<(), Fail> {
-    let alloc = rt.alloc();
-    for line in UNSPELLED.lines() {
-        assert!(rt; !is_spelled(alloc, line)?, "{line}");
+fn are_no_types(words: &str) -> bool {
+    for word in words.split_whitespace() {
+        if value_type_of(word.as_bytes()).is_some() {
+            return false;
+        }
     }
-    Ok(())
-}
-
-#[test]
-fn no_types(rt: HostRuntime) -> Result<(), Fail> {
-    for word in NO_TYPES.split_whitespace() {
-        assert!(rt; value_type_of(word.as_bytes()).is_none(), "{word}");
-    }
-    Ok(())
+    true
 }
 
 fn boxed_value(alloc: Global, word: &[u8], text: &[u8]) -> Result<Option<Boxed<Value>>, Memory> {
@@ -120,16 +113,6 @@ fn are_shorts(value: &Value, first: i16, second: i16) -> bool {
     }
 }
 
-#[test]
-fn numbers(rt: HostRuntime) -> Result<(), Fail> {
-    let alloc = rt.alloc();
-    let value = boxed_value(alloc, b"seq:short", b"-32768,17")?.ok_or("a value")?;
-    assert!(rt; are_shorts(value.get(), -32768, 17));
-    assert_eq!(rt; number_up_to(b"64", 64), Some(64));
-    assert_eq!(rt; number_up_to(b"65", 64), None);
-    Ok(())
-}
-
 fn is_sequence_of_octets(code: &TypeCode) -> bool {
     match code {
         TypeCode::Sequence { item, bound } => *bound == 0 && matches!(item.get(), TypeCode::Octet),
@@ -137,25 +120,45 @@ fn is_sequence_of_octets(code: &TypeCode) -> bool {
     }
 }
 
-#[test]
-fn codes(rt: HostRuntime) -> Result<(), Fail> {
-    let alloc = rt.alloc();
-    let value_type = value_type_of(b"seq:octet").ok_or("a type")?;
-    let code = Boxed::new(alloc, code_of(alloc, value_type)?)?;
-    assert!(rt; is_sequence_of_octets(code.get()));
-    Ok(())
+fn boxed_code(alloc: Global, word: &[u8]) -> Result<Option<Boxed<TypeCode>>, Memory> {
+    match value_type_of(word) {
+        Some(value_type) => Ok(Some(Boxed::new(alloc, code_of(alloc, value_type)?)?)),
+        None => Ok(None),
+    }
+}
+
+/// Whether the names of truths, modes and rules are these alone, and numbers end where they shall.
+fn are_named() -> bool {
+    truth_named(b"TRUE") == Some(true)
+        && truth_named(b"True") == None
+        && mode_named(b"mandatory_readonly") == Some(PropertyMode::MandatoryReadonly)
+        && mode_named(b"mandatory_") == None
+        && rule_named(b"if_no_local") == Some(FollowOption::IfNoLocal)
+        && rule_named(b"2") == None
+        && number_up_to(b"64", 64) == Some(64)
+        && number_up_to(b"65", 64) == None
+}
+
+/// Whether the text of a sequence of shorts spells its two numbers.
+fn spells_shorts(alloc: Global) -> Result<bool, Memory> {
+    match boxed_value(alloc, b"seq:short", b"-32768,17")? {
+        Some(value) => Ok(are_shorts(value.get(), -32768, 17)),
+        None => Ok(false),
+    }
+}
+
+/// Whether the word of a sequence of octets names its TypeCode.
+fn names_octets(alloc: Global) -> Result<bool, Memory> {
+    match boxed_code(alloc, b"seq:octet")? {
+        Some(code) => Ok(is_sequence_of_octets(code.get())),
+        None => Ok(false),
+    }
 }
 
 #[test]
-fn names(rt: HostRuntime) -> Result<(), Fail> {
-    assert_eq!(rt; truth_named(b"TRUE"), Some(true));
-    assert_eq!(rt; truth_named(b"True"), None);
-    assert_eq!(rt;
-        mode_named(b"mandatory_readonly"),
-        Some(PropertyMode::MandatoryReadonly)
-    );
-    assert_eq!(rt; mode_named(b"mandatory_"), None);
-    assert_eq!(rt; rule_named(b"if_no_local"), Some(FollowOption::IfNoLocal));
-    assert_eq!(rt; rule_named(b"2"), None);
-    Ok(())
+fn values_codes_and_names(rt: HostRuntime) {
+    let alloc = rt.alloc();
+    assert!(rt; spells_shorts(alloc) == Ok(true));
+    assert!(rt; names_octets(alloc) == Ok(true));
+    assert!(rt; are_named() && are_no_types(NO_TYPES));
 }

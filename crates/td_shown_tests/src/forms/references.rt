@@ -2,158 +2,197 @@
 //! from the layouts of CORBA's chapters.
 
 use std::alloc::Global;
-use std::test::Fail;
-use td_cdr::Boxed;
 use td_ior::{
     IorFault, Kind, ObjectKey, iiop_of, make_ior, print_text, read_key, read_text, write_key,
 };
 use td_value::Ior;
 
-/// Octets, and the object of the trader `A-1` whose key they are.
-const KEYS: [(&[u8], Option<Kind>); 24] = [
-    (b"A-1/L", Some(Kind::Lookup)),
-    (b"A-1/R", Some(Kind::Register)),
-    (b"A-1/K", Some(Kind::Link)),
-    (b"A-1/P", Some(Kind::Proxy)),
-    (b"A-1/A", Some(Kind::Admin)),
-    (b"A-1/T", Some(Kind::Types)),
-    (b"A-1/I/1", Some(Kind::Iterator(1))),
-    (b"A-1/I/10", Some(Kind::Iterator(10))),
-    (
-        b"A-1/I/18446744073709551615",
-        Some(Kind::Iterator(18446744073709551615)),
-    ),
-    (b"A-1/I/18446744073709551616", None),
-    (b"A-1/I/0", None),
-    (b"A-1/I/01", None),
-    (b"A-1/I/+1", None),
-    (b"A-1/I/", None),
-    (b"A-1/I", None),
-    (b"A-1/l", None),
-    (b"A-1/LL", None),
-    (b"A-1/", None),
-    (b"A-1", None),
-    (b"/L", None),
-    (b"A 1/L", None),
-    (b"A-1//L", None),
-    (b"A12345678901234567890123456789012/L", None),
-    (b"", None),
-];
+/// The object of the trader `A-1`, or the number of an iterator, and the octets of its key; of `none` they are no key.
+const KEYS: &str = "Lookup A-1/L
+Register A-1/R
+Link A-1/K
+Proxy A-1/P
+Admin A-1/A
+Types A-1/T
+1 A-1/I/1
+10 A-1/I/10
+18446744073709551615 A-1/I/18446744073709551615
+none A-1/I/18446744073709551616
+none A-1/I/0
+none A-1/I/01
+none A-1/I/+1
+none A-1/I/
+none A-1/I
+none A-1/l
+none A-1/LL
+none A-1/
+none A-1
+none /L
+none A 1/L
+none A-1//L
+none A12345678901234567890123456789012/L
+none ";
 
-/// Whether the key is that of an object of this kind of the trader, and is written with these octets.
-fn is_key(alloc: Global, key: &ObjectKey, kind: Kind, octets: &[u8]) -> bool {
-    if key.trader.as_slice() != b"A-1".as_slice() || key.kind != kind {
-        return false;
+/// The object that a word names, or an iterator by its number.
+fn kind_of(word: &str) -> Option<Kind> {
+    match word {
+        "Lookup" => Some(Kind::Lookup),
+        "Register" => Some(Kind::Register),
+        "Link" => Some(Kind::Link),
+        "Proxy" => Some(Kind::Proxy),
+        "Admin" => Some(Kind::Admin),
+        "Types" => Some(Kind::Types),
+        _ => match word.parse::<u64>() {
+            Ok(number) => Some(Kind::Iterator(number)),
+            Err(_) => None,
+        },
     }
+}
+
+/// Whether the key is written with these octets.
+fn writes_key(alloc: Global, key: &ObjectKey, octets: &[u8]) -> bool {
     match write_key(alloc, key) {
         Ok(written) => written.as_slice() == octets,
         Err(_) => false,
     }
 }
 
+/// Whether the key is that of an object of this kind of the trader, and is written with these octets.
+fn is_key(alloc: Global, key: &ObjectKey, kind: Option<Kind>, octets: &[u8]) -> bool {
+    key.trader.as_slice() == b"A-1".as_slice()
+        && kind == Some(key.kind)
+        && writes_key(alloc, key, octets)
+}
+
 /// Whether the octets are the key of such an object, or of none.
 fn reads_key(alloc: Global, octets: &[u8], kind: Option<Kind>) -> bool {
     match read_key(alloc, octets) {
-        Ok(key) => match kind {
-            Some(kind) => is_key(alloc, &key, kind, octets),
-            None => false,
-        },
+        Ok(key) => {
+            let good = is_key(alloc, &key, kind, octets);
+            drop(key);
+            good
+        }
         Err(fault) => kind.is_none() && fault == IorFault::BadKey,
     }
 }
 
-#[test]
-fn keys_are_read_and_written(rt: HostRuntime) {
-    let alloc = rt.alloc();
-    for (octets, kind) in KEYS {
-        assert!(rt; reads_key(alloc, octets, kind));
-    }
+fn is_line_key(alloc: Global, line: &str) -> Option<bool> {
+    let (word, octets) = line.split_once(' ')?;
+    Some(reads_key(alloc, octets.as_bytes(), kind_of(word)))
 }
 
 /// The reference of the worked queries.
 const WORKED: &[u8] =
     b"IOR:000000000000001049444c3a5072696e7465723a312e3000000000010000000000000012000100000000000268000009000000027031";
 
-/// Texts, with host, port and key of the first IIOP profile of the references that they spell.
-const TEXTS: [(&[u8], (&[u8], u16, &[u8])); 9] = [
-    (WORKED, (b"h", 9, b"p1")),
-    (
-        b"IOR:000000000000001049444C3A5072696E7465723A312E3000000000010000000000000012000100000000000268000009000000027031FF",
-        (b"h", 9, b"p1"),
-    ),
-    (
-        b"IOR:010000000a00000049444c3a413a312e30000000030000000100000002000000000100000000000034000000010102000a0000003132372e302e302e3100259706000000412f492f313200000100000000000000080000000100000054414f000000000012000000000100000000000268000009000000027031",
-        (b"127.0.0.1", 38693, b"A/I/12"),
-    ),
-    (
-        b"IOR:000000000000000a49444c3a413a312e300000000000000249534f00000000000000000000000030000101000000000d686f73742e6578616d706c650000ffff000000000000000100000001000000080000000000010001",
-        (b"host.example", 65535, b""),
-    ),
-    (
-        b"IOR:000000000000000a49444c3a413a312e30000000000000020000000000000011000200000000000268000009000000016b0000000000000000000012000100000000000268000009000000027031",
-        (b"h", 9, b"p1"),
-    ),
-    (b"ref:IDL:Printer:1.0,h,9,p1", (b"h", 9, b"p1")),
-    (b"ref:a,b,h,0,\x00", (b"h", 0, b"\x00")),
-    (b"ref:,,65535,", (b"", 65535, b"")),
-    (b"ref:IOR:,h,1,k", (b"h", 1, b"k")),
+/// A text, and the first IIOP profile of the reference that it spells.
+struct Profiled {
+    text: &'static [u8],
+    host: &'static [u8],
+    port: u16,
+    key: &'static [u8],
+}
+
+/// Texts in both forms.
+const PROFILED: [Profiled; 9] = [
+    Profiled {
+        text: WORKED,
+        host: b"h",
+        port: 9,
+        key: b"p1",
+    },
+    Profiled {
+        text: b"IOR:000000000000001049444C3A5072696E7465723A312E3000000000010000000000000012000100000000000268000009000000027031FF",
+        host: b"h",
+        port: 9,
+        key: b"p1",
+    },
+    Profiled {
+        text: b"IOR:010000000a00000049444c3a413a312e30000000030000000100000002000000000100000000000034000000010102000a0000003132372e302e302e3100259706000000412f492f313200000100000000000000080000000100000054414f000000000012000000000100000000000268000009000000027031",
+        host: b"127.0.0.1",
+        port: 38693,
+        key: b"A/I/12",
+    },
+    Profiled {
+        text: b"IOR:000000000000000a49444c3a413a312e300000000000000249534f00000000000000000000000030000101000000000d686f73742e6578616d706c650000ffff000000000000000100000001000000080000000000010001",
+        host: b"host.example",
+        port: 65535,
+        key: b"",
+    },
+    Profiled {
+        text: b"IOR:000000000000000a49444c3a413a312e30000000000000020000000000000011000200000000000268000009000000016b0000000000000000000012000100000000000268000009000000027031",
+        host: b"h",
+        port: 9,
+        key: b"p1",
+    },
+    Profiled {
+        text: b"ref:IDL:Printer:1.0,h,9,p1",
+        host: b"h",
+        port: 9,
+        key: b"p1",
+    },
+    Profiled {
+        text: b"ref:a,b,h,0,\x00",
+        host: b"h",
+        port: 0,
+        key: b"\x00",
+    },
+    Profiled {
+        text: b"ref:,,65535,",
+        host: b"",
+        port: 65535,
+        key: b"",
+    },
+    Profiled {
+        text: b"ref:IOR:,h,1,k",
+        host: b"h",
+        port: 1,
+        key: b"k",
+    },
 ];
 
 /// Texts of references without an IIOP profile: nil, one of another major version, one that is cut, and
 /// two without a body.
-const WITHOUT: [&[u8]; 4] = [
-    b"IOR:00000000000000010000000000000000",
-    b"IOR:000000000000000a49444c3a413a312e30000000000000010000000000000011000200000000000268000009000000016b",
-    b"IOR:000000000000000a49444c3a413a312e300000000000000100000000000000110001000000000002680000090000000270",
-    b"IOR:000000000000000a49444c3a413a312e300000000000000200000000000000000000000000000003020100",
-];
+const WITHOUT: &str = "IOR:00000000000000010000000000000000
+IOR:000000000000000a49444c3a413a312e30000000000000010000000000000011000200000000000268000009000000016b
+IOR:000000000000000a49444c3a413a312e300000000000000100000000000000110001000000000002680000090000000270
+IOR:000000000000000a49444c3a413a312e300000000000000200000000000000000000000000000003020100";
 
-/// Texts in neither form.
-const NEITHER: [&[u8]; 16] = [
-    b"",
-    b"IOR:",
-    b"IOR:0",
-    b"IOR:00",
-    b"IOR:02000000000000010000000000000000",
-    b"IOR:000000000000000100000000000000",
-    b"IOR:0000000000000001000000000000000g",
-    b"ior:00000000000000010000000000000000",
-    b" IOR:00000000000000010000000000000000",
-    b"ref:a,h,9",
-    b"ref:a,h,09,k",
-    b"ref:a,h,65536,k",
-    b"ref:a,h,,k",
-    b"ref:a,h\x00,9,k",
-    b"ref:a\x00,h,9,k",
-    b"REF:a,h,9,k",
-];
+/// Texts in neither form, the first of them empty.
+const NEITHER: &str = "
+IOR:
+IOR:0
+IOR:00
+IOR:02000000000000010000000000000000
+IOR:000000000000000100000000000000
+IOR:0000000000000001000000000000000g
+ior:00000000000000010000000000000000
+ IOR:00000000000000010000000000000000
+ref:a,h,9
+ref:a,h,09,k
+ref:a,h,65536,k
+ref:a,h,,k
+ref:a,h\0,9,k
+ref:a\0,h,9,k
+REF:a,h,9,k";
 
-/// Whether the first IIOP profile of the reference says this.
-fn is_at(alloc: Global, reference: &Ior, host: &[u8], port: u16, key: &[u8]) -> bool {
+/// Whether the first IIOP profile of the reference is the row's.
+fn is_at(alloc: Global, reference: &Ior, row: &Profiled) -> bool {
     match iiop_of(alloc, reference) {
         Ok(iiop) => {
-            iiop.host.as_slice() == host && iiop.port == port && iiop.key.as_slice() == key
+            iiop.host.as_slice() == row.host
+                && iiop.port == row.port
+                && iiop.key.as_slice() == row.key
         }
         Err(_) => false,
     }
 }
 
-/// Whether the text spells a reference whose first IIOP profile says this.
-fn spells(alloc: Global, text: &[u8], host: &[u8], port: u16, key: &[u8]) -> bool {
-    match read_text(alloc, text) {
-        Ok(reference) => is_at(alloc, &reference, host, port, key),
+/// Whether the row's text spells a reference with its profile.
+fn spells(alloc: Global, row: &Profiled) -> bool {
+    match read_text(alloc, row.text) {
+        Ok(reference) => is_at(alloc, &reference, row),
         Err(_) => false,
-    }
-}
-
-#[test]
-fn texts_are_read(rt: HostRuntime) {
-    let alloc = rt.alloc();
-    for (text, (host, port, key)) in TEXTS {
-        assert!(rt; spells(alloc, text, host, port, key));
-    }
-    for text in NEITHER {
-        assert!(rt; matches!(&read_text(alloc, text), Err(IorFault::NotIor)));
     }
 }
 
@@ -169,28 +208,52 @@ fn prints(alloc: Global, reference: &Ior, text: &[u8]) -> bool {
 fn has_no_profile(alloc: Global, text: &[u8]) -> bool {
     match read_text(alloc, text) {
         Ok(reference) => {
-            matches!(&iiop_of(alloc, &reference), Err(IorFault::NoIiop))
+            iiop_of(alloc, &reference).err() == Some(IorFault::NoIiop)
                 && prints(alloc, &reference, text)
         }
         Err(_) => false,
     }
 }
 
+/// Whether a made reference is that of the layouts, and the one that is read has its id and one profile.
+fn is_worked(alloc: Global) -> Result<bool, IorFault> {
+    let made = make_ior(alloc, b"IDL:Printer:1.0", b"h", 9, b"p1")?;
+    let printed = prints(alloc, &made, WORKED);
+    drop(made);
+    let read = read_text(alloc, WORKED)?;
+    Ok(printed && read.id.as_slice() == b"IDL:Printer:1.0".as_slice() && read.profiles.len() == 1)
+}
+
+fn is_neither(alloc: Global, text: &[u8]) -> bool {
+    read_text(alloc, text).err() == Some(IorFault::NotIor)
+}
+
 #[test]
-fn references_without_an_iiop_profile_are_kept_as_they_came(rt: HostRuntime) {
+fn keys_are_read_and_written(rt: HostRuntime) {
     let alloc = rt.alloc();
-    for text in WITHOUT {
-        assert!(rt; has_no_profile(alloc, text));
+    for line in KEYS.lines() {
+        assert!(rt; is_line_key(alloc, line) == Some(true), "{line}");
     }
 }
 
 #[test]
-fn a_made_reference_is_that_of_the_layouts(rt: HostRuntime) -> Result<(), Fail> {
+fn texts_are_read(rt: HostRuntime) {
     let alloc = rt.alloc();
-    let made = Boxed::new(alloc, make_ior(alloc, b"IDL:Printer:1.0", b"h", 9, b"p1")?)?;
-    assert!(rt; prints(alloc, made.get(), WORKED));
-    let read = Boxed::new(alloc, read_text(alloc, WORKED)?)?;
-    assert!(rt; read.get().id.as_slice() == b"IDL:Printer:1.0".as_slice());
-    assert_eq!(rt; read.get().profiles.len(), 1);
-    Ok(())
+    for row in &PROFILED {
+        assert!(rt; spells(alloc, row));
+    }
+}
+
+/// Texts in neither form are no references; those without an IIOP profile are kept as they came; and a made reference
+/// is that of the layouts.
+#[test]
+fn other_texts_and_a_made_reference(rt: HostRuntime) {
+    let alloc = rt.alloc();
+    for text in NEITHER.lines() {
+        assert!(rt; is_neither(alloc, text.as_bytes()), "{text}");
+    }
+    for text in WITHOUT.lines() {
+        assert!(rt; has_no_profile(alloc, text.as_bytes()), "{text}");
+    }
+    assert!(rt; is_worked(alloc) == Ok(true));
 }

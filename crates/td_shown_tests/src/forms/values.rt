@@ -1,14 +1,11 @@
 //! Spellings that were worked out from the rules of CORBA's chapters by another program.
 
+use crate::forms::spelled::{are_copied, are_refused, are_spelled, line_of, whole};
 use std::alloc::Global;
-use std::process::Abort;
-use std::test::Fail;
-use td_cdr::{
-    Boxed, CdrFault, List, Order, Reader, Spelled, Text, Twin, ValueFault, Writer, read_whole,
-    write_whole,
-};
+use td_cdr::{Boxed, List, Memory, Order, Reader, Text, ValueFault, Writer};
 use td_value::*;
 
+/// Values of each type: the order and the bytes.
 const FOLLOW_OPTION: &str = "big 00000000
 little 00000000
 big 00000001
@@ -98,100 +95,13 @@ little 00000000
 big 000000010000000300000004
 little 010000000300000004000000";
 
-/// The order that a word names.
-fn order_of(word: &str) -> Order {
-    if word == "big" {
-        Order::Big
-    } else {
-        Order::Little
-    }
-}
-
-/// Whether a value that fills the bytes is read, and written as these bytes.
-fn is_spelled<T: Spelled + Drop>(
-    alloc: Global,
-    bytes: &[u8],
-    order: Order,
-) -> Result<bool, ValueFault> {
-    if bytes.len() >= 1000 {
-        return Ok(false);
-    }
-    let mut reader = Reader::new(bytes, 0, order);
-    let value = Boxed::new(alloc, read_whole::<T>(alloc, &mut reader)?)?;
-    let mut writer = Writer::new(alloc, order);
-    write_whole(alloc, &mut writer, value.get())?;
-    Ok(reader.place() as usize == bytes.len() && writer.bytes() == bytes)
-}
-
-/// An order and the bytes.
-fn is_line_spelled<T: Spelled + Drop>(alloc: Global, line: &str) -> bool {
-    let (order, digits) = line.split_once(' ').unwrap_or((line, ""));
-    match hex::decode(alloc, digits.as_bytes()) {
-        Ok(bytes) => is_spelled::<T>(alloc, bytes.as_slice(), order_of(order)) == Ok(true),
-        Err(_) => false,
-    }
-}
-
-fn are_spelled<T: Spelled + Drop>(alloc: Global, lines: &str) -> bool {
-    for line in lines.lines() {
-        if !is_line_spelled::<T>(alloc, line) {
-            return false;
-        }
-    }
-    true
-}
-
-/// Whether a value that fills the bytes is read, and its copy written as these bytes.
-fn is_copied<T: Spelled + Twin + Drop>(
-    alloc: Global,
-    bytes: &[u8],
-    order: Order,
-) -> Result<bool, ValueFault> {
-    if bytes.len() >= 1000 {
-        return Ok(false);
-    }
-    let mut reader = Reader::new(bytes, 0, order);
-    let value = Boxed::new(alloc, read_whole::<T>(alloc, &mut reader)?)?;
-    let twin = Boxed::new(alloc, value.get().copy(alloc)?)?;
-    let mut writer = Writer::new(alloc, order);
-    write_whole(alloc, &mut writer, twin.get())?;
-    Ok(reader.place() as usize == bytes.len() && writer.bytes() == bytes)
-}
-
-fn is_line_copied<T: Spelled + Twin + Drop>(alloc: Global, line: &str) -> bool {
-    let (order, digits) = line.split_once(' ').unwrap_or((line, ""));
-    match hex::decode(alloc, digits.as_bytes()) {
-        Ok(bytes) => is_copied::<T>(alloc, bytes.as_slice(), order_of(order)) == Ok(true),
-        Err(_) => false,
-    }
-}
-
-fn are_copied<T: Spelled + Twin + Drop>(alloc: Global, lines: &str) -> bool {
-    for line in lines.lines() {
-        if !is_line_copied::<T>(alloc, line) {
-            return false;
-        }
-    }
-    true
-}
-
-#[test]
-fn enumerations(rt: HostRuntime) -> Result<(), Fail> {
-    assert!(rt; are_enumerations(rt.alloc()));
-    Ok(())
-}
-
 fn are_enumerations(alloc: Global) -> bool {
     are_spelled::<FollowOption>(alloc, FOLLOW_OPTION)
         && are_spelled::<HowManyProps>(alloc, HOW_MANY_PROPS)
         && are_copied::<PropertyMode>(alloc, PROPERTY_MODE)
         && are_spelled::<ListOption>(alloc, LIST_OPTION)
-}
-
-#[test]
-fn structures(rt: HostRuntime) -> Result<(), Fail> {
-    assert!(rt; are_structures(rt.alloc()));
-    Ok(())
+        && are_copied::<SpecifiedProps>(alloc, SPECIFIED_PROPS)
+        && are_copied::<SpecifiedServiceTypes>(alloc, SPECIFIED_SERVICE_TYPES)
 }
 
 fn are_structures(alloc: Global) -> bool {
@@ -200,59 +110,29 @@ fn are_structures(alloc: Global) -> bool {
         && are_copied::<Policy>(alloc, POLICY)
         && are_copied::<PropStruct>(alloc, PROP_STRUCT)
         && are_copied::<Offer>(alloc, OFFER)
-}
-
-#[test]
-fn more_structures(rt: HostRuntime) -> Result<(), Fail> {
-    assert!(rt; are_more_structures(rt.alloc()));
-    Ok(())
-}
-
-fn are_more_structures(alloc: Global) -> bool {
-    are_spelled::<OfferInfo>(alloc, OFFER_INFO)
+        && are_spelled::<OfferInfo>(alloc, OFFER_INFO)
         && are_spelled::<LinkInfo>(alloc, LINK_INFO)
         && are_spelled::<ProxyInfo>(alloc, PROXY_INFO)
         && are_spelled::<TypeStruct>(alloc, TYPE_STRUCT)
         && are_spelled::<DynamicProp>(alloc, DYNAMIC_PROP)
 }
 
-#[test]
-fn unions(rt: HostRuntime) -> Result<(), Fail> {
-    assert!(rt; are_unions(rt.alloc()));
-    Ok(())
-}
-
-fn are_unions(alloc: Global) -> bool {
-    are_copied::<SpecifiedProps>(alloc, SPECIFIED_PROPS)
-        && are_copied::<SpecifiedServiceTypes>(alloc, SPECIFIED_SERVICE_TYPES)
-}
-
-/// Whether the bytes are refused by this fault, and the reader is then unchanged.
-fn is_refused<T: Spelled + Drop>(alloc: Global, bytes: &[u8], want: ValueFault) -> bool {
-    if bytes.len() >= 1000 {
-        return false;
-    }
-    let mut reader = Reader::new(bytes, 0, Order::Big);
-    let found = read_whole::<T>(alloc, &mut reader).err();
-    found == Some(want) && reader.place() == 0
+fn are_faults(alloc: Global) -> bool {
+    are_refused::<FollowOption>(alloc, "BadValue 0 00000003")
+        && are_refused::<HowManyProps>(alloc, "BadValue 0 00000003")
+        && are_refused::<PropertyMode>(alloc, "BadValue 0 00000004")
+        && are_refused::<ListOption>(alloc, "BadValue 0 00000002")
+        && are_refused::<SpecifiedProps>(alloc, "BadValue 0 00000007")
+        && are_refused::<IncarnationNumber>(alloc, "Short 4 000000010000")
+        && are_refused::<SpecifiedServiceTypes>(alloc, "Short 4 00000001000000")
 }
 
 #[test]
-fn faults(rt: HostRuntime) -> Result<(), Fail> {
-    assert!(rt; are_refused(rt.alloc()));
-    Ok(())
-}
-
-fn are_refused(alloc: Global) -> bool {
-    let unknown = ValueFault::BadValue(0);
-    let short = ValueFault::Cdr(CdrFault::Short(4));
-    is_refused::<FollowOption>(alloc, b"\0\0\0\x03", unknown)
-        && is_refused::<HowManyProps>(alloc, b"\0\0\0\x03", unknown)
-        && is_refused::<PropertyMode>(alloc, b"\0\0\0\x04", unknown)
-        && is_refused::<ListOption>(alloc, b"\0\0\0\x02", unknown)
-        && is_refused::<SpecifiedProps>(alloc, b"\0\0\0\x07", unknown)
-        && is_refused::<IncarnationNumber>(alloc, b"\0\0\0\x01\0\0", short)
-        && is_refused::<SpecifiedServiceTypes>(alloc, b"\0\0\0\x01\0\0\0", short)
+fn values_of_each_type(rt: HostRuntime) {
+    let alloc = rt.alloc();
+    assert!(rt; are_enumerations(alloc));
+    assert!(rt; are_structures(alloc));
+    assert!(rt; are_faults(alloc));
 }
 
 /// A reference with neither a type nor a profile.
@@ -263,48 +143,66 @@ fn nil(alloc: Global) -> Ior {
     }
 }
 
-#[test]
-fn sizes(rt: HostRuntime) -> Result<(), Fail> {
-    let alloc = rt.alloc();
+/// The size of an offer of nothing.
+fn size_of_none(alloc: Global) -> Result<usize, Memory> {
     let none = List::<Property>::new(alloc);
-    assert_eq!(rt; offer_size(alloc, &nil(alloc), &none)?, 16);
-    assert_eq!(rt; size_of_type(alloc)?, 112);
-    assert_eq!(rt; size_of_long(alloc)?, 8);
-    for line in OFFER.lines() {
-        let (order, digits) = line.split_once(' ').ok_or("an order")?;
-        let bytes = hex::decode(alloc, digits.as_bytes())?;
-        assert_eq!(rt; size_of_offer(alloc, &bytes, order_of(order))?, bytes.len());
-    }
-    Ok(())
+    offer_size(alloc, &nil(alloc), &none)
 }
 
-/// The size of the offer that is read from the bytes.
-fn size_of_offer(alloc: Global, bytes: &[u8], order: Order) -> Result<usize, Fail> {
-    if bytes.len() >= 1000 {
-        return Err("long".into());
-    }
-    let mut reader = Reader::new(bytes, 0, order);
-    let offer = Boxed::new(alloc, read_whole::<Offer>(alloc, &mut reader)?)?;
-    let offer = offer.get();
-    Ok(offer_size(alloc, &offer.reference, &offer.properties)?)
+fn size_of(alloc: Global, offer: &Offer) -> Result<usize, Memory> {
+    offer_size(alloc, &offer.reference, &offer.properties)
 }
 
-/// The size of the type that is read from the first line.
-fn size_of_type(alloc: Global) -> Result<usize, Fail> {
-    let (_order, rest) = TYPE_STRUCT.split_once(' ').ok_or("an order")?;
-    let (digits, _others) = rest.split_once('\n').ok_or("a line")?;
-    let bytes = hex::decode(alloc, digits.as_bytes())?;
-    if bytes.len() >= 1000 {
-        return Err("long".into());
+/// Whether the offer that fills the bytes has as many as its size tells.
+fn is_sized(alloc: Global, bytes: &[u8], order: Order) -> Result<bool, ValueFault> {
+    match whole::<Offer>(alloc, bytes, order)? {
+        Some(offer) => Ok(size_of(alloc, offer.get())? == bytes.len()),
+        None => Ok(false),
     }
-    let mut reader = Reader::new(&bytes, 0, Order::Big);
-    let described = Boxed::new(alloc, read_whole::<TypeStruct>(alloc, &mut reader)?)?;
-    Ok(type_struct_size(alloc, described.get())?)
 }
 
-/// The size of an any that holds a long.
-fn size_of_long(alloc: Global) -> Result<usize, Fail> {
-    let mut reader = Reader::new(&[0, 0, 0, 3, 0, 0, 0, 7], 0, Order::Big);
+fn is_line_sized(alloc: Global, line: &str) -> Option<bool> {
+    let (order, bytes) = line_of(alloc, line)?;
+    is_sized(alloc, bytes.as_slice(), order).ok()
+}
+
+/// The size of the type that fills the bytes.
+fn size_of_type(alloc: Global, bytes: &[u8], order: Order) -> Result<Option<usize>, ValueFault> {
+    match whole::<TypeStruct>(alloc, bytes, order)? {
+        Some(described) => Ok(Some(type_struct_size(alloc, described.get())?)),
+        None => Ok(None),
+    }
+}
+
+/// The size of the type of the first line.
+fn size_of_first_type(alloc: Global) -> Option<usize> {
+    let (order, bytes) = line_of(alloc, TYPE_STRUCT.lines().next()?)?;
+    size_of_type(alloc, bytes.as_slice(), order).ok()?
+}
+
+/// An any that holds a long.
+const LONG: [u8; 8] = [0, 0, 0, 3, 0, 0, 0, 7];
+
+/// Whether the any is written as the bytes of a long, and its size is told.
+fn is_long(alloc: Global, any: &Any) -> Result<bool, ValueFault> {
+    let mut writer = Writer::new(alloc, Order::Big);
+    write_any(alloc, &mut writer, any)?;
+    Ok(writer.bytes() == LONG.as_slice() && any_size(alloc, any)? == 8)
+}
+
+fn is_long_read(alloc: Global) -> Result<bool, ValueFault> {
+    let mut reader = Reader::new(&LONG, 0, Order::Big);
     let any = Boxed::new(alloc, read_any(alloc, &mut reader)?)?;
-    Ok(any_size(alloc, any.get())?)
+    is_long(alloc, any.get())
+}
+
+#[test]
+fn sizes(rt: HostRuntime) {
+    let alloc = rt.alloc();
+    assert!(rt; size_of_none(alloc) == Ok(16));
+    assert!(rt; size_of_first_type(alloc) == Some(112));
+    assert!(rt; is_long_read(alloc) == Ok(true));
+    for line in OFFER.lines() {
+        assert!(rt; is_line_sized(alloc, line) == Some(true), "{line}");
+    }
 }
