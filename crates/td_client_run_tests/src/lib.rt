@@ -10,6 +10,6 @@ mod refusals;
 #[cfg(test)]
 mod running;
 #[cfg(test)]
-mod statuses;
-#[cfg(test)]
 mod uses;
+#[cfg(test)]
+mod wires;

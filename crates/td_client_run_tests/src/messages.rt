@@ -73,6 +73,9 @@ pub const WITHDRAW: &[u8] =
 /// A reply without a result.
 pub const DONE: &[u8] = b"GIOP\x01\0\0\x01\0\0\0\x0c\0\0\0\0\0\0\0\x01\0\0\0\0";
 
+/// The same without its last four bytes.
+pub const CUT_DONE: &[u8] = b"GIOP\x01\0\0\x01\0\0\0\x0c\0\0\0\0\0\0\0\x01";
+
 /// Offer 7 is described.
 pub const DESCRIBE: &[u8] =
     b"GIOP\x01\0\0\0\0\0\0.\0\0\0\0\0\0\0\x01\x01\0\0\0\0\0\0\x03A/R\0\0\0\0\x09describe\0\0\0\0\0\0\0\
@@ -131,8 +134,8 @@ pub const SYSTEM: &[u8] =
 pub const FORWARD: &[u8] = b"GIOP\x01\0\0\x01\0\0\0\x0c\0\0\0\0\0\0\0\x01\0\0\0\x03";
 
 /// What is printed of the five lasers.
-pub const LASER_LINES: &str =
-    "offer IOR:000000000000000e49444c3a4c617365723a312e3000000000000001000000000000001200010000000000\
+pub const LASER_LINES: &[u8] =
+    b"offer IOR:000000000000000e49444c3a4c617365723a312e3000000000000001000000000000001200010000000000\
     0268000009000000027331\n\
     \x20 Cost ulong 3\n\
     \x20 Room string R1\n\
@@ -157,9 +160,9 @@ pub const LASER_LINES: &str =
     total 5\n";
 
 /// The text of the reference of the first offer.
-pub const FIRST: &str =
-    "IOR:000000000000000a49444c3a503a312e30000000000000010000000000000012000100000000000268000009000000027031";
+pub const FIRST: &[u8] =
+    b"IOR:000000000000000a49444c3a503a312e30000000000000010000000000000012000100000000000268000009000000027031";
 
 /// The same of the second offer.
-pub const SECOND: &str =
-    "IOR:000000000000000a49444c3a503a312e30000000000000010000000000000012000100000000000268000009000000027032";
+pub const SECOND: &[u8] =
+    b"IOR:000000000000000a49444c3a503a312e30000000000000010000000000000012000100000000000268000009000000027032";

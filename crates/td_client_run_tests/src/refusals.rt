@@ -1,147 +1,162 @@
 //! Words that are refused: clap's text, or `usage`, on the faults sink, status 2, and no connection.
 
 use crate::messages::NAMES;
-use crate::running::{Left, plain, run};
+use crate::running::{Use, passes};
 use std::alloc::Global;
-use std::process::Abort;
-use std::test::Fail;
+use td_cdr::Memory;
 
-/// Words that are refused, and what stands in the text that tells it.
-#[derive(Clone, Copy)]
-struct Row {
+/// Words that clap refuses, and what stands in the text that tells it.
+struct Telling {
     words: &'static [&'static str],
     told: &'static str,
 }
 
-const fn telling(words: &'static [&'static str], told: &'static str) -> Row {
-    Row { words, told }
-}
-
-/// Whether a text has this in it.
-fn has(bytes: &[u8], told: &str) -> bool {
-    match str::from_utf8(bytes) {
-        Ok(text) => text.contains(told),
-        Err(_) => false,
-    }
-}
-
-/// Whether a use ended with status 2, told this, printed nothing and made no connection.
-fn is_refused(left: &Left, told: &str) -> bool {
-    left.status == 2
-        && has(left.faults.written(), told)
-        && left.sink.written().is_empty()
-        && left.wire.written(0).is_none()
-}
-
-/// Whether the words are refused, and the text that tells it has this in it.
-fn refuses(alloc: Global, row: &Row) -> Result<bool, Fail> {
-    let came = run(alloc, &plain(row.words, NAMES))?;
-    let good = is_refused(&came, row.told);
-    drop(came);
-    Ok(good)
-}
-
-fn try_rows(rt: &impl Abort, alloc: Global, rows: &[Row]) -> Result<(), Fail> {
-    for row in rows {
-        assert!(rt; refuses(alloc, row)?);
-    }
-    Ok(())
-}
-
-#[test]
-fn clap_tells_what_is_wrong(rt: HostRuntime) -> Result<(), Fail> {
-    let rows = [
-        telling(&[], "Usage: tradecli <COMMAND>"),
-        telling(&["link"], "Usage: tradecli link"),
-        telling(&["lists", "ref:,h,9,A/K"], "lists"),
-        telling(&["links", "ref:,h,9,A/K", "more"], "more"),
-        telling(&["links", "--hops", "2", "ref:,h,9,A/K"], "--hops"),
-    ];
-    try_rows(&rt, rt.alloc(), &rows)
-}
-
-#[test]
-fn help_has_an_example(rt: HostRuntime) -> Result<(), Fail> {
-    let rows = [
-        telling(&["--help"], "Usage: tradecli <COMMAND>"),
-        telling(
-            &["--help"],
-            "Example: tradecli types ref:,localhost,2809,A/T\n",
-        ),
-        telling(&["query", "--help"], "Example: tradecli query "),
-        telling(&["export", "--help"], "Example: tradecli export "),
-        telling(&["withdraw", "--help"], "Example: tradecli withdraw "),
-        telling(&["describe", "--help"], "Example: tradecli describe "),
-        telling(&["link", "--help"], "Example: tradecli link "),
-        telling(&["links", "--help"], "Example: tradecli links "),
-        telling(&["types", "--help"], "Example: tradecli types "),
-        telling(&["addtype", "--help"], "Example: tradecli addtype "),
-    ];
-    try_rows(&rt, rt.alloc(), &rows)
-}
+const TELLING: [Telling; 15] = [
+    // what is wrong
+    Telling {
+        words: &[],
+        told: "Usage: tradecli <COMMAND>",
+    },
+    Telling {
+        words: &["link"],
+        told: "Usage: tradecli link",
+    },
+    Telling {
+        words: &["lists", "ref:,h,9,A/K"],
+        told: "lists",
+    },
+    Telling {
+        words: &["links", "ref:,h,9,A/K", "more"],
+        told: "more",
+    },
+    Telling {
+        words: &["links", "--hops", "2", "ref:,h,9,A/K"],
+        told: "--hops",
+    },
+    // help, which has an example
+    Telling {
+        words: &["--help"],
+        told: "Usage: tradecli <COMMAND>",
+    },
+    Telling {
+        words: &["--help"],
+        told: "Example: tradecli types ref:,localhost,2809,A/T\n",
+    },
+    Telling {
+        words: &["query", "--help"],
+        told: "Example: tradecli query ",
+    },
+    Telling {
+        words: &["export", "--help"],
+        told: "Example: tradecli export ",
+    },
+    Telling {
+        words: &["withdraw", "--help"],
+        told: "Example: tradecli withdraw ",
+    },
+    Telling {
+        words: &["describe", "--help"],
+        told: "Example: tradecli describe ",
+    },
+    Telling {
+        words: &["link", "--help"],
+        told: "Example: tradecli link ",
+    },
+    Telling {
+        words: &["links", "--help"],
+        told: "Example: tradecli links ",
+    },
+    Telling {
+        words: &["types", "--help"],
+        told: "Example: tradecli types ",
+    },
+    Telling {
+        words: &["addtype", "--help"],
+        told: "Example: tradecli addtype ",
+    },
+];
 
 /// Words of which one isn't in its form.
-const fn formless(words: &'static [&'static str]) -> Row {
-    telling(words, "usage\n")
+const FORMLESS: [&[&str]; 20] = [
+    // a reference outside its form
+    &["links", "h:9"],
+    &["links", "ref:,h,09,A/K"],
+    &["links", "IOR:00000000000000010000000000000000"],
+    &["links", "ref:,h,9,A\0K"],
+    &["export", "ref:,h,9,A/R", "T", "p1"],
+    &["link", "ref:,h,9,A/K", "n", "B/L", "always", "always"],
+    // an option outside its form
+    &["query", "--hops", "4294967296", "ref:,h,9,A/L", "T", "", ""],
+    &["query", "--how-many", "07", "ref:,h,9,A/L", "T", "", ""],
+    &["query", "--follow", "never", "ref:,h,9,A/L", "T", "", ""],
+    &["query", "--id", "abc", "ref:,h,9,A/L", "T", "", ""],
+    &[
+        "link",
+        "ref:,h,9,A/K",
+        "n",
+        "ref:,h,9,B/L",
+        "always",
+        "ever",
+    ],
+    // a property outside its form
+    &["export", "ref:,h,9,A/R", "T", "ref:,h,9,p", "Cost"],
+    &["export", "ref:,h,9,A/R", "T", "ref:,h,9,p", "Cost=5"],
+    &["export", "ref:,h,9,A/R", "T", "ref:,h,9,p", "Cost=float:5"],
+    &["export", "ref:,h,9,A/R", "T", "ref:,h,9,p", "Cost=seq:long"],
+    &[
+        "export",
+        "ref:,h,9,A/R",
+        "T",
+        "ref:,h,9,p",
+        "Cost=octet:256",
+    ],
+    // an item outside its form
+    &["addtype", "ref:,h,9,A/T", "T", "", "Printer"],
+    &["addtype", "ref:,h,9,A/T", "T", "", "prop=A:normal"],
+    &["addtype", "ref:,h,9,A/T", "T", "", "prop=A:any:long"],
+    &["addtype", "ref:,h,9,A/T", "T", "", "prop=A:normal:float"],
+];
+
+/// Whether the words are refused, and the text that tells it has this in it.
+fn are_refused(
+    alloc: Global,
+    words: &'static [&'static str],
+    told: &'static str,
+) -> Result<bool, Memory> {
+    passes(
+        alloc,
+        &Use {
+            words,
+            given: NAMES,
+            wire_failing: &[],
+            sink_failing: &[],
+            status: 2,
+            wrote: &[],
+            printed: &[],
+            told,
+        },
+    )
 }
 
 #[test]
-fn a_reference_outside_its_form_is_usage(rt: HostRuntime) -> Result<(), Fail> {
-    let rows = [
-        formless(&["links", "h:9"]),
-        formless(&["links", "ref:,h,09,A/K"]),
-        formless(&["links", "IOR:00000000000000010000000000000000"]),
-        formless(&["links", "ref:,h,9,A\0K"]),
-        formless(&["export", "ref:,h,9,A/R", "T", "p1"]),
-        formless(&["link", "ref:,h,9,A/K", "n", "B/L", "always", "always"]),
-    ];
-    try_rows(&rt, rt.alloc(), &rows)
+fn clap_tells_what_is_wrong_and_helps(rt: HostRuntime) {
+    let alloc = rt.alloc();
+    for row in &TELLING {
+        assert!(rt;
+            are_refused(alloc, row.words, row.told) == Ok(true),
+            "{}",
+            row.told
+        );
+    }
 }
 
 #[test]
-fn an_option_outside_its_form_is_usage(rt: HostRuntime) -> Result<(), Fail> {
-    let rows = [
-        formless(&["query", "--hops", "4294967296", "ref:,h,9,A/L", "T", "", ""]),
-        formless(&["query", "--how-many", "07", "ref:,h,9,A/L", "T", "", ""]),
-        formless(&["query", "--follow", "never", "ref:,h,9,A/L", "T", "", ""]),
-        formless(&["query", "--id", "abc", "ref:,h,9,A/L", "T", "", ""]),
-        formless(&[
-            "link",
-            "ref:,h,9,A/K",
-            "n",
-            "ref:,h,9,B/L",
-            "always",
-            "ever",
-        ]),
-    ];
-    try_rows(&rt, rt.alloc(), &rows)
-}
-
-#[test]
-fn a_property_outside_its_form_is_usage(rt: HostRuntime) -> Result<(), Fail> {
-    let rows = [
-        formless(&["export", "ref:,h,9,A/R", "T", "ref:,h,9,p", "Cost"]),
-        formless(&["export", "ref:,h,9,A/R", "T", "ref:,h,9,p", "Cost=5"]),
-        formless(&["export", "ref:,h,9,A/R", "T", "ref:,h,9,p", "Cost=float:5"]),
-        formless(&["export", "ref:,h,9,A/R", "T", "ref:,h,9,p", "Cost=seq:long"]),
-        formless(&[
-            "export",
-            "ref:,h,9,A/R",
-            "T",
-            "ref:,h,9,p",
-            "Cost=octet:256",
-        ]),
-    ];
-    try_rows(&rt, rt.alloc(), &rows)
-}
-
-#[test]
-fn an_item_outside_its_form_is_usage(rt: HostRuntime) -> Result<(), Fail> {
-    let rows = [
-        formless(&["addtype", "ref:,h,9,A/T", "T", "", "Printer"]),
-        formless(&["addtype", "ref:,h,9,A/T", "T", "", "prop=A:normal"]),
-        formless(&["addtype", "ref:,h,9,A/T", "T", "", "prop=A:any:long"]),
-        formless(&["addtype", "ref:,h,9,A/T", "T", "", "prop=A:normal:float"]),
-    ];
-    try_rows(&rt, rt.alloc(), &rows)
+fn a_word_outside_its_form_is_usage(rt: HostRuntime) {
+    let alloc = rt.alloc();
+    for words in &FORMLESS {
+        assert!(rt;
+            are_refused(alloc, words, "usage\n") == Ok(true),
+            "{words:?}"
+        );
+    }
 }

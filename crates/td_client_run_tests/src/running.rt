@@ -1,42 +1,31 @@
 //! A use of the program over a wire and sinks in memory.
 
-use crate::client::messages::wire_of;
+use crate::wires::{has_written, is_joined, wire_of};
 use std::alloc::Global;
-use std::test::Fail;
-use td_cdr::List;
+use td_cdr::{List, Memory};
 use td_client_run::client_run;
 use td_out::MemSink;
 use td_wire::MemWire;
 
-/// A use of the program: its words, what its connection gives, and the calls of the wire and of the sink that fail.
+/// A use of the program, and what it leaves.
 #[derive(Clone, Copy)]
 pub struct Use {
     pub words: &'static [&'static str],
+    /// What its connection gives.
     pub given: &'static [u8],
+    /// The calls of the wire that fail.
     pub wire_failing: &'static [u64],
+    /// The calls of the sink that fail.
     pub sink_failing: &'static [u64],
-}
-
-/// A use of which no call fails.
-pub const fn plain(words: &'static [&'static str], given: &'static [u8]) -> Use {
-    Use {
-        words,
-        given,
-        wire_failing: &[],
-        sink_failing: &[],
-    }
-}
-
-/// What it leaves: its status, the wire, the sink and the faults sink.
-#[derive(Drop)]
-pub struct Left {
     pub status: u8,
-    pub wire: MemWire,
-    pub sink: MemSink,
-    pub faults: MemSink,
+    /// What is written over its connection; nothing where there is none.
+    pub wrote: &'static [&'static [u8]],
+    pub printed: &'static [&'static [u8]],
+    /// What stands in the faults sink; nothing does where it is empty.
+    pub told: &'static str,
 }
 
-fn words_of(alloc: Global, words: &[&str]) -> Result<Vec<String>, Fail> {
+fn words_of(alloc: Global, words: &[&str]) -> Result<Vec<String>, Memory> {
     let mut all = Vec::new(alloc);
     for word in words {
         all.push(String::from_str(alloc, word)?)?;
@@ -44,29 +33,39 @@ fn words_of(alloc: Global, words: &[&str]) -> Result<Vec<String>, Fail> {
     Ok(all)
 }
 
-/// Uses the program.
-pub fn run(alloc: Global, used: &Use) -> Result<Left, Fail> {
-    let words = words_of(alloc, used.words)?;
-    let mut wire = wire_of(alloc, &[used.given], used.wire_failing)?;
-    let mut sink = MemSink::new(alloc, List::from_slice(alloc, used.sink_failing)?);
-    let mut faults = MemSink::new(alloc, List::new(alloc));
-    let status = client_run(alloc, words.as_slice(), &mut wire, &mut sink, &mut faults);
-    Ok(Left {
-        status,
-        wire,
-        sink,
-        faults,
-    })
+/// Whether a text has this in it, or is empty where this is.
+fn has(bytes: &[u8], told: &str) -> bool {
+    match str::from_utf8(bytes) {
+        Ok(text) => {
+            if told.is_empty() {
+                text.is_empty()
+            } else {
+                text.contains(told)
+            }
+        }
+        Err(_) => false,
+    }
 }
 
-/// Whether a text is these parts, one after the other.
-pub fn is_joined(text: &[u8], parts: &[&str]) -> bool {
-    let mut rest = text;
-    for part in parts {
-        let Some(behind) = rest.strip_prefix(part.as_bytes()) else {
-            return false;
-        };
-        rest = behind;
-    }
-    rest.is_empty()
+/// Whether the wire and both sinks are left so.
+fn is_left(wire: &MemWire, sink: &MemSink, faults: &MemSink, used: &Use) -> bool {
+    has_written(wire, used.wrote)
+        && is_joined(sink.written(), used.printed)
+        && has(faults.written(), used.told)
+}
+
+/// Whether a use of the program with these words leaves this.
+fn leaves(alloc: Global, words: &[String], used: &Use) -> Result<bool, Memory> {
+    let mut wire = wire_of(alloc, &[used.given], used.wire_failing)?;
+    let failing = List::from_slice(alloc, used.sink_failing)?;
+    let mut sink = MemSink::new(alloc, failing);
+    let mut faults = MemSink::new(alloc, List::new(alloc));
+    let status = client_run(alloc, words, &mut wire, &mut sink, &mut faults);
+    Ok(status == used.status && is_left(&wire, &sink, &faults, used))
+}
+
+/// Whether a use of the program leaves what it is told to.
+pub fn passes(alloc: Global, used: &Use) -> Result<bool, Memory> {
+    let words = words_of(alloc, used.words)?;
+    leaves(alloc, words.as_slice(), used)
 }

@@ -1,30 +1,17 @@
-//! Each subcommand: the one request that is written, and the lines that are printed.
+//! Uses of the program: of each subcommand the one request that is written and the lines that are printed, and each
+//! status but those for refused words and for want of memory.
 
-use crate::client::messages::has_written;
 use crate::messages::*;
-use crate::running::{Left, Use, is_joined, plain, run};
-use std::alloc::Global;
-use std::test::Fail;
+use crate::running::{Use, passes};
 
-/// Whether a use ended with status 0, wrote this request and no more, printed these parts, and told nothing else.
-fn is_done(left: &Left, request: &[u8], printed: &[&str]) -> bool {
-    left.status == 0
-        && has_written(&left.wire, &[request])
-        && is_joined(left.sink.written(), printed)
-        && left.faults.written().is_empty()
-}
+/// The words of a use that withdraws an offer.
+const WORDS: &[&str] = &["withdraw", "ref:,h,9,A/R", "7"];
 
-fn does(alloc: Global, used: &Use, request: &[u8], printed: &[&str]) -> Result<bool, Fail> {
-    let came = run(alloc, used)?;
-    let good = is_done(&came, request, printed);
-    drop(came);
-    Ok(good)
-}
-
-#[test]
-fn a_query_prints_offers_limits_and_the_count(rt: HostRuntime) -> Result<(), Fail> {
-    let used = plain(
-        &[
+/// Uses, of which the calls that fail are those of the wire and of the sink, and what each leaves.
+const USES: [Use; 21] = [
+    // a query prints offers limits and the count
+    Use {
+        words: &[
             "query",
             "--id",
             "aB0c",
@@ -42,49 +29,52 @@ fn a_query_prints_offers_limits_and_the_count(rt: HostRuntime) -> Result<(), Fai
             "Cost",
             "Room",
         ],
-        FOUND,
-    );
-    let printed = [
-        "offer ",
-        FIRST,
-        "\n  Cost ulong 5\n  Room string R 1\n",
-        "offer ",
-        SECOND,
-        "\nlimits hop_count return_card\ntotal 2\n",
-    ];
-    assert!(rt; does(rt.alloc(), &used, QUERY, &printed)?);
-    Ok(())
-}
-
-#[test]
-fn an_iterator_is_drained_before_anything_is_printed(rt: HostRuntime) -> Result<(), Fail> {
-    let used = plain(
-        &[
+        given: FOUND,
+        wire_failing: &[],
+        sink_failing: &[],
+        status: 0,
+        wrote: &[QUERY],
+        printed: &[
+            b"offer ",
+            FIRST,
+            b"\n  Cost ulong 5\n  Room string R 1\n",
+            b"offer ",
+            SECOND,
+            b"\nlimits hop_count return_card\ntotal 2\n",
+        ],
+        told: "",
+    },
+    // an iterator is drained before anything is printed
+    Use {
+        words: &[
             "query",
             "ref:,h,9,North/L",
             "Laser",
             "Cost < 10",
             "min Cost",
         ],
-        LASER_REPLIES,
-    );
-    assert!(rt; does(rt.alloc(), &used, LASER_REQUESTS, &[LASER_LINES])?);
-    Ok(())
-}
-
-#[test]
-fn a_query_without_options_asks_for_all_properties_of_a_hundred(
-    rt: HostRuntime,
-) -> Result<(), Fail> {
-    let used = plain(&["query", "ref:,h,9,A/L", "Printer", "", ""], FOUND_NONE);
-    assert!(rt; does(rt.alloc(), &used, PLAIN_QUERY, &["limits\ntotal 0\n"])?);
-    Ok(())
-}
-
-#[test]
-fn an_export_prints_the_id(rt: HostRuntime) -> Result<(), Fail> {
-    let used = plain(
-        &[
+        given: LASER_REPLIES,
+        wire_failing: &[],
+        sink_failing: &[],
+        status: 0,
+        wrote: &[LASER_REQUESTS],
+        printed: &[LASER_LINES],
+        told: "",
+    },
+    // a query without options asks for all properties of a hundred
+    Use {
+        words: &["query", "ref:,h,9,A/L", "Printer", "", ""],
+        given: FOUND_NONE,
+        wire_failing: &[],
+        sink_failing: &[],
+        status: 0,
+        wrote: &[PLAIN_QUERY],
+        printed: &[b"limits\ntotal 0\n"],
+        told: "",
+    },
+    // an export prints the id
+    Use {
+        words: &[
             "export",
             "ref:,h,9,A/R",
             "Printer",
@@ -94,36 +84,44 @@ fn an_export_prints_the_id(rt: HostRuntime) -> Result<(), Fail> {
             "Tags=seq:string:x,y",
             "None=seq:long:",
         ],
-        EXPORTED,
-    );
-    assert!(rt; does(rt.alloc(), &used, EXPORT, &["id 7\n"])?);
-    Ok(())
-}
-
-#[test]
-fn an_offer_is_withdrawn(rt: HostRuntime) -> Result<(), Fail> {
-    let used = plain(&["withdraw", "ref:,h,9,A/R", "7"], DONE);
-    assert!(rt; does(rt.alloc(), &used, WITHDRAW, &["ok\n"])?);
-    Ok(())
-}
-
-#[test]
-fn an_offer_is_described(rt: HostRuntime) -> Result<(), Fail> {
-    let used = plain(&["describe", "ref:,h,9,A/R", "7"], DESCRIBED);
-    let printed = [
-        "offer ",
-        FIRST,
-        "\n  Cost short -5\n  On boolean TRUE\n  Grade char b\n",
-        "  Tags seq:string x,y\n  None seq:long \n  Rule other\n",
-    ];
-    assert!(rt; does(rt.alloc(), &used, DESCRIBE, &printed)?);
-    Ok(())
-}
-
-#[test]
-fn a_link_is_added(rt: HostRuntime) -> Result<(), Fail> {
-    let used = plain(
-        &[
+        given: EXPORTED,
+        wire_failing: &[],
+        sink_failing: &[],
+        status: 0,
+        wrote: &[EXPORT],
+        printed: &[b"id 7\n"],
+        told: "",
+    },
+    // an offer is withdrawn
+    Use {
+        words: &["withdraw", "ref:,h,9,A/R", "7"],
+        given: DONE,
+        wire_failing: &[],
+        sink_failing: &[],
+        status: 0,
+        wrote: &[WITHDRAW],
+        printed: &[b"ok\n"],
+        told: "",
+    },
+    // an offer is described
+    Use {
+        words: &["describe", "ref:,h,9,A/R", "7"],
+        given: DESCRIBED,
+        wire_failing: &[],
+        sink_failing: &[],
+        status: 0,
+        wrote: &[DESCRIBE],
+        printed: &[
+            b"offer ",
+            FIRST,
+            b"\n  Cost short -5\n  On boolean TRUE\n  Grade char b\n",
+            b"  Tags seq:string x,y\n  None seq:long \n  Rule other\n",
+        ],
+        told: "",
+    },
+    // a link is added
+    Use {
+        words: &[
             "link",
             "ref:,h,9,A/K",
             "south",
@@ -131,30 +129,39 @@ fn a_link_is_added(rt: HostRuntime) -> Result<(), Fail> {
             "if_no_local",
             "always",
         ],
-        DONE,
-    );
-    assert!(rt; does(rt.alloc(), &used, LINK, &["ok\n"])?);
-    Ok(())
-}
-
-#[test]
-fn links_are_listed(rt: HostRuntime) -> Result<(), Fail> {
-    let used = plain(&["links", "ref:,h,9,A/K"], NAMES);
-    assert!(rt; does(rt.alloc(), &used, LINKS, &["south\neast\n"])?);
-    Ok(())
-}
-
-#[test]
-fn types_are_listed(rt: HostRuntime) -> Result<(), Fail> {
-    let used = plain(&["types", "ref:,h,9,A/T"], NAMES);
-    assert!(rt; does(rt.alloc(), &used, TYPES, &["south\neast\n"])?);
-    Ok(())
-}
-
-#[test]
-fn a_type_is_added(rt: HostRuntime) -> Result<(), Fail> {
-    let used = plain(
-        &[
+        given: DONE,
+        wire_failing: &[],
+        sink_failing: &[],
+        status: 0,
+        wrote: &[LINK],
+        printed: &[b"ok\n"],
+        told: "",
+    },
+    // links are listed
+    Use {
+        words: &["links", "ref:,h,9,A/K"],
+        given: NAMES,
+        wire_failing: &[],
+        sink_failing: &[],
+        status: 0,
+        wrote: &[LINKS],
+        printed: &[b"south\neast\n"],
+        told: "",
+    },
+    // types are listed
+    Use {
+        words: &["types", "ref:,h,9,A/T"],
+        given: NAMES,
+        wire_failing: &[],
+        sink_failing: &[],
+        status: 0,
+        wrote: &[TYPES],
+        printed: &[b"south\neast\n"],
+        told: "",
+    },
+    // a type is added
+    Use {
+        words: &[
             "addtype",
             "ref:,h,9,A/T",
             "Laser",
@@ -164,8 +171,140 @@ fn a_type_is_added(rt: HostRuntime) -> Result<(), Fail> {
             "super=Device",
             "prop=Tags:mandatory_readonly:seq:string",
         ],
-        INCARNATION,
-    );
-    assert!(rt; does(rt.alloc(), &used, ADD_TYPE, &["ok\n"])?);
-    Ok(())
+        given: INCARNATION,
+        wire_failing: &[],
+        sink_failing: &[],
+        status: 0,
+        wrote: &[ADD_TYPE],
+        printed: &[b"ok\n"],
+        told: "",
+    },
+    // an exception is printed
+    Use {
+        words: WORDS,
+        given: USER,
+        wire_failing: &[],
+        sink_failing: &[],
+        status: 4,
+        wrote: &[WITHDRAW],
+        printed: &[b"exception IDL:X:1.0\n"],
+        told: "",
+    },
+    Use {
+        words: WORDS,
+        given: SYSTEM,
+        wire_failing: &[],
+        sink_failing: &[],
+        status: 5,
+        wrote: &[WITHDRAW],
+        printed: &[b"exception IDL:Y:1.0\n"],
+        told: "",
+    },
+    // an exception ends a query
+    Use {
+        words: &["query", "ref:,h,9,A/L", "Printer", "", ""],
+        given: USER,
+        wire_failing: &[],
+        sink_failing: &[],
+        status: 4,
+        wrote: &[PLAIN_QUERY],
+        printed: &[b"exception IDL:X:1.0\n"],
+        told: "",
+    },
+    // a wire that fails prints nothing
+    Use {
+        words: WORDS,
+        given: DONE,
+        wire_failing: &[1],
+        sink_failing: &[],
+        status: 6,
+        wrote: &[],
+        printed: &[],
+        told: "",
+    },
+    Use {
+        words: WORDS,
+        given: DONE,
+        wire_failing: &[2],
+        sink_failing: &[],
+        status: 6,
+        wrote: &[b""],
+        printed: &[],
+        told: "",
+    },
+    Use {
+        words: WORDS,
+        given: DONE,
+        wire_failing: &[3],
+        sink_failing: &[],
+        status: 6,
+        wrote: &[WITHDRAW],
+        printed: &[],
+        told: "",
+    },
+    Use {
+        words: WORDS,
+        given: CUT_DONE,
+        wire_failing: &[],
+        sink_failing: &[],
+        status: 6,
+        wrote: &[WITHDRAW],
+        printed: &[],
+        told: "",
+    },
+    // a sink that fails prints no more
+    Use {
+        words: WORDS,
+        given: DONE,
+        wire_failing: &[],
+        sink_failing: &[1],
+        status: 7,
+        wrote: &[WITHDRAW],
+        printed: &[],
+        told: "",
+    },
+    // what is no reply prints nothing
+    Use {
+        words: WORDS,
+        given: FORWARD,
+        wire_failing: &[],
+        sink_failing: &[],
+        status: 8,
+        wrote: &[WITHDRAW],
+        printed: &[],
+        told: "",
+    },
+    Use {
+        words: WORDS,
+        given: WITHDRAW,
+        wire_failing: &[],
+        sink_failing: &[],
+        status: 8,
+        wrote: &[WITHDRAW],
+        printed: &[],
+        told: "",
+    },
+    Use {
+        words: WORDS,
+        given: b"HTTP/1.1 400",
+        wire_failing: &[],
+        sink_failing: &[],
+        status: 8,
+        wrote: &[WITHDRAW],
+        printed: &[],
+        told: "",
+    },
+];
+
+#[test]
+fn uses_print_write_and_end_so(rt: HostRuntime) {
+    let alloc = rt.alloc();
+    for used in &USES {
+        assert!(rt;
+            passes(alloc, used) == Ok(true),
+            "{:?} {}",
+            used.words,
+            used.status
+        );
+    }
 }

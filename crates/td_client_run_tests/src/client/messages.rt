@@ -1,10 +1,5 @@
 //! Requests and replies, byte by byte.
 
-use std::alloc::Global;
-use std::test::Fail;
-use td_cdr::{List, Octets};
-use td_wire::MemWire;
-
 /// A query of the Lookup A/L for Printer, with ten offers at most and the id 1.
 pub const QUERY: &[u8] =
     b"GIOP\x01\0\0\0\0\0\0L\0\0\0\0\0\0\0\x01\x01\0\0\0\0\0\0\x03A/L\0\0\0\0\x06query\0\0\0\0\0\
@@ -146,29 +141,3 @@ pub const TOO_LARGE: &[u8] = b"GIOP\x01\0\0\x01\x04\0\0\x01";
 pub const OTHER_TYPE: &[u8] = b"GIOP\x01\0\0\x01\0\0\0\x11\
     \0\0\0\0\0\0\0\x01\0\0\0\0\
     \0\0\0\x08\x01";
-
-/// A wire whose first connection gives these parts, one after the other; these calls fail.
-pub fn wire_of(alloc: Global, parts: &[&[u8]], failing: &[u64]) -> Result<MemWire, Fail> {
-    let mut bytes = Vec::new(alloc);
-    for part in parts {
-        bytes.extend_from_slice(part)?;
-    }
-    let mut answers = List::new(alloc);
-    answers.push(Octets::from_vec(bytes))?;
-    Ok(MemWire::new(alloc, answers, List::from_slice(alloc, failing)?))
-}
-
-/// Whether these parts were written over the first connection, one after the other, and there was no second one.
-pub fn has_written(wire: &MemWire, parts: &[&[u8]]) -> bool {
-    let Some(written) = wire.written(0) else {
-        return false;
-    };
-    let mut rest = written;
-    for part in parts {
-        if !rest.starts_with(part) {
-            return false;
-        }
-        rest = &rest[part.len()..];
-    }
-    rest.is_empty() && wire.written(1).is_none()
-}

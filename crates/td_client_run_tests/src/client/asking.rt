@@ -1,0 +1,268 @@
+//! The calls that the crates of the client make of another object, and what they come to.
+
+use std::alloc::Global;
+use td_call::{call_over, evaluate_over};
+use td_cdr::{List, Memory, Text};
+use td_client::{Caller, Gathered};
+use td_ior::make_ior;
+use td_ops::{Answered, Call, Desired, Query, Reply};
+use td_value::{Any, Ior, TypeCode, Value};
+use td_walk::{PeerFault, Peers, SubAnswer};
+use td_wire::MemWire;
+
+/// What is asked, and by which function.
+#[derive(Clone, Copy)]
+pub enum Asked {
+    /// `_non_existent`, by `call_over`.
+    Call,
+    /// The same of the nil reference.
+    CallOfNil,
+    /// The same by a caller.
+    CallerCall,
+    /// evalDP of Cost, by `evaluate_over`.
+    Evaluate,
+    /// The same by a caller as the peers of a visit.
+    VisitEvaluate,
+    /// A query for ten printers, by a caller.
+    Ask,
+    /// The same by a caller as the peers of a visit.
+    VisitAsk,
+    /// The register of a Lookup.
+    Register,
+    /// What the names x and y lead to.
+    Resolve,
+}
+
+/// What an answer tells.
+#[derive(Clone, Copy, PartialEq, Eq)]
+pub enum Told {
+    Truth(bool),
+    Long(i32),
+    /// The reference of a register.
+    Register,
+    /// How many offers there are, the last of their ids, and how many limits.
+    Offers {
+        count: usize,
+        last: u8,
+        limits: usize,
+    },
+    Exception,
+    System {
+        minor: u32,
+        completion: u32,
+    },
+    Other,
+}
+
+/// The object that is asked.
+fn target_of(alloc: Global, asked: Asked) -> Result<Ior, Memory> {
+    match asked {
+        Asked::CallOfNil => Ok(Ior {
+            id: Text::new(alloc),
+            profiles: List::new(alloc),
+        }),
+        Asked::Evaluate | Asked::VisitEvaluate => make_ior(alloc, b"IDL:E:1.0", b"h", 9, b"E"),
+        Asked::Resolve => make_ior(alloc, b"IDL:R:1.0", b"h", 9, b"A/R"),
+        _ => make_ior(alloc, b"IDL:L:1.0", b"h", 9, b"A/L"),
+    }
+}
+
+/// What the call comes to over this wire.
+pub fn came(alloc: Global, wire: &mut MemWire, asked: Asked) -> Result<Told, PeerFault> {
+    let target = target_of(alloc, asked)?;
+    let told = told_of(alloc, wire, asked, &target);
+    drop(target);
+    told
+}
+
+fn told_of(
+    alloc: Global,
+    wire: &mut MemWire,
+    asked: Asked,
+    target: &Ior,
+) -> Result<Told, PeerFault> {
+    match asked {
+        Asked::Call | Asked::CallOfNil => call(alloc, wire, target),
+        Asked::CallerCall => caller_call(alloc, wire, target),
+        Asked::Evaluate => evaluate(alloc, wire, target),
+        Asked::VisitEvaluate => visit_evaluate(alloc, wire, target),
+        Asked::Ask => ask(alloc, wire, target),
+        Asked::VisitAsk => visit_ask(alloc, wire, target),
+        Asked::Register => register(alloc, wire, target),
+        Asked::Resolve => resolve(alloc, wire, target),
+    }
+}
+
+fn told_answered(answer: &Result<Answered, PeerFault>) -> Result<Told, PeerFault> {
+    match answer {
+        Ok(Answered::Done(Reply::Truth(truth))) => Ok(Told::Truth(*truth)),
+        Ok(Answered::Done(_)) => Ok(Told::Other),
+        Ok(Answered::User(_)) => Ok(Told::Exception),
+        Ok(
+            Answered::System {
+                minor,
+                completion,
+                ..
+            },
+        ) => Ok(Told::System {
+            minor: *minor,
+            completion: *completion,
+        }),
+        Err(fault) => Err(*fault),
+    }
+}
+
+fn call(alloc: Global, wire: &mut MemWire, target: &Ior) -> Result<Told, PeerFault> {
+    let asked = Call::NonExistent;
+    let answer = call_over(alloc, wire, target, &asked);
+    drop(asked);
+    let told = told_answered(&answer);
+    drop(answer);
+    told
+}
+
+fn caller_call(alloc: Global, wire: &mut MemWire, target: &Ior) -> Result<Told, PeerFault> {
+    let mut caller = Caller::new(alloc, wire);
+    let asked = Call::NonExistent;
+    let answer = caller.call(alloc, target, &asked);
+    drop(asked);
+    let told = told_answered(&answer);
+    drop(answer);
+    told
+}
+
+fn told_any(any: &Any) -> Told {
+    match &any.value {
+        Value::Long(number) => Told::Long(*number),
+        _ => Told::Other,
+    }
+}
+
+/// A long of 5, which goes along with an evaluation for a long.
+fn extra() -> Any {
+    Any {
+        code: TypeCode::Long,
+        value: Value::Long(5),
+    }
+}
+
+fn evaluate(alloc: Global, wire: &mut MemWire, evaluator: &Ior) -> Result<Told, PeerFault> {
+    let name = Text::from_slice(alloc, b"Cost")?;
+    let extra = extra();
+    let answer = evaluate_over(alloc, wire, evaluator, &name, &TypeCode::Long, &extra);
+    drop(extra);
+    let told = match &answer {
+        Ok(Some(value)) => Ok(told_any(value.get())),
+        Ok(None) => Ok(Told::Exception),
+        Err(fault) => Err(*fault),
+    };
+    drop(answer);
+    told
+}
+
+fn visit_evaluate(alloc: Global, wire: &mut MemWire, evaluator: &Ior) -> Result<Told, PeerFault> {
+    let name = Text::from_slice(alloc, b"Cost")?;
+    let extra = extra();
+    let mut caller = Caller::new(alloc, wire);
+    let answer = caller.eval_dp(alloc, evaluator, &name, &TypeCode::Long, &extra);
+    drop(extra);
+    let told = match &answer {
+        Ok(value) => Ok(told_any(value.get())),
+        Err(fault) => Err(*fault),
+    };
+    drop(answer);
+    told
+}
+
+/// A query for ten printers.
+fn printers(alloc: Global) -> Result<Query, Memory> {
+    Ok(Query {
+        service_type: Text::from_slice(alloc, b"Printer")?,
+        constraint: Text::new(alloc),
+        preference: Text::new(alloc),
+        policies: List::new(alloc),
+        desired: Desired::None,
+        how_many: 10,
+    })
+}
+
+fn told_offers(answer: &SubAnswer) -> Told {
+    let last = match answer.offers.as_slice().last() {
+        Some(offer) => offer.reference.id.as_slice().first(),
+        None => None,
+    };
+    Told::Offers {
+        count: answer.offers.len(),
+        last: match last {
+            Some(id) => *id,
+            None => 0,
+        },
+        limits: answer.limits.len(),
+    }
+}
+
+fn ask(alloc: Global, wire: &mut MemWire, target: &Ior) -> Result<Told, PeerFault> {
+    let query = printers(alloc)?;
+    let mut caller = Caller::new(alloc, wire);
+    let answer = caller.ask(alloc, target, &query);
+    drop(query);
+    let told = match &answer {
+        Ok(Gathered::Offers(answer)) => Ok(told_offers(answer)),
+        Ok(Gathered::Refused(_)) => Ok(Told::Exception),
+        Err(fault) => Err(*fault),
+    };
+    drop(answer);
+    told
+}
+
+fn visit_ask(alloc: Global, wire: &mut MemWire, target: &Ior) -> Result<Told, PeerFault> {
+    let query = printers(alloc)?;
+    let mut caller = Caller::new(alloc, wire);
+    let answer = caller.query(alloc, target, &query);
+    drop(query);
+    let told = match &answer {
+        Ok(answer) => Ok(told_offers(answer)),
+        Err(fault) => Err(*fault),
+    };
+    drop(answer);
+    told
+}
+
+fn told_reference(answer: &Result<Ior, PeerFault>) -> Result<Told, PeerFault> {
+    match answer {
+        Ok(reference) => {
+            if reference.id.as_slice() == b"IDL:R:1.0".as_slice() {
+                Ok(Told::Register)
+            } else {
+                Ok(Told::Other)
+            }
+        }
+        Err(fault) => Err(*fault),
+    }
+}
+
+fn register(alloc: Global, wire: &mut MemWire, lookup: &Ior) -> Result<Told, PeerFault> {
+    let mut caller = Caller::new(alloc, wire);
+    let answer = caller.register_of(alloc, lookup);
+    let told = told_reference(&answer);
+    drop(answer);
+    told
+}
+
+fn resolve(alloc: Global, wire: &mut MemWire, register: &Ior) -> Result<Told, PeerFault> {
+    let names = names(alloc)?;
+    let mut caller = Caller::new(alloc, wire);
+    let answer = caller.resolve(alloc, register, &names);
+    drop(names);
+    let told = told_reference(&answer);
+    drop(answer);
+    told
+}
+
+/// The names x and y.
+fn names(alloc: Global) -> Result<List<Text>, Memory> {
+    let mut names = List::new(alloc);
+    names.push(Text::from_slice(alloc, b"x")?)?;
+    names.push(Text::from_slice(alloc, b"y")?)?;
+    Ok(names)
+}

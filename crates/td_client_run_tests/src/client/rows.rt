@@ -1,0 +1,427 @@
+//! Calls over a wire whose connection gives these bytes: replies of each status, other messages, cut replies, calls of
+//! the wire that fail, and what is written.
+
+use crate::client::asking::{Asked, Told, came};
+use crate::client::messages::*;
+use crate::wires::{has_written, wire_of};
+use std::alloc::Global;
+use td_cdr::Memory;
+use td_walk::PeerFault;
+
+/// What is asked, what the connection gives, which calls of the wire fail, what the call comes to, and which parts are
+/// written over the one connection (none where there is no connection).
+struct Row {
+    what: &'static str,
+    asked: Asked,
+    given: &'static [&'static [u8]],
+    failing: &'static [u64],
+    told: Result<Told, PeerFault>,
+    wrote: &'static [&'static [u8]],
+}
+
+const GRAMMAR: Result<Told, PeerFault> = Err(PeerFault::Grammar);
+
+const WIRE: Result<Told, PeerFault> = Err(PeerFault::Wire);
+
+const EXCEPTION: Result<Told, PeerFault> = Err(PeerFault::Exception);
+
+/// NO_MEMORY of a call that wasn't done.
+const SYSTEM: Result<Told, PeerFault> = Ok(Told::System {
+    minor: 7,
+    completion: 1,
+});
+
+/// Two offers, the last b, and one limit.
+const TWO: Result<Told, PeerFault> = Ok(Told::Offers {
+    count: 2,
+    last: b'b',
+    limits: 1,
+});
+
+/// Four offers, the last d.
+const FOUR: Result<Told, PeerFault> = Ok(Told::Offers {
+    count: 4,
+    last: b'd',
+    limits: 0,
+});
+
+/// The offer a.
+const ONE: Result<Told, PeerFault> = Ok(Told::Offers {
+    count: 1,
+    last: b'a',
+    limits: 0,
+});
+
+const ROWS: [Row; 37] = [
+    Row {
+        what: "it is gone",
+        asked: Asked::Call,
+        given: &[GONE],
+        failing: &[],
+        told: Ok(Told::Truth(true)),
+        wrote: &[NON_EXISTENT],
+    },
+    Row {
+        what: "it isn't",
+        asked: Asked::Call,
+        given: &[THERE],
+        failing: &[],
+        told: Ok(Told::Truth(false)),
+        wrote: &[NON_EXISTENT],
+    },
+    Row {
+        what: "an exception",
+        asked: Asked::Call,
+        given: &[REFUSED],
+        failing: &[],
+        told: Ok(Told::Exception),
+        wrote: &[NON_EXISTENT],
+    },
+    Row {
+        what: "a system exception",
+        asked: Asked::Call,
+        given: &[NO_MEMORY],
+        failing: &[],
+        told: SYSTEM,
+        wrote: &[NON_EXISTENT],
+    },
+    Row {
+        what: "another reference",
+        asked: Asked::Call,
+        given: &[FORWARD],
+        failing: &[],
+        told: GRAMMAR,
+        wrote: &[NON_EXISTENT],
+    },
+    Row {
+        what: "another id",
+        asked: Asked::Call,
+        given: &[OTHER_ID],
+        failing: &[],
+        told: GRAMMAR,
+        wrote: &[NON_EXISTENT],
+    },
+    Row {
+        what: "a boolean of 2",
+        asked: Asked::Call,
+        given: &[BAD_TRUTH],
+        failing: &[],
+        told: GRAMMAR,
+        wrote: &[NON_EXISTENT],
+    },
+    Row {
+        what: "a request",
+        asked: Asked::Call,
+        given: &[NON_EXISTENT],
+        failing: &[],
+        told: GRAMMAR,
+        wrote: &[NON_EXISTENT],
+    },
+    Row {
+        what: "a message that closes",
+        asked: Asked::Call,
+        given: &[CLOSE],
+        failing: &[],
+        told: GRAMMAR,
+        wrote: &[NON_EXISTENT],
+    },
+    Row {
+        what: "another protocol",
+        asked: Asked::Call,
+        given: &[BAD_MAGIC],
+        failing: &[],
+        told: GRAMMAR,
+        wrote: &[NON_EXISTENT],
+    },
+    Row {
+        what: "a large message",
+        asked: Asked::Call,
+        given: &[TOO_LARGE],
+        failing: &[],
+        told: GRAMMAR,
+        wrote: &[NON_EXISTENT],
+    },
+    Row {
+        what: "no profile",
+        asked: Asked::CallOfNil,
+        given: &[GONE],
+        failing: &[],
+        told: GRAMMAR,
+        wrote: &[],
+    },
+    Row {
+        what: "no connection",
+        asked: Asked::Call,
+        given: &[GONE],
+        failing: &[1],
+        told: WIRE,
+        wrote: &[],
+    },
+    Row {
+        what: "nothing is written",
+        asked: Asked::Call,
+        given: &[GONE],
+        failing: &[2],
+        told: WIRE,
+        wrote: &[b""],
+    },
+    Row {
+        what: "nothing is read",
+        asked: Asked::Call,
+        given: &[GONE],
+        failing: &[3],
+        told: WIRE,
+        wrote: &[NON_EXISTENT],
+    },
+    Row {
+        what: "a call that isn't made fails",
+        asked: Asked::Call,
+        given: &[GONE],
+        failing: &[4],
+        told: Ok(Told::Truth(true)),
+        wrote: &[NON_EXISTENT],
+    },
+    Row {
+        what: "it is gone for a caller",
+        asked: Asked::CallerCall,
+        given: &[GONE],
+        failing: &[],
+        told: Ok(Told::Truth(true)),
+        wrote: &[NON_EXISTENT],
+    },
+    Row {
+        what: "a value",
+        asked: Asked::Evaluate,
+        given: &[VALUE],
+        failing: &[],
+        told: Ok(Told::Long(42)),
+        wrote: &[EVAL_DP],
+    },
+    Row {
+        what: "another type",
+        asked: Asked::Evaluate,
+        given: &[OTHER_TYPE],
+        failing: &[],
+        told: GRAMMAR,
+        wrote: &[EVAL_DP],
+    },
+    Row {
+        what: "an exception for a value",
+        asked: Asked::Evaluate,
+        given: &[REFUSED],
+        failing: &[],
+        told: Ok(Told::Exception),
+        wrote: &[EVAL_DP],
+    },
+    Row {
+        what: "a system exception for a value",
+        asked: Asked::Evaluate,
+        given: &[NO_MEMORY],
+        failing: &[],
+        told: Ok(Told::Exception),
+        wrote: &[EVAL_DP],
+    },
+    Row {
+        what: "another reference for a value",
+        asked: Asked::Evaluate,
+        given: &[FORWARD],
+        failing: &[],
+        told: GRAMMAR,
+        wrote: &[EVAL_DP],
+    },
+    Row {
+        what: "a boolean for a value",
+        asked: Asked::Evaluate,
+        given: &[GONE],
+        failing: &[],
+        told: GRAMMAR,
+        wrote: &[EVAL_DP],
+    },
+    Row {
+        what: "a visit has a property evaluated",
+        asked: Asked::VisitEvaluate,
+        given: &[VALUE],
+        failing: &[],
+        told: Ok(Told::Long(42)),
+        wrote: &[EVAL_DP],
+    },
+    Row {
+        what: "a visit is refused a value",
+        asked: Asked::VisitEvaluate,
+        given: &[REFUSED],
+        failing: &[],
+        told: EXCEPTION,
+        wrote: &[EVAL_DP],
+    },
+    Row {
+        what: "a boolean for a visit's value",
+        asked: Asked::VisitEvaluate,
+        given: &[GONE],
+        failing: &[],
+        told: GRAMMAR,
+        wrote: &[EVAL_DP],
+    },
+    Row {
+        what: "no iterator",
+        asked: Asked::Ask,
+        given: &[FOUND_TWO],
+        failing: &[],
+        told: TWO,
+        wrote: &[QUERY],
+    },
+    Row {
+        what: "an iterator is drained and destroyed",
+        asked: Asked::Ask,
+        given: &[FOUND_ONE, MORE_B, LAST_CD, DESTROYED],
+        failing: &[],
+        told: FOUR,
+        wrote: &[QUERY, NEXT_2, NEXT_3, DESTROY_4],
+    },
+    Row {
+        what: "an exception ends a query",
+        asked: Asked::Ask,
+        given: &[REFUSED],
+        failing: &[],
+        told: Ok(Told::Exception),
+        wrote: &[QUERY],
+    },
+    Row {
+        what: "an exception ends a batch",
+        asked: Asked::Ask,
+        given: &[FOUND_ONE, UNKNOWN_MAX_LEFT],
+        failing: &[],
+        told: Ok(Told::Exception),
+        wrote: &[QUERY, NEXT_2],
+    },
+    Row {
+        what: "an empty batch with TRUE",
+        asked: Asked::Ask,
+        given: &[FOUND_ONE, MORE_NONE],
+        failing: &[],
+        told: GRAMMAR,
+        wrote: &[QUERY, NEXT_2],
+    },
+    Row {
+        what: "a batch of another id",
+        asked: Asked::Ask,
+        given: &[FOUND_ONE, LAST_CD],
+        failing: &[],
+        told: GRAMMAR,
+        wrote: &[QUERY, NEXT_2],
+    },
+    Row {
+        what: "a visit asks another trader",
+        asked: Asked::VisitAsk,
+        given: &[FOUND_ONE, LAST_NONE, DESTROYED_3],
+        failing: &[],
+        told: ONE,
+        wrote: &[QUERY, NEXT_2, DESTROY_3],
+    },
+    Row {
+        what: "a visit is refused an answer",
+        asked: Asked::VisitAsk,
+        given: &[REFUSED],
+        failing: &[],
+        told: EXCEPTION,
+        wrote: &[QUERY],
+    },
+    Row {
+        what: "the register",
+        asked: Asked::Register,
+        given: &[REGISTER],
+        failing: &[],
+        told: Ok(Told::Register),
+        wrote: &[REGISTER_IF],
+    },
+    Row {
+        what: "no register",
+        asked: Asked::Register,
+        given: &[REFUSED],
+        failing: &[],
+        told: EXCEPTION,
+        wrote: &[REGISTER_IF],
+    },
+    Row {
+        what: "what names lead to",
+        asked: Asked::Resolve,
+        given: &[REGISTER],
+        failing: &[],
+        told: Ok(Told::Register),
+        wrote: &[RESOLVE],
+    },
+];
+
+fn passes(alloc: Global, row: &Row) -> Result<bool, Memory> {
+    let mut wire = wire_of(alloc, row.given, row.failing)?;
+    let told = came(alloc, &mut wire, row.asked);
+    Ok(told == row.told && has_written(&wire, row.wrote))
+}
+
+#[test]
+fn what_a_call_comes_to_and_writes(rt: HostRuntime) {
+    let alloc = rt.alloc();
+    for row in &ROWS {
+        assert!(rt; passes(alloc, row) == Ok(true), "{}", row.what);
+    }
+}
+
+/// What is asked, the replies that come whole (empty where there is none), the reply whose last bytes are missing, and
+/// what is written.
+struct Cut {
+    asked: Asked,
+    whole: [&'static [u8]; 2],
+    cut: &'static [u8],
+    wrote: &'static [&'static [u8]],
+}
+
+const CUTS: [Cut; 5] = [
+    Cut {
+        asked: Asked::Call,
+        whole: [b"", b""],
+        cut: GONE,
+        wrote: &[NON_EXISTENT],
+    },
+    Cut {
+        asked: Asked::Call,
+        whole: [b"", b""],
+        cut: NO_MEMORY,
+        wrote: &[NON_EXISTENT],
+    },
+    Cut {
+        asked: Asked::Evaluate,
+        whole: [b"", b""],
+        cut: VALUE,
+        wrote: &[EVAL_DP],
+    },
+    Cut {
+        asked: Asked::Register,
+        whole: [b"", b""],
+        cut: REGISTER,
+        wrote: &[REGISTER_IF],
+    },
+    Cut {
+        asked: Asked::Ask,
+        whole: [FOUND_ONE, MORE_B],
+        cut: LAST_CD,
+        wrote: &[QUERY, NEXT_2, NEXT_3],
+    },
+];
+
+/// Whether the reply is a fault of the wire where so many bytes of it are left.
+fn is_cut(alloc: Global, row: &Cut, size: usize) -> Result<bool, Memory> {
+    let [first, second] = row.whole;
+    let left = row.cut.get(..size).unwrap_or(&[]);
+    let mut wire = wire_of(alloc, &[first, second, left], &[])?;
+    let told = came(alloc, &mut wire, row.asked);
+    Ok(told == WIRE && has_written(&wire, row.wrote))
+}
+
+#[test]
+fn a_reply_that_is_cut_is_a_fault_of_the_wire(rt: HostRuntime) {
+    let alloc = rt.alloc();
+    for row in &CUTS {
+        for size in 0..row.cut.len() {
+            assert!(rt; is_cut(alloc, row, size) == Ok(true));
+        }
+    }
+}
