@@ -17,25 +17,25 @@ use Rattle.td_value.specs.declared.enumerations.FollowOption.{FollowOption}
 use Rattle.td_value.specs.declared.structures.Policy.{Policy}
 use Rattle.td_value.specs.declared.structures.PropStruct.{PropStruct}
 use Rattle.td_value.specs.declared.structures.Property.{Property}
-use Rattle.td_changes.specs.Administration.{follow_of, longest_stem, number_of, set_attributes, set_follow, set_number}
-use Rattle.td_changes.specs.Administration.{set_request_id_stem, set_truth, truth_of, with_follow, with_number}
-use Rattle.td_changes.specs.Administration.{with_stem, with_truth}
+use Rattle.td_admin.specs.Administration.{follow_of, longest_stem, number_of, set_attributes, set_follow, set_number}
+use Rattle.td_admin.specs.Administration.{set_request_id_stem, set_truth, truth_of, with_follow, with_number}
+use Rattle.td_admin.specs.Administration.{with_stem, with_truth}
 use Rattle.td_changes.specs.Applying.{comes_to}
 use Rattle.td_register.specs.Causes.{limit_if}
 use Rattle.td_register.specs.Ids.{id_of, number_in, ordinary}
-use Rattle.td_changes.specs.Links.{add_link, add_link_cause, modify_link, modify_link_cause, new_links, remove_link}
-use Rattle.td_changes.specs.Links.{remove_link_cause}
+use Rattle.td_admin.specs.Links.{add_link, add_link_cause, modify_link, modify_link_cause, new_links, remove_link}
+use Rattle.td_admin.specs.Links.{remove_link_cause}
 use Rattle.td_register.specs.Proxies.{export_proxy, export_proxy_cause, exported_proxy, withdraw_proxy}
 use Rattle.td_register.specs.Proxies.{withdraw_proxy_cause}
 use Rattle.td_register.specs.Registers.{asked_in, export, export_cause, exported, modify, modify_cause, offers_modified}
 use Rattle.td_register.specs.Registers.{offers_not_met, offers_without, withdraw, withdraw_cause, withdraw_met_cause}
 use Rattle.td_register.specs.Registers.{withdraw_using_constraint, with_offer}
 use Rattle.td_changes.specs.Replies.{next_incarnation}
-use Rattle.td_changes.specs.Repositories.{add_type, mask_type, remove_type, reply_of, unmask_type}
+use Rattle.td_admin.specs.Repositories.{add_type, mask_type, remove_type, reply_of, unmask_type}
 use Rattle.td_register.specs.Stores.{Store}
 use Rattle.td_changes.proofs.Accepting.{IsAcceptance, came, came_of_types, numbered-modified, numbered-not_met}
 use Rattle.td_changes.proofs.Accepting.{numbered-offer, numbered-without}
-use Rattle.td_changes.proofs.TypesTold.{added-told, masked-told, removed-told, unmasked-told}
+use Rattle.td_admin.proofs.TypesTold.{added-told, masked-told, removed-told, unmasked-told}
 
 halves-same : (n : ℕ) → n + 1 ≤ 2 ^ 40 → halves (next_incarnation n) ≡ halves (n + 1)
 halves-same n h = ap halves (let e : next_incarnation n ≡ n + 1 = omega (arith, h) in e)

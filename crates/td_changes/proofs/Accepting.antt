@@ -16,7 +16,7 @@ use Rattle.td_register.specs.Causes.{Cause, Comes, Found, unless}
 use Rattle.td_changes.specs.Numbering.{AreNumbered, IsGiven}
 use Rattle.td_register.specs.Registers.{offers_modified, offers_not_met, offers_without, with_offer}
 use Rattle.td_changes.specs.Replies.{acceptance}
-use Rattle.td_changes.specs.Repositories.{changes_types, reply_of}
+use Rattle.td_admin.specs.Repositories.{changes_types, reply_of}
 use Rattle.td_register.specs.Stores.{Store}
 
 -- what is so of a change that is accepted

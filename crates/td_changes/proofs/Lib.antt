@@ -3,8 +3,5 @@ pub mod Accepting
 pub mod Barred
 pub mod Entering
 pub mod Extending
-pub mod LinkCauses
-pub mod Masking
 pub mod Refusing
 pub mod Shapes
-pub mod TypesTold

@@ -6,12 +6,12 @@ use Rattle.td_ops.specs.declared.call.Change.TheVariants as change
 use Rattle.td_ops.specs.declared.call.Look.{Look}
 use Rattle.td_ops.specs.declared.call.Look.TheVariants as look
 use Rattle.td_ops.specs.declared.outcome.Outcome.{Outcome}
-use Rattle.td_changes.specs.Administration as admin
+use Rattle.td_admin.specs.Administration as admin
 use Rattle.td_register.specs.Causes.{Comes, Applied, applied}
-use Rattle.td_changes.specs.Links as links
+use Rattle.td_admin.specs.Links as links
 use Rattle.td_register.specs.Proxies as proxies
 use Rattle.td_register.specs.Registers as register
-use Rattle.td_changes.specs.Repositories as types
+use Rattle.td_admin.specs.Repositories as types
 use Rattle.td_register.specs.Stores.{Store}
 use Rattle.td_changes.specs.declared.bounds.Bounds.{Bounds}
 use Rattle.td_register.specs.declared.refusal.Refusal.TheVariants.{Limit}

@@ -1,15 +1,10 @@
-pub mod Administration
 pub mod Applying
 pub mod Barring
 pub mod Examples
 pub mod Histories
 pub mod Kinds
 pub mod Laws
-pub mod LinkJudged
-pub mod Links
 pub mod Numbering
 pub mod Outcomes
 pub mod Recording
 pub mod Replies
-pub mod Repositories
-pub mod RepositoryJudged

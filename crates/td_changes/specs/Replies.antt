@@ -5,7 +5,7 @@ use Rattle.td_ops.specs.declared.call.Change.TheVariants as change
 use Rattle.td_ops.specs.declared.outcome.Reply.{Reply}
 use Rattle.td_ops.specs.declared.outcome.Reply.TheVariants as reply
 use Rattle.td_types.specs.Repository.{halves}
-use Rattle.td_changes.specs.Administration.{truth_of, number_of, follow_of}
+use Rattle.td_admin.specs.Administration.{truth_of, number_of, follow_of}
 use Rattle.td_register.specs.Ids.{id_of}
 use Rattle.td_register.specs.Stores.{Store}
 

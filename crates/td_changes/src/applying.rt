@@ -8,12 +8,11 @@ ghost use Rattle.td_register.specs.Needs.{NeedsNone};
 ghost use Rattle.td_changes.specs.Numbering.{AreNumbered};
 ghost use Rattle.td_changes.specs.Outcomes.{Ends};
 
-use crate::admin::{set_follow, set_number, set_request_id_stem, set_truth};
-use crate::linking::add_link;
-use crate::links::remove_link;
-use crate::repository::{add_type, mask_type, remove_type, unmask_type};
-use crate::ruling::modify_link;
 use std::alloc::Global;
+use td_admin::{
+    add_link, add_type, mask_type, modify_link, remove_link, remove_type, set_follow, set_number,
+    set_request_id_stem, set_truth, unmask_type,
+};
 use td_cdr::Memory;
 use td_export::{export, export_proxy};
 use td_modify::{modify, withdraw_using_constraint};

@@ -8,16 +8,14 @@ ghost use Rattle.td_changes.specs.Barring.{barred, barred_outcome, Bars, IsBarre
 ghost use Rattle.td_register.specs.Causes.{Comes};
 ghost use Rattle.td_register.specs.Judged.{Judges, Tells};
 ghost use Rattle.td_changes.specs.Kinds.{is_free};
-ghost use Rattle.td_changes.specs.Links.{add_link, modify_link, remove_link};
+ghost use Rattle.td_admin.specs.Links.{add_link, modify_link, remove_link};
 ghost use Rattle.td_register.specs.Proxies.{export_proxy, withdraw_proxy};
 ghost use Rattle.td_register.specs.Registers.{export, modify, modify_cause, withdraw, withdraw_using_constraint};
-ghost use Rattle.td_changes.specs.Repositories.{add_type, mask_type, remove_type, unmask_type};
+ghost use Rattle.td_admin.specs.Repositories.{add_type, mask_type, remove_type, unmask_type};
 ghost use Rattle.td_register.specs.declared.refusal.Refusal.TheVariants as refusal;
 
-use crate::linking::check_link;
-use crate::repository::exception_of;
-use crate::ruling::ruled_name;
 use std::alloc::Global;
+use td_admin::{check_link, exception_of, ruled_name};
 use td_cdr::{List, Memory, Text, Twin, is_word_name};
 use td_exceptions::UserException;
 use td_export::{check_export, check_export_proxy};
@@ -157,7 +155,7 @@ fn bar_add_link(
 }
 
 /// What refuses to give a link other rules.
-#[tactic(auto, unfolding(crate::specs::Links::modify_link))]
+#[tactic(auto, unfolding(td_admin::specs::Links::modify_link))]
 fn bar_modify_link(
     store: &Store,
     name: Text,
@@ -177,7 +175,7 @@ fn bar_modify_link(
 }
 
 /// What refuses to remove a link.
-#[tactic(auto, unfolding(crate::specs::Links::remove_link))]
+#[tactic(auto, unfolding(td_admin::specs::Links::remove_link))]
 fn bar_remove_link(store: &Store, name: Text) -> Refusal
     ensures { barred (remove_link store.now name) ≡ Err result }
 {
@@ -203,7 +201,7 @@ fn unknown_type(service_type: Text) -> Refusal
 }
 
 /// What refuses to add a type.
-#[tactic(auto, unfolding(crate::specs::Repositories::add_type))]
+#[tactic(auto, unfolding(td_admin::specs::Repositories::add_type))]
 fn bar_add_type(
     alloc: Global,
     store: &Store,
@@ -226,7 +224,7 @@ fn bar_add_type(
 }
 
 /// What refuses to remove a type.
-#[tactic(auto, unfolding(crate::specs::Repositories::remove_type))]
+#[tactic(auto, unfolding(td_admin::specs::Repositories::remove_type))]
 fn bar_remove_type(alloc: Global, store: &Store, name: Text) -> Result<Refusal, Memory>
     ensures { IsBarredBy (remove_type store.now name) result }
 {
@@ -247,7 +245,7 @@ fn bar_remove_type(alloc: Global, store: &Store, name: Text) -> Result<Refusal, 
 }
 
 /// What refuses to mask a type.
-#[tactic(auto, unfolding(crate::specs::Repositories::mask_type))]
+#[tactic(auto, unfolding(td_admin::specs::Repositories::mask_type))]
 fn bar_mask_type(store: &Store, name: Text) -> Refusal
     ensures { barred (mask_type store.now name) ≡ Err result }
 {
@@ -262,7 +260,7 @@ fn bar_mask_type(store: &Store, name: Text) -> Refusal
 }
 
 /// What refuses to take the mask from a type.
-#[tactic(auto, unfolding(crate::specs::Repositories::unmask_type))]
+#[tactic(auto, unfolding(td_admin::specs::Repositories::unmask_type))]
 fn bar_unmask_type(store: &Store, name: Text) -> Refusal
     ensures { barred (unmask_type store.now name) ≡ Err result }
 {

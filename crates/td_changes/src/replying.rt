@@ -6,8 +6,8 @@ ghost use Rattle.td_register.specs.Ids.{id_of};
 ghost use Rattle.td_changes.specs.Kinds.{is_free};
 ghost use Rattle.td_changes.specs.Replies.{acceptance, next_incarnation};
 
-use crate::admin::{follow_of, number_of, truth_of};
 use std::alloc::Global;
+use td_admin::{follow_of, number_of, truth_of};
 use td_cdr::{Memory, Text, Twin};
 use td_ops::{Change, Reply};
 use td_store::Store;

@@ -4,11 +4,11 @@ ghost use Rattle.std.specs.Prelude.{◌≡◌, IfOk};
 ghost use Rattle.td_changes.specs.Applying.{seek, seen};
 ghost use Rattle.td_register.specs.Judged.{Tells};
 
-use crate::admin::get;
-use crate::links::{describe_link, list_links};
-use crate::listing::{list_offers, list_proxies};
-use crate::repository::{describe_type, fully_describe_type, list_types};
 use std::alloc::Global;
+use td_admin::{
+    describe_link, describe_type, fully_describe_type, get, list_links, list_offers, list_proxies,
+    list_types,
+};
 use td_cdr::Memory;
 use td_ops::{Look, Outcome};
 use td_register::{describe, describe_proxy};

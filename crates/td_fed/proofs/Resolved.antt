@@ -10,7 +10,7 @@ use Rattle.td_cdr.specs.Marks.{Marks}
 use Rattle.td_cdr.specs.Names.{word_name}
 use Rattle.td_cdr.specs.declared.memory.Memory.{Memory as Wanting}
 use Rattle.td_changes.specs.Applying.{seen}
-use Rattle.td_changes.specs.Links.{describe_link}
+use Rattle.td_admin.specs.Links.{describe_link}
 use Rattle.td_codes.specs.declared.reference.Ior.{Ior}
 use Rattle.td_exceptions.specs.declared.exception.UserException.{UserException}
 use Rattle.td_exceptions.specs.declared.exception.UserException.TheVariants.{UnknownLinkName, UnknownTraderName}

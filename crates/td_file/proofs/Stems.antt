@@ -3,14 +3,14 @@ use Rattle.std.proofs.Common.{◌≡◌, ℕ, ◌+◌, ◌≤◌, nat_lt, Bool, 
 use Rattle.std.proofs.Common.{if◌then◌else◌, Some, None, Result, Ok, Err, refl, subst, arith}
 use Rattle.std.proofs.lemmas.Bool.{ltb-false}
 use Rattle.td_cdr.specs.Reading.{◌>>=◌}
-use Rattle.td_changes.specs.Administration.{follow_of, longest_stem, number_of, set_attributes, set_follow, set_number}
-use Rattle.td_changes.specs.Administration.{set_request_id_stem, set_truth, truth_of, with_follow, with_number}
-use Rattle.td_changes.specs.Administration.{with_stem, with_truth}
+use Rattle.td_admin.specs.Administration.{follow_of, longest_stem, number_of, set_attributes, set_follow, set_number}
+use Rattle.td_admin.specs.Administration.{set_request_id_stem, set_truth, truth_of, with_follow, with_number}
+use Rattle.td_admin.specs.Administration.{with_stem, with_truth}
 use Rattle.td_changes.specs.Applying.{apply, comes_to}
 use Rattle.td_changes.specs.Histories.{is_done}
-use Rattle.td_changes.specs.Links.{add_link, add_link_cause, modify_link, modify_link_cause, new_links, remove_link}
-use Rattle.td_changes.specs.Links.{remove_link_cause}
-use Rattle.td_changes.specs.Repositories.{add_type, changes_types, mask_type, remove_type, unmask_type}
+use Rattle.td_admin.specs.Links.{add_link, add_link_cause, modify_link, modify_link_cause, new_links, remove_link}
+use Rattle.td_admin.specs.Links.{remove_link_cause}
+use Rattle.td_admin.specs.Repositories.{add_type, changes_types, mask_type, remove_type, unmask_type}
 use Rattle.td_codes.specs.declared.reference.Ior.{Ior}
 use Rattle.td_lines.specs.Steps.{refusal}
 use Rattle.td_lines.specs.declared.cause.LineCause.TheVariants.{Rejected}

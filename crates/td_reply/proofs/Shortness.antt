@@ -9,14 +9,14 @@ use Rattle.std.specs.Prelude.{IsTrue}
 use Rattle.td_cdr.specs.Marks.{Marks}
 use Rattle.td_changes.proofs.Acceptances.{accepted}
 use Rattle.td_changes.proofs.Refusing.{done}
-use Rattle.td_changes.specs.Administration.{longest_stem, set_attributes, set_follow, set_number, set_request_id_stem}
-use Rattle.td_changes.specs.Administration.{set_truth, with_follow, with_number, with_stem, with_truth}
+use Rattle.td_admin.specs.Administration.{longest_stem, set_attributes, set_follow, set_number, set_request_id_stem}
+use Rattle.td_admin.specs.Administration.{set_truth, with_follow, with_number, with_stem, with_truth}
 use Rattle.td_changes.specs.Applying.{apply, comes_to, counted, is_at_limit}
 use Rattle.td_changes.specs.Histories.{after_all}
-use Rattle.td_changes.specs.Links.{add_link, add_link_cause, modify_link, modify_link_cause, new_links, remove_link}
-use Rattle.td_changes.specs.Links.{remove_link_cause}
+use Rattle.td_admin.specs.Links.{add_link, add_link_cause, modify_link, modify_link_cause, new_links, remove_link}
+use Rattle.td_admin.specs.Links.{remove_link_cause}
 use Rattle.td_changes.specs.Replies.{acceptance}
-use Rattle.td_changes.specs.Repositories.{add_type, changes_types, mask_type, remove_type, unmask_type}
+use Rattle.td_admin.specs.Repositories.{add_type, changes_types, mask_type, remove_type, unmask_type}
 use Rattle.td_changes.specs.declared.bounds.Bounds.{Bounds}
 use Rattle.td_codes.specs.declared.reference.Ior.{Ior}
 use Rattle.td_ops.specs.Outcomes.{is_short, short_length}

@@ -18,9 +18,9 @@ use Rattle.td_store.specs.Stores.{AdmitsAttributes}
 use Rattle.td_value.specs.declared.enumerations.FollowOption.{FollowOption}
 use Rattle.td_register.specs.Causes.{limit_if}
 use Rattle.td_register.specs.Stores.{Store}
-use Rattle.td_changes.specs.Administration.{follow_of, longest_stem, number_of, reference_of, set_attributes}
-use Rattle.td_changes.specs.Administration.{set_follow, set_number, set_request_id_stem, set_truth, truth_of}
-use Rattle.td_changes.specs.Administration.{with_follow, with_number, with_stem, with_truth}
+use Rattle.td_admin.specs.Administration.{follow_of, longest_stem, number_of, reference_of, set_attributes}
+use Rattle.td_admin.specs.Administration.{set_follow, set_number, set_request_id_stem, set_truth, truth_of}
+use Rattle.td_admin.specs.Administration.{with_follow, with_number, with_stem, with_truth}
 use Rattle.td_changes.specs.Applying.{comes_to}
 use Rattle.td_trader_laws.specs.Writable.{AreUlongs, IsWritableStore}
 use Rattle.td_trader_laws.proofs.Admitting.{AdmitsComes, came, follow-admitted, limited}

@@ -45,11 +45,11 @@ use Rattle.td_register.specs.Proxies.{describe_proxy, if_supported, proxy_info a
 use Rattle.td_register.specs.Registers.{describe, last_number}
 use Rattle.td_register.specs.Stores.{Store}
 use Rattle.td_register.specs.declared.refusal.Refusal.TheVariants.{NotSupported}
-use Rattle.td_changes.specs.Administration.{all_ids, attribute_reply, follow_of, get, ids_of, list_offers, list_proxies}
-use Rattle.td_changes.specs.Administration.{number_of, reference_of, truth_of}
+use Rattle.td_admin.specs.Administration.{all_ids, attribute_reply, follow_of, get, ids_of, list_offers, list_proxies}
+use Rattle.td_admin.specs.Administration.{number_of, reference_of, truth_of}
 use Rattle.td_changes.specs.Applying.{seen}
-use Rattle.td_changes.specs.Links.{describe_link, linked, list_links}
-use Rattle.td_changes.specs.Repositories.{describe_type, fully_describe_type, list_types, outcome_of, since}
+use Rattle.td_admin.specs.Links.{describe_link, linked, list_links}
+use Rattle.td_admin.specs.Repositories.{describe_type, fully_describe_type, list_types, outcome_of, since}
 use Rattle.td_trader_laws.specs.Writable.{IsWritableStore, LooksAreWritable}
 use Rattle.td_trader_laws.proofs.Admitting.{decimal-clean, follow-admitted, refused-admitted, tells-admitted}
 use Rattle.td_trader_laws.proofs.AdmittingAttributes.{number-admitted, reference-admitted}

@@ -34,11 +34,11 @@ use Rattle.td_value.specs.Structures.{incarnation_number}
 use Rattle.td_value.specs.declared.structures.PropStruct.{PropStruct}
 use Rattle.td_register.specs.Stores.{Store}
 use Rattle.td_changes.specs.Applying.{comes_to}
-use Rattle.td_changes.specs.Repositories.{add_type, changes_types, exception_of, mask_type, remove_type, reply_of}
-use Rattle.td_changes.specs.Repositories.{unmask_type}
+use Rattle.td_admin.specs.Repositories.{add_type, changes_types, exception_of, mask_type, remove_type, reply_of}
+use Rattle.td_admin.specs.Repositories.{unmask_type}
 use Rattle.td_trader_laws.specs.Writable.{IsWritableStore}
 use Rattle.td_trader_laws.proofs.Admitting.{AdmitsComes, AdmitsException}
-use Rattle.td_changes.proofs.TypesTold.{added-told, masked-told, removed-told, unmasked-told}
+use Rattle.td_admin.proofs.TypesTold.{added-told, masked-told, removed-told, unmasked-told}
 
 -- ---- exceptions
 

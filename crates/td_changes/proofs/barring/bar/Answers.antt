@@ -1,6 +1,6 @@
 use Rattle.std.proofs.Common.{length, nat_lt, refl}
-use Rattle.td_changes.specs.Administration.{longest_stem, set_attributes, set_follow, set_number, set_request_id_stem}
-use Rattle.td_changes.specs.Administration.{set_truth, with_stem}
+use Rattle.td_admin.specs.Administration.{longest_stem, set_attributes, set_follow, set_number, set_request_id_stem}
+use Rattle.td_admin.specs.Administration.{set_truth, with_stem}
 use Rattle.td_changes.specs.Applying.{comes_to}
 use Rattle.td_ops.specs.declared.outcome.Reply.TheVariants as reply
 use Rattle.td_changes.proofs.Barred.{barred-limit}

@@ -1,7 +1,7 @@
 use Rattle.std.proofs.Common.{◌++◌, length, nat_le}
 use Rattle.td_ops.specs.declared.outcome.Reply.TheVariants as reply
 use Rattle.td_store.specs.LinkLists.{most_links}
-use Rattle.td_changes.specs.Links.{add_link, name_cause, new_links, rules_cause, target_cause}
+use Rattle.td_admin.specs.Links.{add_link, name_cause, new_links, rules_cause, target_cause}
 use Rattle.td_changes.proofs.Barred.{bars-before}
 use Rattle.td_changes.proofs.barring.bar_add_link.Goals as goal
 

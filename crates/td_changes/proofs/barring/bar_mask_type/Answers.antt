@@ -1,4 +1,4 @@
-use Rattle.td_changes.proofs.Masking.{mask_not_sub_types}
+use Rattle.td_admin.proofs.Masking.{mask_not_sub_types}
 use Rattle.td_changes.proofs.barring.bar_mask_type.Goals as goal
 
 pub unreachable-requires : goal.unreachable-requires

@@ -1,4 +1,4 @@
-use Rattle.td_changes.proofs.Masking.{unmask_not_sub_types}
+use Rattle.td_admin.proofs.Masking.{unmask_not_sub_types}
 use Rattle.td_changes.proofs.barring.bar_unmask_type.Goals as goal
 
 pub unreachable-requires : goal.unreachable-requires

@@ -2,10 +2,10 @@ use Rattle.std.proofs.Common.{refl}
 use Rattle.td_types.specs.Interfaces.{interface_conforms, leads_within}
 use Rattle.td_types.specs.Properties.{full_properties}
 use Rattle.td_ior.specs.Number.{number_below}
-use Rattle.td_changes.specs.Administration.{set_request_id_stem}
+use Rattle.td_admin.specs.Administration.{set_request_id_stem}
 use Rattle.td_changes.specs.Applying.{comes_to}
 use Rattle.td_register.specs.Registers.{export, withdraw, modify}
-use Rattle.td_changes.specs.Repositories.{mask_type}
+use Rattle.td_admin.specs.Repositories.{mask_type}
 use Rattle.td_types.specs.Calls.{mask_type as mask}
 use Rattle.td_changes.proofs.Shapes.{shape-boolean}
 use Rattle.td_changes.proofs.laws.worked_examples.Goals as goal

@@ -1,7 +1,7 @@
 use Rattle.std.proofs.Common.{refl}
-use Rattle.td_changes.specs.Administration.{set_number}
+use Rattle.td_admin.specs.Administration.{set_number}
 use Rattle.td_changes.specs.Applying.{comes_to}
-use Rattle.td_changes.specs.Repositories.{add_type}
+use Rattle.td_admin.specs.Repositories.{add_type}
 use Rattle.td_file.specs.Files.{opening_of}
 use Rattle.td_file.specs.Openings.{new_store}
 use Rattle.td_lines.proofs.OnLiterals.{links_on_literals, types_on_literals}

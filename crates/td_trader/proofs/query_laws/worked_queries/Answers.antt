@@ -4,7 +4,7 @@ use Rattle.td_changes.specs.Applying.{comes_to}
 use Rattle.td_changes.specs.Examples.{printer}
 use Rattle.td_trader.specs.Queries.{refusal}
 use Rattle.td_trader.specs.QueryExamples.{asks, path}
-use Rattle.td_changes.specs.Repositories.{mask_type}
+use Rattle.td_admin.specs.Repositories.{mask_type}
 use Rattle.td_types.specs.Calls.{mask_type as mask}
 use Rattle.td_trader.proofs.Worked.{cause_by, judged-path}
 use Rattle.td_trader.proofs.query_laws.worked_queries.Goals as goal

@@ -1,6 +1,6 @@
 use Rattle.std.proofs.Common.{◌≡◌, ◌++◌, drop, map}
 use Rattle.td_register.specs.Ids.{id_of}
-use Rattle.td_changes.proofs.listing.spelled.Given as goal
+use Rattle.td_admin.proofs.listing.spelled.Given as goal
 
 -- the ids so far and those of what is left are those of all
 abbrev pub invariant-loop-number : goal.invariant-loop-number

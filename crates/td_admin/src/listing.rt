@@ -1,7 +1,7 @@
 //! The ids of all offers (OMG's Trading Object Service, interface Admin, list_offers and list_proxies).
 
 ghost use Rattle.std.specs.Prelude.{◌≡◌, map, IfOk};
-ghost use Rattle.td_changes.specs.Administration.{ids_of, list_offers, list_proxies};
+ghost use Rattle.td_admin.specs.Administration.{ids_of, list_offers, list_proxies};
 ghost use Rattle.td_register.specs.Ids.{id_of};
 ghost use Rattle.td_register.specs.Judged.{Tells};
 

@@ -1,5 +1,5 @@
-use Rattle.td_changes.specs.Repositories.{fully_describe_type}
-use Rattle.td_changes.proofs.repository.fully_describe_type.Goals as goal
+use Rattle.td_admin.specs.Repositories.{fully_describe_type}
+use Rattle.td_admin.proofs.repository.fully_describe_type.Goals as goal
 
 pub returns : goal.returns
 unfolding fully_describe_type

@@ -10,8 +10,8 @@ use Rattle.td_store.specs.declared.record.LinkRecord.{LinkRecord}
 use Rattle.td_value.specs.declared.enumerations.FollowOption.{FollowOption}
 use Rattle.td_register.specs.Causes.{Cause, limit_if, unless, ◌otherwise◌}
 use Rattle.td_register.specs.Judged.{Accepts, IsMet}
-use Rattle.td_changes.specs.LinkJudged.{IsLinked, link_cause}
-use Rattle.td_changes.specs.Links.{add_link, add_link_cause, name_cause, new_links, rules_cause, target_cause}
+use Rattle.td_admin.specs.LinkJudged.{IsLinked, link_cause}
+use Rattle.td_admin.specs.Links.{add_link, add_link_cause, name_cause, new_links, rules_cause, target_cause}
 use Rattle.td_register.specs.Stores.{Store}
 use Rattle.td_register.specs.declared.refusal.Fault.{Fault}
 use Rattle.td_register.specs.declared.refusal.Fault.TheVariants.{Refused, Memory}

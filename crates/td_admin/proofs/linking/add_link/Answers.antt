@@ -2,8 +2,8 @@ use Rattle.std.proofs.Common.{Ok, sym, ap, ◌∙◌}
 use Rattle.std.proofs.lemmas.Result.{err_from_is_err_and}
 use Rattle.td_ops.specs.declared.outcome.Reply.{Reply}
 use Rattle.td_register.specs.declared.history.Accepted.{Accepted}
-use Rattle.td_changes.proofs.LinkCauses.{not_made, not_added, is_added}
-use Rattle.td_changes.proofs.linking.add_link.Goals as goal
+use Rattle.td_admin.proofs.LinkCauses.{not_made, not_added, is_added}
+use Rattle.td_admin.proofs.linking.add_link.Goals as goal
 
 pub returns-in_err-link : goal.returns-in_err-link
 returns-in_err-link c =

@@ -1,5 +1,5 @@
-use Rattle.td_changes.specs.Repositories.{describe_type}
-use Rattle.td_changes.proofs.repository.describe_type.Goals as goal
+use Rattle.td_admin.specs.Repositories.{describe_type}
+use Rattle.td_admin.proofs.repository.describe_type.Goals as goal
 
 pub returns : goal.returns
 unfolding describe_type

@@ -1,5 +1,5 @@
-use Rattle.td_changes.proofs.Masking.{mask_not_sub_types, mask_not_not_masked}
-use Rattle.td_changes.proofs.repository.mask_type.Goals as goal
+use Rattle.td_admin.proofs.Masking.{mask_not_sub_types, mask_not_not_masked}
+use Rattle.td_admin.proofs.repository.mask_type.Goals as goal
 
 pub unreachable-requires : goal.unreachable-requires
 unreachable-requires c =

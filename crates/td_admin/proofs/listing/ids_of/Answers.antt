@@ -3,9 +3,9 @@ use Rattle.std.specs.List.{filter}
 use Rattle.std.proofs.lemmas.Result.{IfOk-weaker}
 use Rattle.td_store.specs.OfferLists.{is_of_kind}
 use Rattle.td_store.specs.declared.record.OfferRecord.{OfferRecord}
-use Rattle.td_changes.specs.Administration.{ids_of}
+use Rattle.td_admin.specs.Administration.{ids_of}
 use Rattle.td_register.specs.Ids.{id_of}
-use Rattle.td_changes.proofs.listing.ids_of.Goals as goal
+use Rattle.td_admin.proofs.listing.ids_of.Goals as goal
 
 ids-of_numbers : (os : List OfferRecord) →
     map id_of (map (λ (o : OfferRecord). o.number) os) ≡ map (λ (o : OfferRecord). id_of o.number) os

@@ -3,7 +3,7 @@
 ghost use Rattle.std.specs.Prelude.{◌≡◌, None, MatchResult};
 ghost use Rattle.td_ops.specs.declared.call.Change.TheVariants as change;
 ghost use Rattle.td_register.specs.Judged.{Accepts, IsMet};
-ghost use Rattle.td_changes.specs.Links.{modify_link, modify_link_cause};
+ghost use Rattle.td_admin.specs.Links.{modify_link, modify_link_cause};
 ghost use Rattle.td_register.specs.Needs.{NeedsNone};
 
 use crate::linking::check_rules;
@@ -15,7 +15,11 @@ use td_store::Store;
 use td_value::FollowOption;
 
 /// The name of the link, where it may have these rules. Takes no memory.
-pub(crate) fn ruled_name(
+///
+/// # Errors
+///
+/// As [`modify_link`].
+pub fn ruled_name(
     store: &Store,
     name: Text,
     def_pass_on: FollowOption,

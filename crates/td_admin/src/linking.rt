@@ -5,8 +5,8 @@ ghost use Rattle.td_ior.specs.Profiles.{iiop_of};
 ghost use Rattle.td_ops.specs.declared.call.Change.TheVariants as change;
 ghost use Rattle.td_store.specs.LinkLists.{link_of};
 ghost use Rattle.td_register.specs.Judged.{Accepts, IsMet, Judges};
-ghost use Rattle.td_changes.specs.LinkJudged.{IsLinked, IsNewLink, link_cause};
-ghost use Rattle.td_changes.specs.Links.{add_link, name_cause, permits_more, rules_cause, target_cause};
+ghost use Rattle.td_admin.specs.LinkJudged.{IsLinked, IsNewLink, link_cause};
+ghost use Rattle.td_admin.specs.Links.{add_link, name_cause, permits_more, rules_cause, target_cause};
 ghost use Rattle.td_register.specs.Needs.{NeedsNone};
 
 use std::alloc::Global;
@@ -119,7 +119,11 @@ fn known_register<'a>(
 }
 
 /// Refuses a link that can't be added, whatever the number of links is.
-pub(crate) fn check_link(
+///
+/// # Errors
+///
+/// As [`add_link`], but for the number of links.
+pub fn check_link(
     alloc: Global,
     store: &Store,
     name: &Text,

@@ -1,5 +1,5 @@
-use Rattle.td_changes.proofs.Masking.{unmask_not_sub_types, unmask_not_already_masked}
-use Rattle.td_changes.proofs.repository.unmask_type.Goals as goal
+use Rattle.td_admin.proofs.Masking.{unmask_not_sub_types, unmask_not_already_masked}
+use Rattle.td_admin.proofs.repository.unmask_type.Goals as goal
 
 pub unreachable-requires : goal.unreachable-requires
 unreachable-requires c =

@@ -8,11 +8,11 @@ ghost use Rattle.td_types.specs.Repository.{Repository};
 ghost use Rattle.td_register.specs.declared.refusal.Fault.TheVariants as fault;
 ghost use Rattle.td_register.specs.declared.refusal.Refusal.TheVariants as refusal;
 ghost use Rattle.td_register.specs.Judged.{Accepts, Tells};
-ghost use Rattle.td_changes.specs.RepositoryJudged.{IsAnswer};
+ghost use Rattle.td_admin.specs.RepositoryJudged.{IsAnswer};
 ghost use Rattle.td_register.specs.Needs.{NeedsNone};
-ghost use Rattle.td_changes.specs.Repositories.{add_type, describe_type, exception_of};
-ghost use Rattle.td_changes.specs.Repositories.{fully_describe_type, list_types, mask_type, number_of, outcome_of};
-ghost use Rattle.td_changes.specs.Repositories.{remove_type, reply_of, since, unmask_type};
+ghost use Rattle.td_admin.specs.Repositories.{add_type, describe_type, exception_of};
+ghost use Rattle.td_admin.specs.Repositories.{fully_describe_type, list_types, mask_type, number_of, outcome_of};
+ghost use Rattle.td_admin.specs.Repositories.{remove_type, reply_of, since, unmask_type};
 
 use std::alloc::Global;
 use td_cdr::{List, Memory, Text, copy_four};
@@ -149,7 +149,8 @@ fn reply_of(reply: TypesReply) -> Reply
     }
 }
 
-pub(crate) fn exception_of(fault: RepoFault) -> UserException
+/// The exception by which the repository's fault is raised (interface CosTradingRepos::ServiceTypeRepository).
+pub fn exception_of(fault: RepoFault) -> UserException
     ensures { result ≡ exception_of fault }
 {
     match fault {

@@ -5,7 +5,7 @@ ghost use Rattle.td_ops.specs.declared.call.Change.TheVariants as change;
 ghost use Rattle.td_register.specs.Judged.{IsAbsent, Accepts, Tells};
 ghost use Rattle.td_store.specs.Stores.{link_info_of};
 ghost use Rattle.td_register.specs.Needs.{NeedsNone};
-ghost use Rattle.td_changes.specs.Links.{describe_link, linked, list_links, remove_link};
+ghost use Rattle.td_admin.specs.Links.{describe_link, linked, list_links, remove_link};
 
 use std::alloc::Global;
 use td_cdr::{Memory, Text, Twin, is_word_name};

@@ -3,9 +3,9 @@
 
 ghost use Rattle.std.specs.Prelude.{◌≡◌, IfOk};
 ghost use Rattle.td_ops.specs.declared.call.Change.TheVariants as change;
-ghost use Rattle.td_changes.specs.Administration.{attribute_reply, follow_of, get, number_of, reference_of, set_follow};
-ghost use Rattle.td_changes.specs.Administration.{set_number, set_request_id_stem, set_truth, truth_of, with_follow};
-ghost use Rattle.td_changes.specs.Administration.{with_number, with_truth};
+ghost use Rattle.td_admin.specs.Administration.{attribute_reply, follow_of, get, number_of, reference_of, set_follow};
+ghost use Rattle.td_admin.specs.Administration.{set_number, set_request_id_stem, set_truth, truth_of, with_follow};
+ghost use Rattle.td_admin.specs.Administration.{with_number, with_truth};
 ghost use Rattle.td_register.specs.Judged.{Accepts, Tells};
 ghost use Rattle.td_register.specs.Needs.{NeedsNone};
 
@@ -38,7 +38,8 @@ fn reference_of(which: ReferenceAttribute, a: &Attributes) -> &Ior
     }
 }
 
-pub(crate) fn truth_of(which: TruthAttribute, a: &Attributes) -> bool
+/// The value of an attribute that is a truth value (interface SupportAttributes).
+pub fn truth_of(which: TruthAttribute, a: &Attributes) -> bool
     ensures { result ≡ truth_of which a.now }
 {
     match which {
@@ -48,7 +49,8 @@ pub(crate) fn truth_of(which: TruthAttribute, a: &Attributes) -> bool
     }
 }
 
-pub(crate) fn number_of(which: NumberAttribute, a: &Attributes) -> u32
+/// The value of an attribute that is a number (interface ImportAttributes).
+pub fn number_of(which: NumberAttribute, a: &Attributes) -> u32
     ensures { result ≡ number_of which a.now }
 {
     match which {
@@ -64,7 +66,8 @@ pub(crate) fn number_of(which: NumberAttribute, a: &Attributes) -> u32
     }
 }
 
-pub(crate) fn follow_of(which: FollowAttribute, a: &Attributes) -> FollowOption
+/// The value of an attribute that is a follow rule (interfaces ImportAttributes and LinkAttributes).
+pub fn follow_of(which: FollowAttribute, a: &Attributes) -> FollowOption
     ensures { result ≡ follow_of which a.now }
 {
     match which {

@@ -6,7 +6,7 @@ use Rattle.td_types.specs.declared.fault.TypesFault.TheVariants as types
 use Rattle.td_types.specs.declared.reply.TypesReply.{TypesReply}
 use Rattle.td_register.specs.declared.refusal.Fault.{Fault}
 use Rattle.td_register.specs.declared.refusal.Fault.TheVariants.{Refused, Memory}
-use Rattle.td_changes.specs.Repositories.{reply_of, refusal_of}
+use Rattle.td_admin.specs.Repositories.{reply_of, refusal_of}
 
 -- the repository's answer, as a reply or a refusal
 abbrev pub IsAnswer : Result TypesReply TypesFault → Result Reply Fault → Type 0

@@ -6,7 +6,7 @@ use Rattle.td_store.specs.declared.record.LinkRecord.{LinkRecord}
 use Rattle.td_value.specs.declared.enumerations.FollowOption.{FollowOption}
 use Rattle.td_register.specs.Causes.{Cause, ◌otherwise◌}
 use Rattle.td_register.specs.Judged.{IsMet}
-use Rattle.td_changes.specs.Links.{name_cause, new_links, rules_cause, target_cause}
+use Rattle.td_admin.specs.Links.{name_cause, new_links, rules_cause, target_cause}
 use Rattle.td_register.specs.Stores.{Store}
 use Rattle.td_register.specs.declared.refusal.Fault.{Fault}
 use Rattle.td_register.specs.declared.refusal.Fault.TheVariants.{Refused, Memory}

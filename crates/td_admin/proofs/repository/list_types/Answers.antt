@@ -1,5 +1,5 @@
-use Rattle.td_changes.specs.Repositories.{list_types}
-use Rattle.td_changes.proofs.repository.list_types.Goals as goal
+use Rattle.td_admin.specs.Repositories.{list_types}
+use Rattle.td_admin.proofs.repository.list_types.Goals as goal
 
 pub returns : goal.returns
 unfolding list_types

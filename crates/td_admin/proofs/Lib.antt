@@ -1,0 +1,3 @@
+pub mod LinkCauses
+pub mod Masking
+pub mod TypesTold
