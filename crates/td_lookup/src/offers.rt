@@ -12,22 +12,15 @@ ghost use Rattle.td_reply.specs.References.{IsAddress, offer_iterator};
 
 use crate::choosing::choose_each;
 use std::alloc::Global;
-use td_cdr::{List, Memory, Text, Twin, Writer};
+use td_cdr::{List, Memory, Text, Writer};
 use td_iter::{Desk, Item, OfferIter};
 use td_ops::Query;
-use td_reply::{ReplyBody, offer_iterator};
-use td_value::{Ior, Offer};
+use td_reply::{DeskLabel, ReplyBody, offer_iterator};
+use td_value::Offer;
 use td_walk::Address;
 
 /// How many offers an iterator holds at most.
 const MOST_OFFERS: usize = 4294967295;
-
-/// What an iterator is put on the desk with: the trader's name, and the iterator's reference.
-#[derive(Drop)]
-struct Label {
-    trader: Text,
-    reference: Ior,
-}
 
 /// Appends the first batch of these offers for the lesser of how_many and max_list, each with the properties that are
 /// desired of it; the desk keeps the others for an iterator of the trader of this name.
@@ -151,21 +144,15 @@ fn over_offers(offers: List<Offer>) -> Option<OfferIter>
 }
 
 /// What the iterator of this number is put on the desk with.
-fn label_for(alloc: Global, home: &Address, name: &Text, number: u64) -> Result<Label, Memory>
+fn label_for(alloc: Global, home: &Address, name: &Text, number: u64) -> Result<DeskLabel, Memory>
     requires home { IsAddress home.now }
     requires name { IsTraderName name.now }
     ensures trader { IfOk result (λ l. l.trader ≡ name.now) }
     ensures reference { IfOk result (λ l. l.reference ≡ offer_iterator home.now name.now number) }
     ensures small { IfOk result (λ l. IsSmallReference l.reference) }
 {
-    let trader = name.copy(alloc)?;
-    match offer_iterator(alloc, home, name, number) {
-        Ok(reference) => Ok(Label { trader, reference }),
-        Err(memory) => {
-            drop(trader);
-            Err(memory)
-        }
-    }
+    let reference = offer_iterator(alloc, home, name, number)?;
+    DeskLabel::new(alloc, name, reference)
 }
 
 /// Appends the first batch for n of what is left, and keeps the rest. Where the batch is written nothing fails any
@@ -173,7 +160,7 @@ fn label_for(alloc: Global, home: &Address, name: &Text, number: u64) -> Result<
 fn put_first(
     alloc: Global,
     n: u32,
-    label: Label,
+    label: DeskLabel,
     left: OfferIter,
     limits: &List<Text>,
     desk: &mut Desk,
@@ -190,7 +177,7 @@ fn put_first(
     ensures order { w.new.order ≡ w.old.order }
 {
     let mut left = left;
-    let Label { trader, reference } = label;
+    let DeskLabel { trader, reference } = label;
     match left.first_batch(alloc, n, w, &reference, limits) {
         Ok(more) => {
             drop(reference);

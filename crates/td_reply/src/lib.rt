@@ -4,6 +4,7 @@
 
 mod answer;
 mod changing;
+mod desk_label;
 mod entry;
 mod identity;
 mod interface;
@@ -19,6 +20,7 @@ mod target;
 
 pub use answer::{Answer, ReplyBody, no_memory, plain, unserved};
 pub use changing::answer_change;
+pub use desk_label::DeskLabel;
 pub use entry::Entry;
 pub use identity::{answer_is_a, answer_non_existent};
 pub use interface::Interface;

@@ -14,12 +14,12 @@ ghost use Rattle.td_reply.specs.Looking.{Cuts, PutsFirst};
 ghost use Rattle.td_reply.specs.References.{IsAddress, iterator_reference};
 
 use crate::answer::ReplyBody;
+use crate::desk_label::DeskLabel;
 use crate::references::iterator_reference;
 use std::alloc::Global;
-use td_cdr::{List, Memory, Text, Twin, Writer};
+use td_cdr::{List, Memory, Text, Writer};
 use td_iter::{Desk, IdIter, Item};
 use td_ops::{Outcome, Reply};
-use td_value::Ior;
 use td_walk::Address;
 
 /// How many bytes an id has at most that an iterator holds.
@@ -27,13 +27,6 @@ const LONGEST_ID: usize = 256;
 
 /// How many ids an iterator holds at most.
 const MOST_IDS: usize = 4294967295;
-
-/// What an iterator is put on the desk with: the trader's name, and the iterator's reference.
-#[derive(Drop)]
-struct Label {
-    trader: Text,
-    reference: Ior,
-}
 
 /// Tells what a look came to: of a list of ids the first batch for n is appended, and the desk keeps the others for an
 /// iterator of the trader of this name.
@@ -185,21 +178,15 @@ fn has_small_size(id: &Text) -> bool
 }
 
 /// What the iterator of this number is put on the desk with.
-fn label_for(alloc: Global, home: &Address, name: &Text, number: u64) -> Result<Label, Memory>
+fn label_for(alloc: Global, home: &Address, name: &Text, number: u64) -> Result<DeskLabel, Memory>
     requires home { IsAddress home.now }
     requires name { IsTraderName name.now }
     ensures trader { IfOk result (λ l. l.trader ≡ name.now) }
     ensures reference { IfOk result (λ l. l.reference ≡ iterator_reference home.now name.now number) }
     ensures small { IfOk result (λ l. IsSmallReference l.reference) }
 {
-    let trader = name.copy(alloc)?;
-    match iterator_reference(alloc, home, name, number) {
-        Ok(reference) => Ok(Label { trader, reference }),
-        Err(memory) => {
-            drop(trader);
-            Err(memory)
-        }
-    }
+    let reference = iterator_reference(alloc, home, name, number)?;
+    DeskLabel::new(alloc, name, reference)
 }
 
 /// Appends the first batch for n of what is left, and keeps the rest. Where the batch is written nothing fails any
@@ -207,7 +194,7 @@ fn label_for(alloc: Global, home: &Address, name: &Text, number: u64) -> Result<
 fn put_first(
     alloc: Global,
     n: u32,
-    label: Label,
+    label: DeskLabel,
     left: IdIter,
     desk: &mut Desk,
     w: &mut Writer,
@@ -221,7 +208,7 @@ fn put_first(
     ensures order { w.new.order ≡ w.old.order }
 {
     let mut left = left;
-    let Label { trader, reference } = label;
+    let DeskLabel { trader, reference } = label;
     match left.first_batch(alloc, n, w, &reference) {
         Ok(more) => {
             drop(reference);
