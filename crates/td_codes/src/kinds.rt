@@ -214,6 +214,12 @@ fn kind_in(r: &mut Reader, mode: Mode, deep: bool) -> Result<CodeKind, ValueFaul
 }
 
 /// The next kind, which may stand there.
+///
+/// # Errors
+///
+/// `BadValue` for a kind that may not stand there, `Unsupported` for one that is left out,
+/// `Indirection` for one that points back, `BadKind` for a number that no kind has; `Cdr` where the
+/// input ends. It isn't said where the reader then stands.
 pub fn kind_at(r: &mut Reader, mode: Mode) -> Result<CodeKind, ValueFault>
     ensures { Gives is_memory r.new result ((kind_at mode).format.reads r.old) }
 {
@@ -221,6 +227,10 @@ pub fn kind_at(r: &mut Reader, mode: Mode) -> Result<CodeKind, ValueFault>
 }
 
 /// The next kind, one level too deep: none may stand there.
+///
+/// # Errors
+///
+/// `Depth` in place of a kind and of an indirection; else as [`kind_at`].
 pub fn deep_kind(r: &mut Reader, mode: Mode) -> Result<CodeKind, ValueFault>
     ensures { Gives is_memory r.new result ((deep_kind mode).format.reads r.old) }
 {

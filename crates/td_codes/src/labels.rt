@@ -12,6 +12,11 @@ use crate::plain::{
 use td_cdr::{Reader, ValueFault};
 
 /// A value of a discriminator of at most so many levels.
+///
+/// # Errors
+///
+/// `BadValue` for what is no value of the discriminator's type, or where no level is left; `Cdr`
+/// where the input ends, or for a boolean above 1. It isn't said where the reader then stands.
 #[tactic(auto, unfolding(crate::specs::Labels::spelled_labels))]
 pub fn label_at(r: &mut Reader, levels: u32, switch: &TypeCode) -> Result<Value, ValueFault>
     ensures { Gives is_memory r.new result ((labels levels switch.now).format.reads r.old) }
@@ -35,6 +40,10 @@ pub fn label_at(r: &mut Reader, levels: u32, switch: &TypeCode) -> Result<Value,
 }
 
 /// The number of one of so many names.
+///
+/// # Errors
+///
+/// `BadValue` for a number that isn't below the count; `Cdr` where the input ends.
 pub fn one_of(r: &mut Reader, count: usize) -> Result<Value, ValueFault>
     ensures { Gives is_memory r.new result ((one_of count).format.reads r.old) }
 {

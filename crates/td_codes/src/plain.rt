@@ -10,6 +10,10 @@ use crate::code::Value;
 use td_cdr::{Reader, ValueFault};
 
 /// A short.
+///
+/// # Errors
+///
+/// `Cdr` where the input ends.
 pub fn short_at(r: &mut Reader) -> Result<Value, ValueFault>
     ensures { Gives is_memory r.new result (short_value.format.reads r.old) }
 {
@@ -17,6 +21,10 @@ pub fn short_at(r: &mut Reader) -> Result<Value, ValueFault>
 }
 
 /// A long.
+///
+/// # Errors
+///
+/// `Cdr` where the input ends.
 pub fn long_at(r: &mut Reader) -> Result<Value, ValueFault>
     ensures { Gives is_memory r.new result (long_value.format.reads r.old) }
 {
@@ -24,6 +32,10 @@ pub fn long_at(r: &mut Reader) -> Result<Value, ValueFault>
 }
 
 /// An unsigned short.
+///
+/// # Errors
+///
+/// `Cdr` where the input ends.
 pub fn ushort_at(r: &mut Reader) -> Result<Value, ValueFault>
     ensures { Gives is_memory r.new result (ushort_value.format.reads r.old) }
 {
@@ -31,6 +43,10 @@ pub fn ushort_at(r: &mut Reader) -> Result<Value, ValueFault>
 }
 
 /// An unsigned long.
+///
+/// # Errors
+///
+/// `Cdr` where the input ends.
 pub fn ulong_at(r: &mut Reader) -> Result<Value, ValueFault>
     ensures { Gives is_memory r.new result (ulong_value.format.reads r.old) }
 {
@@ -38,6 +54,10 @@ pub fn ulong_at(r: &mut Reader) -> Result<Value, ValueFault>
 }
 
 /// A long long.
+///
+/// # Errors
+///
+/// `Cdr` where the input ends.
 pub fn longlong_at(r: &mut Reader) -> Result<Value, ValueFault>
     ensures { Gives is_memory r.new result (longlong_value.format.reads r.old) }
 {
@@ -45,6 +65,10 @@ pub fn longlong_at(r: &mut Reader) -> Result<Value, ValueFault>
 }
 
 /// An unsigned long long.
+///
+/// # Errors
+///
+/// `Cdr` where the input ends.
 pub fn ulonglong_at(r: &mut Reader) -> Result<Value, ValueFault>
     ensures { Gives is_memory r.new result (ulonglong_value.format.reads r.old) }
 {
@@ -52,6 +76,10 @@ pub fn ulonglong_at(r: &mut Reader) -> Result<Value, ValueFault>
 }
 
 /// A boolean.
+///
+/// # Errors
+///
+/// `Cdr` where the input ends, or for an octet above 1.
 pub fn boolean_at(r: &mut Reader) -> Result<Value, ValueFault>
     ensures { Gives is_memory r.new result (boolean_value.format.reads r.old) }
 {
@@ -59,6 +87,10 @@ pub fn boolean_at(r: &mut Reader) -> Result<Value, ValueFault>
 }
 
 /// A char.
+///
+/// # Errors
+///
+/// `Cdr` where the input ends.
 pub fn char_at(r: &mut Reader) -> Result<Value, ValueFault>
     ensures { Gives is_memory r.new result (char_value.format.reads r.old) }
 {
@@ -66,6 +98,10 @@ pub fn char_at(r: &mut Reader) -> Result<Value, ValueFault>
 }
 
 /// An octet.
+///
+/// # Errors
+///
+/// `Cdr` where the input ends.
 pub fn octet_at(r: &mut Reader) -> Result<Value, ValueFault>
     ensures { Gives is_memory r.new result (octet_value.format.reads r.old) }
 {

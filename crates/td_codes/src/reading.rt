@@ -25,6 +25,11 @@ use td_cdr::{Boxed, List, Reader, Spelled, Text, ValueFault};
 pub const LEVELS: u32 = 16;
 
 /// A TypeCode that may hold so many levels.
+///
+/// # Errors
+///
+/// The first fault in reading order, or `Memory` for want of memory; it isn't said where the reader
+/// then stands.
 #[cycle(reading)]
 #[tactic(auto, unfolding(crate::specs::Codes::code_formats))]
 pub fn code_at(
@@ -243,6 +248,11 @@ fn front_of(
 }
 
 /// A TypeCode that may hold so many levels, in a block of its own.
+///
+/// # Errors
+///
+/// The first fault in reading order, or `Memory` for want of memory; it isn't said where the reader
+/// then stands.
 #[cycle(reading)]
 pub fn boxed_at(
     alloc: Global,

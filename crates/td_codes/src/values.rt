@@ -28,6 +28,11 @@ use std::alloc::Global;
 use td_cdr::{Boxed, List, Reader, Spelled, Text, ValueFault};
 
 /// An any of at most so many levels.
+///
+/// # Errors
+///
+/// The first fault in reading order, or `Memory` for want of memory; it isn't said where the reader
+/// then stands.
 #[cycle(values)]
 #[tactic(auto, unfolding(crate::specs::Values::anys))]
 pub fn any_at(alloc: Global, r: &mut Reader, levels: u32) -> Result<Any, ValueFault>

@@ -171,6 +171,11 @@ fn write_texts(w: &mut Writer, id: &Text, name: &Text) -> Result<(), Memory>
 }
 
 /// A number of items.
+///
+/// # Errors
+///
+/// `Memory` for want of memory or of room, and for 2^32 items or more; the writer is then
+/// unchanged.
 pub fn write_count(w: &mut Writer, count: usize) -> Result<(), Memory>
     ensures { Appends ((number 4).writes count) w.old w.new result }
 {
@@ -314,6 +319,10 @@ fn write_arm(alloc: Global, w: &mut Writer, arm: &Arm) -> Result<(), Memory>
 }
 
 /// The number that spells a label.
+///
+/// # Errors
+///
+/// `Memory` for want of memory or of room; the writer is then unchanged.
 pub fn write_label(w: &mut Writer, label: Label) -> Result<(), Memory>
     ensures { Appends (label_piece label) w.old w.new result }
 {

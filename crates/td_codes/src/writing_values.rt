@@ -20,6 +20,10 @@ use std::alloc::Global;
 use td_cdr::{Boxed, Memory, Spelled, Writer};
 
 /// An any of at most so many levels.
+///
+/// # Errors
+///
+/// `Memory` for want of memory or of room; what was written of the any then stands behind the rest.
 #[cycle(putting)]
 pub fn put_any(alloc: Global, w: &mut Writer, levels: u32, any: &Any) -> Result<(), Memory>
     requires few { levels ≤ 16 }

@@ -29,6 +29,10 @@ fn is_open(types: &Types, name: &[u8]) -> bool
 }
 
 /// Refuses a name that no type has, or a masked one.
+///
+/// # Errors
+///
+/// `IllegalServiceType`; `UnknownServiceType`, also of a masked type; `Memory` for want of memory.
 #[tactic(auto, using(crate::proofs::Otherwise::nothing_there, crate::proofs::Otherwise::something_there))]
 pub fn check_open(alloc: Global, types: &Types, name: &Text) -> Result<(), Fault>
     ensures { Judges (given (open_type types.now.types name.now) no_more) result }
@@ -43,6 +47,10 @@ pub fn check_open(alloc: Global, types: &Types, name: &Text) -> Result<(), Fault
 }
 
 /// Refuses a reference whose interface doesn't conform to the type's.
+///
+/// # Errors
+///
+/// `UnknownServiceType`; `InterfaceTypeMismatch`; `Memory` for want of memory.
 #[tactic(auto, using(crate::proofs::Otherwise::none_there, crate::proofs::Otherwise::some_there))]
 pub fn check_interface(
     alloc: Global,

@@ -29,6 +29,10 @@ pub fn carries(properties: &[Property], name: &[u8]) -> bool
 }
 
 /// Puts a copy of a property behind the others.
+///
+/// # Errors
+///
+/// `Memory` for want of memory alone.
 pub fn push_copy(
     alloc: Global,
     properties: &mut List<Property>,
@@ -41,6 +45,10 @@ pub fn push_copy(
 }
 
 /// Refuses a name that is none, or that was met; and notes it as met.
+///
+/// # Errors
+///
+/// `IllegalPropertyName`; `DuplicatePropertyName`; `Memory` for want of memory.
 pub fn check_name<'a>(
     alloc: Global,
     seen: &mut BTreeSet<&'a [u8]>,
@@ -72,6 +80,10 @@ fn mismatches(supported: bool, demanded: &[PropStruct], property: &Property) -> 
 }
 
 /// Refuses a value that the type doesn't let stand there.
+///
+/// # Errors
+///
+/// `PropertyTypeMismatch`; `ReadonlyDynamicProperty`; `Memory` for want of memory.
 pub fn check_value(
     alloc: Global,
     supported: bool,
@@ -98,6 +110,11 @@ pub fn check_value(
 }
 
 /// Refuses the first property that can't stand in an offer of the type.
+///
+/// # Errors
+///
+/// Of the first property at fault, as [`check_name`] and then [`check_value`]; `Memory` for want of
+/// memory.
 pub fn check_properties(
     alloc: Global,
     supported: bool,
@@ -128,6 +145,10 @@ fn missing<'a>(demanded: &'a [PropStruct], properties: &[Property]) -> Option<&'
 }
 
 /// Refuses an offer that lacks a mandatory property.
+///
+/// # Errors
+///
+/// `MissingMandatoryProperty` of the first that is missing; `Memory` for want of memory.
 pub fn check_missing(
     alloc: Global,
     type_name: &Text,
@@ -146,6 +167,10 @@ pub fn check_missing(
 }
 
 /// Refuses an offer with too many properties or encoded bytes.
+///
+/// # Errors
+///
+/// IMP_LIMIT for more than 256 properties or 1 MiB; `Memory` for want of memory.
 pub fn check_size(alloc: Global, reference: &Ior, properties: &List<Property>) -> Result<(), Fault>
     ensures { Judges (limit_if (is_too_large reference.now properties.now)) result }
 {

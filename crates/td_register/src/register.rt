@@ -30,6 +30,10 @@ pub fn is_proxy(offers: &Offers, number: u32) -> Option<bool>
 }
 
 /// The ordinary offer of an id.
+///
+/// # Errors
+///
+/// `IllegalOfferId`; `UnknownOfferId`; `ProxyOfferId`; `Memory` for want of memory.
 pub fn ordinary<'a>(alloc: Global, offers: &'a Offers, id: &Text) -> Result<&'a OfferRecord, Fault>
     ensures { MatchResult result (λ o. ordinary offers.now id.now ≡ Ok o.now) (IsAbsent (ordinary offers.now id.now)) }
 {
