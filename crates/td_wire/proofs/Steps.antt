@@ -2,7 +2,7 @@
 use Rattle.std.proofs.Common.{◌≡◌, ◌∙◌, ℕ, suc, List, [], ◌∷◌, ◌++◌, length, take, drop, Option, None, Some, option_map}
 use Rattle.std.proofs.Common.{refl, sym, ap, subst, append_assoc, append-nil, arith}
 use Rattle.std.proofs.lemmas.List.{take-append-drop}
-use Rattle.td_wire.specs.Connections.{Connection, Traffic, Gives, having_left, left_in, left_of, opened, with_left}
+use Rattle.td_wire.specs.Connections.{Connection, Traffic, Gives, having_left, left_in, left_of, with_left}
 use Rattle.td_wire.specs.Connections.{written_on, wrote}
 
 abbrev at : Traffic → Option Connection → Traffic

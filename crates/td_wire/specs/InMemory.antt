@@ -1,11 +1,11 @@
 -- A wire in memory.
-use Rattle.std.specs.Prelude.{◌≡◌, ℕ, ◌||◌, min, List, ◌++◌, length, take, drop, Option, Some, option_map, is_none}
+use Rattle.std.specs.Prelude.{◌≡◌, ℕ, ◌||◌, min, List, ◌++◌, length, take, drop, Option, option_map, is_none}
 use Rattle.std.specs.Prelude.{IsSome, Result, IfOk, OnOk, OnErr, is_err, false, slice_get}
 use Rattle.td_out.specs.declared.fault.Failed.{Failed}
 use Rattle.td_out.specs.declared.calls.Calls.{Calls}
 use Rattle.td_out.specs.Calls.{fails, counted, failed}
 use Rattle.td_wire.specs.Connections.{Connection, Traffic, as_list, opened, wrote, with_left, left_in, left_of}
-use Rattle.td_wire.specs.Connections.{written_on, having_left}
+use Rattle.td_wire.specs.Connections.{having_left}
 
 pub record Wired : Type 0 where
   pub traffic : Traffic

@@ -1,6 +1,6 @@
 //! A connection in memory.
 
-ghost use Rattle.std.specs.Prelude.{◌≡◌, ◌≤◌, ◌<◌, ◌++◌, min, length, take, drop, OnOk, OnErr, IfSome, IfNone};
+ghost use Rattle.std.specs.Prelude.{◌≡◌, ◌≤◌, ◌<◌, ◌+◌, ◌++◌, min, length, take, drop, OnOk, OnErr, IfSome, IfNone};
 ghost use Rattle.std.specs.Prelude.{None, IsSome, option_map, vec_len, vec_capacity};
 ghost use Rattle.td_wire.specs.Connections.{as_list, first_or_none, fresh, having_left, left_in, written_on};
 ghost use Rattle.td_wire.specs.InMemory.{Gave};
@@ -125,8 +125,10 @@ pub(crate) fn put(current: &mut Option<Held>, piece: &[u8]) -> Result<(), Failed
 
 /// Puts a connection that ended behind the past ones, where there is one.
 pub(crate) fn keep(past: &mut Vec<Held>, ended: Option<Held>)
-    requires { vec_len past.old < vec_capacity past.old }
-    ensures { past.new.items ≡ past.old.items ++ as_list ended }
+    requires { vec_len past.old + length (as_list ended) ≤ vec_capacity past.old }
+    ensures items { past.new.items ≡ past.old.items ++ as_list ended }
+    ensures len { vec_len past.new ≡ vec_len past.old + length (as_list ended) }
+    ensures capacity { vec_capacity past.new ≡ vec_capacity past.old }
 {
     match ended {
         None => {}

@@ -1,8 +1,9 @@
 //! A wire in memory.
 
-ghost use Rattle.std.specs.Prelude.{◌≡◌, ◌++◌, [], None, Some, option_map, slice_get, OnOk, OnErr};
+ghost use Rattle.std.specs.Prelude.{◌≡◌, ◌≤◌, ◌+◌, ◌++◌, [], None, Some, option_map, slice_get, OnOk, OnErr};
+ghost use Rattle.std.specs.Prelude.{length, vec_len, vec_capacity};
 ghost use Rattle.td_out.specs.Causes.{HasCause, Takes};
-ghost use Rattle.td_wire.specs.Connections.{as_list, opened, Connects, Reads, Writes};
+ghost use Rattle.td_wire.specs.Connections.{as_list, ended, opened, Connects, Reads, Writes};
 ghost use Rattle.td_wire.specs.InMemory.{Draws, Opens, Puts, written_over};
 
 use crate::held::{Held, draw, keep, put, take_first};
@@ -21,6 +22,8 @@ pub struct MemWire {
     current: Option<Held>,
     answers: Vec<Octets>,
     calls: Calls,
+    /// The past ones have room for the one that stands too, so that it ends without memory.
+    ghost room: { vec_len past + length (as_list current) ≤ vec_capacity past },
 }
 
 impl Model for MemWire {
@@ -60,13 +63,18 @@ impl MemWire {
         written_over(&self.past, &self.current, connection)
     }
 
-    /// Makes a connection, which gives the next answer.
+    /// Makes a connection, which gives the next answer. The one that stood ends. Room is reserved for that one and for
+    /// the end of the new one.
+    ///
+    /// # Errors
+    ///
+    /// `Memory` for want of memory alone; nothing has changed then.
     fn open(&mut self, host: &[u8], port: u16) -> Result<(), Memory>
         ensures ok { OnOk result (self.new ≡ record self.old { traffic = opened host.now port self.old.traffic }) }
         ensures err { OnErr result (self.new ≡ self.old) }
     {
         let host = Text::from_slice(self.alloc, host)?;
-        self.past.reserve(1)?;
+        self.past.reserve(2)?;
         let answer = take_first(self.alloc, &mut self.answers);
         let ended = self
             .current
@@ -177,5 +185,16 @@ impl Wire for MemWire {
                 Ok(piece.len())
             }
         }
+    }
+
+    /// The connection ends in any case. It isn't among the calls that may fail.
+    fn finish(&mut self, _whole: bool)
+        ensures same { Unit {0} }
+        ensures bytes { Some self.new.traffic ≡ Some (ended self.old.traffic) }
+        ensures faults { self.new.calls.faults ≡ self.old.calls.faults }
+        ensures exact { self.new ≡ record self.old { traffic = ended self.old.traffic } }
+    {
+        let done = self.current.take();
+        keep(&mut self.past, done);
     }
 }

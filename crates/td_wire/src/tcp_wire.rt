@@ -5,26 +5,28 @@ ghost use Rattle.std.specs.Io.{ReadsAtMost};
 ghost use Rattle.std.specs.Result.{IsErr};
 ghost use Rattle.td_out.specs.Causes.{raised, Takes};
 
+use crate::pool::ConnectionPool;
+use crate::tcp_call::{Deadline, TcpCall};
+use crate::tcp_connection::{TcpConnection, open};
+use crate::unreachable::Reach;
 use crate::wire::Wire;
 use std::io::{Read, Write};
 use std::marker::Model;
-use std::net::{Net, OpenStream, SocketAddr, TcpStream, ToSocketAddrs};
-use std::time::Duration;
-use td_out::{Failed, read_some, write_some};
+use std::net::{Net, OpenStream};
+use std::rt::Clock;
+use td_out::Failed;
 
-/// How long a connection may take to be made, in seconds.
-const CONNECT_LIMIT: u64 = 10;
-
-/// How long one read or write may take, in seconds.
-const TRANSFER_LIMIT: u64 = 60;
-
-/// A wire over TCP. A host is a name, which the system looks up, or an address; each of its addresses is tried. A
-/// connection that isn't made in 10 seconds, and a read or a write that takes longer than 60, is a fault. It tells
+/// A wire over TCP. A host is a name, which the system looks up, or an address; each of its addresses is tried. It tells
 /// nothing of its content.
+///
+/// A call, from `connect` to `finish`, has its limits: 10 seconds for each address, 60 seconds for all of it, and 256
+/// MiB that are read. What would go past them is a fault. With a pool, `connect` may take a connection over which an
+/// earlier call was done, and it fails at once where the peer couldn't be reached just before.
 #[derive(Drop)]
 pub struct TcpWire<'a, R: Net> {
     rt: &'a R,
-    stream: Option<R::Stream>,
+    pool: Option<&'a ConnectionPool<R::Stream>>,
+    call: Option<TcpCall<R::Stream>>,
     faults: u64,
 }
 
@@ -38,13 +40,22 @@ impl<'a, R: Net> Model for TcpWire<'a, R> {
 }
 
 impl<'a, R: Net> TcpWire<'a, R> {
-    /// A wire that connects to nothing yet. No fault was counted yet.
+    /// A wire that connects to nothing yet, and keeps no connection. No fault was counted yet.
     pub fn new(rt: &'a R) -> TcpWire<'a, R>
+        ensures { result ≡ 0 }
+    {
+        TcpWire::with_pool(rt, None)
+    }
+
+    /// A wire that connects to nothing yet. It keeps its connections in the pool, where there is one, and takes them
+    /// from there. No fault was counted yet.
+    pub fn with_pool(rt: &'a R, pool: Option<&'a ConnectionPool<R::Stream>>) -> TcpWire<'a, R>
         ensures { result ≡ 0 }
     {
         TcpWire {
             rt,
-            stream: None,
+            pool,
+            call: None,
             faults: 0,
         }
     }
@@ -58,7 +69,7 @@ impl<'a, R: Net> TcpWire<'a, R> {
     }
 }
 
-impl<'a, R: Net> Wire for TcpWire<'a, R> {
+impl<'a, R: Net + Clock> Wire for TcpWire<'a, R> {
     ghost told = { λ _. None };
 
     ghost faults = { λ s. s };
@@ -69,12 +80,12 @@ impl<'a, R: Net> Wire for TcpWire<'a, R> {
 
     ghost same_on = { λ _ _ _ _ _. tt };
 
-    /// A host that is no text, or at none of whose addresses a connection can be made, is a fault.
+    /// A host that is no text, or at none of whose addresses a connection can be made in time, is a fault.
     fn connect(&mut self, host: &[u8], port: u16) -> Result<(), Failed> {
-        self.stream = None;
-        match open(self.rt, host, port) {
-            Ok(stream) => {
-                self.stream = Some(stream);
+        self.call = None;
+        match begin_call(self.rt, self.pool, host, port) {
+            Ok(call) => {
+                self.call = Some(call);
                 Ok(())
             }
             Err(fault) => {
@@ -84,9 +95,9 @@ impl<'a, R: Net> Wire for TcpWire<'a, R> {
         }
     }
 
-    /// No connection that stands is a fault.
+    /// No connection that stands is a fault, and so is a call that has read as much or taken as long as it may.
     fn read(&mut self, into: &mut [u8]) -> Result<usize, Failed> {
-        match read_from(&mut self.stream, into) {
+        match read_from(&mut self.call, self.rt, into) {
             Ok(size) => Ok(size),
             Err(fault) => {
                 self.count_fault();
@@ -95,9 +106,10 @@ impl<'a, R: Net> Wire for TcpWire<'a, R> {
         }
     }
 
-    /// No connection that stands is a fault, and so is a write that takes nothing of a piece that isn't empty.
+    /// No connection that stands is a fault, and so are a call that has taken as long as it may, and a write that takes
+    /// nothing of a piece that isn't empty.
     fn write(&mut self, piece: &[u8]) -> Result<usize, Failed> {
-        match write_to(&mut self.stream, piece) {
+        match write_to(&mut self.call, self.rt, piece) {
             Ok(size) => Ok(size),
             Err(fault) => {
                 self.count_fault();
@@ -105,59 +117,125 @@ impl<'a, R: Net> Wire for TcpWire<'a, R> {
             }
         }
     }
-}
 
-/// A connection to the first of the host's addresses at which one can be made.
-fn open<R: Net>(rt: &R, host: &[u8], port: u16) -> Result<R::Stream, Failed> {
-    let Ok(host) = std::str::from_utf8(host) else {
-        return Err(Failed);
-    };
-    let Ok(addresses) = (host, port).to_socket_addrs(rt) else {
-        return Err(Failed);
-    };
-    for address in addresses {
-        match open_at(rt, &address) {
-            Ok(stream) => return Ok(stream),
-            Err(_) => {}
+    /// The connection goes into the pool where nothing is owed over it, and ends else. A peer that has taken as long as
+    /// it may isn't called for some seconds.
+    fn finish(&mut self, whole: bool) {
+        match (self.pool, self.call.take()) {
+            (Some(pool), Some(call)) => end_call(self.rt, pool, call, whole),
+            _ => {}
         }
     }
-    Err(Failed)
 }
 
-/// A connection to this address, with its limits of time.
-fn open_at<R: Net>(rt: &R, address: &SocketAddr) -> Result<R::Stream, Failed> {
-    let connected = TcpStream::connect_timeout(rt, address, Duration::from_secs(CONNECT_LIMIT));
-    let Ok(stream) = connected else {
+/// Begins a call to this host and port.
+fn begin_call<R: Net + Clock>(
+    rt: &R,
+    pool: Option<&ConnectionPool<R::Stream>>,
+    host: &[u8],
+    port: u16,
+) -> Result<TcpCall<R::Stream>, Failed> {
+    let Some(deadline) = Deadline::of_call(rt) else {
         return Err(Failed);
     };
-    let limit = Duration::from_secs(TRANSFER_LIMIT);
-    if stream.set_read_timeout(Some(limit)).is_ok()
-        && stream.set_write_timeout(Some(limit)).is_ok()
-    {
-        Ok(stream)
-    } else {
-        Err(Failed)
+    match pool {
+        Some(pool) => begin_with(rt, pool, deadline, host, port),
+        None => {
+            let stream = open(rt, deadline, host, port)?;
+            Ok(TcpCall::new(TcpConnection::new(None, stream), deadline, false))
+        }
     }
 }
 
-/// One read of the stream. Where none stands, it fails.
-fn read_from<S: Read>(stream: &mut Option<S>, into: &mut [u8]) -> Result<usize, Failed>
+/// Begins a call over a connection out of the pool, or else over a new one.
+fn begin_with<R: Net + Clock>(
+    rt: &R,
+    pool: &ConnectionPool<R::Stream>,
+    deadline: Deadline,
+    host: &[u8],
+    port: u16,
+) -> Result<TcpCall<R::Stream>, Failed> {
+    let reach = pool.reach(rt, host, port);
+    if reach == Reach::Refused {
+        return Err(Failed);
+    }
+    let connection = match pool.take(host, port) {
+        Some(connection) => connection,
+        None => open_for(rt, pool, deadline, host, port)?,
+    };
+    Ok(TcpCall::new(connection, deadline, reach == Reach::Retry))
+}
+
+/// Makes a connection that can be kept in the pool. Where none can be made, the peer isn't called for some seconds.
+fn open_for<R: Net + Clock>(
+    rt: &R,
+    pool: &ConnectionPool<R::Stream>,
+    deadline: Deadline,
+    host: &[u8],
+    port: u16,
+) -> Result<TcpConnection<R::Stream>, Failed> {
+    match open(rt, deadline, host, port) {
+        Ok(stream) => Ok(TcpConnection::new(pool.peer(host, port), stream)),
+        Err(fault) => {
+            pool.put_unreachable(rt, pool.peer(host, port));
+            Err(fault)
+        }
+    }
+}
+
+/// Ends a call: keeps its connection where nothing is owed over it, and notes whether the peer could be reached.
+fn end_call<S: OpenStream + Drop, C: Clock>(
+    clock: &C,
+    pool: &ConnectionPool<S>,
+    call: TcpCall<S>,
+    whole: bool,
+) {
+    let TcpCall {
+        connection,
+        deadline,
+        left: _left,
+        is_retry,
+    } = call;
+    if !whole && deadline.rest(clock).is_none() {
+        pool.put_unreachable(clock, connection.into_peer());
+        return;
+    }
+    if is_retry {
+        pool.remove_unreachable(&connection);
+    }
+    if whole {
+        pool.put(connection);
+    } else {
+        drop(connection);
+    }
+}
+
+/// One read of the call. Where none is made, it fails.
+fn read_from<S: OpenStream + Read + Write, C: Clock>(
+    call: &mut Option<TcpCall<S>>,
+    clock: &C,
+    into: &mut [u8],
+) -> Result<usize, Failed>
     ensures bound { ReadsAtMost result into.new }
-    ensures none { IfNone stream.old (IsErr result) }
+    ensures none { IfNone call.old (IsErr result) }
 {
-    match stream {
-        Some(stream) => read_some(stream, into),
+    match call {
+        Some(call) => call.read(clock, into),
         None => Err(Failed),
     }
 }
 
-/// One write to the stream. Where none stands, it fails.
-fn write_to<S: Write>(stream: &mut Option<S>, piece: &[u8]) -> Result<usize, Failed>
+/// One write of the call. Where none is made, it fails.
+fn write_to<S: OpenStream + Read + Write, C: Clock>(
+    call: &mut Option<TcpCall<S>>,
+    clock: &C,
+    piece: &[u8],
+) -> Result<usize, Failed>
     ensures some { Takes result piece.now }
-    ensures none { IfNone stream.old (IsErr result) }
+    ensures none { IfNone call.old (IsErr result) }
 {
-    match stream {
-        Some(stream) => write_some(stream, piece),
+    match call {
+        Some(call) => call.write(clock, piece),
         None => Err(Failed),
     }
 }

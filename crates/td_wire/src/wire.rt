@@ -1,8 +1,8 @@
 //! Connections to peers.
 
-ghost use Rattle.std.specs.Prelude.{◌≡◌, ℕ, Option};
+ghost use Rattle.std.specs.Prelude.{◌≡◌, ℕ, Option, option_map};
 ghost use Rattle.td_out.specs.Causes.{HasCause, Takes};
-ghost use Rattle.td_wire.specs.Connections.{Traffic, Connects, Writes, Reads};
+ghost use Rattle.td_wire.specs.Connections.{Traffic, Connects, Writes, Reads, ended};
 
 use td_out::Failed;
 
@@ -50,6 +50,17 @@ pub trait Wire {
         ensures bytes { Writes piece.now (told self.old) (told self.new) result }
         ensures cause { HasCause (faults self.old) (faults self.new) result };
 
+    /// Says that the call is done: no connection stands afterwards, whether one stood before or not. It takes no
+    /// memory and never fails.
+    ///
+    /// `whole` says that nothing is owed over the connection: each request was answered, the last reply was read to
+    /// its last byte, and nothing came behind it. A wire over TCP may then keep the connection for a later call of the
+    /// same peer; where `whole` is false, it ends. A wire in memory ends it in any case.
+    fn finish(&mut self, whole: bool)
+        ensures same { same self.old self.new }
+        ensures bytes { told self.new ≡ option_map ended (told self.old) }
+        ensures faults { faults self.new ≡ faults self.old };
+
     ghost same_self: { (a : Self) → same a a };
 
     ghost same_on: { (a b c : Self) → same a b → same b c → same a c };
@@ -78,5 +89,9 @@ impl<L: Wire> Wire for &mut L {
 
     fn write(&mut self, piece: &[u8]) -> Result<usize, Failed> {
         (**self).write(piece)
+    }
+
+    fn finish(&mut self, whole: bool) {
+        (**self).finish(whole)
     }
 }

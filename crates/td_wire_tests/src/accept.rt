@@ -1,4 +1,7 @@
 //! Where visitors come from.
 
+mod fake_net;
 mod in_memory;
 mod over_tcp;
+mod shortage;
+mod sinks;

@@ -1,4 +1,4 @@
-//! A wire in memory: what each connection gives, what was written over each, and calls that fail.
+//! A wire in memory: what each connection gives, what was written over each, which ended, and calls that fail.
 
 use crate::support::goes_along;
 use std::alloc::Global;
@@ -103,6 +103,49 @@ fn nothing_is_read_or_written_without_a_connection(rt: HostRuntime) -> Result<()
     let mut good = reads(&mut wire, Err(Failed), [0, 0, 0, 0]);
     good &= wire.write(&[1]) == Err(Failed);
     good &= gives_answers_in_order(&mut &mut wire);
+    assert!(rt; good);
+    Ok(())
+}
+
+/// Whether a connection that was finished, whole or not, gives and takes no more, and the next one gives its answer.
+fn ends_each<L: Wire>(wire: &mut L) -> bool {
+    let mut good = wire.connect(b"one", 1) == Ok(()) && wire.write(&[9]) == Ok(1);
+    good &= reads(wire, Ok(4), [1, 2, 3, 4]);
+    wire.finish(true);
+    good &= reads(wire, Err(Failed), [0, 0, 0, 0]) && wire.write(&[8]) == Err(Failed);
+    good &= wire.connect(b"two", 2) == Ok(()) && wire.write(&[7, 6]) == Ok(2);
+    good &= reads(wire, Ok(2), [6, 7, 0, 0]);
+    wire.finish(false);
+    good && reads(wire, Err(Failed), [0, 0, 0, 0]) && wire.write(&[5]) == Err(Failed)
+}
+
+#[test]
+fn a_finished_connection_is_a_past_one(rt: HostRuntime) -> Result<(), Fail> {
+    let mut wire = two_answers(rt.alloc(), &[])?;
+    let mut good = ends_each(&mut &mut wire);
+    good &= has_written(&wire, 0, &[9]) && has_written(&wire, 1, &[7, 6]);
+    good &= wire.written(2).is_none();
+    assert!(rt; good);
+    Ok(())
+}
+
+/// Finishes where no connection stands, before a connection and behind one, and makes four other calls, which alone are
+/// counted.
+fn finishes_nothing<L: Wire>(wire: &mut L) -> bool {
+    wire.finish(true);
+    let mut good = wire.connect(b"one", 1) == Ok(()) && wire.write(&[9]) == Ok(1);
+    wire.finish(false);
+    wire.finish(true);
+    good &= wire.connect(b"two", 2) == Ok(()) && wire.write(&[8]) == Ok(1);
+    good
+}
+
+#[test]
+fn where_none_stands_finish_does_nothing(rt: HostRuntime) -> Result<(), Fail> {
+    let mut wire = two_answers(rt.alloc(), &[5])?;
+    let mut good = finishes_nothing(&mut wire);
+    good &= has_written(&wire, 0, &[9]) && has_written(&wire, 1, &[8]);
+    good &= wire.written(2).is_none() && wire.write(&[7]) == Err(Failed);
     assert!(rt; good);
     Ok(())
 }

@@ -7,6 +7,8 @@ mod accept;
 #[cfg(test)]
 mod cell;
 #[cfg(test)]
+mod endless_net;
+#[cfg(test)]
 mod fake_files;
 #[cfg(test)]
 mod framing;
@@ -17,11 +19,17 @@ mod in_memory;
 #[cfg(test)]
 mod interrupted;
 #[cfg(test)]
+mod later_clock;
+#[cfg(test)]
+mod limits;
+#[cfg(test)]
 mod long_texts;
 #[cfg(test)]
 mod outside;
 #[cfg(test)]
 mod over_tcp;
+#[cfg(test)]
+mod pool;
 #[cfg(test)]
 mod ring;
 #[cfg(test)]

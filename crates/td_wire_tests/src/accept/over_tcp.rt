@@ -59,7 +59,7 @@ fn free_port<R: Net<Listener = TcpListener, Stream = TcpStream>>(rt: &R) -> Resu
 #[test]
 fn connections_are_visitors(rt: HostRuntime) -> Result<(), Fail> {
     let port = free_port(&rt)?;
-    let mut accept = TcpAccept::new(&rt);
+    let mut accept = TcpAccept::new(&rt, None);
     let mut wire = TcpWire::new(&rt);
     assert!(rt; two_come(&mut accept, &mut wire, port));
     Ok(())
@@ -69,7 +69,7 @@ fn connections_are_visitors(rt: HostRuntime) -> Result<(), Fail> {
 fn an_address_of_another_can_not_be_bound(rt: HostRuntime) -> Result<(), Fail> {
     let listener = TcpListener::bind(&rt, SocketAddr::from((Ipv4Addr::LOCALHOST, 0)))?;
     let port = listener.local_addr()?.port();
-    let mut accept = TcpAccept::new(&rt);
+    let mut accept = TcpAccept::new(&rt, None);
     let mut good = accept.bind(b"127.0.0.1", port).is_err();
     good &= accept.bind(b"\xff", 0).is_err();
     drop(listener);
