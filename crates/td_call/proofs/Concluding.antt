@@ -10,7 +10,7 @@ use Rattle.td_ior.specs.Profiles.{iiop_of}
 use Rattle.td_out.proofs.Steps.{Rose-later}
 use Rattle.td_walk.specs.declared.fault.PeerFault.{PeerFault}
 use Rattle.td_walk.specs.declared.fault.PeerFault.TheVariants as fault
-use Rattle.td_wire.specs.Connections.{Traffic, left_of, opened, wrote}
+use Rattle.td_wire.specs.Connections.{Traffic, ended, left_of, opened, wrote}
 use Rattle.td_wire.proofs.Steps.{left_with, left_wrote}
 use Rattle.td_call.specs.Replies.{Reading, replied, reply_limit}
 use Rattle.td_call.specs.Fetching.{Brought, Exchanges, Fetches, IsRead, IsWhole, ReadsFront}
@@ -107,33 +107,33 @@ unfetched reads id request held_after old mid before after f0 f1 fault.Memory f 
 -- ---- a call
 
 called_fresh : {A : Type 0} (reads : Reading A) (request : List ℕ) (p : Iiop)
-    (before after : Option Traffic) (held_after : List ℕ) (f0 f1 f2 : ℕ) (r : Result A PeerFault) → f0 ≤ f1
-    → Exchanges reads first_id request [] held_after (option_map (opened p.host p.port) before) after f1 f2 r
-    → CalledAt reads request p before after f0 f2 r
-called_fresh reads request p None after held_after f0 f1 f2 (Ok a) later x = tt
-called_fresh reads request p (Some t) after held_after f0 f1 f2 (Ok a) later x =
-    record { size = x.size; rest = x.rest; is = x.is; wire = x.wire }
-called_fresh reads request p None after held_after f0 f1 f2 (Err fault.Wire) later x =
+    (before last after : Option Traffic) (held_after : List ℕ) (f0 f1 f2 : ℕ) (r : Result A PeerFault) → f0 ≤ f1
+    → Exchanges reads first_id request [] held_after (option_map (opened p.host p.port) before) last f1 f2 r
+    → after ≡ option_map ended last → CalledAt reads request p before after f0 f2 r
+called_fresh reads request p None last after held_after f0 f1 f2 (Ok a) later x over = tt
+called_fresh reads request p (Some t) last after held_after f0 f1 f2 (Ok a) later x over =
+    record { size = x.size; rest = x.rest; is = x.is; wire = over ∙ ap (option_map ended) x.wire }
+called_fresh reads request p None last after held_after f0 f1 f2 (Err fault.Wire) later x over =
     elim x [ inl rose ↦ inl (Rose-later f0 f1 f2 later rose) | inr ended ↦ inr tt ]
-called_fresh reads request p (Some t) after held_after f0 f1 f2 (Err fault.Wire) later x =
+called_fresh reads request p (Some t) last after held_after f0 f1 f2 (Err fault.Wire) later x over =
     elim x [ inl rose ↦ inl (Rose-later f0 f1 f2 later rose) | inr ended ↦ inr ended ]
-called_fresh reads request p None after held_after f0 f1 f2 (Err fault.Grammar) later x = tt
-called_fresh reads request p (Some t) after held_after f0 f1 f2 (Err fault.Grammar) later x = x
-called_fresh reads request p before after held_after f0 f1 f2 (Err fault.Exception) later x = absurd x
-called_fresh reads request p before after held_after f0 f1 f2 (Err fault.Memory) later x = tt
+called_fresh reads request p None last after held_after f0 f1 f2 (Err fault.Grammar) later x over = tt
+called_fresh reads request p (Some t) last after held_after f0 f1 f2 (Err fault.Grammar) later x over = x
+called_fresh reads request p before last after held_after f0 f1 f2 (Err fault.Exception) later x over = absurd x
+called_fresh reads request p before last after held_after f0 f1 f2 (Err fault.Memory) later x over = tt
 
 -- a connection was made, and then a request sent over it
 pub called_then : {A : Type 0} (reads : Reading A) (request : List ℕ) (p : Iiop) (s : Stream)
-    (before mid after : Option Traffic) (held_after : List ℕ) (f0 f1 f2 : ℕ) (r : Result A PeerFault)
+    (before mid last after : Option Traffic) (held_after : List ℕ) (f0 f1 f2 : ℕ) (r : Result A PeerFault)
     → Connected p before mid f0 f1 (Ok s) → f0 ≤ f1
-    → Exchanges reads first_id request s.rest held_after mid after f1 f2 r
+    → Exchanges reads first_id request s.rest held_after mid last f1 f2 r → after ≡ option_map ended last
     → CalledAt reads request p before after f0 f2 r
-called_then reads request p s before mid after held_after f0 f1 f2 r made later x =
+called_then reads request p s before mid last after held_after f0 f1 f2 r made later x over =
     let none : s.rest ≡ [] = ap (λ (u : Stream). u.rest) made.0 in
-    let y : Exchanges reads first_id request [] held_after mid after f1 f2 r =
-    subst (λ (held : List ℕ). Exchanges reads first_id request held held_after mid after f1 f2 r) none x in
-    called_fresh reads request p before after held_after f0 f1 f2 r later
-    (subst (λ (u : Option Traffic). Exchanges reads first_id request [] held_after u after f1 f2 r) made.1 y)
+    let y : Exchanges reads first_id request [] held_after mid last f1 f2 r =
+    subst (λ (held : List ℕ). Exchanges reads first_id request held held_after mid last f1 f2 r) none x in
+    called_fresh reads request p before last after held_after f0 f1 f2 r later
+    (subst (λ (u : Option Traffic). Exchanges reads first_id request [] held_after u last f1 f2 r) made.1 y) over
 
 pub unconnected : {A : Type 0} (reads : Reading A) (request : List ℕ) (p : Iiop)
     (before after : Option Traffic) (f0 f1 : ℕ) (e : PeerFault) → Connected p before after f0 f1 (Err e)

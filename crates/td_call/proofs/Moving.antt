@@ -1,5 +1,5 @@
 -- What is moved over the wire on the way to an answer.
-use Rattle.std.proofs.Common.{◌≡◌, ◌∙◌, inl, ℕ, List, [], ◌++◌, take, drop, Option, Some, None, option_map}
+use Rattle.std.proofs.Common.{◌≡◌, ◌∙◌, inl, inr, ℕ, List, [], ◌++◌, take, drop, Option, Some, None, option_map}
 use Rattle.std.proofs.Common.{Ok, Err, refl, sym, ap, subst, append_assoc}
 use Rattle.std.proofs.lemmas.List.{take-append-drop}
 use Rattle.td_codes.specs.declared.reference.Ior.{Ior}
@@ -7,10 +7,11 @@ use Rattle.td_giop.specs.Stream.{Stream}
 use Rattle.td_ior.specs.declared.profile.Iiop.{Iiop}
 use Rattle.td_walk.specs.declared.fault.PeerFault.{PeerFault}
 use Rattle.td_walk.specs.declared.fault.PeerFault.TheVariants as fault
-use Rattle.td_wire.specs.Connections.{Connection, Traffic, Gives, opened, written_on, wrote}
+use Rattle.td_wire.specs.Connections.{Connection, Traffic, Gives, ended, opened, written_on, wrote}
 use Rattle.td_wire.proofs.Steps.{gives_more, gives_none, nothing_written}
 use Rattle.td_call.specs.Calling.{Connected}
 use Rattle.td_call.specs.Moving.{Draws, Leaves, LeavesAt, Moves, Sends, sent, heard, over, unopened, untouched}
+use Rattle.td_call.specs.Moving.{IsDisconnected, StaysDisconnected, Unopened}
 use Rattle.td_call.proofs.Holding.{Held}
 
 -- ---- bytes that are written
@@ -105,16 +106,50 @@ leaves_unconnected request p before after f0 f1 fault.Wire made = unopened made.
 leaves_unconnected request p before after f0 f1 fault.Grammar no_way = absurd no_way
 leaves_unconnected request p before after f0 f1 fault.Exception no_way = absurd no_way
 leaves_unconnected request p before after f0 f1 fault.Memory made =
-    over (subst (λ (x : Option Traffic). Moves request x after) made (moves_none request after))
+    over (option_map (opened p.host p.port) before) (moves_none request (option_map (opened p.host p.port) before)) made
 
 pub leaves_uncalled : (request : List ℕ) (p : Iiop) (t : Option Traffic) → LeavesAt request p t t
 leaves_uncalled request p t = unopened (inl refl)
 
-pub leaves_over : (request : List ℕ) (p : Iiop) (s : Stream) (before mid after : Option Traffic) (f0 f1 : ℕ)
-    → Connected p before mid f0 f1 (Ok s) → Moves request mid after → LeavesAt request p before after
-leaves_over request p s before mid after f0 f1 made m =
-    over (subst (λ (x : Option Traffic). Moves request x after) made.1 m)
+pub leaves_over : (request : List ℕ) (p : Iiop) (s : Stream) (before mid last after : Option Traffic) (f0 f1 : ℕ)
+    → Connected p before mid f0 f1 (Ok s) → Moves request mid last → after ≡ option_map ended last
+    → LeavesAt request p before after
+leaves_over request p s before mid last after f0 f1 made m over_now =
+    over last (subst (λ (x : Option Traffic). Moves request x last) made.1 m) over_now
 
 -- an object that isn't called
 pub left_untouched : (request : (key : List ℕ) → List ℕ) (target : Ior) (t : Option Traffic) → Leaves request target t t
 left_untouched request target t = untouched refl
+
+-- ---- whether a connection stands
+
+ended_disconnects : (last : Option Traffic) → IsDisconnected (option_map ended last)
+ended_disconnects None = tt
+ended_disconnects (Some t) = refl
+
+pub disconnected_ended : (before last after : Option Traffic) → after ≡ option_map ended last
+    → StaysDisconnected before after
+disconnected_ended before last after is = λ none. subst IsDisconnected (sym is) (ended_disconnects last)
+
+disconnected_same : (before after : Option Traffic) → after ≡ before → StaysDisconnected before after
+disconnected_same before after is = λ none. subst IsDisconnected (sym is) none
+
+disconnected_unopened : (before after : Option Traffic) → Unopened before after → StaysDisconnected before after
+disconnected_unopened before after u = elim u [
+  | inl is ↦ disconnected_same before after is
+  | inr is ↦ disconnected_ended before before after is
+]
+
+pub disconnected_unconnected : (p : Iiop) (before after : Option Traffic) (f0 f1 : ℕ) (e : PeerFault)
+    → Connected p before after f0 f1 (Err e) → StaysDisconnected before after
+disconnected_unconnected p before after f0 f1 fault.Wire made = disconnected_unopened before after made.1
+disconnected_unconnected p before after f0 f1 fault.Grammar no_way = absurd no_way
+disconnected_unconnected p before after f0 f1 fault.Exception no_way = absurd no_way
+disconnected_unconnected p before after f0 f1 fault.Memory made =
+    disconnected_ended before (option_map (opened p.host p.port) before) after made
+
+-- a call leaves none
+pub disconnected_at : (request : List ℕ) (p : Iiop) (before after : Option Traffic) → LeavesAt request p before after
+    → StaysDisconnected before after
+disconnected_at request p before after (unopened u) = disconnected_unopened before after u
+disconnected_at request p before after (over last m is) = disconnected_ended before last after is

@@ -8,7 +8,7 @@ use Rattle.td_ior.specs.Profiles.{iiop_of}
 use Rattle.td_out.specs.Causes.{Rose}
 use Rattle.td_walk.specs.declared.fault.PeerFault.{PeerFault}
 use Rattle.td_walk.specs.declared.fault.PeerFault.TheVariants as fault
-use Rattle.td_wire.specs.Connections.{Traffic, first_or_none, opened, with_left, wrote}
+use Rattle.td_wire.specs.Connections.{Traffic, ended, first_or_none, opened, with_left, wrote}
 use Rattle.td_call.specs.Moving.{Unopened}
 use Rattle.td_call.specs.Replies.{Reading, told, strange, short, replied, reply_limit}
 
@@ -24,21 +24,22 @@ next_given t = first_or_none t.answers
 abbrev pub fresh_stream : Stream
 fresh_stream = record { start = 0; rest = []; limit = reply_limit }
 
--- a connection to where a profile says; want of memory is met once it stands
+-- a connection to where a profile says; want of memory is met once it stands, and ends it
 abbrev pub Connected : Iiop → (before after : Option Traffic) → (f0 f1 : ℕ) → Result Stream PeerFault → Type 0
 Connected p before after f0 f1 (Ok s) = (s ≡ fresh_stream) × (after ≡ option_map (opened p.host p.port) before)
 Connected p before after f0 f1 (Err fault.Wire) = Rose f0 f1 × Unopened before after
 Connected p before after f0 f1 (Err fault.Grammar) = ⊥
 Connected p before after f0 f1 (Err fault.Exception) = ⊥
-Connected p before after f0 f1 (Err fault.Memory) = after ≡ option_map (opened p.host p.port) before
+Connected p before after f0 f1 (Err fault.Memory) = after ≡ option_map ended (option_map (opened p.host p.port) before)
 
 -- The reply is what the bytes come to that the new connection gives, and over it the request was written and no more.
+-- It has ended since.
 pub record Answers {A : Type 0} (reads : Reading A) (request : List ℕ) (p : Iiop) (t : Traffic) (after : Option Traffic)
     (a : A) : Type 0 where
   pub size : ℕ
   pub rest : List ℕ
   pub is : replied reads first_id (next_given t) ≡ told a size
-  pub wire : after ≡ Some (with_left rest (wrote request (opened p.host p.port t)))
+  pub wire : after ≡ Some (ended (with_left rest (wrote request (opened p.host p.port t))))
 
 -- What a call over a connection to there answers: what the reply tells; that the bytes are outside the grammar; that
 -- they ended before a message was whole, or the wire failed; or want of memory.

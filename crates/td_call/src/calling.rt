@@ -1,11 +1,12 @@
 //! One call of an object over a connection of its own.
 
-ghost use Rattle.std.specs.Prelude.{◌≡◌, ◌≤◌};
+ghost use Rattle.std.specs.Prelude.{◌≡◌, ◌≤◌, ◌↔◌, [], option_map, IsTrue};
 ghost use Rattle.td_ior.specs.Profiles.{iiop_of};
 ghost use Rattle.td_call.specs.Calling.{Called, CalledAt, Connected, first_id};
 ghost use Rattle.td_call.specs.Fetching.{IsRead};
-ghost use Rattle.td_call.specs.Moving.{Leaves, LeavesAt};
+ghost use Rattle.td_call.specs.Moving.{Leaves, LeavesAt, StaysDisconnected};
 ghost use Rattle.td_call.specs.Readings.{outcome_told, evaluation_told};
+ghost use Rattle.td_wire.specs.Connections.{ended};
 ghost use Rattle.td_call.specs.Requests.{request_of, evaluation_of};
 
 use crate::exchange::{exchange_call, exchange_evaluation};
@@ -52,13 +53,41 @@ pub fn connect<L: Wire>(alloc: Global, wire: &mut L, profile: &Iiop) -> Result<F
         Err(_) => Err(PeerFault::Wire),
         Ok(()) => match Framer::new(alloc, CLIENT_LIMIT) {
             Ok(framer) => Ok(framer),
-            Err(_) => Err(PeerFault::Memory),
+            Err(_) => {
+                wire.finish(false);
+                Err(PeerFault::Memory)
+            }
         },
     }
 }
 
+/// Tells the wire that the calls over its connection are done, and whether nothing is owed over it: the last reply was
+/// read, and nothing came behind it.
+pub fn finish<L: Wire>(wire: &mut L, framer: &mut Framer, answered: bool)
+    ensures same { L.same wire.old wire.new }
+    ensures told { L.told wire.new ≡ option_map ended (L.told wire.old) }
+    ensures faults { L.faults wire.new ≡ L.faults wire.old }
+    ensures framer { framer.new ≡ framer.old }
+{
+    wire.finish(answered && is_spent(framer));
+}
+
+/// Whether nothing came that wasn't taken away.
+fn is_spent(framer: &mut Framer) -> bool
+    ensures framer { framer.new ≡ framer.old }
+    ensures spent { IsTrue result ↔ (framer.old.rest ≡ []) }
+{
+    let none_began = framer.ended_inside().is_none();
+    match framer.next_message() {
+        Ok(None) => none_began,
+        Ok(Some(_message)) => false,
+        Err(_) => false,
+    }
+}
+
 /// Calls an object over a connection of its own: writes one Request, and reads its reply. It isn't tried again:
-/// whatever comes of it, no more than one connection was made, and no more than the one Request written over it.
+/// whatever comes of it, no more than one connection was made, and no more than the one Request written over it. The
+/// connection has ended when the call is done.
 ///
 /// # Errors
 ///
@@ -75,6 +104,7 @@ pub fn call_over<L: Wire>(
     ensures called { Called (outcome_told call.now) (λ key. request_of first_id key call.now) target.now
         (L.told wire.old) (L.told wire.new) (L.faults wire.old) (L.faults wire.new) result }
     ensures leaves { Leaves (λ key. request_of first_id key call.now) target.now (L.told wire.old) (L.told wire.new) }
+    ensures disconnected { StaysDisconnected (L.told wire.old) (L.told wire.new) }
     ensures later { L.faults wire.old ≤ L.faults wire.new }
 {
     match profile_of(alloc, target) {
@@ -102,7 +132,9 @@ fn call_at<L: Wire>(
         Ok(framer) => {
             let mut framer = framer;
             let key = profile.key.as_slice();
-            exchange_call(alloc, wire, &mut framer, FIRST_ID, key, call)
+            let answer = exchange_call(alloc, wire, &mut framer, FIRST_ID, key, call);
+            finish(wire, &mut framer, answer.is_ok());
+            answer
         }
     }
 }
@@ -127,6 +159,7 @@ pub fn evaluate_over<L: Wire>(
         (L.told wire.old) (L.told wire.new) (L.faults wire.old) (L.faults wire.new) result }
     ensures leaves { Leaves (λ key. evaluation_of first_id key name.now returned.now extra.now) evaluator.now
         (L.told wire.old) (L.told wire.new) }
+    ensures disconnected { StaysDisconnected (L.told wire.old) (L.told wire.new) }
     ensures later { L.faults wire.old ≤ L.faults wire.new }
 {
     match profile_of(alloc, evaluator) {
@@ -178,7 +211,9 @@ fn ask_at<L: Wire>(
         Err(fault) => Err(fault),
         Ok(framer) => {
             let mut framer = framer;
-            exchange_evaluation(alloc, wire, &mut framer, FIRST_ID, request, returned)
+            let answer = exchange_evaluation(alloc, wire, &mut framer, FIRST_ID, request, returned);
+            finish(wire, &mut framer, answer.is_ok());
+            answer
         }
     }
 }

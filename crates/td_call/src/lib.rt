@@ -10,5 +10,5 @@ mod reading;
 mod request;
 mod sending;
 
-pub use calling::{call_over, connect, evaluate_over, profile_of};
+pub use calling::{call_over, connect, evaluate_over, finish, profile_of};
 pub use exchange::exchange_call;

@@ -1,5 +1,5 @@
 -- A call that is noted.
-use Rattle.std.proofs.Common.{◌≡◌, ◌∙◌, ℕ, ◌≤◌, List, [], ◌∷◌, ◌++◌, Result, Ok, Err, refl, sym, ap, arith}
+use Rattle.std.proofs.Common.{◌≡◌, ◌∙◌, ℕ, ◌≤◌, List, [], ◌∷◌, ◌++◌, Ok, Err, refl, sym, ap, arith}
 use Rattle.std.proofs.lemmas.List.{map-append}
 use Rattle.td_cdr.specs.Format.{Unless}
 use Rattle.td_out.specs.Causes.{Rose}

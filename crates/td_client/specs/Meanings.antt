@@ -1,5 +1,5 @@
 -- What the answer to a call means to a visit: an exception is a fault there.
-use Rattle.std.specs.Prelude.{◌≡◌, ℕ, List, Option, Some, None, Result, Ok, Err}
+use Rattle.std.specs.Prelude.{ℕ, List, Option, Some, None, Result, Ok, Err}
 use Rattle.td_codes.specs.declared.code.Any.{Any}
 use Rattle.td_codes.specs.declared.reference.Ior.{Ior}
 use Rattle.td_ops.specs.declared.attribute.Attribute.TheVariants.{Reference as Referring}

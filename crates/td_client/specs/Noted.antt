@@ -1,5 +1,5 @@
 -- The calls of a caller, as they are noted.
-use Rattle.std.specs.Prelude.{◌≡◌, ℕ, List, [], ◌∷◌, map, Result, Ok, Err}
+use Rattle.std.specs.Prelude.{ℕ, List, [], ◌∷◌, map, Result, Ok, Err}
 use Rattle.td_out.specs.Causes.{raised}
 use Rattle.td_walk.specs.Peering.{PeerCall, Querying, Evaluating, RegisterOf, Resolving, Exchange, Given}
 use Rattle.td_walk.specs.Peering.{Answered, Evaluated, Referred, Failed}

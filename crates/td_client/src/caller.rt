@@ -2,11 +2,12 @@
 
 ghost use Rattle.std.specs.Prelude.{◌≡◌, ◌≤◌, [], IfOk};
 ghost use Rattle.td_call.specs.Calling.{Called, first_id};
-ghost use Rattle.td_call.specs.Moving.{Leaves};
+ghost use Rattle.td_call.specs.Moving.{Leaves, StaysDisconnected};
 ghost use Rattle.td_call.specs.Readings.{outcome_told};
 ghost use Rattle.td_call.specs.Requests.{request_of};
 ghost use Rattle.td_client.specs.Noted.{count_after};
 ghost use Rattle.td_gather.specs.Asking.{Asks, GivesSmallOffers};
+ghost use Rattle.td_gather.specs.Writing.{AskLeaves};
 
 use crate::note::Note;
 use std::alloc::Global;
@@ -40,7 +41,8 @@ impl<L: Wire> Caller<L> {
         }
     }
 
-    /// Calls an object: connects, writes one Request, and reads its reply. It isn't tried again, whatever comes of it.
+    /// Calls an object: connects, writes one Request, and reads its reply. It isn't tried again, and the connection has
+    /// ended when the call is done, whatever comes of it.
     ///
     /// # Errors
     ///
@@ -55,6 +57,7 @@ impl<L: Wire> Caller<L> {
             (L.told self.old.wire) (L.told self.new.wire) (L.faults self.old.wire) (L.faults self.new.wire) result }
         ensures leaves { Leaves (λ key. request_of first_id key call.now) target.now (L.told self.old.wire)
             (L.told self.new.wire) }
+        ensures disconnected { StaysDisconnected (L.told self.old.wire) (L.told self.new.wire) }
         ensures notes { self.new.notes ≡ self.old.notes }
         ensures count { self.new.faults ≡ count_after self.old.faults result }
     {
@@ -64,7 +67,8 @@ impl<L: Wire> Caller<L> {
     }
 
     /// Asks another trader: writes the query, and reads its reply. An iterator is drained over the same connection by
-    /// `next_n(1000)`, with request ids 2, 3 and so on, and then destroyed.
+    /// `next_n(1000)`, with request ids 2, 3 and so on, and then destroyed. The connection has ended when the query is
+    /// done, whatever comes of it.
     ///
     /// # Errors
     ///
@@ -74,6 +78,8 @@ impl<L: Wire> Caller<L> {
         ensures same { L.same self.old.wire self.new.wire }
         ensures asks { Asks target.now q.now (L.told self.old.wire) (L.told self.new.wire) (L.faults self.old.wire)
             (L.faults self.new.wire) result }
+        ensures leaves { AskLeaves target.now q.now (L.told self.old.wire) (L.told self.new.wire) }
+        ensures disconnected { StaysDisconnected (L.told self.old.wire) (L.told self.new.wire) }
         ensures small { IfOk result (λ g. GivesSmallOffers g) }
         ensures notes { self.new.notes ≡ self.old.notes }
         ensures count { self.new.faults ≡ count_after self.old.faults result }

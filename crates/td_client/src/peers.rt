@@ -2,7 +2,7 @@
 
 ghost use Rattle.std.specs.Prelude.{◌≡◌, ℕ, List, Option, Result, IfOk};
 ghost use Rattle.td_call.specs.Calling.{Called, first_id};
-ghost use Rattle.td_call.specs.Moving.{Leaves};
+ghost use Rattle.td_call.specs.Moving.{Leaves, StaysDisconnected};
 ghost use Rattle.td_call.specs.Readings.{outcome_told, evaluation_told};
 ghost use Rattle.td_call.specs.Requests.{request_of, evaluation_of};
 ghost use Rattle.td_client.specs.Meanings.{offers_meant, reference_meant, register_call, resolve_call, value_meant};
@@ -10,6 +10,7 @@ ghost use Rattle.td_client.specs.Meanings.{with_meaning};
 ghost use Rattle.td_client.specs.Noted.{count_after, exchanges};
 ghost use Rattle.td_codes.specs.declared.code.Any.{Any};
 ghost use Rattle.td_gather.specs.Asking.{Asks};
+ghost use Rattle.td_gather.specs.Writing.{AskLeaves};
 ghost use Rattle.td_gather.specs.declared.gathered.Gathered.{Gathered as Given};
 ghost use Rattle.td_ops.specs.declared.outcome.Answered.{Answered as Told};
 ghost use Rattle.td_walk.specs.declared.fault.PeerFault.{PeerFault};
@@ -43,6 +44,7 @@ impl<L: Wire> Peers for Caller<L> {
     ghost same_on = { λ a b c p q. L.same_on a.wire b.wire c.wire p q };
 
     /// What the reply says, and what the iterator gives over the same connection; an exception is a fault.
+    #[tactic(auto, using(td_gather::proofs::Writing::leaves_untouched))]
     fn query(&mut self, alloc: Global, target: &Ior, q: &Query) -> Result<SubAnswer, PeerFault>
         ensures same { L.same self.old.wire self.new.wire }
         ensures count { self.new.faults ≡ count_after self.old.faults result }
@@ -52,6 +54,8 @@ impl<L: Wire> Peers for Caller<L> {
         ensures exact { (r : Result Given PeerFault) × Asks target.now q.now (L.told self.old.wire)
             (L.told self.new.wire) (L.faults self.old.wire) (L.faults self.new.wire) r
             × (result ≡ with_meaning offers_meant r) }
+        ensures leaves { AskLeaves target.now q.now (L.told self.old.wire) (L.told self.new.wire) }
+        ensures disconnected { StaysDisconnected (L.told self.old.wire) (L.told self.new.wire) }
     {
         match self.notes.reserve(1) {
             Err(_) => return Err(PeerFault::Memory),
@@ -86,6 +90,7 @@ impl<L: Wire> Peers for Caller<L> {
             × (result ≡ with_meaning value_meant r) }
         ensures leaves { Leaves (λ key. evaluation_of first_id key name.now returned.now extra.now) evaluator.now
             (L.told self.old.wire) (L.told self.new.wire) }
+        ensures disconnected { StaysDisconnected (L.told self.old.wire) (L.told self.new.wire) }
     {
         match self.notes.reserve(1) {
             Err(_) => return Err(PeerFault::Memory),
@@ -121,6 +126,7 @@ impl<L: Wire> Peers for Caller<L> {
             (L.faults self.old.wire) (L.faults self.new.wire) r × (result ≡ with_meaning reference_meant r) }
         ensures leaves { Leaves (λ key. request_of first_id key register_call) lookup.now (L.told self.old.wire)
             (L.told self.new.wire) }
+        ensures disconnected { StaysDisconnected (L.told self.old.wire) (L.told self.new.wire) }
     {
         match self.notes.reserve(1) {
             Err(_) => return Err(PeerFault::Memory),
@@ -152,6 +158,7 @@ impl<L: Wire> Peers for Caller<L> {
             × (result ≡ with_meaning reference_meant r) }
         ensures leaves { Leaves (λ key. request_of first_id key (resolve_call name.now)) register.now
             (L.told self.old.wire) (L.told self.new.wire) }
+        ensures disconnected { StaysDisconnected (L.told self.old.wire) (L.told self.new.wire) }
     {
         match self.notes.reserve(1) {
             Err(_) => return Err(PeerFault::Memory),

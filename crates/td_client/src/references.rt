@@ -2,7 +2,7 @@
 
 ghost use Rattle.std.specs.Prelude.{◌≡◌};
 ghost use Rattle.td_call.specs.Calling.{Called, first_id};
-ghost use Rattle.td_call.specs.Moving.{Leaves};
+ghost use Rattle.td_call.specs.Moving.{Leaves, StaysDisconnected};
 ghost use Rattle.td_call.specs.Readings.{outcome_told};
 ghost use Rattle.td_call.specs.Requests.{request_of};
 ghost use Rattle.td_client.specs.Meanings.{register_call, resolve_call};
@@ -30,6 +30,7 @@ pub(crate) fn ask_register<L: Wire>(
         (L.told wire.old) (L.told wire.new) (L.faults wire.old) (L.faults wire.new) result }
     ensures leaves { Leaves (λ key. request_of first_id key register_call) lookup.now (L.told wire.old)
         (L.told wire.new) }
+    ensures disconnected { StaysDisconnected (L.told wire.old) (L.told wire.new) }
 {
     let request = Call::Look(Look::Get(Attribute::Reference(ReferenceAttribute::RegisterIf)));
     let answer = call_over(alloc, wire, lookup, &request);
@@ -55,6 +56,7 @@ pub(crate) fn ask_to_resolve<L: Wire>(
         (L.faults wire.old) (L.faults wire.new) result }
     ensures leaves { Leaves (λ key. request_of first_id key (resolve_call name.now)) register.now (L.told wire.old)
         (L.told wire.new) }
+    ensures disconnected { StaysDisconnected (L.told wire.old) (L.told wire.new) }
 {
     match name.copy(alloc) {
         Err(_) => Err(PeerFault::Memory),

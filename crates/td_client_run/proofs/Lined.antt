@@ -97,16 +97,17 @@ sent (wish.Query target q) t v w (Gathered (Offers found)) known tells s = refl
 sent (wish.Query target q) t v w (Gathered (Refused answer)) known tells s =
     raised_lined (call.Query q) (next_given t) answer
     (subst
-    (λ (before : Option Traffic). IfSome before (λ u. asked (call.Query q) (next_given u) ≡ raised answer)) tells s)
+    (λ (before : Option Traffic). IfSome before (λ u. asked (call.Query q) (next_given u) ≡ raised answer)) tells
+    s.asks)
 sent (wish.Query target q) t v w (Answered a) known tells s = absurd s
 sent (wish.Call target c) t v w (Gathered g) known tells s = absurd s
 sent (wish.Call target c) t v w (Answered a) known tells s =
-    let p = s.0 in
+    let p = s.called.0 in
     let came =
     subst
     (λ (before : Option Traffic).
     IfSome before (λ u. Answers (outcome_told c) (request_of first_id p.key c) p u w.told a))
-    tells s.2 in
+    tells s.called.2 in
     subst (λ (x : Comes Told). AllTold HasLines x) came.is
     (replied_told HasLines (outcome_told c) (λ status at. outcome_lined c status at known) first_id (next_given t))
 

@@ -13,7 +13,7 @@ use std::env;
 use std::io::{self, ErrorKind, Write};
 use std::net::Net;
 use std::process::ExitCode;
-use std::rt::Env;
+use std::rt::{Clock, Env};
 use td_out::{Sink, StdSink};
 use td_tell::write_all;
 use td_wire::{TcpWire, Wire};
@@ -34,8 +34,8 @@ pub fn run_client<L: Wire, K: Sink, E: Sink>(
     ExitCode::from(client_run(alloc, args, wire, sink, faults))
 }
 
-/// The program over the words and the network of this runtime, and these streams.
-pub fn start<R: Env + Net + AllocGlobal, O: Write + Drop, E: Write + Drop>(
+/// The program over the words, the network and the clock of this runtime, and these streams.
+pub fn start<R: Env + Net + Clock + AllocGlobal, O: Write + Drop, E: Write + Drop>(
     rt: &R,
     output: O,
     errors: E,

@@ -1,11 +1,19 @@
 //! Requests and replies, byte by byte.
 
-/// A query for lasers, and what is asked of its iterator.
-pub const LASER_REQUESTS: &[u8] =
+/// A query for lasers.
+pub const LASER_QUERY: &[u8] =
     b"GIOP\x01\0\0\0\0\0\0`\0\0\0\0\0\0\0\x01\x01\0\0\0\0\0\0\x07North/L\0\0\0\0\x06query\0\0\0\0\0\0\
     \0\0\0\0\x06Laser\0\0\0\0\0\0\x0aCost < 10\0\0\0\0\0\0\x09min Cost\0\0\0\0\0\0\0\0\0\0\0\x02\0\0\
-    \0dGIOP\x01\0\0\0\0\0\00\0\0\0\0\0\0\0\x02\x01\0\0\0\0\0\0\x09North/I/1\0\0\0\0\0\0\x07next_n\0\
-    \0\0\0\0\0\0\0\x03\xe8GIOP\x01\0\0\0\0\0\0,\0\0\0\0\0\0\0\x03\x01\0\0\0\0\0\0\x09North/I/1\0\0\0\
+    \0d";
+
+/// A call of next_n of its iterator.
+pub const LASER_NEXT: &[u8] =
+    b"GIOP\x01\0\0\0\0\0\00\0\0\0\0\0\0\0\x02\x01\0\0\0\0\0\0\x09North/I/1\0\0\0\0\0\0\x07next_n\0\
+    \0\0\0\0\0\0\0\x03\xe8";
+
+/// A call of destroy of its iterator.
+pub const LASER_DESTROY: &[u8] =
+    b"GIOP\x01\0\0\0\0\0\0,\0\0\0\0\0\0\0\x03\x01\0\0\0\0\0\0\x09North/I/1\0\0\0\
     \0\0\0\x08destroy\0\0\0\0\0";
 
 /// Their replies: two offers and an iterator, three offers, and nothing.

@@ -1,13 +1,13 @@
 //! A use of the program over a wire and sinks in memory.
 
-use crate::wires::{has_written, is_joined, wire_of};
+use crate::wires::{has_written, is_disconnected, is_joined, wire_of};
 use std::alloc::Global;
 use td_cdr::{List, Memory};
 use td_client_run::client_run;
 use td_out::MemSink;
 use td_wire::MemWire;
 
-/// A use of the program, and what it leaves.
+/// A use of the program, and what it leaves. Its connection has ended then.
 #[derive(Clone, Copy)]
 pub struct Use {
     pub words: &'static [&'static str],
@@ -61,7 +61,8 @@ fn leaves(alloc: Global, words: &[String], used: &Use) -> Result<bool, Memory> {
     let mut sink = MemSink::new(alloc, failing);
     let mut faults = MemSink::new(alloc, List::new(alloc));
     let status = client_run(alloc, words, &mut wire, &mut sink, &mut faults);
-    Ok(status == used.status && is_left(&wire, &sink, &faults, used))
+    let left = is_left(&wire, &sink, &faults, used);
+    Ok(status == used.status && left && is_disconnected(&mut wire))
 }
 
 /// Whether a use of the program leaves what it is told to.

@@ -7,8 +7,17 @@ use crate::running::{Use, passes};
 /// The words of a use that withdraws an offer.
 const WORDS: &[&str] = &["withdraw", "ref:,h,9,A/R", "7"];
 
+/// The words of a query whose reply names an iterator.
+const LASERS: &[&str] = &[
+    "query",
+    "ref:,h,9,North/L",
+    "Laser",
+    "Cost < 10",
+    "min Cost",
+];
+
 /// Uses, of which the calls that fail are those of the wire and of the sink, and what each leaves.
-const USES: [Use; 21] = [
+const USES: [Use; 23] = [
     // a query prints offers limits and the count
     Use {
         words: &[
@@ -46,18 +55,12 @@ const USES: [Use; 21] = [
     },
     // an iterator is drained before anything is printed
     Use {
-        words: &[
-            "query",
-            "ref:,h,9,North/L",
-            "Laser",
-            "Cost < 10",
-            "min Cost",
-        ],
+        words: LASERS,
         given: LASER_REPLIES,
         wire_failing: &[],
         sink_failing: &[],
         status: 0,
-        wrote: &[LASER_REQUESTS],
+        wrote: &[LASER_QUERY, LASER_NEXT, LASER_DESTROY],
         printed: &[LASER_LINES],
         told: "",
     },
@@ -249,6 +252,27 @@ const USES: [Use; 21] = [
         sink_failing: &[],
         status: 6,
         wrote: &[WITHDRAW],
+        printed: &[],
+        told: "",
+    },
+    // a query that fails at its iterator prints nothing
+    Use {
+        words: LASERS,
+        given: LASER_REPLIES,
+        wire_failing: &[4],
+        sink_failing: &[],
+        status: 6,
+        wrote: &[LASER_QUERY],
+        printed: &[],
+        told: "",
+    },
+    Use {
+        words: LASERS,
+        given: LASER_REPLIES,
+        wire_failing: &[5],
+        sink_failing: &[],
+        status: 6,
+        wrote: &[LASER_QUERY, LASER_NEXT],
         printed: &[],
         told: "",
     },

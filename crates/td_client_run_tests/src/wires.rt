@@ -1,8 +1,8 @@
-//! A wire in memory that is made of its bytes, and what was written over it.
+//! A wire in memory that is made of its bytes, what was written over it, and whether a connection stands.
 
 use std::alloc::Global;
 use td_cdr::{List, Memory, Octets};
-use td_wire::MemWire;
+use td_wire::{MemWire, Wire};
 
 fn joined(alloc: Global, parts: &[&[u8]]) -> Result<Octets, Memory> {
     let mut bytes = Vec::new(alloc);
@@ -18,6 +18,14 @@ pub fn wire_of(alloc: Global, parts: &[&[u8]], failing: &[u64]) -> Result<MemWir
     answers.push(joined(alloc, parts)?)?;
     let failing = List::from_slice(alloc, failing)?;
     Ok(MemWire::new(alloc, answers, failing))
+}
+
+/// A wire whose first two connections give these parts, one after the other.
+pub fn wire_of_two(alloc: Global, first: &[&[u8]], second: &[&[u8]]) -> Result<MemWire, Memory> {
+    let mut answers = List::new(alloc);
+    answers.push(joined(alloc, first)?)?;
+    answers.push(joined(alloc, second)?)?;
+    Ok(MemWire::new(alloc, answers, List::new(alloc)))
 }
 
 /// Whether bytes are these parts, one after the other.
@@ -41,4 +49,19 @@ pub fn has_written(wire: &MemWire, parts: &[&[u8]]) -> bool {
         }
         None => parts.is_empty(),
     }
+}
+
+/// Whether these parts were written over the first connection and those over the second, and there was no third one.
+pub fn has_written_both(wire: &MemWire, first: &[&[u8]], second: &[&[u8]]) -> bool {
+    match (wire.written(0), wire.written(1)) {
+        (Some(one), Some(two)) => {
+            is_joined(one, first) && is_joined(two, second) && wire.written(2).is_none()
+        }
+        _ => false,
+    }
+}
+
+/// Whether no connection stands. A write tells it; the first may be one that was set to fail.
+pub fn is_disconnected(wire: &mut MemWire) -> bool {
+    wire.write(b"?").is_err() && wire.write(b"?").is_err()
 }

@@ -1,6 +1,6 @@
 -- One batch of an iterator.
-use Rattle.std.proofs.Common.{◌≡◌, ◌∙◌, inl, inr, ℕ, ◌+◌, ◌<◌, ◌≤◌, Bool, true, false, cond}
-use Rattle.std.proofs.Common.{List, [], ◌∷◌, ◌++◌, length, Option, Some, None, Result, Ok, Err, refl, sym}
+use Rattle.std.proofs.Common.{◌≡◌, ◌∙◌, inl, inr, ℕ, suc, ◌+◌, ◌<◌, ◌≤◌, ◌&&◌, Bool, true, false, cond}
+use Rattle.std.proofs.Common.{List, [], ◌∷◌, ◌++◌, drop, length, Option, Some, None, Result, Ok, Err, refl, sym}
 use Rattle.std.proofs.Common.{ap, arith, leb-true, length-append, nat_le}
 use Rattle.td_giop.proofs.Cond.{both_true}
 use Rattle.std.specs.List.{list_all}
@@ -14,11 +14,12 @@ use Rattle.td_walk.specs.declared.fault.PeerFault.TheVariants as fault
 use Rattle.td_wire.specs.Connections.{Traffic, left_of}
 use Rattle.td_call.specs.Fetching.{Exchanges}
 use Rattle.td_call.specs.Readings.{outcome_told}
-use Rattle.td_call.specs.Replies.{replied}
+use Rattle.td_call.specs.Replies.{Comes, told, replied}
 use Rattle.td_call.specs.Requests.{request_of}
 use Rattle.td_gather.specs.Draining.{Ended, unclear, behind, behind_batch, batch_ends}
-use Rattle.td_gather.specs.Draining.{after_batch, after_destroy, batch_length, destroy, destroy_ends, drained}
-use Rattle.td_gather.specs.Draining.{is_small, may_join, most_offers, next_batch}
+use Rattle.td_gather.specs.Draining.{after_batch, after_destroy, batch_length, batches_asked, batches_behind}
+use Rattle.td_gather.specs.Draining.{destroy, destroy_ends, drained, goes_on, has_next, is_small, may_join}
+use Rattle.td_gather.specs.Draining.{most_offers, next_batch}
 use Rattle.td_gather.specs.Turns.{Destroyed, Destroys, Grew, Joins, Takes, Turns}
 use Rattle.td_gather.specs.declared.draining.Turn.{Turn}
 use Rattle.td_gather.specs.declared.draining.Turn.TheVariants.{More, Last, Refused}
@@ -50,6 +51,12 @@ next_batch_joins count [] last next e some = absurd (some refl)
 next_batch_joins count (o ∷ offers) last next e some =
     choice (may_join count (o ∷ offers)) (behind (o ∷ offers) next) e
 
+-- another batch follows one that joins and isn't empty
+pub next_follows : (count : ℕ) (offers : List Offer) → may_join count offers ≡ true → (offers ≡ [] → ⊥)
+    → has_next true offers && may_join count offers ≡ true
+next_follows count [] e some = absurd (some refl)
+next_follows count (o ∷ offers) e some = e
+
 some_offers : (offers : List Offer) → (offers ≡ [] → ⊥) → 0 < length offers
 some_offers [] some = absurd (some refl)
 some_offers (o ∷ offers) some = omega arith
@@ -72,8 +79,8 @@ some_there false offers h e none = let t : false ≡ true = h.1 none in cc
 
 pub takes_batch : (more : Bool) (offers old new : List Offer) (r : Result Turn PeerFault)
     → Joins more offers old new r → Takes (Done (Batch more offers)) old new r
-takes_batch more offers old new (Ok More) j = (offers, j.1, refl, j.0)
-takes_batch more offers old new (Ok Last) j = (offers, j.1, j.0)
+takes_batch more offers old new (Ok More) j = (offers, j.2, refl, j.1, j.0)
+takes_batch more offers old new (Ok Last) j = (offers, j.2, j.1, j.0)
 takes_batch more offers old new (Ok (Refused answer)) j = absurd j
 takes_batch more offers old new (Err fault.Wire) j = absurd j
 takes_batch more offers old new (Err fault.Grammar) j = j
@@ -82,12 +89,21 @@ takes_batch more offers old new (Err fault.Memory) j = tt
 
 -- ---- an exchange with the iterator
 
+-- how many batches are asked for, where this reply came
+pub asked_behind : (next : (count : ℕ) → (given : List ℕ) → ℕ) (count size : ℕ) (given : List ℕ) (answer : Answered)
+    (goes : Bool) (comes : Comes Answered) → comes ≡ told answer size → goes_on count answer ≡ goes
+    → suc (batches_behind next count given comes)
+    ≡ suc (cond goes (next (count + batch_length answer) (drop size given)) 0)
+asked_behind next count size given answer goes comes is follows =
+    ap (λ (x : Comes Answered). suc (batches_behind next count given x)) is
+    ∙ ap (λ (b : Bool). suc (cond b (next (count + batch_length answer) (drop size given)) 0)) follows
+
 pub turned : (key : List ℕ) (id : ℕ) (held held_after : List ℕ) (before after : Option Traffic) (f0 f1 : ℕ)
     (old new : List Offer) (answer : Answered) (r : Result Turn PeerFault)
     → Exchanges (outcome_told next_batch) id (request_of id key next_batch) held held_after before after f0 f1
     (Ok answer)
     → Takes answer old new r → Turns key id held held_after before after f0 f1 old new r
-unfolding drained
+unfolding drained batches_asked
 turned key id held held_after None after f0 f1 old new answer (Ok More) x taken = (taken.0, taken.1, tt)
 turned key id held held_after (Some t) after f0 f1 old new answer (Ok More) x taken =
     let grows : length new ≡ length old + batch_length answer =
@@ -101,8 +117,12 @@ turned key id held held_after (Some t) after f0 f1 old new answer (Ok More) x ta
         left = x.left;
         is = λ batches.
             ap (after_batch (drained batches (id + 1)) id (length old) (held ++ left_of t)) x.is
-            ∙ taken.3 _ _
+            ∙ taken.4 _ _
             ∙ (λ i. behind taken.0 (drained batches (id + 1) (sym grows i) (sym x.behind i)));
+        asks = λ batches.
+            asked_behind (batches_asked batches (id + 1)) (length old) x.size (held ++ left_of t) answer true _ x.is
+            taken.3
+            ∙ (λ i. suc (batches_asked batches (id + 1) (sym grows i) (sym x.behind i)));
       },
     )
 turned key id held held_after None after f0 f1 old new answer (Ok Last) x taken = (taken.0, taken.1, tt)
@@ -115,9 +135,12 @@ turned key id held held_after (Some t) after f0 f1 old new answer (Ok Last) x ta
     left = x.left;
     is = λ batches.
         ap (after_batch (drained batches (id + 1)) id (length old) (held ++ left_of t)) x.is
-        ∙ taken.2 _ _
+        ∙ taken.3 _ _
         ∙ ap (λ (left : List ℕ). behind taken.0 (after_destroy (replied (outcome_told destroy) (id + 1) left)))
         (sym x.behind);
+    asks = λ batches.
+        asked_behind (batches_asked batches (id + 1)) (length old) x.size (held ++ left_of t) answer false _ x.is
+        taken.2;
   },
 )
 turned key id held held_after None after f0 f1 old new answer (Ok (Refused other)) x taken = tt

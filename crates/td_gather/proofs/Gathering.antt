@@ -1,7 +1,7 @@
 -- A draining, batch by batch.
 use Rattle.std.proofs.Common.{◌≡◌, ◌∙◌, inl, inr, ℕ, zero, suc, ◌+◌, ◌-◌, ◌≤◌, List, [], ◌++◌}
 use Rattle.std.proofs.Common.{length, Option, Some, None, IfSome, Result, Ok, Err, refl, sym, ap, subst, arith}
-use Rattle.std.proofs.Common.{append-nil, append_assoc, length-append}
+use Rattle.std.proofs.Common.{append-nil, append_assoc}
 use Rattle.td_ops.specs.declared.outcome.Answered.{Answered}
 use Rattle.td_out.proofs.Steps.{Rose-later}
 use Rattle.td_value.specs.declared.structures.Offer.{Offer}
@@ -13,8 +13,8 @@ use Rattle.td_call.specs.Readings.{outcome_told}
 use Rattle.td_call.specs.Replies.{replied}
 use Rattle.td_call.specs.Requests.{request_of}
 use Rattle.td_gather.specs.Asking.{most_batches, second_id}
-use Rattle.td_gather.specs.Draining.{Ended, gave, raised, unclear, cut, after_destroy, batch_requests, behind, destroy}
-use Rattle.td_gather.specs.Draining.{drain_requests, drained, most_offers, next_batch}
+use Rattle.td_gather.specs.Draining.{Ended, gave, raised, unclear, cut, after_destroy, batch_requests, batches_asked}
+use Rattle.td_gather.specs.Draining.{behind, destroy, drained, most_offers, next_batch}
 use Rattle.td_gather.specs.Turns.{Destroys, Drains, Finishes, GoesOn, Grew, Turns}
 use Rattle.td_gather.specs.declared.draining.Turn.TheVariants.{More, Last, Refused}
 
@@ -34,7 +34,7 @@ behind_none cut = refl
 
 -- ---- requests one after the other
 
-one_more : (key : List ℕ) (id n : ℕ)
+pub one_more : (key : List ℕ) (id n : ℕ)
     → batch_requests key id n ++ request_of (id + n) key next_batch ≡ batch_requests key id (suc n)
 one_more key id zero =
     let same : id + 0 ≡ id = omega arith in
@@ -60,6 +60,8 @@ pub record Stands (key held0 held : List ℕ) (t : Traffic) (now : Option Traffi
   pub wire : now ≡ Some (with_left rest (wrote (batch_requests key second_id turns) t))
   pub is : (batches : ℕ) → drained (turns + batches) second_id (length old) (held0 ++ left_of t)
       ≡ behind offers (drained batches id (length new) (held ++ rest))
+  pub asks : (batches : ℕ) → batches_asked (turns + batches) second_id (length old) (held0 ++ left_of t)
+      ≡ turns + batches_asked batches id (length new) (held ++ rest)
 
 pub record Came (key held0 held : List ℕ) (before now : Option Traffic) (f0 f1 : ℕ) (old new : List Offer) (id : ℕ)
     : Type 0 where
@@ -67,6 +69,12 @@ pub record Came (key held0 held : List ℕ) (before now : Option Traffic) (f0 f1
   pub most : length new ≤ most_offers
   pub few : id + length old ≤ second_id + length new
   pub stands : IfSome before (λ t. Stands key held0 held t now old new id)
+
+zero_more : (n : ℕ) → 0 + n ≡ n
+zero_more n = omega arith
+
+one_later : (m n : ℕ) → m + suc n ≡ suc m + n
+one_later m n = omega arith
 
 begins : (key held : List ℕ) (t : Traffic) (old : List Offer) → Stands key held held t (Some t) old old second_id
 begins key held t old =
@@ -80,9 +88,11 @@ begins key held t old =
       left = ap left_of own;
       wire = ap (λ (x : Traffic). Some x) (sym own);
       is = λ batches.
-          let same : 0 + batches ≡ batches = omega arith in
-          ap (λ (n : ℕ). drained n second_id (length old) (held ++ left_of t)) same
+          ap (λ (n : ℕ). drained n second_id (length old) (held ++ left_of t)) (zero_more batches)
           ∙ sym (behind_none (drained batches second_id (length old) (held ++ left_of t)));
+      asks = λ batches.
+          ap (λ (n : ℕ). batches_asked n second_id (length old) (held ++ left_of t)) (zero_more batches)
+          ∙ sym (zero_more (batches_asked batches second_id (length old) (held ++ left_of t)));
     }
 
 pub came_none : (key held : List ℕ) (before : Option Traffic) (f : ℕ) (old : List Offer) → length old ≤ most_offers
@@ -121,11 +131,17 @@ goes_on key held0 held held_after t now after old mid new id offers s grew more 
       left = ap left_of (sym moved) ∙ g.left;
       wire = g.wire ∙ ap (λ (x : Traffic). Some x) moved;
       is = λ batches.
-          let same : suc s.turns + batches ≡ s.turns + suc batches = omega arith in
-          ap (λ (n : ℕ). drained n second_id (length old) (held0 ++ left_of t)) same ∙ s.is (suc batches)
+          ap (λ (n : ℕ). drained n second_id (length old) (held0 ++ left_of t)) (sym (one_later s.turns batches))
+          ∙ s.is (suc batches)
           ∙ ap (λ (x : List ℕ). behind s.offers (drained (suc batches) id (length mid) (held ++ x))) (sym s.left)
           ∙ ap (behind s.offers) (g.is batches)
           ∙ behind_twice s.offers offers (drained batches (id + 1) (length new) (held_after ++ g.rest));
+      asks = λ batches.
+          ap (λ (n : ℕ). batches_asked n second_id (length old) (held0 ++ left_of t)) (sym (one_later s.turns batches))
+          ∙ s.asks (suc batches)
+          ∙ ap (λ (x : List ℕ). s.turns + batches_asked (suc batches) id (length mid) (held ++ x)) (sym s.left)
+          ∙ ap (λ (n : ℕ). s.turns + n) (g.asks batches)
+          ∙ one_later s.turns (batches_asked batches (id + 1) (length new) (held_after ++ g.rest));
     }
 
 pub came_more : (key held0 held held_after : List ℕ) (before now after : Option Traffic) (f0 f1 f2 : ℕ)
@@ -148,7 +164,7 @@ came_more key held0 held held_after (Some t) now after f0 f1 f2 old mid new id c
 -- ---- how it ends
 
 -- there is one batch more than offers, so that one more may come
-one_left : (turns id old new : ℕ) → id ≡ second_id + turns → id + old ≤ second_id + new → new ≤ most_offers
+pub one_left : (turns id old new : ℕ) → id ≡ second_id + turns → id + old ≤ second_id + new → new ≤ most_offers
     → (batches : ℕ) × (turns + suc batches ≡ most_batches)
 one_left turns id old new e few most = (most_offers - turns, omega (arith, e, few, most))
 
@@ -178,7 +194,7 @@ here key held0 held t now old mid id ending s told = λ batches.
 pub ends_refused : (key held0 held held_after : List ℕ) (before now after : Option Traffic) (f0 f1 f2 : ℕ)
     (old mid new : List Offer) (id : ℕ) (answer : Answered) → Came key held0 held before now f0 f1 old mid id
     → Turns key id held held_after now after f1 f2 mid new (Ok (Refused answer))
-    → Drains key second_id most_batches held0 before after f0 f2 old new (Ok (Some answer))
+    → Drains second_id most_batches held0 before f0 f2 old new (Ok (Some answer))
 ends_refused key held0 held held_after None now after f0 f1 f2 old mid new id answer came turned = tt
 ends_refused key held0 held held_after (Some t) now after f0 f1 f2 old mid new id answer came turned =
     ends_with key held0 held t now old mid id (raised answer) came.most came.few came.stands
@@ -187,7 +203,7 @@ ends_refused key held0 held held_after (Some t) now after f0 f1 f2 old mid new i
 pub ends_fault : (key held0 held held_after : List ℕ) (before now after : Option Traffic) (f0 f1 f2 : ℕ)
     (old mid new : List Offer) (id : ℕ) (e : PeerFault) → Came key held0 held before now f0 f1 old mid id
     → Turns key id held held_after now after f1 f2 mid new (Err e)
-    → Drains key second_id most_batches held0 before after f0 f2 old new (Err e)
+    → Drains second_id most_batches held0 before f0 f2 old new (Err e)
 ends_fault key held0 held held_after None now after f0 f1 f2 old mid new id fault.Wire came turned =
     let later = came.later in
     elim turned [ inl rose ↦ inl (Rose-later f0 f1 f2 later rose) | inr ended ↦ inr tt ]
@@ -234,46 +250,23 @@ last_with key held0 held held_after t now then old mid id offers ending most few
     ∙ ap (behind offers) end)
     ∙ behind_twice s.offers offers ending
 
-last_whole : (key held0 held held_after : List ℕ) (t : Traffic) (now then after : Option Traffic)
-    (old mid new : List Offer) (id : ℕ) (offers : List Offer) (rest : List ℕ) → length mid ≤ most_offers
-    → id + length old ≤ second_id + length mid → (s : Stands key held0 held t now old mid id)
-    → new ≡ mid ++ offers
+last_whole : (key held0 held held_after : List ℕ) (t : Traffic) (now then : Option Traffic) (old mid new : List Offer)
+    (id : ℕ) (offers : List Offer) → length mid ≤ most_offers → id + length old ≤ second_id + length mid
+    → (s : Stands key held0 held t now old mid id) → new ≡ mid ++ offers
     → (f : Finishes key id held held_after (with_left s.rest (wrote (batch_requests key second_id s.turns) t)) then mid
     offers)
-    → IfSome then (λ v. after ≡ Some (with_left rest (wrote (request_of (id + 1) key destroy) v)))
     → IfSome then (λ v. destroyed (id + 1) (held_after ++ left_of v) ≡ gave [])
-    → (turns : ℕ) × (left : List ℕ) × (all : List Offer) × (new ≡ old ++ all)
+    → (all : List Offer) × (new ≡ old ++ all)
     × (drained most_batches second_id (length old) (held0 ++ left_of t) ≡ gave all)
-    × (after ≡ Some (with_left left (wrote (drain_requests key second_id turns) t)))
-last_whole key held0 held held_after t now then after old mid new id offers rest most few s is f written told =
-    let bs : List ℕ = batch_requests key second_id s.turns in
-    let b : List ℕ = request_of id key next_batch in
-    let d : List ℕ = request_of (id + 1) key destroy in
-    let u : Traffic = with_left s.rest (wrote bs t) in
-    let there : after ≡ Some (with_left rest (wrote d (with_left f.rest (wrote b u)))) =
-    subst (λ (x : Option Traffic). IfSome x (λ (v : Traffic). after ≡ Some (with_left rest (wrote d v)))) f.wire
-    written in
-    let batches : bs ++ b ≡ batch_requests key second_id (suc s.turns) =
-    ap (λ (i : ℕ). bs ++ request_of i key next_batch) s.id_is ∙ one_more key second_id s.turns in
-    let next : id + 1 ≡ second_id + suc s.turns = let e = s.id_is in omega (arith, e) in
-    let requests : bs ++ b ++ d ≡ drain_requests key second_id (suc s.turns) =
-    ap (λ (x : List ℕ). x ++ d) batches
-    ∙ ap (λ (i : ℕ). batch_requests key second_id (suc s.turns) ++ request_of i key destroy) next in
-    let moved : with_left rest (wrote d (with_left f.rest (wrote b u)))
-    ≡ with_left rest (wrote (drain_requests key second_id (suc s.turns)) t) =
-    ap (λ (x : Traffic). with_left rest (wrote d x)) (moved_twice bs b s.rest f.rest t)
-    ∙ moved_twice (bs ++ b) d f.rest rest t ∙ ap (λ (x : List ℕ). with_left rest (wrote x t)) requests in (
-      suc s.turns,
-      rest,
-      s.offers ++ offers,
-      is ∙ ap (λ (x : List Offer). x ++ offers) s.joined ∙ append_assoc old s.offers offers,
-      last_with key held0 held held_after t now then old mid id offers (gave []) most few s f told
-          ∙ ap (λ (x : List Offer). gave x) (append-nil (s.offers ++ offers)),
-      there ∙ ap (λ (x : Traffic). Some x) moved,
-    )
+last_whole key held0 held held_after t now then old mid new id offers most few s is f told = (
+  s.offers ++ offers,
+  is ∙ ap (λ (x : List Offer). x ++ offers) s.joined ∙ append_assoc old s.offers offers,
+  last_with key held0 held held_after t now then old mid id offers (gave []) most few s f told
+      ∙ ap (λ (x : List Offer). gave x) (append-nil (s.offers ++ offers)),
+)
 
 -- the traffic in which the last batch came, as the draining tells it
-finish_here : (key held0 held held_after : List ℕ) (t : Traffic) (now then : Option Traffic) (old mid : List Offer)
+pub finish_here : (key held0 held held_after : List ℕ) (t : Traffic) (now then : Option Traffic) (old mid : List Offer)
     (id : ℕ) (offers : List Offer) (s : Stands key held0 held t now old mid id)
     → IfSome now (λ u. Finishes key id held held_after u then mid offers)
     → Finishes key id held held_after (with_left s.rest (wrote (batch_requests key second_id s.turns) t)) then mid
@@ -281,12 +274,6 @@ finish_here : (key held0 held held_after : List ℕ) (t : Traffic) (now then : O
 finish_here key held0 held held_after t now then old mid id offers s f =
     subst (λ (x : Option Traffic). IfSome x (λ (v : Traffic). Finishes key id held held_after v then mid offers))
     s.wire f
-
-written_part : (key : List ℕ) (id : ℕ) (held : List ℕ) (then after : Option Traffic) (f0 f1 : ℕ)
-    → Destroys key id held then after f0 f1 (Ok None)
-    → (rest : List ℕ) × IfSome then (λ v. after ≡ Some (with_left rest (wrote (request_of id key destroy) v)))
-written_part key id held None after f0 f1 d = ([], tt)
-written_part key id held (Some v) after f0 f1 d = (d.0, d.1)
 
 told_part : (key : List ℕ) (id : ℕ) (held : List ℕ) (then after : Option Traffic) (f0 f1 : ℕ)
     → Destroys key id held then after f0 f1 (Ok None)
@@ -299,12 +286,11 @@ pub ends_last : (key held0 held held_after : List ℕ) (before now then after : 
     → Came key held0 held before now f0 f1 old mid id → f1 ≤ f2
     → Turns key id held held_after now then f1 f2 mid new (Ok Last)
     → Destroys key (id + 1) held_after then after f2 f3 r
-    → Drains key second_id most_batches held0 before after f0 f3 old new r
+    → Drains second_id most_batches held0 before f0 f3 old new r
 ends_last key held0 held held_after None now then after f0 f1 f2 f3 old mid new id (Ok None) c l tn d = tt
 ends_last key held0 held held_after (Some t) now then after f0 f1 f2 f3 old mid new id (Ok None) c l tn d =
-    let w = written_part key (id + 1) held_after then after f2 f3 d in
-    last_whole key held0 held held_after t now then after old mid new id tn.0 w.0 c.most c.few c.stands
-    tn.1 (finish_here key held0 held held_after t now then old mid id tn.0 c.stands tn.2) w.1
+    last_whole key held0 held held_after t now then old mid new id tn.0 c.most c.few c.stands
+    tn.1 (finish_here key held0 held held_after t now then old mid id tn.0 c.stands tn.2)
     (told_part key (id + 1) held_after then after f2 f3 d)
 ends_last key held0 held held_after None now then after f0 f1 f2 f3 old mid new id (Ok (Some a)) c l tn d =
     tt

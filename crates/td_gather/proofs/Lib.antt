@@ -3,3 +3,5 @@ pub mod Batching
 pub mod Gathering
 pub mod Leftover
 pub mod Smallness
+pub mod Writing
+pub mod Worked

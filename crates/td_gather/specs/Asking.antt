@@ -1,6 +1,6 @@
 -- What a query of a trader comes to over a connection of its own (OMG's Trading Object Service, interface Lookup): its
 -- reply, and what its iterator gives over the same connection.
-use Rattle.std.specs.Prelude.{◌≡◌, ◌⊎◌, ℕ, ◌+◌, if◌then◌else◌, List, [], ◌++◌, length}
+use Rattle.std.specs.Prelude.{◌≡◌, ◌⊎◌, ℕ, if◌then◌else◌, List, [], ◌++◌, length}
 use Rattle.std.specs.Prelude.{drop, Option, Some, None, IfSome, Result, Ok, Err, ⊤}
 use Rattle.td_codes.specs.declared.reference.Ior.{Ior}
 use Rattle.td_ior.specs.declared.profile.Iiop.{Iiop}
@@ -19,13 +19,13 @@ use Rattle.td_walk.specs.Peering.{HasSmallOffers}
 use Rattle.td_walk.specs.declared.answer.SubAnswer.{SubAnswer}
 use Rattle.td_walk.specs.declared.fault.PeerFault.{PeerFault}
 use Rattle.td_walk.specs.declared.fault.PeerFault.TheVariants as fault
-use Rattle.td_wire.specs.Connections.{Traffic, left_of, opened, with_left, wrote}
+use Rattle.td_wire.specs.Connections.{Traffic, ended, left_of, opened, with_left, wrote}
 use Rattle.td_call.specs.Calling.{first_id, next_given}
 use Rattle.td_call.specs.Readings.{outcome_told}
 use Rattle.td_call.specs.Replies.{Comes, told, strange, short, replied}
 use Rattle.td_call.specs.Requests.{request_of}
 use Rattle.td_gather.specs.Draining.{Ended, gave, raised, unclear, cut, behind, drained, may_join}
-use Rattle.td_gather.specs.Draining.{drain_requests}
+use Rattle.td_gather.specs.Draining.{batches_asked, drain_requests}
 use Rattle.td_gather.specs.declared.gathered.Gathered.{Gathered}
 use Rattle.td_gather.specs.declared.gathered.Gathered.TheVariants.{Offers, Refused}
 
@@ -77,18 +77,50 @@ after_query given short = cut
 abbrev pub asked : Call → (given : List ℕ) → Ended SubAnswer
 asked c given = after_query given (replied (outcome_told c) first_id given)
 
--- what is written behind a query: nothing, or the requests to its iterator
-abbrev pub FollowsUp : List ℕ → Type 0
-FollowsUp more =
-    (more ≡ []) ⊎ ((iterator : Iiop) × (batches : ℕ) × (more ≡ drain_requests iterator.key second_id batches))
+-- ---- what is written for it: the query, and the requests to the iterator that its reply names
 
--- what the bytes come to that the new connection gives, and what was written over it
+-- As many batches are asked for as come, over the same connection, whatever host and port the profile names. Then the
+-- iterator is destroyed.
+abbrev pub iterator_requests : Option Iiop → (count : ℕ) → (given : List ℕ) → List ℕ
+iterator_requests (Some p) count given =
+    drain_requests p.key second_id (batches_asked most_batches second_id count given)
+iterator_requests None count given = []
+
+-- a nil iterator isn't asked
+abbrev pub left_requests : (iterator : Ior) → (count : ℕ) → (given : List ℕ) → List ℕ
+left_requests iterator count given = if is_nil iterator then [] else iterator_requests (iiop_of iterator) count given
+
+abbrev pub found_requests : List Offer → (iterator : Ior) → (left : List ℕ) → List ℕ
+found_requests offers iterator left = if may_join 0 offers then left_requests iterator (length offers) left else []
+
+abbrev pub reply_requests : Reply → (left : List ℕ) → List ℕ
+reply_requests (Found offers iterator limits) left = found_requests offers iterator left
+reply_requests other left = []
+
+abbrev pub answer_requests : Answered → (left : List ℕ) → List ℕ
+answer_requests (Done reply) left = reply_requests reply left
+answer_requests (User id) left = []
+answer_requests (System id minor completion) left = []
+
+abbrev pub requests_behind : (given : List ℕ) → Comes Answered → List ℕ
+requests_behind given (told answer size) = answer_requests answer (drop size given)
+requests_behind given strange = []
+requests_behind given short = []
+
+-- all requests of a query to the trader with this key, by the bytes that its connection gives
+abbrev pub asked_requests : (key : List ℕ) → Call → (given : List ℕ) → List ℕ
+asked_requests key c given =
+    request_of first_id key c ++ requests_behind given (replied (outcome_told c) first_id given)
+
+-- ---- what a query answers
+
+-- the offers are what the bytes come to that the new connection gives; all requests were written over it, and no
+-- more. It has ended since.
 pub record Gathers (c : Call) (p : Iiop) (t : Traffic) (after : Option Traffic) (a : SubAnswer) : Type 0 where
   pub is : asked c (next_given t) ≡ gave a
-  pub more : List ℕ
-  pub follows : FollowsUp more
   pub rest : List ℕ
-  pub wire : after ≡ Some (with_left rest (wrote (request_of first_id p.key c ++ more) (opened p.host p.port t)))
+  pub wire : after ≡ Some (ended (with_left rest (wrote (asked_requests p.key c (next_given t))
+      (opened p.host p.port t))))
 
 -- each offer that is given has at most 6 MiB
 abbrev pub GivesSmallOffers : Gathered → Type 0
@@ -114,50 +146,39 @@ Asks target q before after f0 f1 r = AsksBy target (Querying q) before after f0 
 
 -- ---- on the way to it: over a connection that stands, by what is held of it and what it has left
 
--- what was written from here on
-pub record Follows (t : Traffic) (after : Option Traffic) : Type 0 where
-  pub more : List ℕ
-  pub follows : FollowsUp more
-  pub rest : List ℕ
-  pub wire : after ≡ Some (with_left rest (wrote more t))
-
-abbrev pub LeavesOver : (iterator : Ior) → (held : List ℕ) → (before after : Option Traffic) → (f0 f1 : ℕ)
+abbrev pub LeavesOver : (iterator : Ior) → (held : List ℕ) → (before : Option Traffic) → (f0 f1 : ℕ)
     → (old new : List Offer) → Result (Option Answered) PeerFault → Type 0
-LeavesOver iterator held before after f0 f1 old new (Ok None) =
-    IfSome before (λ t. Follows t after × ((offers : List Offer) × (new ≡ old ++ offers)
-    × (left_over iterator (length old) (held ++ left_of t) ≡ gave offers)))
-LeavesOver iterator held before after f0 f1 old new (Ok (Some answer)) =
+LeavesOver iterator held before f0 f1 old new (Ok None) =
+    IfSome before (λ t. (offers : List Offer) × (new ≡ old ++ offers)
+    × (left_over iterator (length old) (held ++ left_of t) ≡ gave offers))
+LeavesOver iterator held before f0 f1 old new (Ok (Some answer)) =
     IfSome before (λ t. left_over iterator (length old) (held ++ left_of t) ≡ raised answer)
-LeavesOver iterator held before after f0 f1 old new (Err fault.Wire) =
+LeavesOver iterator held before f0 f1 old new (Err fault.Wire) =
     Rose f0 f1 ⊎ IfSome before (λ t. left_over iterator (length old) (held ++ left_of t) ≡ cut)
-LeavesOver iterator held before after f0 f1 old new (Err fault.Grammar) =
+LeavesOver iterator held before f0 f1 old new (Err fault.Grammar) =
     IfSome before (λ t. left_over iterator (length old) (held ++ left_of t) ≡ unclear)
-LeavesOver iterator held before after f0 f1 old new (Err fault.Exception) = ⊥
-LeavesOver iterator held before after f0 f1 old new (Err fault.Memory) = ⊤
+LeavesOver iterator held before f0 f1 old new (Err fault.Exception) = ⊥
+LeavesOver iterator held before f0 f1 old new (Err fault.Memory) = ⊤
 
-abbrev pub EndsSo : (ending : (left : List ℕ) → Ended SubAnswer) → (held : List ℕ) → (before after : Option Traffic)
+abbrev pub EndsSo : (ending : (left : List ℕ) → Ended SubAnswer) → (held : List ℕ) → (before : Option Traffic)
     → (f0 f1 : ℕ) → Result Gathered PeerFault → Type 0
-EndsSo ending held before after f0 f1 (Ok (Offers a)) =
-    IfSome before (λ t. Follows t after × (ending (held ++ left_of t) ≡ gave a))
-EndsSo ending held before after f0 f1 (Ok (Refused answer)) =
+EndsSo ending held before f0 f1 (Ok (Offers a)) = IfSome before (λ t. ending (held ++ left_of t) ≡ gave a)
+EndsSo ending held before f0 f1 (Ok (Refused answer)) =
     IfSome before (λ t. ending (held ++ left_of t) ≡ raised answer)
-EndsSo ending held before after f0 f1 (Err fault.Wire) =
+EndsSo ending held before f0 f1 (Err fault.Wire) =
     Rose f0 f1 ⊎ IfSome before (λ t. ending (held ++ left_of t) ≡ cut)
-EndsSo ending held before after f0 f1 (Err fault.Grammar) = IfSome before (λ t. ending (held ++ left_of t) ≡ unclear)
-EndsSo ending held before after f0 f1 (Err fault.Exception) = ⊥
-EndsSo ending held before after f0 f1 (Err fault.Memory) = ⊤
+EndsSo ending held before f0 f1 (Err fault.Grammar) = IfSome before (λ t. ending (held ++ left_of t) ≡ unclear)
+EndsSo ending held before f0 f1 (Err fault.Exception) = ⊥
+EndsSo ending held before f0 f1 (Err fault.Memory) = ⊤
 
 -- over a connection of which nothing came yet
-abbrev pub AsksThrough : (key : List ℕ) → Call → (before after : Option Traffic) → (f0 f1 : ℕ)
-    → Result Gathered PeerFault → Type 0
-AsksThrough key c before after f0 f1 (Ok (Offers a)) =
-    IfSome before (λ t. (asked c (left_of t) ≡ gave a) × ((more : List ℕ) × FollowsUp more × ((rest : List ℕ)
-    × (after ≡ Some (with_left rest (wrote (request_of first_id key c ++ more) t))))))
-AsksThrough key c before after f0 f1 (Ok (Refused answer)) = IfSome before (λ t. asked c (left_of t) ≡ raised answer)
-AsksThrough key c before after f0 f1 (Err fault.Wire) = Rose f0 f1 ⊎ IfSome before (λ t. asked c (left_of t) ≡ cut)
-AsksThrough key c before after f0 f1 (Err fault.Grammar) = IfSome before (λ t. asked c (left_of t) ≡ unclear)
-AsksThrough key c before after f0 f1 (Err fault.Exception) = ⊥
-AsksThrough key c before after f0 f1 (Err fault.Memory) = ⊤
+abbrev pub AsksThrough : Call → (before : Option Traffic) → (f0 f1 : ℕ) → Result Gathered PeerFault → Type 0
+AsksThrough c before f0 f1 (Ok (Offers a)) = IfSome before (λ t. asked c (left_of t) ≡ gave a)
+AsksThrough c before f0 f1 (Ok (Refused answer)) = IfSome before (λ t. asked c (left_of t) ≡ raised answer)
+AsksThrough c before f0 f1 (Err fault.Wire) = Rose f0 f1 ⊎ IfSome before (λ t. asked c (left_of t) ≡ cut)
+AsksThrough c before f0 f1 (Err fault.Grammar) = IfSome before (λ t. asked c (left_of t) ≡ unclear)
+AsksThrough c before f0 f1 (Err fault.Exception) = ⊥
+AsksThrough c before f0 f1 (Err fault.Memory) = ⊤
 
 abbrev pub AsksAt : Iiop → Call → (before after : Option Traffic) → (f0 f1 : ℕ) → Result Gathered PeerFault → Type 0
 AsksAt p c before after f0 f1 (Ok (Offers a)) = IfSome before (λ t. Gathers c p t after a)

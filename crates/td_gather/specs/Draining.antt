@@ -117,6 +117,33 @@ drained (suc batches) id count given =
 
 -- ---- what is written for them
 
+-- another batch follows
+abbrev pub has_next : (more : Bool) → List Offer → Bool
+has_next false offers = false
+has_next true [] = false
+has_next true (o ∷ offers) = true
+
+-- another batch is asked for behind this answer to next_n
+abbrev pub goes_on : (count : ℕ) → Answered → Bool
+goes_on count (Done (Batch more offers)) = has_next more offers && may_join count offers
+goes_on count (Done other) = false
+goes_on count (User id) = false
+goes_on count (System id minor completion) = false
+
+abbrev pub batches_behind : (next : (count : ℕ) → (given : List ℕ) → ℕ) → (count : ℕ) → (given : List ℕ)
+    → Comes Answered → ℕ
+batches_behind next count given (told answer size) =
+    if goes_on count answer then next (count + batch_length answer) (drop size given) else 0
+batches_behind next count given strange = 0
+batches_behind next count given short = 0
+
+-- How many batches the iterator is asked for: one, and another behind each that comes with TRUE. Where all come, it is
+-- as many as come.
+unfoldable pub batches_asked : (batches : ℕ) → (id count : ℕ) → (given : List ℕ) → ℕ
+batches_asked zero id count given = 0
+batches_asked (suc batches) id count given =
+    suc (batches_behind (batches_asked batches (id + 1)) count given (replied (outcome_told next_batch) id given))
+
 abbrev pub batch_requests : (key : List ℕ) → (id batches : ℕ) → List ℕ
 batch_requests key id zero = []
 batch_requests key id (suc batches) = request_of id key next_batch ++ batch_requests key (id + 1) batches

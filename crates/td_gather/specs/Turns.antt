@@ -1,6 +1,6 @@
 -- What one call of an iterator does to what was gathered.
-use Rattle.std.specs.Prelude.{◌≡◌, ◌⊎◌, ℕ, suc, ◌+◌, ◌*◌, ◌<◌, ◌≤◌, ◌^◌, Bool, List, [], ◌++◌, length}
-use Rattle.std.specs.Prelude.{Option, Some, None, IfSome, Result, Ok, Err, ⊤}
+use Rattle.std.specs.Prelude.{◌≡◌, ◌⊎◌, ℕ, suc, ◌+◌, ◌*◌, ◌<◌, ◌≤◌, ◌^◌, ◌&&◌, Bool, true, false, List, []}
+use Rattle.std.specs.Prelude.{◌++◌, length, Option, Some, None, IfSome, Result, Ok, Err, ⊤}
 use Rattle.td_ops.specs.declared.outcome.Answered.{Answered}
 use Rattle.td_out.specs.Causes.{Rose}
 use Rattle.td_value.specs.declared.structures.Offer.{Offer}
@@ -9,7 +9,8 @@ use Rattle.td_walk.specs.declared.fault.PeerFault.TheVariants as fault
 use Rattle.td_wire.specs.Connections.{Traffic, left_of, with_left, wrote}
 use Rattle.td_gather.specs.Draining.{Ended, gave, raised, unclear, cut, behind, drained}
 use Rattle.td_gather.specs.Draining.{answer_ends, batch_ends, batch_length}
-use Rattle.td_gather.specs.Draining.{after_destroy, destroy, drain_requests, most_offers, next_batch}
+use Rattle.td_gather.specs.Draining.{after_destroy, batches_asked, destroy, goes_on, has_next, may_join, most_offers}
+use Rattle.td_gather.specs.Draining.{next_batch}
 use Rattle.td_call.specs.Readings.{outcome_told}
 use Rattle.td_call.specs.Replies.{replied}
 use Rattle.td_call.specs.Requests.{request_of}
@@ -27,10 +28,10 @@ pub record Grew (old new offers : List Offer) : Type 0 where
 abbrev pub Joins : (more : Bool) → (offers old new : List Offer) → Result Turn PeerFault → Type 0
 Joins more offers old new (Ok More) =
     ((last next : Ended (List Offer)) → batch_ends (length old) more offers last next ≡ behind offers next)
-    × Grew old new offers
+    × (has_next more offers && may_join (length old) offers ≡ true) × Grew old new offers
 Joins more offers old new (Ok Last) =
     ((last next : Ended (List Offer)) → batch_ends (length old) more offers last next ≡ behind offers last)
-    × (new ≡ old ++ offers)
+    × (has_next more offers && may_join (length old) offers ≡ false) × (new ≡ old ++ offers)
 Joins more offers old new (Ok (Refused answer)) = ⊥
 Joins more offers old new (Err fault.Grammar) =
     (last next : Ended (List Offer)) → batch_ends (length old) more offers last next ≡ unclear
@@ -41,9 +42,10 @@ Joins more offers old new (Err fault.Exception) = ⊥
 abbrev pub Takes : Answered → (old new : List Offer) → Result Turn PeerFault → Type 0
 Takes answer old new (Ok More) =
     (offers : List Offer) × Grew old new offers × (batch_length answer ≡ length offers)
+    × (goes_on (length old) answer ≡ true)
     × ((last next : Ended (List Offer)) → answer_ends (length old) answer last next ≡ behind offers next)
 Takes answer old new (Ok Last) =
-    (offers : List Offer) × (new ≡ old ++ offers)
+    (offers : List Offer) × (new ≡ old ++ offers) × (goes_on (length old) answer ≡ false)
     × ((last next : Ended (List Offer)) → answer_ends (length old) answer last next ≡ behind offers last)
 Takes answer old new (Ok (Refused other)) =
     (last next : Ended (List Offer)) → answer_ends (length old) answer last next ≡ raised other
@@ -67,6 +69,8 @@ pub record GoesOn (key : List ℕ) (id : ℕ) (held held_after : List ℕ) (t : 
   pub left : left_of (with_left rest (wrote (request_of id key next_batch) t)) ≡ rest
   pub is : (batches : ℕ) → drained (suc batches) id (length old) (held ++ left_of t)
       ≡ behind offers (drained batches (id + 1) (length new) (held_after ++ rest))
+  pub asks : (batches : ℕ) → batches_asked (suc batches) id (length old) (held ++ left_of t)
+      ≡ suc (batches_asked batches (id + 1) (length new) (held_after ++ rest))
 
 pub record Finishes (key : List ℕ) (id : ℕ) (held held_after : List ℕ) (t : Traffic) (after : Option Traffic)
     (old offers : List Offer) : Type 0 where
@@ -75,6 +79,7 @@ pub record Finishes (key : List ℕ) (id : ℕ) (held held_after : List ℕ) (t 
   pub left : left_of (with_left rest (wrote (request_of id key next_batch) t)) ≡ rest
   pub is : (batches : ℕ) → drained (suc batches) id (length old) (held ++ left_of t)
       ≡ behind offers (after_destroy (replied (outcome_told destroy) (id + 1) (held_after ++ rest)))
+  pub asks : (batches : ℕ) → batches_asked (suc batches) id (length old) (held ++ left_of t) ≡ 1
 
 abbrev pub Turns : (key : List ℕ) → (id : ℕ) → (held held_after : List ℕ) → (before after : Option Traffic)
     → (f0 f1 : ℕ) → (old new : List Offer) → Result Turn PeerFault → Type 0
@@ -120,17 +125,16 @@ Destroys key id held before after f0 f1 (Err fault.Exception) = ⊥
 Destroys key id held before after f0 f1 (Err fault.Memory) = ⊤
 
 -- what of an iterator is drained: which offers are gathered in the end, or the exception of a call
-abbrev pub Drains : (key : List ℕ) → (id batches : ℕ) → (held : List ℕ) → (before after : Option Traffic)
-    → (f0 f1 : ℕ) → (old new : List Offer) → Result (Option Answered) PeerFault → Type 0
-Drains key id batches held before after f0 f1 old new (Ok None) =
-    IfSome before (λ t. (turns : ℕ) × (rest : List ℕ) × (offers : List Offer) × (new ≡ old ++ offers)
-    × (drained batches id (length old) (held ++ left_of t) ≡ gave offers)
-    × (after ≡ Some (with_left rest (wrote (drain_requests key id turns) t))))
-Drains key id batches held before after f0 f1 old new (Ok (Some answer)) =
+abbrev pub Drains : (id batches : ℕ) → (held : List ℕ) → (before : Option Traffic) → (f0 f1 : ℕ)
+    → (old new : List Offer) → Result (Option Answered) PeerFault → Type 0
+Drains id batches held before f0 f1 old new (Ok None) =
+    IfSome before (λ t. (offers : List Offer) × (new ≡ old ++ offers)
+    × (drained batches id (length old) (held ++ left_of t) ≡ gave offers))
+Drains id batches held before f0 f1 old new (Ok (Some answer)) =
     IfSome before (λ t. drained batches id (length old) (held ++ left_of t) ≡ raised answer)
-Drains key id batches held before after f0 f1 old new (Err fault.Wire) =
+Drains id batches held before f0 f1 old new (Err fault.Wire) =
     Rose f0 f1 ⊎ IfSome before (λ t. drained batches id (length old) (held ++ left_of t) ≡ cut)
-Drains key id batches held before after f0 f1 old new (Err fault.Grammar) =
+Drains id batches held before f0 f1 old new (Err fault.Grammar) =
     IfSome before (λ t. drained batches id (length old) (held ++ left_of t) ≡ unclear)
-Drains key id batches held before after f0 f1 old new (Err fault.Exception) = ⊥
-Drains key id batches held before after f0 f1 old new (Err fault.Memory) = ⊤
+Drains id batches held before f0 f1 old new (Err fault.Exception) = ⊥
+Drains id batches held before f0 f1 old new (Err fault.Memory) = ⊤

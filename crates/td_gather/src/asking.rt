@@ -1,18 +1,21 @@
 //! A query of another trader over a connection of its own.
 
-ghost use Rattle.std.specs.Prelude.{◌≡◌, ◌≤◌, ◌+◌, true, length, IfOk, OnOk};
+ghost use Rattle.std.specs.Prelude.{◌≡◌, ◌≤◌, ◌+◌, [], true, length, IfOk, OnOk};
+ghost use Rattle.td_call.specs.Moving.{StaysDisconnected};
 ghost use Rattle.td_call.specs.Replies.{reply_limit};
 ghost use Rattle.td_gather.specs.Asking.{Asks, AsksBy, AsksAt, AsksThrough, EndsSo, LeavesOver};
-ghost use Rattle.td_gather.specs.Asking.{GivesSmallOffers, found_ends, reply_ends, second_id};
+ghost use Rattle.td_gather.specs.Asking.{GivesSmallOffers, asked_requests, found_ends, found_requests, left_requests};
+ghost use Rattle.td_gather.specs.Asking.{reply_ends, reply_requests, second_id};
 ghost use Rattle.td_call.specs.Calling.{fresh_stream};
 ghost use Rattle.td_gather.specs.Draining.{AreSmall, may_join, most_offers};
 ghost use Rattle.td_gather.specs.Turns.{bytes_limit};
+ghost use Rattle.td_gather.specs.Writing.{AskLeaves, AskLeavesAt, AskLeavesBy, WritesBy, drains_all, gives_all};
 
 use crate::draining::drain;
 use crate::gathered::Gathered;
 use crate::joining::may_join;
 use std::alloc::Global;
-use td_call::{connect, exchange_call, profile_of};
+use td_call::{connect, exchange_call, finish, profile_of};
 use td_cdr::{List, Text, Twin};
 use td_giop::Framer;
 use td_ior::{Iiop, is_nil};
@@ -25,7 +28,8 @@ use td_wire::Wire;
 const FIRST_ID: u32 = 1;
 
 /// Asks another trader over a connection of its own: writes the query, and reads its reply. An iterator is drained over
-/// the same connection by `next_n(1000)`, with request ids 2, 3 and so on, and then destroyed.
+/// the same connection by `next_n(1000)`, with request ids 2, 3 and so on, and then destroyed. The connection has ended
+/// when the query is done, whatever comes of it.
 ///
 /// # Errors
 ///
@@ -42,6 +46,8 @@ pub fn ask_over<L: Wire>(
     ensures same { L.same wire.old wire.new }
     ensures asks { Asks target.now q.now (L.told wire.old) (L.told wire.new) (L.faults wire.old) (L.faults wire.new)
         result }
+    ensures leaves { AskLeaves target.now q.now (L.told wire.old) (L.told wire.new) }
+    ensures disconnected { StaysDisconnected (L.told wire.old) (L.told wire.new) }
     ensures later { L.faults wire.old ≤ L.faults wire.new }
     ensures small { IfOk result (λ g. GivesSmallOffers g) }
 {
@@ -66,6 +72,8 @@ fn ask_call<L: Wire>(
     ensures same { L.same wire.old wire.new }
     ensures asks { AsksBy target.now call.now (L.told wire.old) (L.told wire.new) (L.faults wire.old)
         (L.faults wire.new) result }
+    ensures leaves { AskLeavesBy target.now call.now (L.told wire.old) (L.told wire.new) }
+    ensures disconnected { StaysDisconnected (L.told wire.old) (L.told wire.new) }
     ensures later { L.faults wire.old ≤ L.faults wire.new }
     ensures small { IfOk result (λ g. GivesSmallOffers g) }
 {
@@ -85,6 +93,8 @@ fn ask_at<L: Wire>(
     ensures same { L.same wire.old wire.new }
     ensures asks { AsksAt profile.now call.now (L.told wire.old) (L.told wire.new) (L.faults wire.old)
         (L.faults wire.new) result }
+    ensures leaves { AskLeavesAt profile.now call.now (L.told wire.old) (L.told wire.new) }
+    ensures disconnected { StaysDisconnected (L.told wire.old) (L.told wire.new) }
     ensures later { L.faults wire.old ≤ L.faults wire.new }
     ensures small { IfOk result (λ g. GivesSmallOffers g) }
 {
@@ -92,8 +102,21 @@ fn ask_at<L: Wire>(
         Err(fault) => Err(fault),
         Ok(framer) => {
             let mut framer = framer;
-            ask_through(alloc, wire, &mut framer, profile.key.as_slice(), call)
+            let answer = ask_through(alloc, wire, &mut framer, profile.key.as_slice(), call);
+            finish(wire, &mut framer, gives_all(&answer));
+            answer
         }
+    }
+}
+
+/// Whether all offers were given, and so no iterator is left.
+fn gives_all(answer: &Result<Gathered, PeerFault>) -> bool
+    ensures { result ≡ gives_all answer.now }
+{
+    match answer {
+        Ok(Gathered::Offers(_)) => true,
+        Ok(Gathered::Refused(_)) => false,
+        Err(_) => false,
     }
 }
 
@@ -107,8 +130,9 @@ fn ask_through<L: Wire>(
 ) -> Result<Gathered, PeerFault>
     requires { framer.old ≡ fresh_stream }
     ensures same { L.same wire.old wire.new }
-    ensures asks { AsksThrough key.now call.now (L.told wire.old) (L.told wire.new) (L.faults wire.old)
-        (L.faults wire.new) result }
+    ensures asks { AsksThrough call.now (L.told wire.old) (L.faults wire.old) (L.faults wire.new) result }
+    ensures writes { WritesBy (gives_all result) (λ left. asked_requests key.now call.now left) [] (L.told wire.old)
+        (L.told wire.new) }
     ensures later { L.faults wire.old ≤ L.faults wire.new }
     ensures small { IfOk result (λ g. GivesSmallOffers g) }
 {
@@ -140,8 +164,10 @@ fn gather<L: Wire>(
     requires limit { framer.old.limit ≡ reply_limit }
     requires room { framer.old.start + length framer.old.rest ≤ bytes_limit second_id }
     ensures same { L.same wire.old wire.new }
-    ensures ends { EndsSo (reply_ends reply) framer.old.rest (L.told wire.old) (L.told wire.new) (L.faults wire.old)
-        (L.faults wire.new) result }
+    ensures ends { EndsSo (reply_ends reply) framer.old.rest (L.told wire.old) (L.faults wire.old) (L.faults wire.new)
+        result }
+    ensures writes { WritesBy (gives_all result) (λ left. reply_requests reply left) framer.old.rest (L.told wire.old)
+        (L.told wire.new) }
     ensures later { L.faults wire.old ≤ L.faults wire.new }
     ensures small { IfOk result (λ g. GivesSmallOffers g) }
 {
@@ -171,7 +197,9 @@ fn gather_found<L: Wire>(
     requires room { framer.old.start + length framer.old.rest ≤ bytes_limit second_id }
     ensures same { L.same wire.old wire.new }
     ensures ends { EndsSo (found_ends offers iterator.now limits) framer.old.rest (L.told wire.old)
-        (L.told wire.new) (L.faults wire.old) (L.faults wire.new) result }
+        (L.faults wire.old) (L.faults wire.new) result }
+    ensures writes { WritesBy (gives_all result) (λ left. found_requests offers iterator.now left) framer.old.rest
+        (L.told wire.old) (L.told wire.new) }
     ensures later { L.faults wire.old ≤ L.faults wire.new }
     ensures small { IfOk result (λ g. GivesSmallOffers g) }
 {
@@ -196,7 +224,9 @@ fn gather_more<L: Wire>(
     requires joined { may_join 0 offers ≡ true }
     ensures same { L.same wire.old wire.new }
     ensures ends { EndsSo (found_ends offers iterator.now limits) framer.old.rest (L.told wire.old)
-        (L.told wire.new) (L.faults wire.old) (L.faults wire.new) result }
+        (L.faults wire.old) (L.faults wire.new) result }
+    ensures writes { WritesBy (gives_all result) (λ left. found_requests offers iterator.now left) framer.old.rest
+        (L.told wire.old) (L.told wire.new) }
     ensures later { L.faults wire.old ≤ L.faults wire.new }
     ensures small { IfOk result (λ g. GivesSmallOffers g) }
 {
@@ -224,8 +254,10 @@ fn drain_reference<L: Wire>(
     requires few { length gathered.old.items ≤ most_offers }
     requires small { AreSmall gathered.old.items }
     ensures same { L.same wire.old wire.new }
-    ensures leaves { LeavesOver iterator.now framer.old.rest (L.told wire.old) (L.told wire.new) (L.faults wire.old)
-        (L.faults wire.new) gathered.old.items gathered.new.items result }
+    ensures leaves { LeavesOver iterator.now framer.old.rest (L.told wire.old) (L.faults wire.old) (L.faults wire.new)
+        gathered.old.items gathered.new.items result }
+    ensures writes { WritesBy (drains_all result) (λ left. left_requests iterator.now (length gathered.old.items) left)
+        framer.old.rest (L.told wire.old) (L.told wire.new) }
     ensures later { L.faults wire.old ≤ L.faults wire.new }
     ensures small { OnOk result (AreSmall gathered.new.items) }
 {

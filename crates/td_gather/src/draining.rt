@@ -2,13 +2,16 @@
 
 ghost use Rattle.std.specs.Prelude.{◌≡◌, ◌+◌, ◌<◌, ◌≤◌, ◌^◌, true, false, length, OnOk};
 ghost use Rattle.td_call.specs.Fetching.{Exchanges};
+ghost use Rattle.td_call.specs.Moving.{Moves};
 ghost use Rattle.td_call.specs.Readings.{outcome_told};
 ghost use Rattle.td_call.specs.Replies.{reply_limit};
 ghost use Rattle.td_call.specs.Requests.{request_of};
 ghost use Rattle.td_gather.specs.Asking.{most_batches, second_id};
-ghost use Rattle.td_gather.specs.Draining.{AreSmall, destroy_ends, may_join, most_offers};
+ghost use Rattle.td_gather.specs.Draining.{AreSmall, batches_asked, destroy as destroy_call, destroy_ends};
+ghost use Rattle.td_gather.specs.Draining.{drain_requests, may_join, most_offers, next_batch};
 ghost use Rattle.td_ops.specs.declared.call.Call.TheVariants.{Iter};
 ghost use Rattle.td_gather.specs.Turns.{Destroyed, Destroys, Drains, Joins, Takes, Turns, bytes_limit};
+ghost use Rattle.td_gather.specs.Writing.{WritesBy, drains_all};
 
 use crate::joining::{join, may_join};
 use std::alloc::Global;
@@ -155,6 +158,7 @@ fn call_iterator<L: Wire>(
     ensures same { L.same wire.old wire.new }
     ensures exchanges { Exchanges (outcome_told (Iter call)) id (request_of id key.now (Iter call)) framer.old.rest
         framer.new.rest (L.told wire.old) (L.told wire.new) (L.faults wire.old) (L.faults wire.new) result }
+    ensures moves { Moves (request_of id key.now (Iter call)) (L.told wire.old) (L.told wire.new) }
     ensures later { L.faults wire.old ≤ L.faults wire.new }
     ensures grows { framer.new.start + length framer.new.rest
         ≤ framer.old.start + length framer.old.rest + 2 ^ 27 }
@@ -186,6 +190,7 @@ fn take_batch<L: Wire>(
     ensures same { L.same wire.old wire.new }
     ensures turns { Turns key.now id framer.old.rest framer.new.rest (L.told wire.old) (L.told wire.new)
         (L.faults wire.old) (L.faults wire.new) gathered.old.items gathered.new.items result }
+    ensures moves { Moves (request_of id key.now next_batch) (L.told wire.old) (L.told wire.new) }
     ensures later { L.faults wire.old ≤ L.faults wire.new }
     ensures grows { framer.new.start + length framer.new.rest ≤ bytes_limit (id + 1) }
     ensures kept { framer.new.limit ≡ framer.old.limit }
@@ -216,6 +221,7 @@ fn destroy<L: Wire>(
     ensures same { L.same wire.old wire.new }
     ensures destroys { Destroys key.now id framer.old.rest (L.told wire.old) (L.told wire.new) (L.faults wire.old)
         (L.faults wire.new) result }
+    ensures moves { Moves (request_of id key.now destroy_call) (L.told wire.old) (L.told wire.new) }
     ensures later { L.faults wire.old ≤ L.faults wire.new }
 {
     match call_iterator(alloc, wire, framer, id, key, IterCall::Destroy) {
@@ -271,8 +277,11 @@ pub(crate) fn drain<L: Wire>(
     requires few { length gathered.old.items ≤ most_offers }
     requires small { AreSmall gathered.old.items }
     ensures same { L.same wire.old wire.new }
-    ensures drains { Drains key.now second_id most_batches framer.old.rest (L.told wire.old) (L.told wire.new)
-        (L.faults wire.old) (L.faults wire.new) gathered.old.items gathered.new.items result }
+    ensures drains { Drains second_id most_batches framer.old.rest (L.told wire.old) (L.faults wire.old)
+        (L.faults wire.new) gathered.old.items gathered.new.items result }
+    ensures writes { WritesBy (drains_all result) (λ left. drain_requests key.now second_id
+        (batches_asked most_batches second_id (length gathered.old.items) left)) framer.old.rest (L.told wire.old)
+        (L.told wire.new) }
     ensures later { L.faults wire.old ≤ L.faults wire.new }
     ensures small { OnOk result (AreSmall gathered.new.items) }
 {

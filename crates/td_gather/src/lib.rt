@@ -6,6 +6,8 @@ mod asking;
 mod draining;
 mod gathered;
 mod joining;
+mod laws;
 
 pub use asking::ask_over;
 pub use gathered::Gathered;
+pub use laws::worked_requests;

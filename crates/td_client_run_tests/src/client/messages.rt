@@ -17,6 +17,22 @@ pub const FOUND_ONE: &[u8] =
     \0\0\0\0\x0aIDL:I:1.0\0\0\0\0\0\0\x01\0\0\0\0\0\0\0\x11\0\x01\0\0\0\0\0\x02h\0\0\x09\0\0\0\
     \x01I\0\0\0\0\0\0\0";
 
+/// The same with an iterator with the key J, at the port 10 of the host i.
+pub const FOUND_ELSEWHERE: &[u8] =
+    b"GIOP\x01\0\0\x01\0\0\0T\0\0\0\0\0\0\0\x01\0\0\0\0\0\0\0\x01\0\0\0\x02a\0\0\0\0\0\0\0\0\0\0\
+    \0\0\0\0\x0aIDL:I:1.0\0\0\0\0\0\0\x01\0\0\0\0\0\0\0\x11\0\x01\0\0\0\0\0\x02i\0\0\x0a\0\0\0\
+    \x01J\0\0\0\0\0\0\0";
+
+/// A call of next_n of the iterator J, with the id 2.
+pub const NEXT_J: &[u8] =
+    b"GIOP\x01\0\0\0\0\0\0(\0\0\0\0\0\0\0\x02\x01\0\0\0\0\0\0\x01J\0\0\0\0\0\0\x07next_n\0\0\0\0\
+    \0\0\0\0\x03\xe8";
+
+/// A call of destroy of the iterator J, with the id 3.
+pub const DESTROY_J: &[u8] =
+    b"GIOP\x01\0\0\0\0\0\0$\0\0\0\0\0\0\0\x03\x01\0\0\0\0\0\0\x01J\0\0\0\0\0\0\x08destroy\0\0\0\
+    \0\0";
+
 /// A call of next_n for a thousand offers, with the id 2.
 pub const NEXT_2: &[u8] =
     b"GIOP\x01\0\0\0\0\0\0(\0\0\0\0\0\0\0\x02\x01\0\0\0\0\0\0\x01I\0\0\0\0\0\0\x07next_n\0\0\0\0\

@@ -3,13 +3,13 @@
 
 use crate::client::asking::{Asked, Told, came};
 use crate::client::messages::*;
-use crate::wires::{has_written, wire_of};
+use crate::wires::{has_written, has_written_both, is_disconnected, wire_of, wire_of_two};
 use std::alloc::Global;
 use td_cdr::Memory;
 use td_walk::PeerFault;
 
 /// What is asked, what the connection gives, which calls of the wire fail, what the call comes to, and which parts are
-/// written over the one connection (none where there is no connection).
+/// written over the one connection (none where there is no connection). The connection has ended then.
 struct Row {
     what: &'static str,
     asked: Asked,
@@ -52,7 +52,7 @@ const ONE: Result<Told, PeerFault> = Ok(Told::Offers {
     limits: 0,
 });
 
-const ROWS: [Row; 37] = [
+const ROWS: [Row; 40] = [
     Row {
         what: "it is gone",
         asked: Asked::Call,
@@ -302,6 +302,30 @@ const ROWS: [Row; 37] = [
         wrote: &[QUERY, NEXT_2],
     },
     Row {
+        what: "an iterator of another host is asked over the same connection",
+        asked: Asked::Ask,
+        given: &[FOUND_ELSEWHERE, LAST_NONE, DESTROYED_3],
+        failing: &[],
+        told: ONE,
+        wrote: &[QUERY, NEXT_J, DESTROY_J],
+    },
+    Row {
+        what: "an iterator isn't destroyed",
+        asked: Asked::Ask,
+        given: &[FOUND_ONE, LAST_NONE, CLOSE],
+        failing: &[],
+        told: GRAMMAR,
+        wrote: &[QUERY, NEXT_2, DESTROY_3],
+    },
+    Row {
+        what: "the second call of an iterator isn't written",
+        asked: Asked::VisitAsk,
+        given: &[FOUND_ONE, MORE_B, LAST_CD, DESTROYED],
+        failing: &[5],
+        told: WIRE,
+        wrote: &[QUERY, NEXT_2],
+    },
+    Row {
         what: "a batch of another id",
         asked: Asked::Ask,
         given: &[FOUND_ONE, LAST_CD],
@@ -354,7 +378,8 @@ const ROWS: [Row; 37] = [
 fn passes(alloc: Global, row: &Row) -> Result<bool, Memory> {
     let mut wire = wire_of(alloc, row.given, row.failing)?;
     let told = came(alloc, &mut wire, row.asked);
-    Ok(told == row.told && has_written(&wire, row.wrote))
+    let wrote = has_written(&wire, row.wrote);
+    Ok(told == row.told && wrote && is_disconnected(&mut wire))
 }
 
 #[test]
@@ -413,7 +438,8 @@ fn is_cut(alloc: Global, row: &Cut, size: usize) -> Result<bool, Memory> {
     let left = row.cut.get(..size).unwrap_or(&[]);
     let mut wire = wire_of(alloc, &[first, second, left], &[])?;
     let told = came(alloc, &mut wire, row.asked);
-    Ok(told == WIRE && has_written(&wire, row.wrote))
+    let wrote = has_written(&wire, row.wrote);
+    Ok(told == WIRE && wrote && is_disconnected(&mut wire))
 }
 
 #[test]
@@ -423,5 +449,62 @@ fn a_reply_that_is_cut_is_a_fault_of_the_wire(rt: HostRuntime) {
         for size in 0..row.cut.len() {
             assert!(rt; is_cut(alloc, row, size) == Ok(true));
         }
+    }
+}
+
+/// A call and then another over the same wire: what is asked, what the connection of each gives, what each comes to,
+/// and what is written over each.
+struct Pair {
+    asked: [Asked; 2],
+    first: &'static [&'static [u8]],
+    second: &'static [&'static [u8]],
+    told: [Result<Told, PeerFault>; 2],
+    wrote_first: &'static [&'static [u8]],
+    wrote_second: &'static [&'static [u8]],
+}
+
+const PAIRS: [Pair; 3] = [
+    Pair {
+        asked: [Asked::Call, Asked::VisitEvaluate],
+        first: &[GONE],
+        second: &[VALUE],
+        told: [Ok(Told::Truth(true)), Ok(Told::Long(42))],
+        wrote_first: &[NON_EXISTENT],
+        wrote_second: &[EVAL_DP],
+    },
+    Pair {
+        asked: [Asked::Register, Asked::Resolve],
+        first: &[BAD_MAGIC, REGISTER],
+        second: &[REGISTER],
+        told: [GRAMMAR, Ok(Told::Register)],
+        wrote_first: &[REGISTER_IF],
+        wrote_second: &[RESOLVE],
+    },
+    Pair {
+        asked: [Asked::Ask, Asked::VisitAsk],
+        first: &[FOUND_ONE, UNKNOWN_MAX_LEFT],
+        second: &[FOUND_ONE, MORE_B, LAST_CD, DESTROYED],
+        told: [Ok(Told::Exception), FOUR],
+        wrote_first: &[QUERY, NEXT_2],
+        wrote_second: &[QUERY, NEXT_2, NEXT_3, DESTROY_4],
+    },
+];
+
+fn passes_both(alloc: Global, pair: &Pair) -> Result<bool, Memory> {
+    let mut wire = wire_of_two(alloc, pair.first, pair.second)?;
+    let [first, second] = pair.asked;
+    let told = [
+        came(alloc, &mut wire, first),
+        came(alloc, &mut wire, second),
+    ];
+    let wrote = has_written_both(&wire, pair.wrote_first, pair.wrote_second);
+    Ok(told == pair.told && wrote && is_disconnected(&mut wire))
+}
+
+#[test]
+fn each_call_has_a_connection_of_its_own(rt: HostRuntime) {
+    let alloc = rt.alloc();
+    for pair in &PAIRS {
+        assert!(rt; passes_both(alloc, pair) == Ok(true));
     }
 }

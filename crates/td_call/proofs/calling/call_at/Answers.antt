@@ -1,3 +1,4 @@
+use Rattle.std.proofs.Common.{sym}
 use Rattle.td_call.specs.Calling.{first_id}
 use Rattle.td_call.specs.Readings.{outcome_told}
 use Rattle.td_call.specs.Requests.{request_of}
@@ -16,10 +17,12 @@ pub returns-in-Ok-clause-called : goal.returns-in-Ok-clause-called
 returns-in-Ok-clause-called g c =
     called_then (outcome_told c.args.call.now) (request_of first_id c.args.profile.now.key c.args.call.now)
     c.args.profile.now c.in-Ok.framer (g.L.Wire.told c.args.wire.now) (g.L.Wire.told c.connect.new.wire)
-    (g.L.Wire.told c.exchange_call.new.wire) c.exchange_call.new.framer.rest (g.L.Wire.faults c.args.wire.now)
-    (g.L.Wire.faults c.connect.new.wire) (g.L.Wire.faults c.exchange_call.new.wire) c.exchange_call.result
-    c.in-Ok.ensures.connected c.in-Ok.ensures.later
-    (rw c.as_slice-key.ensures at c.exchange_call.ensures.exchanges)
+    (g.L.Wire.told c.exchange_call-answer.new.wire) (g.L.Wire.told c.finish.new.wire)
+    c.exchange_call-answer.new.framer.rest
+    (g.L.Wire.faults c.args.wire.now) (g.L.Wire.faults c.connect.new.wire) (g.L.Wire.faults c.finish.new.wire)
+    c.exchange_call-answer.result c.in-Ok.ensures.connected c.in-Ok.ensures.later
+    (rw (sym c.finish.ensures.faults) at (rw c.as_slice-key.ensures at c.exchange_call-answer.ensures.exchanges))
+    c.finish.ensures.told
 
 pub returns-in-Err-clause-leaves : goal.returns-in-Err-clause-leaves
 returns-in-Err-clause-leaves g c =
@@ -30,6 +33,7 @@ returns-in-Err-clause-leaves g c =
 pub returns-in-Ok-clause-leaves : goal.returns-in-Ok-clause-leaves
 returns-in-Ok-clause-leaves g c =
     leaves_over (request_of first_id c.args.profile.now.key c.args.call.now) c.args.profile.now c.in-Ok.framer
-    (g.L.Wire.told c.args.wire.now) (g.L.Wire.told c.connect.new.wire) (g.L.Wire.told c.exchange_call.new.wire)
-    (g.L.Wire.faults c.args.wire.now) (g.L.Wire.faults c.connect.new.wire) c.in-Ok.ensures.connected
-    (rw c.as_slice-key.ensures at c.exchange_call.ensures.moves)
+    (g.L.Wire.told c.args.wire.now) (g.L.Wire.told c.connect.new.wire) (g.L.Wire.told c.exchange_call-answer.new.wire)
+    (g.L.Wire.told c.finish.new.wire) (g.L.Wire.faults c.args.wire.now) (g.L.Wire.faults c.connect.new.wire)
+    c.in-Ok.ensures.connected (rw c.as_slice-key.ensures at c.exchange_call-answer.ensures.moves)
+    c.finish.ensures.told

@@ -4,6 +4,7 @@ use Rattle.td_call.specs.Moving.{reached, untouched}
 use Rattle.td_call.specs.Readings.{outcome_told}
 use Rattle.td_call.specs.Requests.{request_of}
 use Rattle.td_call.proofs.Concluding.{called_of, uncalled}
+use Rattle.td_call.proofs.Moving.{disconnected_at}
 use Rattle.td_call.proofs.calling.call_over.Goals as goal
 
 pub returns-in-Err-clause-called : goal.returns-in-Err-clause-called
@@ -26,3 +27,9 @@ returns-in-Err-clause-leaves g c = untouched refl
 
 pub returns-in-Ok-clause-leaves : goal.returns-in-Ok-clause-leaves
 returns-in-Ok-clause-leaves g c = reached c.in-Ok.profile c.in-Ok.ensures c.call_at.ensures.leaves
+
+pub returns-in-Err-clause-disconnected : goal.returns-in-Err-clause-disconnected
+returns-in-Err-clause-disconnected g c = λ none. none
+
+pub returns-in-Ok-clause-disconnected : goal.returns-in-Ok-clause-disconnected
+returns-in-Ok-clause-disconnected g c = disconnected_at _ _ _ _ c.call_at.ensures.leaves

@@ -10,3 +10,6 @@ returns-in-Ok-clause-leaves g c =
     subst (λ name. Leaves (λ key. request_of first_id key (resolve_call name)) c.args.register.now
     (g.L.Wire.told c.args.wire.now) (g.L.Wire.told c.call_over-answer.new.wire)) c.in-Ok.ensures
     c.call_over-answer.ensures.leaves
+
+pub returns-in-Err-clause-disconnected : goal.returns-in-Err-clause-disconnected
+returns-in-Err-clause-disconnected g c = λ none. none

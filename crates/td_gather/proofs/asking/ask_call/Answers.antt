@@ -1,4 +1,5 @@
 use Rattle.td_gather.proofs.Answering.{asks_of, unasked}
+use Rattle.td_gather.proofs.Writing.{leaves_reached, leaves_untouched}
 use Rattle.td_gather.proofs.asking.ask_call.Goals as goal
 
 pub returns-in-Err-clause-asks : goal.returns-in-Err-clause-asks
@@ -12,3 +13,15 @@ returns-in-Ok-clause-asks g c =
     (g.L.Wire.told c.ask_at.new.wire) (g.L.Wire.faults c.args.wire.now) (g.L.Wire.faults c.ask_at.new.wire)
     c.ask_at.result
     c.in-Ok.ensures c.ask_at.ensures.asks
+
+pub returns-in-Err-clause-leaves : goal.returns-in-Err-clause-leaves
+returns-in-Err-clause-leaves g c =
+    leaves_untouched c.args.target.now c.args.call.now (g.L.Wire.told c.args.wire.now)
+
+pub returns-in-Ok-clause-leaves : goal.returns-in-Ok-clause-leaves
+returns-in-Ok-clause-leaves g c =
+    leaves_reached c.args.target.now c.in-Ok.profile c.args.call.now (g.L.Wire.told c.args.wire.now)
+    (g.L.Wire.told c.ask_at.new.wire) c.in-Ok.ensures c.ask_at.ensures.leaves
+
+pub returns-in-Err-clause-disconnected : goal.returns-in-Err-clause-disconnected
+returns-in-Err-clause-disconnected g c = λ none. none

@@ -2,6 +2,8 @@ use Rattle.std.proofs.Common.{◌∙◌, ap, arith, length, refl, Ok, Err}
 use Rattle.td_giop.specs.Stream.{Stream}
 use Rattle.td_ops.specs.declared.outcome.Answered.TheVariants.{Done, User, System}
 use Rattle.td_gather.proofs.Answering.{from_fresh, through_done, through_fault, through_refused}
+use Rattle.td_gather.specs.Writing.{gives_all}
+use Rattle.td_gather.proofs.Writing.{writes_asked, writes_query}
 use Rattle.td_gather.proofs.asking.ask_through.Goals as goal
 
 pub exchange_call-requires-clause-limit : goal.exchange_call-requires-clause-limit
@@ -34,7 +36,7 @@ returns-in-Err-clause-asks g c =
 pub returns-in-Ok-Done-clause-asks : goal.returns-in-Ok-Done-clause-asks
 returns-in-Ok-Done-clause-asks g c =
     through_done c.args.key.now c.args.call.now c.exchange_call.new.framer.rest (g.L.Wire.told c.args.wire.now)
-    (g.L.Wire.told c.exchange_call.new.wire) _ (g.L.Wire.faults c.args.wire.now)
+    (g.L.Wire.told c.exchange_call.new.wire) (g.L.Wire.faults c.args.wire.now)
     (g.L.Wire.faults c.exchange_call.new.wire) _ c.in-Ok-Done.reply c.gather.result c.exchange_call.ensures.later
     (from_fresh c.args.key.now c.args.call.now c.args.framer.now c.exchange_call.new.framer.rest
     (g.L.Wire.told c.args.wire.now) (g.L.Wire.told c.exchange_call.new.wire) (g.L.Wire.faults c.args.wire.now)
@@ -62,3 +64,29 @@ returns-in-Ok-System-clause-asks g c =
     (g.L.Wire.told c.args.wire.now) (g.L.Wire.told c.exchange_call.new.wire) (g.L.Wire.faults c.args.wire.now)
     (g.L.Wire.faults c.exchange_call.new.wire) (Ok answer) c.requires
     (rw c.in-Ok-System.field-0-is at c.in-Ok-System.ensures.exchanges))
+
+pub returns-in-Err-clause-writes : goal.returns-in-Err-clause-writes
+returns-in-Err-clause-writes g c =
+    writes_query c.args.key.now c.args.call.now (g.L.Wire.told c.args.wire.now) (g.L.Wire.told c.exchange_call.new.wire)
+    c.exchange_call.ensures.moves
+
+pub returns-in-Ok-User-clause-writes : goal.returns-in-Ok-User-clause-writes
+returns-in-Ok-User-clause-writes g c =
+    writes_query c.args.key.now c.args.call.now (g.L.Wire.told c.args.wire.now) (g.L.Wire.told c.exchange_call.new.wire)
+    c.exchange_call.ensures.moves
+
+pub returns-in-Ok-System-clause-writes : goal.returns-in-Ok-System-clause-writes
+returns-in-Ok-System-clause-writes g c =
+    writes_query c.args.key.now c.args.call.now (g.L.Wire.told c.args.wire.now) (g.L.Wire.told c.exchange_call.new.wire)
+    c.exchange_call.ensures.moves
+
+pub returns-in-Ok-Done-clause-writes : goal.returns-in-Ok-Done-clause-writes
+returns-in-Ok-Done-clause-writes g c =
+    writes_asked c.args.key.now c.args.call.now c.exchange_call.new.framer.rest (g.L.Wire.told c.args.wire.now)
+    (g.L.Wire.told c.exchange_call.new.wire) (g.L.Wire.told c.gather.new.wire) (g.L.Wire.faults c.args.wire.now)
+    (g.L.Wire.faults c.exchange_call.new.wire) c.in-Ok-Done.reply (gives_all c.gather.result)
+    (from_fresh c.args.key.now c.args.call.now c.args.framer.now c.exchange_call.new.framer.rest
+    (g.L.Wire.told c.args.wire.now) (g.L.Wire.told c.exchange_call.new.wire) (g.L.Wire.faults c.args.wire.now)
+    (g.L.Wire.faults c.exchange_call.new.wire) (Ok (Done c.in-Ok-Done.reply)) c.requires
+    (rw c.in-Ok-Done.field-0-is at c.in-Ok-Done.ensures.exchanges))
+    c.gather.ensures.writes

@@ -10,3 +10,9 @@ returns-in-Err-clause-destroys g c =
 pub returns-in-Ok-clause-destroys : goal.returns-in-Ok-clause-destroys
 returns-in-Ok-clause-destroys g c =
     destroyed_so _ _ _ _ _ _ _ _ c.in-Ok.answer c.destroyed.result c.in-Ok.ensures.exchanges c.destroyed.ensures
+
+pub returns-in-Err-clause-moves : goal.returns-in-Err-clause-moves
+returns-in-Err-clause-moves g c = c.call_iterator.ensures.moves
+
+pub returns-in-Ok-clause-moves : goal.returns-in-Ok-clause-moves
+returns-in-Ok-clause-moves g c = c.call_iterator.ensures.moves

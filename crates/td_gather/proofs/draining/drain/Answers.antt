@@ -1,5 +1,6 @@
 use Rattle.std.proofs.Common.{◌∙◌, arith}
 use Rattle.td_gather.proofs.Gathering.{came_more, came_none, ends_fault, ends_last, ends_refused}
+use Rattle.td_gather.proofs.Writing.{writes_last, writes_turn}
 use Rattle.td_gather.proofs.draining.drain.Goals as goal
 
 pub batches-init : goal.batches-init
@@ -58,3 +59,27 @@ batches-preserved g c = record {
       c.batches.invariant.came c.take_batch.ensures.later
       (rw c.in-Ok-More.field-0-is at c.in-Ok-More.ensures.turns);
 }
+
+pub returns-in-Err-clause-writes : goal.returns-in-Err-clause-writes
+returns-in-Err-clause-writes g c =
+    writes_turn c.args.key.now c.args.framer.now.rest c.batches.framer.rest (g.L.Wire.told c.args.wire.now)
+    (g.L.Wire.told c.batches.wire) (g.L.Wire.told c.take_batch.new.wire) (g.L.Wire.faults c.args.wire.now)
+    (g.L.Wire.faults c.batches.wire) c.args.gathered.now.items c.batches.gathered.items c.batches.id
+    c.batches.invariant.came c.take_batch.ensures.moves
+
+pub returns-in-Ok-Refused-clause-writes : goal.returns-in-Ok-Refused-clause-writes
+returns-in-Ok-Refused-clause-writes g c =
+    writes_turn c.args.key.now c.args.framer.now.rest c.batches.framer.rest (g.L.Wire.told c.args.wire.now)
+    (g.L.Wire.told c.batches.wire) (g.L.Wire.told c.take_batch.new.wire) (g.L.Wire.faults c.args.wire.now)
+    (g.L.Wire.faults c.batches.wire) c.args.gathered.now.items c.batches.gathered.items c.batches.id
+    c.batches.invariant.came c.take_batch.ensures.moves
+
+pub returns-in-Ok-Last-clause-writes : goal.returns-in-Ok-Last-clause-writes
+returns-in-Ok-Last-clause-writes g c =
+    writes_last c.args.key.now c.args.framer.now.rest c.batches.framer.rest c.take_batch.new.framer.rest
+    (g.L.Wire.told c.args.wire.now) (g.L.Wire.told c.batches.wire) (g.L.Wire.told c.take_batch.new.wire)
+    (g.L.Wire.told c.destroy.new.wire) (g.L.Wire.faults c.args.wire.now) (g.L.Wire.faults c.batches.wire)
+    (g.L.Wire.faults c.take_batch.new.wire) (g.L.Wire.faults c.destroy.new.wire) c.args.gathered.now.items
+    c.batches.gathered.items c.take_batch.new.gathered.items c.batches.id c.destroy.result
+    c.batches.invariant.came (rw c.in-Ok-Last.field-0-is at c.in-Ok-Last.ensures.turns) c.destroy.ensures.destroys
+    c.destroy.ensures.moves

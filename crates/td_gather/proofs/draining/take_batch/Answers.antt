@@ -11,3 +11,9 @@ returns-in-Err-clause-turns g c =
 pub returns-in-Ok-clause-turns : goal.returns-in-Ok-clause-turns
 returns-in-Ok-clause-turns g c =
     turned _ _ _ _ _ _ _ _ _ _ c.in-Ok.answer c.join_answer.result c.in-Ok.ensures.exchanges c.join_answer.ensures.takes
+
+pub returns-in-Err-clause-moves : goal.returns-in-Err-clause-moves
+returns-in-Err-clause-moves g c = c.call_iterator.ensures.moves
+
+pub returns-in-Ok-clause-moves : goal.returns-in-Ok-clause-moves
+returns-in-Ok-clause-moves g c = c.call_iterator.ensures.moves

@@ -11,3 +11,6 @@ returns-clause-exact g c = (c.ask_over.result, c.ask_over.ensures.asks, c.offers
 
 pub returns-clause-small : goal.returns-clause-small
 returns-clause-small g c = small_meant _ _ c.offers_meant-answer.ensures c.ask_over.ensures.small
+
+pub returns-in-Err-clause-disconnected : goal.returns-in-Err-clause-disconnected
+returns-in-Err-clause-disconnected g c = λ none. none

@@ -7,3 +7,6 @@ returns-in-Err-clause-exact g c = (Err fault.Memory, tt, refl)
 
 pub returns-clause-exact : goal.returns-clause-exact
 returns-clause-exact g c = (c.ask_register.result, c.ask_register.ensures.called, c.reference_meant-answer.ensures)
+
+pub returns-in-Err-clause-disconnected : goal.returns-in-Err-clause-disconnected
+returns-in-Err-clause-disconnected g c = λ none. none

@@ -1,0 +1,17 @@
+use Rattle.std.proofs.Common.{refl, subst}
+use Rattle.td_ops.specs.declared.call.Call.TheVariants.{Query as Querying}
+use Rattle.td_gather.specs.Writing.{AskLeavesBy, untouched}
+use Rattle.td_gather.proofs.asking.ask_over.Goals as goal
+
+pub returns-in-Err-clause-leaves : goal.returns-in-Err-clause-leaves
+returns-in-Err-clause-leaves g c = untouched refl
+
+pub returns-in-Ok-clause-leaves : goal.returns-in-Ok-clause-leaves
+returns-in-Ok-clause-leaves g c =
+    subst
+    (λ q. AskLeavesBy c.args.target.now (Querying q) (g.L.Wire.told c.args.wire.now)
+    (g.L.Wire.told c.ask_call-answer.new.wire))
+    c.in-Ok.ensures c.ask_call-answer.ensures.leaves
+
+pub returns-in-Err-clause-disconnected : goal.returns-in-Err-clause-disconnected
+returns-in-Err-clause-disconnected g c = λ none. none

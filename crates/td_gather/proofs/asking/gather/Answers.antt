@@ -1,0 +1,17 @@
+use Rattle.std.proofs.Common.{subst, sym}
+use Rattle.td_ops.specs.declared.outcome.Reply.{Reply}
+use Rattle.td_gather.specs.Asking.{reply_requests}
+use Rattle.td_gather.specs.Writing.{WritesBy, gives_all}
+use Rattle.td_gather.proofs.Writing.{writes_none}
+use Rattle.td_gather.proofs.asking.gather.Goals as goal
+
+pub returns-in_default-clause-writes : goal.returns-in_default-clause-writes
+returns-in_default-clause-writes g c =
+    writes_none (λ left. reply_requests c.args.reply left) c.args.framer.now.rest (g.L.Wire.told c.args.wire.now)
+
+pub returns-in-Found-clause-writes : goal.returns-in-Found-clause-writes
+returns-in-Found-clause-writes g c =
+    subst
+    (λ (r : Reply). WritesBy (gives_all c.gather_found.result) (λ left. reply_requests r left) c.args.framer.now.rest
+    (g.L.Wire.told c.args.wire.now) (g.L.Wire.told c.gather_found.new.wire))
+    (sym c.in-Found.is) c.gather_found.ensures.writes

@@ -1,0 +1,17 @@
+//! Worked examples, as a function that does nothing: its contract is what they say.
+
+ghost use Rattle.std.specs.Prelude.{ℕ, List};
+ghost use Rattle.td_codes.specs.declared.reference.Ior.{Ior};
+ghost use Rattle.td_gather.specs.Examples.{WorkedBatches, WorkedException, WorkedNil};
+ghost use Rattle.td_ior.specs.declared.profile.Iiop.{Iiop};
+ghost use Rattle.td_ops.specs.declared.call.Call.{Call};
+ghost use Rattle.td_value.specs.declared.structures.Offer.{Offer};
+
+/// The requests of a query, by the replies that its connection gives.
+pub fn worked_requests()
+    ensures nil { (key : List ℕ) (c : Call) (given : List ℕ) (size : ℕ) → WorkedNil key c given size }
+    ensures exception { (key : List ℕ) (c : Call) (given : List ℕ) (size : ℕ) (id : List ℕ)
+        → WorkedException key c given size id }
+    ensures batches { (key : List ℕ) (c : Call) (given : List ℕ) (p : Iiop) (iterator : Ior) (o : Offer)
+        → WorkedBatches key c given p iterator o }
+{}
