@@ -18,7 +18,7 @@ use std::env;
 use std::io::{self, ErrorKind, Read, Write};
 use std::net::Net;
 use std::process::ExitCode;
-use std::rt::{Env, Files};
+use std::rt::{Clock, Env, Files};
 use td_out::{ChaChaWords, FileTexts, Sink, Source, StdSink, StdSource, Texts, Words};
 use td_wire::{TcpWire, Wire};
 
@@ -59,14 +59,14 @@ pub fn refuse_arguments<E: Sink>(faults: &mut E, ended: Ended) -> ExitCode
     ExitCode::from(ended.status())
 }
 
-/// The program over the arguments, the files and the network of this runtime, and these streams, with the random
-/// words of ChaCha20.
-pub fn start<R: Env + Files + Net + AllocGlobal, I: Read + Drop, O: Write + Drop, E: Write + Drop>(
-    rt: &R,
-    input: I,
-    output: O,
-    errors: E,
-) -> ExitCode {
+/// The program over the arguments, the files, the network and the clock of this runtime, and these streams, with the
+/// random words of ChaCha20.
+pub fn start<
+    R: Env + Files + Net + Clock + AllocGlobal,
+    I: Read + Drop,
+    O: Write + Drop,
+    E: Write + Drop,
+>(rt: &R, input: I, output: O, errors: E) -> ExitCode {
     let mut faults = StdSink::new(errors);
     let args = match arguments(rt) {
         Ok(args) => args,

@@ -9,6 +9,7 @@ use crate::ended::Ended;
 use std::alloc::Global;
 use td_client::Caller;
 use td_file::{FileFault, Opened, read_file};
+use td_journal::PastJournal;
 use td_out::{Sink, Source, TextFault, Texts, Words};
 use td_session::{Room, serve_connection};
 use td_wire::Wire;
@@ -80,7 +81,7 @@ fn serve_opened<S: Source, K: Sink, L: Wire, W: Words>(
         mut solo,
     } = opened;
     words.seed(seed.as_slice(), 0);
-    let Ok(mut room) = Room::new(alloc, home) else {
+    let Ok(mut room) = Room::<PastJournal>::new(alloc, home) else {
         return Ended::Memory;
     };
     let mut peers = Caller::new(alloc, wire);

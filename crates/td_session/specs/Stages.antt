@@ -8,7 +8,7 @@ use Rattle.td_reply.specs.declared.entry.Entry.{Entry}
 use Rattle.td_trader.specs.Worlds.{View}
 use Rattle.td_turns.specs.Turns.{Noted, Turn, Run, journal_of}
 use Rattle.td_walk.specs.declared.trace.Address.{Address}
-use Rattle.td_session.specs.declared.room.Room.{Room}
+use Rattle.td_session.specs.Rooms.{Room}
 
 -- what a session stands on with the iterators of its room
 abbrev pub scene_in : List View → Room → PeersSeen → (ℕ → ℕ) → Scene
@@ -23,7 +23,7 @@ abbrev pub stage : Scene → List Entry → Stage
 stage now journal = record { scene = now; journal = journal }
 
 abbrev pub stage_in : List View → Room → PeersSeen → (ℕ → ℕ) → Stage
-stage_in world room peers words = stage (scene_in world room peers words) room.journal.items
+stage_in world room peers words = stage (scene_in world room peers words) room.journal
 
 -- a message that was served, what is noted of it, its answer, and how everything stands then
 abbrev pub turn_of : (message : List ℕ) → Option Noted → (reply : List ℕ) → Scene → Turn

@@ -32,6 +32,6 @@ pub enum End {
     WriteFault,
     /// 2^40 bytes were taken, or 1,000,000 Requests served.
     Long,
-    /// Want of memory for the bytes on their way.
+    /// Want of memory for the bytes on their way, or for what is noted of a Request.
     Memory,
 }

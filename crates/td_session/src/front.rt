@@ -19,6 +19,7 @@ use td_cdr::CdrFault;
 use td_giop::message_type::{CANCEL_REQUEST, LOCATE_REPLY, LOCATE_REQUEST, REPLY, REQUEST};
 use td_giop::{FrameFault, Framer, Raw, read_cancel, read_locate, read_request};
 use td_iter::Desk;
+use td_journal::Journal;
 use td_out::{Sink, Words};
 use td_reply::find_object;
 use td_serve::Replies;
@@ -56,10 +57,10 @@ pub(crate) enum Prepared {
 }
 
 /// Serves the message in front of the stream, which stays there.
-pub(crate) fn serve_front<T: Traders, K: Sink, P: Peers, W: Words>(
+pub(crate) fn serve_front<T: Traders, K: Sink, P: Peers, W: Words, J: Journal>(
     alloc: Global,
     traders: &mut T,
-    room: &mut Room,
+    room: &mut Room<J>,
     framer: &mut Framer,
     sink: &mut K,
     peers: &mut P,
@@ -88,10 +89,10 @@ pub(crate) fn serve_front<T: Traders, K: Sink, P: Peers, W: Words>(
 }
 
 /// Answers a message.
-fn respond<T: Traders, K: Sink, P: Peers, W: Words>(
+fn respond<T: Traders, K: Sink, P: Peers, W: Words, J: Journal>(
     alloc: Global,
     traders: &mut T,
-    room: &mut Room,
+    room: &mut Room<J>,
     message: &Raw<'_>,
     sink: &mut K,
     peers: &mut P,
@@ -125,10 +126,10 @@ fn respond<T: Traders, K: Sink, P: Peers, W: Words>(
 
 /// What a message asks for, with its answer in the room.
 #[tactic(auto, unfolding(crate::specs::Steps::step_of))]
-fn prepare<T: Traders, P: Peers, W: Words>(
+fn prepare<T: Traders, P: Peers, W: Words, J: Journal>(
     alloc: Global,
     traders: &mut T,
-    room: &mut Room,
+    room: &mut Room<J>,
     message: &Raw<'_>,
     peers: &mut P,
     words: &mut W,
@@ -157,10 +158,10 @@ fn prepare<T: Traders, P: Peers, W: Words>(
 
 /// Prepares the answer to a Request.
 #[tactic(auto, unfolding(crate::specs::Steps::step_of))]
-fn prepare_request<T: Traders, P: Peers, W: Words>(
+fn prepare_request<T: Traders, P: Peers, W: Words, J: Journal>(
     alloc: Global,
     traders: &mut T,
-    room: &mut Room,
+    room: &mut Room<J>,
     message: &Raw<'_>,
     peers: &mut P,
     words: &mut W,

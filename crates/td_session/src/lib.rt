@@ -1,4 +1,4 @@
-//! A session: the bytes of a client in, the bytes of the replies out, over any traders, peers and random words.
+//! A session: the bytes of a client in, the bytes of the replies out, over any traders, peers, words and journal.
 #![tactic(auto)]
 
 mod end;

@@ -12,6 +12,7 @@ use std::alloc::Global;
 use td_cdr::{Memory, Order};
 use td_giop::RequestHead;
 use td_iter::Desk;
+use td_journal::Journal;
 use td_out::Words;
 use td_reply::{Entry, judge};
 use td_serve::{Replies, refuse_memory, serve_request};
@@ -23,10 +24,10 @@ use td_walk::{Address, Peers};
 /// # Errors
 ///
 /// `Memory` where there is no room to note it; nothing was done then.
-pub(crate) fn answer_request<T: Traders, P: Peers, W: Words>(
+pub(crate) fn answer_request<T: Traders, P: Peers, W: Words, J: Journal>(
     alloc: Global,
     traders: &mut T,
-    room: &mut Room,
+    room: &mut Room<J>,
     peers: &mut P,
     words: &mut W,
     order: Order,
@@ -48,7 +49,7 @@ pub(crate) fn answer_request<T: Traders, P: Peers, W: Words>(
         ≡ stage_in (T.world traders.old) room.old (peers_seen (P.calls peers.old) (P.faults peers.old))
         (W.word words.old)) }
 {
-    room.journal.reserve(1)?;
+    room.journal.take_room()?;
     let entry = serve_head(
         alloc,
         traders,
@@ -60,7 +61,7 @@ pub(crate) fn answer_request<T: Traders, P: Peers, W: Words>(
         order,
         head,
     );
-    room.journal.push_reserved(entry);
+    room.journal.note(entry);
     Ok(())
 }
 

@@ -17,6 +17,7 @@ use crate::room::Room;
 use std::alloc::Global;
 use td_cdr::Memory;
 use td_giop::{FrameFault, Framer, SERVER_LIMIT};
+use td_journal::Journal;
 use td_out::{Sink, Source, Words};
 use td_trader::Traders;
 use td_walk::Peers;
@@ -68,11 +69,11 @@ impl Session {
     }
 
     /// Serves the message in front, or takes a piece, or says how the session ends.
-    fn turn<T: Traders, S: Source, K: Sink, P: Peers, W: Words>(
+    fn turn<T: Traders, S: Source, K: Sink, P: Peers, W: Words, J: Journal>(
         &mut self,
         alloc: Global,
         traders: &mut T,
-        room: &mut Room,
+        room: &mut Room<J>,
         source: &mut S,
         sink: &mut K,
         peers: &mut P,
@@ -183,10 +184,10 @@ fn cause_of(fault: FrameFault) -> Cause
 ///
 /// Where the source is whole messages that a server can be sent, within a session's limits, and none of the
 /// outside fails, those before the first CloseConnection or MessageError are all served, or memory is wanted.
-pub fn serve_connection<T: Traders, S: Source, K: Sink, P: Peers, W: Words>(
+pub fn serve_connection<T: Traders, S: Source, K: Sink, P: Peers, W: Words, J: Journal>(
     alloc: Global,
     traders: &mut T,
-    room: &mut Room,
+    room: &mut Room<J>,
     source: &mut S,
     sink: &mut K,
     peers: &mut P,
@@ -201,7 +202,7 @@ pub fn serve_connection<T: Traders, S: Source, K: Sink, P: Peers, W: Words>(
         (W.word words.old))
         (scene_in (T.world traders.new) room.new (peers_seen (P.calls peers.new) (P.faults peers.new))
         (W.word words.new))
-        room.new.journal.items result
+        room.new.journal result
         (outside (S.left source.old) (S.faults source.old) (K.written sink.old) (K.faults sink.old))
         (outside (S.left source.new) (S.faults source.new) (K.written sink.new) (K.faults sink.new)) }
     ensures complete { Completes T.others T.later room.old.home
@@ -217,10 +218,10 @@ pub fn serve_connection<T: Traders, S: Source, K: Sink, P: Peers, W: Words>(
 }
 
 /// Serves a session, turn by turn.
-fn serve_session<T: Traders, S: Source, K: Sink, P: Peers, W: Words>(
+fn serve_session<T: Traders, S: Source, K: Sink, P: Peers, W: Words, J: Journal>(
     alloc: Global,
     traders: &mut T,
-    room: &mut Room,
+    room: &mut Room<J>,
     source: &mut S,
     sink: &mut K,
     peers: &mut P,
@@ -235,7 +236,7 @@ fn serve_session<T: Traders, S: Source, K: Sink, P: Peers, W: Words>(
         (W.word words.old))
         (scene_in (T.world traders.new) room.new (peers_seen (P.calls peers.new) (P.faults peers.new))
         (W.word words.new))
-        room.new.journal.items result
+        room.new.journal result
         (outside (S.left source.old) (S.faults source.old) (K.written sink.old) (K.faults sink.old))
         (outside (S.left source.new) (S.faults source.new) (K.written sink.new) (K.faults sink.new)) }
 {

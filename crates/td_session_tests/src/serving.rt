@@ -7,6 +7,7 @@ use crate::story::{Story, Streams, read_streams};
 use std::alloc::Global;
 use td_cdr::{List, Memory, Octets};
 use td_file::FileFault;
+use td_journal::KeptJournal;
 use td_out::{MemSink, MemSource, MemWords};
 use td_session::{End, Room, serve_connection};
 
@@ -57,7 +58,7 @@ fn ends_so(
         mut solo,
         mut peers,
     } = server;
-    let Ok(mut room) = Room::new(alloc, home) else {
+    let Ok(mut room) = Room::<KeptJournal>::new(alloc, home) else {
         return false;
     };
     let Ok(drawn) = List::from_slice(alloc, &[7, 4]) else {
@@ -70,7 +71,7 @@ fn ends_so(
     end == expected.end && is_journal(&room, expected.journal)
 }
 
-fn is_journal(room: &Room, words: Option<&str>) -> bool {
+fn is_journal(room: &Room<KeptJournal>, words: Option<&str>) -> bool {
     match words {
         Some(words) => is_noted(room.journal(), words),
         None => true,

@@ -1,0 +1,44 @@
+//! A journal that keeps its entries.
+
+ghost use Rattle.std.specs.Prelude.{◌≡◌, ◌<◌, vec_len, vec_capacity};
+
+use crate::journal::Journal;
+use std::alloc::Global;
+use td_cdr::Memory;
+use td_reply::Entry;
+
+/// A journal that keeps its entries, and lends them.
+#[derive(Drop)]
+pub struct KeptJournal {
+    kept: Vec<Entry>,
+}
+
+impl KeptJournal {
+    /// What was noted, in order.
+    pub fn entries(&self) -> &[Entry]
+        ensures { result.now ≡ self.now.kept.items }
+    {
+        self.kept.as_slice()
+    }
+}
+
+impl Journal for KeptJournal {
+    ghost entries = { λ j. j.kept.items };
+
+    ghost has_room = { λ j. vec_len j.kept < vec_capacity j.kept };
+
+    fn empty(alloc: Global) -> KeptJournal {
+        KeptJournal {
+            kept: Vec::new(alloc),
+        }
+    }
+
+    fn take_room(&mut self) -> Result<(), Memory> {
+        self.kept.reserve(1)?;
+        Ok(())
+    }
+
+    fn note(&mut self, entry: Entry) {
+        self.kept.push_reserved(entry);
+    }
+}
