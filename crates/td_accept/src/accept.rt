@@ -5,15 +5,16 @@ ghost use Rattle.td_accept.specs.declared.visitor.Visitor.{Visitor};
 ghost use Rattle.td_accept.specs.Doors.{Binds, Door, Gives};
 ghost use Rattle.td_out.specs.Causes.{HasCause};
 
+use crate::client_sink::ClientSink;
 use crate::visitor::Visitor;
-use td_out::{Failed, Sink, Source, Words};
+use td_out::{Failed, Source, Words};
 use td_wire::Wire;
 
 /// Where visitors come from.
 pub trait Accept {
     type S: Source + Send + Drop;
 
-    type K: Sink + Send + Drop;
+    type K: ClientSink + Send + Drop;
 
     type L: Wire + Send + Drop;
 

@@ -4,13 +4,19 @@
 #![tactic(auto)]
 
 mod accept;
+mod accept_fault;
+mod client_sink;
+mod connection;
 mod gate;
 mod mem_accept;
 mod tcp_accept;
+mod tcp_sink;
 mod visitor;
 
 pub use accept::Accept;
+pub use client_sink::ClientSink;
 pub use gate::{Gate, NoGate};
 pub use mem_accept::{Endpoint, MemAccept};
 pub use tcp_accept::TcpAccept;
+pub use tcp_sink::TcpSink;
 pub use visitor::Visitor;

@@ -6,11 +6,12 @@ ghost use Rattle.td_accept.specs.InMemory.{Admits, Opens, some_of};
 ghost use Rattle.td_out.specs.Causes.{HasCause};
 
 use crate::accept::Accept;
+use crate::client_sink::ClientSink;
 use crate::visitor::Visitor;
 use std::alloc::Global;
 use std::marker::Model;
 use td_cdr::{List, Memory, Text};
-use td_out::{Calls, Failed, Sink, Source, Words};
+use td_out::{Calls, Failed, Source, Words};
 use td_wire::Wire;
 
 /// A host and a port.
@@ -95,7 +96,7 @@ fn take_first<X>(items: &mut Vec<X>) -> Option<X>
 impl<S, K, L, W> Accept for MemAccept<S, K, L, W>
 where
     S: Source + Send + Drop,
-    K: Sink + Send + Drop,
+    K: ClientSink + Send + Drop,
     L: Wire + Send + Drop,
     W: Words + Send + Drop,
 {

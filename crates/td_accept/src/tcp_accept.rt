@@ -5,18 +5,21 @@ ghost use Rattle.td_accept.specs.Doors.{Gives};
 ghost use Rattle.td_out.specs.Causes.{raised, HasCause};
 
 use crate::accept::Accept;
+use crate::connection::next_connection;
+use crate::tcp_sink::TcpSink;
 use crate::visitor::Visitor;
-use std::io::ErrorKind;
 use std::marker::Model;
 use std::net::{Net, OpenListener, OpenStream, TcpListener};
-use td_out::{ChaChaWords, Failed, StdSink, StdSource};
-use td_wire::TcpWire;
+use std::rt::Clock;
+use td_out::{ChaChaWords, Failed, StdSource};
+use td_wire::{ConnectionPool, TcpWire};
 
 /// An acceptor over TCP. A host is a name, which the system looks up, or an address. Each connection is a visitor; it
 /// holds nothing back, so that a reply goes out at once. It tells nothing of its content.
 #[derive(Drop)]
 pub struct TcpAccept<'a, R: Net> {
     rt: &'a R,
+    pool: Option<&'a ConnectionPool<R::Stream>>,
     listener: Option<R::Listener>,
     faults: u64,
 }
@@ -31,12 +34,14 @@ impl<'a, R: Net> Model for TcpAccept<'a, R> {
 }
 
 impl<'a, R: Net> TcpAccept<'a, R> {
-    /// An acceptor that is bound to nothing yet. No fault was counted yet.
-    pub fn new(rt: &'a R) -> TcpAccept<'a, R>
+    /// An acceptor that is bound to nothing yet. No fault was counted yet. The wires of its visitors share the pool of
+    /// connections, where there is one.
+    pub fn new(rt: &'a R, pool: Option<&'a ConnectionPool<R::Stream>>) -> TcpAccept<'a, R>
         ensures { result ≡ record { bound = false; faults = 0 } }
     {
         TcpAccept {
             rt,
+            pool,
             listener: None,
             faults: 0,
         }
@@ -51,13 +56,13 @@ impl<'a, R: Net> TcpAccept<'a, R> {
     }
 }
 
-impl<'a, R: Net + Sync> Accept for TcpAccept<'a, R>
+impl<'a, R: Net + Clock + Sync> Accept for TcpAccept<'a, R>
 where
     R::Stream: Send,
 {
     type S = StdSource<R::Stream>;
 
-    type K = StdSink<R::Stream>;
+    type K = TcpSink<'a, R, R::Stream>;
 
     type L = TcpWire<'a, R>;
 
@@ -93,7 +98,9 @@ where
     fn next(
         &mut self,
     ) -> Result<
-        Option<Visitor<StdSource<R::Stream>, StdSink<R::Stream>, TcpWire<'a, R>, ChaChaWords>>,
+        Option<
+            Visitor<StdSource<R::Stream>, TcpSink<'a, R, R::Stream>, TcpWire<'a, R>, ChaChaWords>,
+        >,
         Failed,
     >
         requires { self.old.bound ≡ true }
@@ -103,11 +110,11 @@ where
         ensures cause { HasCause self.old.faults self.new.faults result }
         ensures endless { IfOk result (λ visitor. is_some visitor ≡ true) }
     {
-        match connect(&self.listener) {
+        match connect(self.rt, &self.listener) {
             Ok((stream, twin)) => Ok(Some(Visitor {
                 source: StdSource::new(stream),
-                sink: StdSink::new(twin),
-                wire: TcpWire::new(self.rt),
+                sink: TcpSink::new(self.rt, twin),
+                wire: TcpWire::with_pool(self.rt, self.pool),
                 words: ChaChaWords::new(),
             })),
             Err(fault) => {
@@ -129,37 +136,16 @@ fn listen<R: Net>(rt: &R, host: &[u8], port: u16) -> Result<R::Listener, Failed>
     }
 }
 
-/// The next connection, for reading and for writing. One that ended before it was taken is passed over.
-fn connect<L: OpenListener>(listener: &Option<L>) -> Result<(L::Stream, L::Stream), Failed>
+/// The next connection of the listener, for reading and for writing. Where it was bound to nothing, it fails.
+fn connect<R: Clock, L: OpenListener>(
+    rt: &R,
+    listener: &Option<L>,
+) -> Result<(L::Stream, L::Stream), Failed>
 where
     L::Stream: OpenStream,
 {
-    let Some(listener) = listener else {
-        return Err(Failed);
-    };
-    for _ in 0..u64::MAX {
-        match listener.accept() {
-            Ok((stream, _peer)) => return split(stream),
-            Err(e) => {
-                if !passes(e.kind()) {
-                    return Err(Failed);
-                }
-            }
-        }
-    }
-    Err(Failed)
-}
-
-/// Whether the next connection is waited for after a fault of this kind.
-fn passes(kind: ErrorKind) -> bool {
-    kind == ErrorKind::Interrupted || kind == ErrorKind::ConnectionAborted
-}
-
-/// Both ends of a connection, over which small pieces go out at once where the system can do so.
-fn split<S: OpenStream + Drop>(stream: S) -> Result<(S, S), Failed> {
-    let _ = stream.set_nodelay(true);
-    match stream.try_clone() {
-        Ok(twin) => Ok((stream, twin)),
-        Err(_) => Err(Failed),
+    match listener {
+        Some(listener) => next_connection(rt, listener),
+        None => Err(Failed),
     }
 }

@@ -1,0 +1,154 @@
+//! A client's sink over TCP.
+
+ghost use Rattle.std.specs.Prelude.{◌≡◌, ◌≤◌, None, true, false, is_some, OnOk};
+ghost use Rattle.std.specs.Io.KnownBytes.{WriteAppends};
+ghost use Rattle.td_out.specs.Causes.{raised, HasCause, Takes};
+
+use crate::client_sink::ClientSink;
+use std::io::{Read, Write};
+use std::marker::Model;
+use std::net::{OpenStream, Shutdown};
+use std::rt::Clock;
+use std::time::{Duration, Instant};
+use td_out::{Failed, Sink, read_some, write_some};
+
+/// For how long a connection is read on that is closed, in seconds.
+const LINGER_LIMIT: u64 = 1;
+
+/// How many bytes are read of a connection that is closed, at most: 16 MiB, and less than `READ_SIZE` more.
+const REST_LIMIT: usize = 16_777_216;
+
+/// How many bytes are read at once.
+const READ_SIZE: usize = 16_384;
+
+/// A client's sink over a TCP stream. It holds nothing back, and tells nothing of its content.
+///
+/// It is closed so that what was written arrives, also where the client has sent on: the end of the stream goes out,
+/// and what the client sends is read away until it ends its side too, for a second at most and 16 MiB. Only then the
+/// stream ends for reading as well. (A TCP connection that is closed while bytes of it are unread is reset, and the
+/// client may lose what it hasn't read.) The sink lets go of the stream then; a write behind that is a fault.
+#[derive(Drop)]
+pub struct TcpSink<'a, R, S> {
+    rt: &'a R,
+    stream: Option<S>,
+    faults: u64,
+}
+
+impl<'a, R, S> Model for TcpSink<'a, R, S> {
+    ghost use Rattle.std.specs.Prelude.{is_some};
+    ghost use Rattle.td_accept.specs.Listening.{Connected};
+
+    ghost Value = { Connected };
+
+    ghost view = { λ s. record { connected = is_some s.stream; faults = s.faults } };
+}
+
+impl<'a, R, S> TcpSink<'a, R, S> {
+    /// A sink that writes to this stream. No fault was counted yet.
+    pub fn new(rt: &'a R, stream: S) -> TcpSink<'a, R, S>
+        ensures { result ≡ record { connected = true; faults = 0 } }
+    {
+        TcpSink {
+            rt,
+            stream: Some(stream),
+            faults: 0,
+        }
+    }
+
+    /// Counts a fault. The count stands still at 2^64 - 1.
+    fn count_fault(&mut self)
+        ensures after { self.new ≡ record self.old { faults = raised self.old.faults } }
+        ensures later { self.old.faults ≤ self.new.faults }
+    {
+        self.faults = self.faults.saturating_add(1);
+    }
+}
+
+impl<'a, R, S: Write> Sink for TcpSink<'a, R, S> {
+    ghost written = { λ _. None };
+
+    ghost faults = { λ s. s.faults };
+
+    ghost same = { λ _ _. Unit {0} };
+
+    ghost same_on = { λ _ _ _ _ _. tt };
+
+    /// A write that takes nothing of a piece that isn't empty is a fault, and so is one to a sink that was closed.
+    fn write(&mut self, piece: &[u8]) -> Result<usize, Failed>
+        ensures same { Unit {0} }
+        ensures some { Takes result piece.now }
+        ensures bytes { WriteAppends None None result piece.now }
+        ensures cause { HasCause self.old.faults self.new.faults result }
+        ensures connected { self.new.connected ≡ self.old.connected }
+        ensures closed { OnOk result (self.old.connected ≡ true) }
+    {
+        match write_to(&mut self.stream, piece) {
+            Ok(size) => Ok(size),
+            Err(fault) => {
+                self.count_fault();
+                Err(fault)
+            }
+        }
+    }
+}
+
+impl<'a, R: Clock, S: Read + Write + OpenStream + Drop> ClientSink for TcpSink<'a, R, S> {
+    ghost closed = { λ s. s.connected ≡ false };
+
+    fn close(&mut self) {
+        if let Some(stream) = self.stream.take() {
+            end(self.rt, stream);
+        }
+    }
+}
+
+/// One write to the stream. Where none stands, it fails.
+fn write_to<S: Write>(stream: &mut Option<S>, piece: &[u8]) -> Result<usize, Failed>
+    ensures some { Takes result piece.now }
+    ensures stays { is_some stream.new ≡ is_some stream.old }
+    ensures connected { OnOk result (is_some stream.old ≡ true) }
+{
+    match stream {
+        Some(stream) => write_some(stream, piece),
+        None => Err(Failed),
+    }
+}
+
+/// Ends a stream for writing, reads its rest away, and ends it for reading. Other handles of the stream may stand.
+fn end<R: Clock, S: Read + OpenStream + Drop>(rt: &R, stream: S) {
+    let mut stream = stream;
+    if stream.shutdown(Shutdown::Write).is_ok() {
+        read_away(rt, &mut stream);
+    }
+    let _ = stream.shutdown(Shutdown::Both);
+}
+
+/// Reads what still comes, within the limits of time and of bytes.
+fn read_away<R: Clock, S: Read + OpenStream>(rt: &R, stream: &mut S) {
+    let Ok(start) = Instant::now(rt) else {
+        return;
+    };
+    let mut room = [0u8; READ_SIZE];
+    let mut taken = 0usize;
+    for _ in 0..REST_LIMIT {
+        if taken >= REST_LIMIT || !is_in_time(rt, start, stream) {
+            return;
+        }
+        match read_some(stream, &mut room) {
+            Ok(0) => return,
+            Ok(size) => taken = taken.saturating_add(size),
+            Err(_) => return,
+        }
+    }
+}
+
+/// Whether there is time left since then. The next read of the stream takes no longer.
+fn is_in_time<R: Clock, S: OpenStream>(rt: &R, start: Instant, stream: &S) -> bool {
+    let Ok(passed) = start.elapsed(rt) else {
+        return false;
+    };
+    match Duration::from_secs(LINGER_LIMIT).checked_sub(passed) {
+        Some(left) => stream.set_read_timeout(Some(left)).is_ok(),
+        None => false,
+    }
+}
