@@ -5,20 +5,26 @@ use std::alloc::Global;
 use std::io::{Read, Write};
 use std::net::{Net, TcpListener, TcpStream};
 use std::process::ExitCode;
-use std::rt::{Env, Files};
+use std::rt::{Clock, Env, Files};
 use std::sync::Wait;
+use std::sync::atomic::{AtomicU64, Ordering};
+use std::thread;
 use std::thread::Threads;
+use std::time::Duration;
 use td_accept::{NoGate, TcpAccept};
 use td_command::arguments;
+use td_journal::PastJournal;
 use td_out::{FileTexts, StdSink};
 use td_sessions::DropEnded;
+use td_wire::ConnectionPool;
 
-/// The program over the arguments, the files, the network and the threads of this runtime, and these streams. It
-/// listens where its first word is `listen`, and does what `td_command::start` does otherwise.
+/// The program over the arguments, the files, the network, the clock and the threads of this runtime, and these streams.
+/// It listens where its first word is `listen`, and does what `td_command::start` does otherwise.
 pub fn start<
     R: Env
         + Files
         + Net<Listener = TcpListener, Stream = TcpStream>
+        + Clock
         + AllocGlobal
         + Threads
         + Wait
@@ -49,16 +55,82 @@ fn listens(args: &[String]) -> bool {
 fn listen<
     R: Files
         + Net<Listener = TcpListener, Stream = TcpStream>
+        + Clock
         + AllocGlobal
         + Threads
         + Wait
         + Sync,
     E: Write + Drop,
 >(rt: &R, args: &[String], errors: E) -> ExitCode {
+    match ConnectionPool::new(rt.alloc()) {
+        Err(_) => serve_with(rt, args, errors, None),
+        Ok(pool) => {
+            let over = AtomicU64::new(0);
+            listen_with(rt, args, errors, &pool, &over)
+        }
+    }
+}
+
+/// The server over TCP with a pool of connections to peers, whose rounds another thread begins until the server ends.
+/// Where no such thread can be started, no connection is kept.
+fn listen_with<
+    'k,
+    R: Files
+        + Net<Listener = TcpListener, Stream = TcpStream>
+        + Clock
+        + AllocGlobal
+        + Threads
+        + Wait
+        + Sync,
+    E: Write + Drop,
+>(
+    rt: &'k R,
+    args: &[String],
+    errors: E,
+    pool: &'k ConnectionPool<TcpStream>,
+    over: &'k AtomicU64,
+) -> ExitCode {
+    thread::scope(thread::scope_env(), rt, move |scope| {
+        match scope.spawn(move || begin_rounds(rt, pool, over)) {
+            Err(_) => serve_with(rt, args, errors, None),
+            Ok(rounds) => {
+                let status = serve_with(rt, args, errors, Some(pool));
+                over.store(1, Ordering::SeqCst);
+                over.wake_all();
+                rounds.join(rt);
+                status
+            }
+        }
+    })
+}
+
+/// Begins a round of the pool each second until the server is over, so that a connection ends two to three seconds
+/// behind its last call.
+fn begin_rounds<R: Wait>(rt: &R, pool: &ConnectionPool<TcpStream>, over: &AtomicU64) {
+    for _ in rt.forever() {
+        if over.load(Ordering::SeqCst) != 0 {
+            return;
+        }
+        over.park_timeout(rt, 0, Duration::from_secs(1));
+        pool.begin_round();
+    }
+}
+
+/// The server over TCP, whose connections to peers are kept in the pool, where there is one.
+fn serve_with<
+    R: Files
+        + Net<Listener = TcpListener, Stream = TcpStream>
+        + Clock
+        + AllocGlobal
+        + Threads
+        + Wait
+        + Sync,
+    E: Write + Drop,
+>(rt: &R, args: &[String], errors: E, pool: Option<&ConnectionPool<TcpStream>>) -> ExitCode {
     let mut files = FileTexts::new(rt);
-    let mut accept = TcpAccept::new(rt);
+    let mut accept = TcpAccept::new(rt, pool);
     let mut faults = StdSink::new(errors);
-    let mut ended = DropEnded;
+    let mut ended = DropEnded::<PastJournal>::new();
     ExitCode::from(serve(
         rt,
         rt.alloc(),

@@ -9,9 +9,10 @@ use std::sync::Wait;
 use std::thread::Threads;
 use td_accept::{Gate, MemAccept, Visitor};
 use td_cdr::{List, Memory, Octets, Text};
+use td_journal::KeptJournal;
 use td_listen::serve;
 use td_out::{MemSink, MemSource, MemTexts, MemWords};
-use td_session::{End, Room};
+use td_session::End;
 use td_sessions::KeepEnded;
 use td_trader::{Solo, Traders};
 use td_wire::MemWire;
@@ -177,7 +178,7 @@ fn answers<G: Gate, R: Threads + Wait + Sync>(
     case: &Case,
     gate: &G,
     accept: &mut Guests,
-    ended: &mut KeepEnded<Guest>,
+    ended: &mut KeepEnded<Guest, KeptJournal>,
 ) -> bool {
     match words(alloc, case.words) {
         Ok(args) => {
@@ -197,7 +198,7 @@ fn answers_words<G: Gate, R: Threads + Wait + Sync>(
     args: &[String],
     gate: &G,
     accept: &mut Guests,
-    ended: &mut KeepEnded<Guest>,
+    ended: &mut KeepEnded<Guest, KeptJournal>,
 ) -> bool {
     match texts(alloc) {
         Ok(mut files) => {
@@ -218,7 +219,7 @@ fn answers_over<G: Gate, R: Threads + Wait + Sync>(
     files: &mut MemTexts,
     gate: &G,
     accept: &mut Guests,
-    ended: &mut KeepEnded<Guest>,
+    ended: &mut KeepEnded<Guest, KeptJournal>,
 ) -> bool {
     match List::from_slice(alloc, case.writes_failing) {
         Ok(failing) => {
@@ -242,7 +243,7 @@ fn is_bound(accept: &Guests) -> bool {
 
 /// Whether all that is to be was handed on: each session and the traders where the status is 0, and otherwise no
 /// traders. Each session that was handed on was served, whatever came behind it.
-fn has_ended(ended: &KeepEnded<Guest>, case: &Case) -> bool {
+fn has_ended(ended: &KeepEnded<Guest, KeptJournal>, case: &Case) -> bool {
     let sessions = ended.sessions().as_slice();
     if !were_served(sessions, case.story) {
         return false;
@@ -254,7 +255,7 @@ fn has_ended(ended: &KeepEnded<Guest>, case: &Case) -> bool {
 }
 
 /// Whether there is a session of each number up to this one, and no other.
-fn are_numbered(sessions: &[(u64, Guest, End, Room)], count: u64) -> bool {
+fn are_numbered(sessions: &[(u64, Guest, End, KeptJournal)], count: u64) -> bool {
     for before in 0..count {
         if !has_number(sessions, before + 1) {
             return false;
@@ -263,7 +264,7 @@ fn are_numbered(sessions: &[(u64, Guest, End, Room)], count: u64) -> bool {
     sessions.len() as u64 == count
 }
 
-fn has_number(sessions: &[(u64, Guest, End, Room)], number: u64) -> bool {
+fn has_number(sessions: &[(u64, Guest, End, KeptJournal)], number: u64) -> bool {
     for session in sessions {
         if session.0 == number {
             return true;
@@ -272,7 +273,7 @@ fn has_number(sessions: &[(u64, Guest, End, Room)], number: u64) -> bool {
     false
 }
 
-fn were_served(sessions: &[(u64, Guest, End, Room)], story: Story) -> bool {
+fn were_served(sessions: &[(u64, Guest, End, KeptJournal)], story: Story) -> bool {
     for session in sessions {
         if !was_served(session, story) {
             return false;
@@ -282,12 +283,12 @@ fn were_served(sessions: &[(u64, Guest, End, Room)], story: Story) -> bool {
 }
 
 /// Whether the session was closed, with the replies to its requests and an entry in its journal for each of them.
-fn was_served(session: &(u64, Guest, End, Room), story: Story) -> bool {
-    let (number, visitor, end, room) = session;
+fn was_served(session: &(u64, Guest, End, KeptJournal), story: Story) -> bool {
+    let (number, visitor, end, journal) = session;
     let visit = story.visit(*number);
     *end == End::Closed
         && visitor.sink.written() == visit.answer
-        && room.journal().len() == visit.requests
+        && journal.entries().len() == visit.requests
 }
 
 /// Whether one trader was handed on, with the changes of the story.

@@ -2,9 +2,9 @@
 use Rattle.std.proofs.Common.{◌≡◌, ◌∙◌, ℕ, List, [], OnOk, Option, Result, option_map, true, ap, subst}
 use Rattle.std.proofs.lemmas.Result.{on_ok_weaker}
 use Rattle.td_accept.specs.Doors.{Door, bound_to}
+use Rattle.td_reply.specs.declared.entry.Entry.{Entry}
 use Rattle.td_session.specs.Outside.{Outside}
 use Rattle.td_session.specs.declared.end.End.{End}
-use Rattle.td_session.specs.declared.room.Room.{Room}
 use Rattle.td_trader.specs.PlainTraders.{PlainTrader}
 use Rattle.td_trader.specs.Worlds.{View}
 use Rattle.td_walk.specs.declared.trace.Address.{Address}
@@ -21,8 +21,8 @@ abbrev pub begun : {X : Type 0} → ℕ → Address → List ℕ → X → List 
 begun number home seed visitor first =
     record { number = number; home = home; seed = seed; visitor = visitor; first = first }
 
-abbrev pub ended : {X : Type 0} → X → End → Room → List View → Ended X
-ended visitor end room last = record { visitor = visitor; end = end; room = room; last = last }
+abbrev pub ended : {X : Type 0} → X → End → List Entry → List View → Ended X
+ended visitor end journal last = record { visitor = visitor; end = end; journal = journal; last = last }
 
 -- ---- from the end of one call to the next
 

@@ -266,7 +266,7 @@ module _ {X : Type 0} (outside_of : X → Outside) (seeded : X → Seeded) where
       let on : AllZip Continues h.world m.world = joins_before h.world e.last m.world g.joined in
       let told : m.told ≡ option_map (with_sessions (map handed p.visits ++ handed v ∷ [])) s.told =
       told_more s.told h.told m.told (map handed p.visits) (handed v) p.told
-      (g.handed ∙ ap (λ (k : ℕ). option_map (with_session (k, e.visitor, e.end, e.room)) h.told) (sym numbered)) in
+      (g.handed ∙ ap (λ (k : ℕ). option_map (with_session (k, e.visitor, e.end, e.journal)) h.told) (sym numbered)) in
       record {
         came_in = p.came_in;
         visits = p.visits ++ v ∷ [];

@@ -1,5 +1,5 @@
 -- What a worker takes and gives back may go to another thread.
-use denote.Param.Send.{IsSend, IsSync, recorded_send, sendable, shr_send, struct_send}
+use denote.Param.Send.{IsSend, IsSync, recorded_send, sendable, shr_send, struct_send, view_send}
 use denote.RattleType.{RattleType}
 use denote.Ref.{NamedLft}
 use denote.Struct.Declared.{shape}
@@ -10,13 +10,14 @@ use Rattle.td_cdr.proofs.list.List.TheSendSync as list_cross
 use Rattle.td_cdr.proofs.text.Text.TheSendSync as text_cross
 use Rattle.td_codes.proofs.reference.Ior.TheSendSync as ior_cross
 use Rattle.td_iter.specs.contracts.desk.Desk as desk
-use Rattle.td_reply.specs.contracts.entry.Entry as entry
+use Rattle.td_journal.specs.declared.journal.Journal.{Ghosts}
 use Rattle.td_sessions.specs.contracts.session.Served as served
 use Rattle.td_sessions.specs.contracts.session.Session as session
 use Rattle.td_sends.proofs.Sends.{any_send, group_pass_field, offer_send}
 use Rattle.td_serve.proofs.replies.Replies.TheSendSync as replies_cross
 use Rattle.td_session.proofs.end.End.TheSendSync as end_cross
 use Rattle.td_session.specs.contracts.room.Room as room
+use Rattle.td_session.specs.contracts.room.Room.TheInside as room_inside
 use Rattle.td_walk.proofs.trace.Address.TheSendSync as address_cross
 use Rattle.td_walk.specs.contracts.answer.SubAnswer as sub_answer
 use Rattle.td_walk.specs.contracts.trace.TraceItem as trace_item
@@ -42,33 +43,30 @@ sub_answer_field = search valued depth 20
 trace_item_send : IsSend trace_item.the_row
 trace_item_send = search (sub_answer_field, valued) depth 30 fits 20000
 
-entry_send : IsSend entry.the_row
-entry_send = search (trace_item_send, valued) depth 30 fits 20000
+module _ (J : RattleType) (n : Ghosts J.Denot) (j : IsSend J) where
+  pub room_send : IsSend (room.the_row J n)
+  room_send =
+      view_send (room_inside.the_row J n) _ _ _ _
+      (recorded_send (room_inside.the_field J n).row _ _ (room_inside.the_type J n).to_one
+      (struct_send (shape (room_inside.the_type J n)) (
+        address_cross.the_field_send,
+        (desk_send, (search (j, sendable), (replies_cross.the_send, tt))),
+      )))
 
-room_field : IsSend (room.the_field).row
-room_field =
-    struct_send (shape room.the_type) (
-      address_cross.the_field_send,
-      (desk_send, (search (entry_send, crosses) depth 20, (replies_cross.the_send, tt))),
-    )
-
-pub room_send : IsSend room.the_row
-room_send = recorded_send (room.the_field).row _ _ (room.the_type).to_one room_field
-
-module _ (a : NamedLft) (S K L W R : RattleType) (s : IsSend S) (k : IsSend K) (l : IsSend L) (w : IsSend W)
-    (r : IsSync R) where
-  pub served_send : IsSend (served.the_row a S K L W R)
+module _ (a : NamedLft) (S K L W J R : RattleType) (s : IsSend S) (k : IsSend K) (l : IsSend L)
+    (w : IsSend W) (j : IsSend J) (r : IsSync R) where
+  pub served_send : IsSend (served.the_row a S K L W J R)
   served_send =
-      recorded_send (served.the_field a S K L W R).row _ _ (served.the_type a S K L W R).to_one
-      (struct_send (shape (served.the_type a S K L W R)) (
+      recorded_send (served.the_field a S K L W J R).row _ _ (served.the_type a S K L W J R).to_one
+      (struct_send (shape (served.the_type a S K L W J R)) (
         visitor_cross.the_field_send S K L W s k l w,
-        (end_cross.the_field_send, (room_field, (group_pass_field a R r, tt))),
+        (end_cross.the_field_send, (search (j, sendable), (group_pass_field a R r, tt))),
       ))
 
-  pub session_send : (G : RattleType) → IsSync G → IsSend (session.the_row a S K L W G R)
-  session_send G g =
-      recorded_send (session.the_field a S K L W G R).row _ _ (session.the_type a S K L W G R).to_one
-      (struct_send (shape (session.the_type a S K L W G R)) (
+  pub session_send : (G : RattleType) (n : Ghosts J.Denot) → IsSync G → IsSend (session.the_row a S K L W J G R n)
+  session_send G n g =
+      recorded_send (session.the_field a S K L W J G R n).row _ _ (session.the_type a S K L W J G R n).to_one
+      (struct_send (shape (session.the_type a S K L W J G R n)) (
         search (sendable, crosses) depth 20,
         (
           shr_send a.mir a.lft G g,
@@ -76,7 +74,7 @@ module _ (a : NamedLft) (S K L W R : RattleType) (s : IsSend S) (k : IsSend K) (
             search (sendable, crosses) depth 20,
             (
               search sendable depth 20,
-              (visitor_cross.the_field_send S K L W s k l w, (room_field, (group_pass_field a R r, tt))),
+              (visitor_cross.the_field_send S K L W s k l w, (room_send J n j, (group_pass_field a R r, tt))),
             ),
           ),
         ),

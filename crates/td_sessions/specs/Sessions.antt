@@ -13,7 +13,6 @@ use Rattle.td_register.specs.declared.history.Accepted.{Accepted}
 use Rattle.td_reply.specs.Linking.{peers_seen}
 use Rattle.td_reply.specs.declared.entry.Entry.{Entry}
 use Rattle.td_session.specs.declared.end.End.{End}
-use Rattle.td_session.specs.declared.room.Room.{Room}
 use Rattle.td_session.specs.Outside.{Outside}
 use Rattle.td_session.specs.Sessions.{Serves}
 use Rattle.td_trader.specs.declared.solo.Solo.{Solo}
@@ -27,9 +26,9 @@ use Rattle.td_workers.specs.declared.hall.Stop.TheVariants.{Failed, Memory}
 
 -- ---- what is handed on
 
--- a session that has ended: its number, its visitor, how it ended, and what was kept of it
+-- a session that has ended: its number, its visitor, how it ended, and what was noted of its Requests
 abbrev pub Handed : Type 0 → Type 0
-Handed X = ℕ × X × End × Room
+Handed X = ℕ × X × End × List Entry
 
 -- the sessions that were handed on, in order, and the traders, once they were
 pub record Told (X : Type 0) : Type 0 where
@@ -105,7 +104,7 @@ pub record Begun (X : Type 0) : Type 0 where
 pub record Ended (X : Type 0) : Type 0 where
   pub visitor : X
   pub end : End
-  pub room : Room
+  pub journal : List Entry
   pub last : List View
 
 -- A session over traders that others act on too: it began with this view of them and these random words, with no
@@ -123,7 +122,7 @@ pub record ServesOver (others : List Accepted → Type 0) (later : Marks → Mar
 abbrev pub Serving : {X : Type 0} → (X → Outside) → (X → Seeded) → Begun X → Ended X → Type 0
 Serving outside_of seeded b e =
     ServesOver anything Later b.home b.first (seeded b.visitor (record { key = b.seed; stream = b.number }))
-    e.room.journal.items e.end (outside_of b.visitor) (outside_of e.visitor) e.last
+    e.journal e.end (outside_of b.visitor) (outside_of e.visitor) e.last
 
 -- ---- the sessions of a server
 
@@ -155,7 +154,7 @@ pub record ComesToAnEnd {X : Type 0} (s t : Stand X) : Type 0 where
 
 -- a session that has ended is handed on, under its number, and what it has seen and done is taken in
 pub record GoesOut {X : Type 0} (s : Stand X) (number : ℕ) (e : Ended X) (t : Stand X) : Type 0 where
-  pub handed : t.told ≡ option_map (with_session (number, e.visitor, e.end, e.room)) s.told
+  pub handed : t.told ≡ option_map (with_session (number, e.visitor, e.end, e.journal)) s.told
   pub joined : Rows Joins s.world e.last t.world
   pub rest : t ≡ record s { told = t.told; world = t.world }
 

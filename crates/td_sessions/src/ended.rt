@@ -1,30 +1,35 @@
 //! Where sessions go that have ended.
 
-ghost use Rattle.std.specs.Prelude.{◌≡◌, [], None, Some, Option, IfOk, OnOk, OnErr, option_map};
+ghost use Rattle.std.specs.Prelude.{◌≡◌, [], None, Some, Option, IfOk, OnOk, OnErr, map, option_map};
 ghost use Rattle.td_sessions.specs.Sessions.{Told, with_group, with_session};
 
 use std::alloc::Global;
+use std::marker::PhantomData;
 use td_cdr::{List, Memory};
-use td_session::{End, Room};
+use td_journal::Journal;
+use td_session::End;
 use td_trader::Solo;
 
 /// Where sessions go that have ended, and in the end the traders.
 pub trait Ended<V> {
+    /// What sessions note their entries in.
+    type J: Journal + Send + Drop;
+
     /// The sessions that were handed on, in order, and the traders once they were, where it tells.
     ghost told: { Self → Option (Told V) };
 
     /// It is the same still: of a borrow, that no other was put in its place.
     ghost same: { Self → Self → Type 0 };
 
-    /// A session has ended: its number, its visitor, how it ended, and what was kept of it.
+    /// A session has ended: its number, its visitor, how it ended, and its journal.
     ///
     /// # Errors
     ///
     /// `Memory` for want of memory alone; the session is then dropped.
-    fn session(&mut self, number: u64, visitor: V, end: End, room: Room) -> Result<(), Memory>
+    fn session(&mut self, number: u64, visitor: V, end: End, journal: Self::J) -> Result<(), Memory>
         ensures same { same self.old self.new }
         ensures ok { OnOk result
-            (told self.new ≡ option_map (with_session (number, visitor, end, room)) (told self.old)) }
+            (told self.new ≡ option_map (with_session (number, visitor, end, Self.J.entries journal)) (told self.old)) }
         ensures err { OnErr result (told self.new ≡ told self.old) };
 
     /// All sessions have ended.
@@ -37,18 +42,18 @@ pub trait Ended<V> {
 
 /// It keeps what it is handed, and tells it.
 #[derive(Drop)]
-pub struct KeepEnded<V> {
-    sessions: List<(u64, V, End, Room)>,
+pub struct KeepEnded<V, J> {
+    sessions: List<(u64, V, End, J)>,
     closed: Option<Solo>,
 }
 
-impl<V> KeepEnded<V> {
+impl<V, J> KeepEnded<V, J> {
     /// Nothing was handed to it yet. It keeps the allocator, with which it grows.
     ///
     /// # Errors
     ///
     /// `Memory` for want of memory alone.
-    pub fn new(alloc: Global) -> Result<KeepEnded<V>, Memory>
+    pub fn new(alloc: Global) -> Result<KeepEnded<V, J>, Memory>
         ensures { IfOk result (λ k. (k.sessions ≡ []) × (k.closed ≡ None)) }
     {
         let sessions = List::with_room(alloc, 1)?;
@@ -59,7 +64,7 @@ impl<V> KeepEnded<V> {
     }
 
     /// The sessions, in the order in which they were handed on.
-    pub fn sessions(&self) -> &List<(u64, V, End, Room)>
+    pub fn sessions(&self) -> &List<(u64, V, End, J)>
         ensures { result.now ≡ self.now.sessions }
     {
         &self.sessions
@@ -73,15 +78,20 @@ impl<V> KeepEnded<V> {
     }
 }
 
-impl<V: Drop> Ended<V> for KeepEnded<V> {
-    ghost told = { λ k. Some (record { sessions = k.sessions; closed = k.closed }) };
+impl<V: Drop, J: Journal + Send + Drop> Ended<V> for KeepEnded<V, J> {
+    type J = J;
+
+    ghost told = { λ k. Some (record {
+      sessions = map (λ h. (h.0, h.1, h.2, J.entries h.3)) k.sessions;
+      closed = k.closed;
+    }) };
 
     ghost same = { λ _ _. Unit {0} };
 
     ghost same_on = { λ _ _ _ _ _. tt };
 
-    fn session(&mut self, number: u64, visitor: V, end: End, room: Room) -> Result<(), Memory> {
-        self.sessions.push((number, visitor, end, room))
+    fn session(&mut self, number: u64, visitor: V, end: End, journal: J) -> Result<(), Memory> {
+        self.sessions.push((number, visitor, end, journal))
     }
 
     fn group(&mut self, solo: Solo) {
@@ -90,19 +100,32 @@ impl<V: Drop> Ended<V> for KeepEnded<V> {
 }
 
 /// It drops what it is handed, and tells nothing of it.
-#[derive(Clone, Copy, Debug, PartialEq, Eq)]
-pub struct DropEnded;
+#[derive(Drop)]
+pub struct DropEnded<J> {
+    noted_in: PhantomData<J>,
+}
 
-impl<V: Drop> Ended<V> for DropEnded {
+impl<J> DropEnded<J> {
+    /// It takes sessions whose entries are noted in such journals.
+    pub fn new() -> DropEnded<J> {
+        DropEnded {
+            noted_in: PhantomData,
+        }
+    }
+}
+
+impl<V: Drop, J: Journal + Send + Drop> Ended<V> for DropEnded<J> {
+    type J = J;
+
     ghost told = { λ _. None };
 
     ghost same = { λ _ _. Unit {0} };
 
     ghost same_on = { λ _ _ _ _ _. tt };
 
-    fn session(&mut self, _number: u64, visitor: V, _end: End, room: Room) -> Result<(), Memory> {
+    fn session(&mut self, _number: u64, visitor: V, _end: End, journal: J) -> Result<(), Memory> {
         drop(visitor);
-        drop(room);
+        drop(journal);
         Ok(())
     }
 

@@ -17,6 +17,7 @@ use td_accept::{Accept, Gate, Visitor};
 use td_cdr::{Memory, Octets, Twin};
 use td_cell::Pass;
 use td_group::{Group, Stall};
+use td_journal::Journal;
 use td_session::Room;
 use td_walk::Address;
 use td_workers::{Hall, Stop};
@@ -37,8 +38,8 @@ pub(crate) struct Reception<'a, 'e, 'g, A, G, N, R> {
 }
 
 impl<'a, 'e, 'g, A, G, N, R> Hall<
-    Served<'g, A::S, A::K, A::L, A::W, R>,
-    Session<'g, A::S, A::K, A::L, A::W, G, R>,
+    Served<'g, A::S, A::K, A::L, A::W, N::J, R>,
+    Session<'g, A::S, A::K, A::L, A::W, N::J, G, R>,
 > for Reception<'a, 'e, 'g, A, G, N, R>
 where
     A: Accept,
@@ -109,7 +110,7 @@ where
         (record {
           visitor = made.visitor;
           end = made.end;
-          room = made.room;
+          journal = N.J.entries made.journal;
           last = map seen_by made.pass.passes.items;
         })
         (record {
@@ -139,7 +140,7 @@ where
     fn next(
         &mut self,
         number: u64,
-    ) -> Result<Option<Session<'g, A::S, A::K, A::L, A::W, G, R>>, Stop> {
+    ) -> Result<Option<Session<'g, A::S, A::K, A::L, A::W, N::J, G, R>>, Stop> {
         match self.accept.next() {
             Err(_) => Err(Stop::Failed),
             Ok(None) => Ok(None),
@@ -160,16 +161,16 @@ where
     fn part(
         &mut self,
         number: u64,
-        made: Served<'g, A::S, A::K, A::L, A::W, R>,
+        made: Served<'g, A::S, A::K, A::L, A::W, N::J, R>,
     ) -> Result<(), Stop> {
         let Served {
             visitor,
             end,
-            room,
+            journal,
             pass,
         } = made;
         self.group.take_in(&mut self.passes, pass);
-        match self.ended.session(number, visitor, end, room) {
+        match self.ended.session(number, visitor, end, journal) {
             Ok(()) => Ok(()),
             Err(_) => Err(Stop::Memory),
         }
@@ -178,7 +179,7 @@ where
 
 /// Begins a visitor's session: makes its room, and its pass, which has seen what was seen by the sessions that have
 /// ended.
-fn begin<'g, S: Drop, K: Drop, L: Drop, W: Drop, G, R: Wait>(
+fn begin<'g, S: Drop, K: Drop, L: Drop, W: Drop, J: Journal + Drop, G, R: Wait>(
     rt: &'g R,
     alloc: Global,
     gate: &'g G,
@@ -188,7 +189,7 @@ fn begin<'g, S: Drop, K: Drop, L: Drop, W: Drop, G, R: Wait>(
     passes: &mut Vec<Pass<Stall>>,
     number: u64,
     visitor: Visitor<S, K, L, W>,
-) -> Result<Session<'g, S, K, L, W, G, R>, Memory>
+) -> Result<Session<'g, S, K, L, W, J, G, R>, Memory>
     requires opening { AreOpening group.now.cells.items passes.old.items }
     requires home { IsAddress home.now }
     requires seed { length seed.now ≡ 32 }
@@ -222,7 +223,7 @@ fn begin<'g, S: Drop, K: Drop, L: Drop, W: Drop, G, R: Wait>(
 }
 
 /// A room for a session with the traders that are reached at this address.
-fn room_at(alloc: Global, home: &Address) -> Result<Room, Memory>
+fn room_at<J: Journal>(alloc: Global, home: &Address) -> Result<Room<J>, Memory>
     requires { IsAddress home.now }
     ensures new { IfOk result (λ room. IsNew room) }
     ensures home { IfOk result (λ room. room.home ≡ home.now) }

@@ -9,11 +9,12 @@ ghost use Rattle.td_sessions.specs.Sessions.{Serving, ServesOver};
 
 use std::alloc::Global;
 use std::sync::Wait;
-use td_accept::{Gate, Visitor};
+use td_accept::{ClientSink, Gate, Visitor};
 use td_cdr::Octets;
 use td_client::Caller;
 use td_group::GroupPass;
-use td_out::{Sink, Source, Words};
+use td_journal::Journal;
+use td_out::{Source, Words};
 use td_session::{End, Room, serve_connection};
 use td_trader::Traders;
 use td_wire::Wire;
@@ -21,31 +22,32 @@ use td_workers::Job;
 
 /// A session that begins.
 #[derive(Drop)]
-pub(crate) struct Session<'g, S, K, L, W, G, R: Wait> {
+pub(crate) struct Session<'g, S, K, L, W, J: Journal, G, R: Wait> {
     pub(crate) alloc: Global,
     pub(crate) gate: &'g G,
     pub(crate) seed: &'g Octets,
     pub(crate) number: u64,
     pub(crate) visitor: Visitor<S, K, L, W>,
-    pub(crate) room: Room,
+    pub(crate) room: Room<J>,
     pub(crate) pass: GroupPass<'g, R>,
     ghost seeded: { length seed.now ≡ 32 },
     ghost no_iterator: { length room.desk.0 ≡ 0 },
     ghost first: { room.desk.1 ≡ 1 },
-    ghost nothing_noted: { length room.journal.items ≡ 0 },
+    ghost nothing_noted: { length room.journal ≡ 0 },
 }
 
 /// A session that has ended.
 #[derive(Drop)]
-pub(crate) struct Served<'g, S, K, L, W, R: Wait> {
+pub(crate) struct Served<'g, S, K, L, W, J, R: Wait> {
     pub(crate) visitor: Visitor<S, K, L, W>,
     pub(crate) end: End,
-    pub(crate) room: Room,
+    pub(crate) journal: J,
     pub(crate) pass: GroupPass<'g, R>,
 }
 
-impl<'g, S: Source, K: Sink, L: Wire, W: Words, G: Gate, R: Wait> Job<Served<'g, S, K, L, W, R>>
-    for Session<'g, S, K, L, W, G, R> {
+impl<'g, S: Source, K: ClientSink, L: Wire, W: Words, J: Journal, G: Gate, R: Wait> Job<
+    Served<'g, S, K, L, W, J, R>,
+> for Session<'g, S, K, L, W, J, G, R> {
     ghost does = { λ s e. SamePasses s.pass.passes.items e.pass.passes.items
         × Serving
         (λ v. outside (S.left v.source) (S.faults v.source) (K.written v.sink) (K.faults v.sink))
@@ -57,9 +59,14 @@ impl<'g, S: Source, K: Sink, L: Wire, W: Words, G: Gate, R: Wait> Job<Served<'g,
           visitor = s.visitor;
           first = map seen_by s.pass.passes.items;
         })
-        (record { visitor = e.visitor; end = e.end; room = e.room; last = map seen_by e.pass.passes.items }) };
+        (record {
+          visitor = e.visitor;
+          end = e.end;
+          journal = J.entries e.journal;
+          last = map seen_by e.pass.passes.items;
+        }) };
 
-    fn work(self) -> Served<'g, S, K, L, W, R> {
+    fn work(self) -> Served<'g, S, K, L, W, J, R> {
         let Session {
             alloc,
             gate,
@@ -75,27 +82,28 @@ impl<'g, S: Source, K: Sink, L: Wire, W: Words, G: Gate, R: Wait> Job<Served<'g,
         Served {
             visitor,
             end,
-            room,
+            journal: room.into_journal(),
             pass,
         }
     }
 }
 
-/// Serves a visitor's session with these traders. Its words are those that come after a seeding with the seed and its
-/// number, and objects outside are called over its wire.
-fn serve_visitor<T: Traders, S: Source, K: Sink, L: Wire, W: Words>(
+/// Serves a visitor's session with these traders, and closes its connection. Its words are those that come after a
+/// seeding with the seed and its number, and objects outside are called over its wire.
+fn serve_visitor<T: Traders, S: Source, K: ClientSink, L: Wire, W: Words, J: Journal>(
     alloc: Global,
     seed: &Octets,
     number: u64,
     traders: &mut T,
-    room: &mut Room,
+    room: &mut Room<J>,
     visitor: &mut Visitor<S, K, L, W>,
 ) -> End
     requires seed { length seed.now ≡ 32 }
     requires new { IsNew room.old }
     ensures same { T.same traders.old traders.new }
+    ensures closed { K.closed visitor.new.sink }
     ensures serves { ServesOver T.others T.later room.old.home (T.world traders.old)
-        (W.word_after visitor.old.words (record { key = seed.now; stream = number })) room.new.journal.items result
+        (W.word_after visitor.old.words (record { key = seed.now; stream = number })) room.new.journal result
         (outside (S.left visitor.old.source) (S.faults visitor.old.source) (K.written visitor.old.sink)
         (K.faults visitor.old.sink))
         (outside (S.left visitor.new.source) (S.faults visitor.new.source) (K.written visitor.new.sink)
@@ -104,7 +112,7 @@ fn serve_visitor<T: Traders, S: Source, K: Sink, L: Wire, W: Words>(
 {
     visitor.words.seed(seed.as_slice(), number);
     let mut peers = Caller::new(alloc, &mut visitor.wire);
-    serve_connection(
+    let end = serve_connection(
         alloc,
         traders,
         room,
@@ -112,5 +120,8 @@ fn serve_visitor<T: Traders, S: Source, K: Sink, L: Wire, W: Words>(
         &mut visitor.sink,
         &mut peers,
         &mut visitor.words,
-    )
+    );
+    drop(peers);
+    visitor.sink.close();
+    end
 }

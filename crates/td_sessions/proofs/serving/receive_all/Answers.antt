@@ -13,14 +13,14 @@ use Rattle.td_sessions.proofs.serving.receive_all.Goals as goal
 pub work_all-requires-send-D : goal.work_all-requires-send-D
 work_all-requires-send-D g c κs within =
     let b = c.type_bounds in
-    param_send _ _ (arg_send _ no _ (served_send _ _ _ _ _ _ b.send-A-S b.send-A-K b.send-A-L b.send-A-W b.sync-R))
+    param_send _ _ (arg_send _ no _ (served_send _ _ _ _ _ _ _ b.send-A-S b.send-A-K b.send-A-L b.send-A-W b.send-N-J b.sync-R))
 
 pub work_all-requires-send-J : goal.work_all-requires-send-J
 work_all-requires-send-J g c κs within =
     let b = c.type_bounds in
     param_send _ _
     (arg_send _ no _
-    (session_send _ _ _ _ _ _ b.send-A-S b.send-A-K b.send-A-L b.send-A-W b.sync-R _ b.sync-G))
+    (session_send _ _ _ _ _ _ _ b.send-A-S b.send-A-K b.send-A-L b.send-A-W b.send-N-J b.sync-R _ g.N.J.Journal b.sync-G))
 
 pub returns-clause-met : goal.returns-clause-met
 returns-clause-met g c =
@@ -39,5 +39,5 @@ returns-clause-serves g c =
     (λ r. stand r.home.now r.seed.now (g.A.Accept.told r.accept.now) (g.N.Ended.told r.ended.now)
     (map seen_by r.passes.items))
     (λ s. begun s.number s.room.home s.seed.now s.visitor (map seen_by s.pass.passes.items))
-    (λ s. ended s.visitor s.end s.room (map seen_by s.pass.passes.items)) (λ a n j b x. x.0) (λ a b x. x.0)
+    (λ s. ended s.visitor s.end (g.N.J.Journal.entries s.journal) (map seen_by s.pass.passes.items)) (λ a n j b x. x.0) (λ a b x. x.0)
     (λ j d x. x.1) (λ a n d b x. x.0)))

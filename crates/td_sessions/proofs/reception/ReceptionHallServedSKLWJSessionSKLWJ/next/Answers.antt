@@ -1,6 +1,6 @@
 use Rattle.td_sessions.proofs.Coming.{comes_in}
 use Rattle.td_sessions.proofs.Taking.{splits_first, splits_keep}
-use Rattle.td_sessions.proofs.reception.ReceptionHallServedSKLWSessionSKLW.next.Goals as goal
+use Rattle.td_sessions.proofs.reception.ReceptionHallServedSKLWJSessionSKLWJ.next.Goals as goal
 
 pub returns-in-Ok-clause-came : goal.returns-in-Ok-clause-came
 returns-in-Ok-clause-came g c =

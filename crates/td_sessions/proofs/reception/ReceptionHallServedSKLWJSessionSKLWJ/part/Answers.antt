@@ -2,7 +2,7 @@ use Rattle.std.proofs.Common.{[], ◌∷◌, refl}
 use Rattle.td_group.proofs.Passing.{still_out}
 use Rattle.td_sessions.proofs.Taking.{joins_all}
 use Rattle.td_sessions.specs.HallLaws.{stays_as}
-use Rattle.td_sessions.proofs.reception.ReceptionHallServedSKLWSessionSKLW.part.Goals as goal
+use Rattle.td_sessions.proofs.reception.ReceptionHallServedSKLWJSessionSKLWJ.part.Goals as goal
 
 pub take_in-requires-clause-out : goal.take_in-requires-clause-out
 take_in-requires-clause-out g c = still_out _ _ _ c.requires.came.2.0 c.requires.came.1
