@@ -1,8 +1,13 @@
-/* Load over TCP, for bench/listen/run.
+/* Load over TCP, for bench/listen/run and bench/links.
 
    load ask PORT CONNECTIONS ON_THEIR_WAY SECONDS REQUEST REPLY_SIZE
        Opens so many connections to 127.0.0.1, keeps so many of the request (a file) on their way over each, and prints
        how many replies of that size came in a second.
+   load compare PORT CONNECTIONS SECONDS COUNT REQUEST REPLY
+       Opens so many connections to 127.0.0.1, keeps one request on its way over each, until so many were answered in
+       all or so many seconds have passed, and reads each reply whole. Prints the seconds, how many replies were the one
+       in REPLY, how many weren't, how many connections got none within 20 seconds or ended, and the milliseconds that
+       the slowest reply took.
    load answer PORT REQUEST_SIZE REPLY
        Serves whoever connects, each on a thread of its own, by the socket calls that tradesrv makes: it reads 8,192
        bytes at most, and for as many as a request has it writes the reply (a file) by a call of its own. It looks at
@@ -12,6 +17,7 @@
 #include <netinet/tcp.h>
 #include <pthread.h>
 #include <signal.h>
+#include <stdatomic.h>
 #include <stdio.h>
 #include <stdlib.h>
 #include <string.h>
@@ -128,6 +134,79 @@ static void ask(int port, int connections, int on_their_way, double seconds, str
     printf("%.0f\n", count / (now() - begin));
 }
 
+/* A connection that compares what it is answered, and what all of them share. */
+struct asker {
+    int stream;
+    double until, slowest;
+    struct text request, reply;
+    long same, other, lost;
+};
+
+static atomic_long left;
+
+/* The size of the message that was read whole, 0 where it ended before or took too long. */
+static size_t message_read(int stream, unsigned char *room, size_t size) {
+    size_t held = 0, whole = 12;
+    while (held < whole) {
+        ssize_t n = read(stream, room + held, whole - held);
+        if (n <= 0) return 0;
+        held += n;
+        if (held == 12) whole += (size_t)room[8] << 24 | room[9] << 16 | room[10] << 8 | room[11];
+        if (whole > size) return 0;
+    }
+    return held;
+}
+
+static void *compare_all(void *argument) {
+    struct asker *it = argument;
+    unsigned char *room = malloc(1 << 20);
+    if (!room) fail("malloc");
+    while (now() < it->until && atomic_fetch_sub(&left, 1) > 0) {
+        double begin = now();
+        if (!is_sent(it->stream, it->request.bytes, it->request.size)) {
+            it->lost++;
+            break;
+        }
+        size_t size = message_read(it->stream, room, 1 << 20);
+        if (size == 0) {
+            it->lost++;
+            break;
+        }
+        int same = size == it->reply.size && memcmp(room, it->reply.bytes, size) == 0;
+        it->same += same;
+        it->other += !same;
+        if (now() - begin > it->slowest) it->slowest = now() - begin;
+    }
+    close(it->stream);
+    free(room);
+    return NULL;
+}
+
+static void compare(int port, int connections, double seconds, long count, struct text request, struct text reply) {
+    pthread_t threads[connections];
+    struct asker askers[connections], all = {0};
+    struct sockaddr_in address = loopback(port);
+    struct timeval patience = {20, 0};
+    double begin = now();
+    atomic_store(&left, count);
+    for (int i = 0; i < connections; i++) {
+        int stream = socket(AF_INET, SOCK_STREAM, 0);
+        if (connect(stream, (struct sockaddr *)&address, sizeof address) < 0) fail("connect");
+        at_once(stream);
+        setsockopt(stream, SOL_SOCKET, SO_RCVTIMEO, &patience, sizeof patience);
+        askers[i] = (struct asker){stream, begin + seconds, 0, request, reply, 0, 0, 0};
+        pthread_create(&threads[i], NULL, compare_all, &askers[i]);
+    }
+    for (int i = 0; i < connections; i++) {
+        pthread_join(threads[i], NULL);
+        all.same += askers[i].same;
+        all.other += askers[i].other;
+        all.lost += askers[i].lost;
+        if (askers[i].slowest > all.slowest) all.slowest = askers[i].slowest;
+    }
+    printf("%.3f %ld %ld %ld %.0f\n", now() - begin, all.same, all.other, all.lost, all.slowest * 1000);
+}
+
 static void answer(int port, size_t request_size, struct text reply) {
     struct sockaddr_in address = loopback(port);
     int listener = socket(AF_INET, SOCK_STREAM, 0), yes = 1;
@@ -151,6 +230,8 @@ int main(int count, char **words) {
     signal(SIGPIPE, SIG_IGN);
     if (count == 8 && strcmp(words[1], "ask") == 0) {
         ask(atoi(words[2]), atoi(words[3]), atoi(words[4]), atof(words[5]), text_of(words[6]), atoi(words[7]));
+    } else if (count == 8 && strcmp(words[1], "compare") == 0) {
+        compare(atoi(words[2]), atoi(words[3]), atof(words[4]), atol(words[5]), text_of(words[6]), text_of(words[7]));
     } else if (count == 5 && strcmp(words[1], "answer") == 0) {
         answer(atoi(words[2]), atoi(words[3]), text_of(words[4]));
     } else {
