@@ -2,7 +2,7 @@
 PYTHONPATH (.ci/run and tools/build).
 
 A crate's sum is made of its files and of the sums of the crates that it stands on. Some kits take these anew for each
-way that leads down to a crate: for td_listen 367,158 times, which takes half an hour in which nothing is proved. The
+way that leads down to a crate: for td_listen 367,158 times, reckoned at half an hour in which nothing is proved. The
 sums are the same, and so is all else that `rt` does.
 """
 
