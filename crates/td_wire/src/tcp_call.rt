@@ -3,15 +3,15 @@
 ghost use Rattle.std.specs.Io.{ReadsAtMost};
 ghost use Rattle.td_out.specs.Causes.{Takes};
 
-use crate::tcp_connection::TcpConnection;
+use crate::tcp_connection::{LATEST, TcpConnection};
 use std::io::{Read, Write};
 use std::net::OpenStream;
 use std::rt::Clock;
 use std::time::{Duration, Instant};
 use td_out::{Failed, read_some, write_some};
 
-/// How long a call may take, in seconds, from before its connection is made to its last byte.
-const CALL_LIMIT: u64 = 60;
+/// How long a call may take, in milliseconds, from before its connection is made to its last byte.
+const CALL_LIMIT: u64 = 60_000;
 
 /// How many bytes a call may read: 256 MiB.
 const READ_LIMIT: usize = 256 * 1024 * 1024;
@@ -19,7 +19,7 @@ const READ_LIMIT: usize = 256 * 1024 * 1024;
 /// A rest of time that counts as none, in milliseconds: the system's timers may go off so much too early.
 const NO_TIME: u64 = 20;
 
-/// When a call is to be over.
+/// When no read or write of a call begins any more: what has begun is over `LATEST` behind that.
 #[derive(Clone, Copy)]
 pub(crate) struct Deadline(Instant);
 
@@ -27,7 +27,7 @@ impl Deadline {
     /// The deadline of a call that begins now; none where the clock tells no time.
     pub(crate) fn of_call<C: Clock>(clock: &C) -> Option<Deadline> {
         let now = Instant::now(clock).ok()?;
-        Some(Deadline(now.checked_add(Duration::from_secs(CALL_LIMIT))?))
+        Some(Deadline(now.checked_add(Duration::from_millis(CALL_LIMIT - LATEST))?))
     }
 
     /// How much time is left; none where the deadline is past, or the clock tells no time.
@@ -81,11 +81,10 @@ impl<S: OpenStream + Read + Write> TcpCall<S> {
         let Some(rest) = self.deadline.rest(clock) else {
             return Err(Failed);
         };
-        let stream = &mut self.connection.stream;
-        if stream.set_read_timeout(Some(rest)).is_err() {
+        if !self.connection.limit_read(rest) {
             return Err(Failed);
         }
-        let size = read_some(stream, &mut into[..room])?;
+        let size = read_some(&mut self.connection.stream, &mut into[..room])?;
         self.left = self.left.saturating_sub(size);
         Ok(size)
     }
@@ -97,10 +96,9 @@ impl<S: OpenStream + Read + Write> TcpCall<S> {
         let Some(rest) = self.deadline.rest(clock) else {
             return Err(Failed);
         };
-        let stream = &mut self.connection.stream;
-        if stream.set_write_timeout(Some(rest)).is_err() {
+        if !self.connection.limit_write(rest) {
             return Err(Failed);
         }
-        write_some(stream, piece)
+        write_some(&mut self.connection.stream, piece)
     }
 }

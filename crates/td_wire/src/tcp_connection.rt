@@ -12,6 +12,12 @@ use td_out::Failed;
 /// How long the connection to one address may take to be made, in seconds.
 const CONNECT_LIMIT: u64 = 10;
 
+/// By how much one read or write may last longer than it should, in milliseconds.
+pub(crate) const LATEST: u64 = 1_000;
+
+/// How much longer than it should one read or write may last when the system is told its limit, in milliseconds.
+const MARGIN: u64 = 500;
+
 /// Where a connection goes: the host as it was named, and the port.
 #[derive(Drop)]
 pub(crate) struct Peer {
@@ -56,6 +62,10 @@ pub(crate) struct TcpConnection<S> {
     pub(crate) calls: u32,
     /// The round of the pool in which its last call was done.
     pub(crate) round: u64,
+    /// How long one read of the stream may take, as the system was told last.
+    read_limit: Option<Duration>,
+    /// How long one write to the stream may take, as the system was told last.
+    write_limit: Option<Duration>,
 }
 
 impl<S> TcpConnection<S> {
@@ -66,6 +76,8 @@ impl<S> TcpConnection<S> {
             stream,
             calls: 0,
             round: 0,
+            read_limit: None,
+            write_limit: None,
         }
     }
 
@@ -91,6 +103,38 @@ impl<S> TcpConnection<S> {
             Some(peer) => peer.is_at(host, port),
             None => false,
         }
+    }
+}
+
+impl<S: OpenStream> TcpConnection<S> {
+    /// Has one read of the stream take no longer than this, or `LATEST` more. Answers whether it does.
+    pub(crate) fn limit_read(&mut self, rest: Duration) -> bool {
+        if is_near(self.read_limit, rest) {
+            return true;
+        }
+        self.read_limit = rest.checked_add(Duration::from_millis(MARGIN));
+        self.read_limit.is_some() && self.stream.set_read_timeout(self.read_limit).is_ok()
+    }
+
+    /// Has one write to the stream take no longer than this, or `LATEST` more. Answers whether it does.
+    pub(crate) fn limit_write(&mut self, rest: Duration) -> bool {
+        if is_near(self.write_limit, rest) {
+            return true;
+        }
+        self.write_limit = rest.checked_add(Duration::from_millis(MARGIN));
+        self.write_limit.is_some() && self.stream.set_write_timeout(self.write_limit).is_ok()
+    }
+}
+
+/// Whether what lasts as long as this limit lasts no shorter than the rest, and at most `LATEST` longer. (So the system
+/// is told a limit about twice a second, and not at each read and write.)
+fn is_near(limit: Option<Duration>, rest: Duration) -> bool {
+    let Some(limit) = limit else {
+        return false;
+    };
+    match limit.checked_sub(rest) {
+        Some(longer) => longer <= Duration::from_millis(LATEST),
+        None => false,
     }
 }
 

@@ -70,7 +70,7 @@ fn is_cut_off<L: Wire, R>(
     let mut good = drips(wire, peer);
     clock.put_forward(30_000);
     good &= drips(wire, peer);
-    clock.put_forward(29_000);
+    clock.put_forward(28_500);
     good &= drips(wire, peer) && wire.read(&mut [0u8]) == Err(Failed);
     good &= !drips(wire, peer) && wire.write(&[1]) == Err(Failed);
     wire.finish(false);
