@@ -17,7 +17,7 @@ use td_store::{Offers, Store};
 fn spelled(alloc: Global, numbers: &[u32]) -> Result<List<Text>, Memory>
     ensures { IfOk result (λ ids. ids ≡ map id_of numbers.now) }
 {
-    let mut ids = List::new(alloc);
+    let mut ids = List::with_room(alloc, numbers.len())?;
     for number in numbers {
         let id = id_of(alloc, *number)?;
         ids.push(id)?;
