@@ -1,9 +1,10 @@
 -- A hall that goes on, and the jobs that are out.
 use Rattle.std.proofs.Common.{◌≡◌, ℕ, zero, suc, ◌+◌, ◌<◌, Bool, true, false, List, [], ◌∷◌, ◌++◌, length, map, take}
 use Rattle.std.proofs.Common.{drop, remove, slice_index_or, sym, ap, subst, ◌∙◌, append_assoc, append-nil, arith}
-use Rattle.std.proofs.Common.{Result, Ok, Err, OnOk}
-use Rattle.std.proofs.lemmas.List.{map-append}
-use Rattle.td_workers.specs.Works.{Closed, Moves, OfEach, Parted, Welcomed, Working}
+use Rattle.std.proofs.Common.{Result, Ok, Err, OnOk, refl}
+use Rattle.std.proofs.lemmas.Bool.{true≢false}
+use Rattle.std.proofs.lemmas.List.{length-map, length-take-le, map-append}
+use Rattle.td_workers.specs.Works.{Closed, Moves, OfEach, Parted, Placed, Welcomed, Working}
 use Rattle.td_workers.specs.Works.{came, closed, over, went}
 
 -- ---- each of some jobs
@@ -33,15 +34,22 @@ cut_at [] i w h e = absurd (omega arith)
 cut_at (x ∷ xs) zero w h e = ap (λ y. y ∷ xs) (sym e)
 cut_at (x ∷ xs) (suc i) w h e = ap (λ ys. x ∷ ys) (cut_at xs i w (omega arith) e)
 
+short : {W V : Type 0} (f : W → V) (xs : List W) (i : ℕ) → i < length xs → i < 64 → length (map f (take i xs)) < 64
+short f xs i within few =
+    subst (λ n. n < 64) (sym (length-map (take i xs) f ∙ length-take-le i xs (omega (arith, within)))) few
+
 -- ---- steps
 
 module _ {H J D : Type 0} (Ready : H → Type 0) (Waits : H → J → Type 0) (admits : H → ℕ → J → H → Type 0)
-    (closes : H → H → Type 0) (does : J → D → Type 0) (parts : H → ℕ → D → H → Type 0) where
+    (closes : H → H → Type 0) (does : J → D → Type 0) (here : D → Bool) (parts : H → ℕ → D → H → Type 0) where
   abbrev Goes : H → List (ℕ × J) → H → List (ℕ × J) → Type 0
-  Goes h out u left = Moves Ready Waits admits closes does parts h out u left
+  Goes h out u left = Moves Ready Waits admits closes does here parts h out u left
 
   abbrev Runs : Bool → H → ℕ → List (ℕ × J) → H → Type 0
-  Runs more h n out k = Working admits closes does parts more h n out k
+  Runs more h n out k = Working admits closes does here parts more h n out k
+
+  abbrev Stays : H → List (ℕ × J) → H → List (ℕ × J) → Type 0
+  Stays h out u left = Placed Ready Waits admits closes does here parts h out u left
 
   pub moves_itself : (h : H) (out : List (ℕ × J)) → Ready h → OfEach (Waits h) out → Goes h out h out
   moves_itself h out r w = record { ready = r; stays = λ j x. x; waits = w; leads = λ more n k others x. x }
@@ -54,24 +62,12 @@ module _ {H J D : Type 0} (Ready : H → Type 0) (Waits : H → J → Type 0) (a
     leads = λ more n k others x. p.leads more n k others (q.leads more n k others x);
   }
 
-  -- with more jobs that are out beside
-  pub moves_beside : (h u : H) (a b more_out : List (ℕ × J)) → Goes h a u b → OfEach (Waits u) more_out
-      → Goes h (a ++ more_out) u (b ++ more_out)
-  moves_beside h u a b xs p w = record {
-    ready = p.ready;
-    stays = p.stays;
-    waits = each_append (Waits u) b xs p.waits w;
-    leads = λ more n k others x.
-        subst (λ (l : List (ℕ × J)). Runs more h n l k) (sym (append_assoc a xs others))
-        (p.leads more n k (xs ++ others)
-        (subst (λ (l : List (ℕ × J)). Runs more u n l k) (append_assoc b xs others) x));
-  }
-
   -- one of the jobs was done
   pub moves_parted : (h u : H) (before after : List (ℕ × J)) (number : ℕ) (job : J)
-      → OfEach (Waits h) (before ++ (number, job) ∷ after) → Parted Ready Waits does parts h number job u
+      → length before < 64 → OfEach (Waits h) (before ++ (number, job) ∷ after)
+      → Parted Ready Waits does here parts h number job u
       → Goes h (before ++ (number, job) ∷ after) u (before ++ after)
-  moves_parted h u before after number job w p = record {
+  moves_parted h u before after number job few w p = record {
     ready = p.ready;
     stays = p.stays;
     waits =
@@ -79,71 +75,79 @@ module _ {H J D : Type 0} (Ready : H → Type 0) (Waits : H → J → Type 0) (a
         (each_without (Waits h) before after (number, job) w);
     leads = λ more n k others x.
         subst (λ (l : List (ℕ × J)). Runs more h n l k) (sym (append_assoc before ((number, job) ∷ after) others))
-        (went before (after ++ others) p.is_made p.taken
+        (went before (after ++ others) p.is_made (λ e. few) (λ e. absurd (true≢false (sym e ∙ p.elsewhere))) p.taken
         (subst (λ (l : List (ℕ × J)). Runs more u n l k) (append_assoc before after others) x));
   }
 
   -- the last of the jobs was done
-  pub moves_last : (h u : H) (out : List (ℕ × J)) (number : ℕ) (job : J) → OfEach (Waits h) out → Waits h job
-      → Parted Ready Waits does parts h number job u → Goes h (out ++ (number, job) ∷ []) u out
-  moves_last h u out number job w x p =
-      subst (λ (l : List (ℕ × J)). Goes h (out ++ (number, job) ∷ []) u l) (append-nil out)
-      (moves_parted h u out [] number job (each_append (Waits h) out ((number, job) ∷ []) w (x, tt)) p)
+  pub placed_last : (h u : H) (out : List (ℕ × J)) (number : ℕ) (job : J) (made : D)
+      → (here made ≡ false → length out < 64) → OfEach (Waits h) out → does job made → Ready u
+      → ((j : J) → Waits h j → Waits u j) → parts h number made u → Stays h (out ++ (number, job) ∷ []) u out
+  placed_last h u out number job made few w d a b p = record {
+    ready = a;
+    waits = each_on (Waits h) (Waits u) out b w;
+    leads = λ more n k x.
+        went out [] d few (λ e. refl) p (subst (λ (l : List (ℕ × J)). Runs more u n l k) (sym (append-nil out)) x);
+  }
 
   -- one of the workers is gone
   pub moves_removed : {W : Type 0} (f : W → ℕ × J) (h u : H) (xs ys : List W) (i : ℕ) (w : W) → i < length xs
-      → w ≡ slice_index_or xs i w → ys ≡ remove xs i → OfEach (Waits h) (map f xs)
-      → Parted Ready Waits does parts h (f w).0 (f w).1 u → Goes h (map f xs) u (map f ys)
-  moves_removed f h u xs ys i w b e r o p =
+      → i < 64 → w ≡ slice_index_or xs i w → ys ≡ remove xs i → OfEach (Waits h) (map f xs)
+      → Parted Ready Waits does here parts h (f w).0 (f w).1 u → Goes h (map f xs) u (map f ys)
+  moves_removed f h u xs ys i w b few e r o p =
       let all : map f xs ≡ map f (take i xs) ++ f w ∷ map f (drop (suc i) xs) =
       ap (map f) (cut_at xs i w b e) ∙ map-append f (take i xs) (w ∷ drop (suc i) xs) in
       let left : map f ys ≡ map f (take i xs) ++ map f (drop (suc i) xs) =
       ap (map f) r ∙ map-append f (take i xs) (drop (suc i) xs) in
       let moved : Goes h (map f (take i xs) ++ f w ∷ map f (drop (suc i) xs)) u
       (map f (take i xs) ++ map f (drop (suc i) xs)) =
-      moves_parted h u (map f (take i xs)) (map f (drop (suc i) xs)) (f w).0 (f w).1
+      moves_parted h u (map f (take i xs)) (map f (drop (suc i) xs)) (f w).0 (f w).1 (short f xs i b few)
       (subst (OfEach (Waits h)) all o) p in
       subst (λ (l : List (ℕ × J)). Goes h (map f xs) u l) (sym left)
       (subst (λ (l : List (ℕ × J)). Goes h l u (map f (take i xs) ++ map f (drop (suc i) xs))) (sym all) moved)
 
   -- the same, where it was taken back
   pub removed_if_ok : {W T E : Type 0} (f : W → ℕ × J) (h u : H) (xs ys : List W) (i : ℕ) (w : W) (r : Result T E)
-      → i < length xs → w ≡ slice_index_or xs i w → ys ≡ remove xs i → OfEach (Waits h) (map f xs)
-      → OnOk r (Parted Ready Waits does parts h (f w).0 (f w).1 u) → OnOk r (Goes h (map f xs) u (map f ys))
-  removed_if_ok f h u xs ys i w (Ok x) b e r o p = moves_removed f h u xs ys i w b e r o p
-  removed_if_ok f h u xs ys i w (Err x) b e r o p = tt
+      → i < length xs → i < 64 → w ≡ slice_index_or xs i w → ys ≡ remove xs i → OfEach (Waits h) (map f xs)
+      → OnOk r (Parted Ready Waits does here parts h (f w).0 (f w).1 u) → OnOk r (Goes h (map f xs) u (map f ys))
+  removed_if_ok f h u xs ys i w (Ok x) b few e r o p = moves_removed f h u xs ys i w b few e r o p
+  removed_if_ok f h u xs ys i w (Err x) b few e r o p = tt
 
   -- one job more was done at once
   pub done_here : {W T E : Type 0} (f : W → ℕ × J) (h u : H) (xs ys : List W) (number : ℕ) (job : J) (made : D)
-      (r : Result T E) → ys ≡ xs → OfEach (Waits h) (map f xs) → Waits h job → does job made → OnOk r (Ready u)
-      → OnOk r ((j : J) → Waits h j → Waits u j) → OnOk r (parts h number made u)
-      → OnOk r (Goes h (map f xs ++ (number, job) ∷ []) u (map f ys))
-  done_here {W} f h u xs ys number job made (Ok x) e o w d a b p =
-      subst (λ (l : List W). Goes h (map f xs ++ (number, job) ∷ []) u (map f l)) (sym e)
-      (moves_last h u (map f xs) number job o w
-      (record { made = made; is_made = d; taken = p; ready = a; stays = b }))
-  done_here f h u xs ys number job made (Err x) e o w d a b p = tt
+      (r : Result T E) → ys ≡ xs → (here made ≡ false → length xs < 64) → OfEach (Waits h) (map f xs) → does job made
+      → OnOk r (Ready u) → OnOk r ((j : J) → Waits h j → Waits u j) → OnOk r (parts h number made u)
+      → OnOk r (Stays h (map f xs ++ (number, job) ∷ []) u (map f ys))
+  done_here {W} f h u xs ys number job made (Ok x) e few o d a b p =
+      subst (λ (l : List W). Stays h (map f xs ++ (number, job) ∷ []) u (map f l)) (sym e)
+      (placed_last h u (map f xs) number job made (λ z. subst (λ n. n < 64) (sym (length-map xs f)) (few z)) o d a b p)
+  done_here f h u xs ys number job made (Err x) e few o d a b p = tt
 
   -- one worker more was started
-  pub moves_started : {W : Type 0} (f : W → ℕ × J) (h : H) (xs mid ys : List W) (w : W) (number : ℕ) (job : J)
+  pub placed_started : {W : Type 0} (f : W → ℕ × J) (h : H) (xs mid ys : List W) (w : W) (number : ℕ) (job : J)
       → mid ≡ xs → ys ≡ mid ++ w ∷ [] → (f w).0 ≡ number → (f w).1 ≡ job → Ready h → OfEach (Waits h) (map f xs)
-      → Waits h job → Goes h (map f xs ++ (number, job) ∷ []) h (map f ys)
-  moves_started {W} f h xs mid ys w number job m e is_number is_job r o x =
+      → Waits h job → Stays h (map f xs ++ (number, job) ∷ []) h (map f ys)
+  placed_started {W} f h xs mid ys w number job m e is_number is_job r o x =
       let is : f w ≡ (number, job) =
       ap (λ (n : ℕ). (n, (f w).1)) is_number ∙ ap (λ (j : J). (number, j)) is_job in
       let all : ys ≡ xs ++ w ∷ [] = e ∙ ap (λ (l : List W). l ++ w ∷ []) m in
       let left : map f ys ≡ map f xs ++ (number, job) ∷ [] =
       ap (map f) all ∙ map-append f xs (w ∷ []) ∙ ap (λ (y : ℕ × J). map f xs ++ y ∷ []) is in
-      subst (λ (l : List (ℕ × J)). Goes h (map f xs ++ (number, job) ∷ []) h l) (sym left)
-      (moves_itself h (map f xs ++ (number, job) ∷ []) r
-      (each_append (Waits h) (map f xs) ((number, job) ∷ []) o (x, tt)))
+      subst (λ (l : List (ℕ × J)). Stays h (map f xs ++ (number, job) ∷ []) h l) (sym left)
+      (record {
+        ready = r;
+        waits = each_append (Waits h) (map f xs) ((number, job) ∷ []) o (x, tt);
+        leads = λ more n k y. y;
+      })
 
   -- one job more, beside those that moved
   pub seated : {T E : Type 0} (h u v : H) (a b c : List (ℕ × J)) (number : ℕ) (job : J) (r : Result T E) → Goes h a u b
-      → Waits h job → OnOk r (Goes u (b ++ (number, job) ∷ []) v c) → OnOk r (Goes h (a ++ (number, job) ∷ []) v c)
-  seated h u v a b c number job (Ok x) p w q =
-      moves_on h u v (a ++ (number, job) ∷ []) (b ++ (number, job) ∷ []) c
-      (moves_beside h u a b ((number, job) ∷ []) p (p.stays job w, tt)) q
+      → Waits h job → OnOk r (Stays u (b ++ (number, job) ∷ []) v c) → OnOk r (Stays h (a ++ (number, job) ∷ []) v c)
+  seated h u v a b c number job (Ok x) p w q = record {
+    ready = q.ready;
+    waits = q.waits;
+    leads = λ more n k y. p.leads more n k ((number, job) ∷ []) (q.leads more n k y);
+  }
   seated h u v a b c number job (Err x) p w q = tt
 
   -- ---- jobs that come
@@ -158,26 +162,22 @@ module _ {H J D : Type 0} (Ready : H → Type 0) (Waits : H → J → Type 0) (a
   stands_first h r = record { ready = r; waits = tt; leads = λ k x. x }
 
   pub welcomed : (h m u : H) (number : ℕ) (job : J) (out left : List (ℕ × J)) → admits h number job m
-      → Goes m (out ++ (number, job) ∷ []) u left
-      → Welcomed Ready Waits admits closes does parts h number out u left
-  welcomed h m u number job out left a g = record { between = m; job = job; came_in = a; moves = g }
+      → Stays m (out ++ (number, job) ∷ []) u left
+      → Welcomed Ready Waits admits closes does here parts h number out u left
+  welcomed h m u number job out left a g = record { between = m; job = job; came_in = a; placed = g }
 
   -- one more has come, and found its place
   pub stands_next : (begin h u : H) (n : ℕ) (number : ℕ) (out left : List (ℕ × J)) → Stands begin h n out
-      → number ≡ n + 1 → Welcomed Ready Waits admits closes does parts h number out u left → Stands begin u (n + 1) left
+      → number ≡ n + 1 → Welcomed Ready Waits admits closes does here parts h number out u left → Stands begin u (n + 1) left
   stands_next begin h u n number out left s e v =
       let m : H = v.between in
       let job : J = v.job in
-      let g : Goes m (out ++ (number, job) ∷ []) u left = v.moves in
+      let g : Stays m (out ++ (number, job) ∷ []) u left = v.placed in
       record {
         ready = g.ready;
         waits = g.waits;
         leads = λ k x.
-            let here : Runs true m (n + 1) ((out ++ (number, job) ∷ []) ++ []) k =
-            g.leads true (n + 1) k []
-            (subst (λ (l : List (ℕ × J)). Runs true u (n + 1) l k) (sym (append-nil left)) x) in
-            let plain : Runs true m (n + 1) (out ++ (number, job) ∷ []) k =
-            subst (λ (l : List (ℕ × J)). Runs true m (n + 1) l k) (append-nil (out ++ (number, job) ∷ [])) here in
+            let plain : Runs true m (n + 1) (out ++ (number, job) ∷ []) k = g.leads true (n + 1) k x in
             s.leads k (came (subst (λ (i : ℕ). admits h i job m) e v.came_in)
             (subst (λ (i : ℕ). Runs true m (n + 1) (out ++ (i, job) ∷ []) k) e plain));
       }

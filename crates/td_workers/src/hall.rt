@@ -1,6 +1,6 @@
 //! Where jobs come from, and where what was made of them goes.
 
-ghost use Rattle.std.specs.Prelude.{◌≡◌, ℕ, IfOk, IfErr, OnOk, OnErr, MatchOption};
+ghost use Rattle.std.specs.Prelude.{◌≡◌, ℕ, Bool, true, false, IfOk, IfErr, OnOk, OnErr, MatchOption};
 ghost use Rattle.td_workers.specs.declared.hall.Stop.{Stop as TheStop};
 ghost use Rattle.td_workers.specs.declared.hall.Stop.TheVariants as stop;
 
@@ -9,9 +9,18 @@ pub trait Job<D> {
     /// What it may come to.
     ghost does: { Self → D → Type 0 };
 
-    /// Does it.
+    /// Whether what was made of one was made by the thread that takes the jobs in.
+    ghost here: { D → Bool };
+
+    /// Does it on a thread of its own.
     fn work(self) -> D
-        ensures { does self result };
+        ensures does { does self result }
+        ensures here { here result ≡ false };
+
+    /// Does it on the thread that takes the jobs in, where none is taken in meanwhile.
+    fn work_here(self) -> D
+        ensures does { does self result }
+        ensures here { here result ≡ true };
 }
 
 /// Why no more jobs are taken in.

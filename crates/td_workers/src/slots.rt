@@ -1,5 +1,7 @@
 //! Which of the 64 places for workers are free: the bits of a word.
 
+ghost use Rattle.std.specs.Prelude.{◌<◌, length, IfSome};
+
 use crate::hall::Job;
 use crate::worker::Worker;
 
@@ -8,12 +10,18 @@ pub(crate) fn bit(slot: u32) -> u64 {
     1u64.wrapping_shl(slot)
 }
 
-/// The first free place, if one is.
-pub(crate) fn free_slot<D, J: Job<D>>(working: &[Worker<D, J>]) -> Option<u32> {
+/// The first free place, if one is: at most 64 work at once.
+pub(crate) fn free_slot<D, J: Job<D>>(working: &[Worker<D, J>]) -> Option<u32>
+    ensures { IfSome result (λ slot. length working.now < 64) }
+{
     let mut taken = 0u64;
     for worker in working {
         taken |= bit(worker.slot);
     }
     let slot = taken.trailing_ones();
-    if slot < u64::BITS { Some(slot) } else { None }
+    if slot < u64::BITS && working.len() < u64::BITS as usize {
+        Some(slot)
+    } else {
+        None
+    }
 }

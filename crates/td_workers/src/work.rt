@@ -1,8 +1,8 @@
 //! The thread that takes jobs in.
 
-ghost use Rattle.std.specs.Prelude.{◌≡◌, ℕ, ◌+◌, ◌<◌, [], ◌∷◌, ◌++◌, map, true, vec_len, IfErr, IfOk, OnOk};
+ghost use Rattle.std.specs.Prelude.{◌≡◌, ℕ, ◌+◌, ◌<◌, ◌≤◌, [], ◌∷◌, ◌++◌, map, true, vec_len, IfErr, IfOk, OnOk};
 ghost use Rattle.std.specs.Prelude.{MatchOption};
-ghost use Rattle.td_workers.specs.Works.{Closed, Moves, OfEach, Welcomed, Working};
+ghost use Rattle.td_workers.specs.Works.{Closed, Moves, OfEach, Placed, Welcomed, Working};
 
 use crate::hall::{Hall, Job, Stop};
 use crate::slots::{bit, free_slot};
@@ -23,7 +23,7 @@ pub fn work_all<D: Send + Drop, J: Job<D> + Send + Drop, H: Hall<D, J> + Drop, R
     requires { H.ready hall }
     ensures goes { H.goes hall result.1 }
     ensures ready { OnOk result.0 (H.ready result.1) }
-    ensures worked { OnOk result.0 (Working H.admits H.closes J.does H.parts true hall 0 [] result.1) }
+    ensures worked { OnOk result.0 (Working H.admits H.closes J.does J.here H.parts true hall 0 [] result.1) }
     ensures stops { IfErr result.0 (λ why. H.stops hall why result.1) }
 {
     let ended = AtomicU64::new(0);
@@ -34,7 +34,7 @@ pub fn work_all<D: Send + Drop, J: Job<D> + Send + Drop, H: Hall<D, J> + Drop, R
         move |scope| -> (Result<(), Stop>, H)
             requires { H.ready hall }
             ensures { H.goes hall result.1 × OnOk result.0 (H.ready result.1)
-                × OnOk result.0 (Working H.admits H.closes J.does H.parts true hall 0 [] result.1)
+                × OnOk result.0 (Working H.admits H.closes J.does J.here H.parts true hall 0 [] result.1)
                 × IfErr result.0 (λ why. H.stops hall why result.1) }
         { work_within(rt, scope, alloc, bits, hall) },
     )
@@ -59,7 +59,7 @@ fn work_within<
     requires { H.ready hall }
     ensures goes { H.goes hall result.1 }
     ensures ready { OnOk result.0 (H.ready result.1) }
-    ensures worked { OnOk result.0 (Working H.admits H.closes J.does H.parts true hall 0 [] result.1) }
+    ensures worked { OnOk result.0 (Working H.admits H.closes J.does J.here H.parts true hall 0 [] result.1) }
     ensures stops { IfErr result.0 (λ why. H.stops hall why result.1) }
 {
     let mut hall = hall;
@@ -88,7 +88,7 @@ fn take_in<
     requires none { vec_len working.old ≡ 0 }
     ensures goes { H.goes hall.old hall.new }
     ensures ready { OnOk result (H.ready hall.new) }
-    ensures worked { OnOk result (Working H.admits H.closes J.does H.parts true hall.old 0 [] hall.new) }
+    ensures worked { OnOk result (Working H.admits H.closes J.does J.here H.parts true hall.old 0 [] hall.new) }
     ensures stops { IfErr result (λ why. H.stops hall.old why hall.new) }
 {
     'accepting: for count in 0..u64::MAX {
@@ -119,15 +119,17 @@ fn welcome<
     working: &mut Vec<Worker<D, J>>,
     hall: &mut H,
 ) -> Result<Option<()>, Stop>
+    requires few { vec_len working.old ≤ 64 }
     requires ready { H.ready hall.old }
     requires out { OfEach (H.waits hall.old)
         (map (λ w. (w.number, w.handle.promise.job.value)) working.old.items) }
+    ensures few { vec_len working.new ≤ 64 }
     ensures goes { H.goes hall.old hall.new }
     ensures came { IfOk result (λ came. MatchOption came
         (Closed H.ready H.waits H.closes hall.old hall.new
         (map (λ w. (w.number, w.handle.promise.job.value)) working.old.items)
         (map (λ w. (w.number, w.handle.promise.job.value)) working.new.items))
-        (λ none. Welcomed H.ready H.waits H.admits H.closes J.does H.parts hall.old number
+        (λ none. Welcomed H.ready H.waits H.admits H.closes J.does J.here H.parts hall.old number
         (map (λ w. (w.number, w.handle.promise.job.value)) working.old.items) hall.new
         (map (λ w. (w.number, w.handle.promise.job.value)) working.new.items))) }
     ensures stops { IfErr result (λ why. H.stops hall.old why hall.new) }
@@ -160,12 +162,14 @@ fn seat<
     working: &mut Vec<Worker<D, J>>,
     hall: &mut H,
 ) -> Result<(), Stop>
+    requires few { vec_len working.old ≤ 64 }
     requires ready { H.ready hall.old }
     requires came { H.waits hall.old job }
     requires out { OfEach (H.waits hall.old)
         (map (λ w. (w.number, w.handle.promise.job.value)) working.old.items) }
+    ensures few { vec_len working.new ≤ 64 }
     ensures goes { H.goes hall.old hall.new }
-    ensures moves { OnOk result (Moves H.ready H.waits H.admits H.closes J.does H.parts hall.old
+    ensures placed { OnOk result (Placed H.ready H.waits H.admits H.closes J.does J.here H.parts hall.old
         (map (λ w. (w.number, w.handle.promise.job.value)) working.old.items ++ (number, job) ∷ []) hall.new
         (map (λ w. (w.number, w.handle.promise.job.value)) working.new.items)) }
     ensures stops { IfErr result (λ why. H.stops hall.old why hall.new) }
@@ -186,11 +190,13 @@ fn reap<D: Drop, J: Job<D>, H: Hall<D, J>, R: Threads>(
     working: &mut Vec<Worker<D, J>>,
     hall: &mut H,
 ) -> Result<(), Stop>
+    requires few { vec_len working.old ≤ 64 }
     requires ready { H.ready hall.old }
     requires out { OfEach (H.waits hall.old)
         (map (λ w. (w.number, w.handle.promise.job.value)) working.old.items) }
+    ensures few { vec_len working.new ≤ 64 }
     ensures goes { H.goes hall.old hall.new }
-    ensures moves { OnOk result (Moves H.ready H.waits H.admits H.closes J.does H.parts hall.old
+    ensures moves { OnOk result (Moves H.ready H.waits H.admits H.closes J.does J.here H.parts hall.old
         (map (λ w. (w.number, w.handle.promise.job.value)) working.old.items) hall.new
         (map (λ w. (w.number, w.handle.promise.job.value)) working.new.items)) }
     ensures stops { IfErr result (λ why. H.stops hall.old why hall.new) }
@@ -215,11 +221,12 @@ fn join_all<D: Drop, J: Job<D>, H: Hall<D, J>, R: Threads>(
     working: &mut Vec<Worker<D, J>>,
     hall: &mut H,
 ) -> Result<(), Stop>
+    requires few { vec_len working.old ≤ 64 }
     requires ready { H.ready hall.old }
     requires out { OfEach (H.waits hall.old)
         (map (λ w. (w.number, w.handle.promise.job.value)) working.old.items) }
     ensures goes { H.goes hall.old hall.new }
-    ensures moves { OnOk result (Moves H.ready H.waits H.admits H.closes J.does H.parts hall.old
+    ensures moves { OnOk result (Moves H.ready H.waits H.admits H.closes J.does J.here H.parts hall.old
         (map (λ w. (w.number, w.handle.promise.job.value)) working.old.items) hall.new []) }
     ensures stops { IfErr result (λ why. H.stops hall.old why hall.new) }
 {
@@ -240,12 +247,13 @@ fn part_at<D: Drop, J: Job<D>, H: Hall<D, J>, R: Threads>(
     hall: &mut H,
 ) -> Result<(), Stop>
     requires within { at < vec_len working.old }
+    requires few { vec_len working.old ≤ 64 }
     requires ready { H.ready hall.old }
     requires out { OfEach (H.waits hall.old)
         (map (λ w. (w.number, w.handle.promise.job.value)) working.old.items) }
     ensures fewer { vec_len working.new + 1 ≡ vec_len working.old }
     ensures goes { H.goes hall.old hall.new }
-    ensures moves { OnOk result (Moves H.ready H.waits H.admits H.closes J.does H.parts hall.old
+    ensures moves { OnOk result (Moves H.ready H.waits H.admits H.closes J.does J.here H.parts hall.old
         (map (λ w. (w.number, w.handle.promise.job.value)) working.old.items) hall.new
         (map (λ w. (w.number, w.handle.promise.job.value)) working.new.items)) }
     ensures stops { IfErr result (λ why. H.stops hall.old why hall.new) }
@@ -263,12 +271,14 @@ fn place<'s, 'b: 's, E, D: Send + Drop + 's, J: Job<D> + Send + Drop + 's, H: Ha
     working: &mut Vec<Worker<D, J>>,
     hall: &mut H,
 ) -> Result<(), Stop>
+    requires few { vec_len working.old ≤ 64 }
     requires ready { H.ready hall.old }
     requires came { H.waits hall.old job }
     requires out { OfEach (H.waits hall.old)
         (map (λ w. (w.number, w.handle.promise.job.value)) working.old.items) }
+    ensures few { vec_len working.new ≤ 64 }
     ensures goes { H.goes hall.old hall.new }
-    ensures moves { OnOk result (Moves H.ready H.waits H.admits H.closes J.does H.parts hall.old
+    ensures placed { OnOk result (Placed H.ready H.waits H.admits H.closes J.does J.here H.parts hall.old
         (map (λ w. (w.number, w.handle.promise.job.value)) working.old.items ++ (number, job) ∷ []) hall.new
         (map (λ w. (w.number, w.handle.promise.job.value)) working.new.items)) }
     ensures stops { IfErr result (λ why. H.stops hall.old why hall.new) }
@@ -278,7 +288,7 @@ fn place<'s, 'b: 's, E, D: Send + Drop + 's, J: Job<D> + Send + Drop + 's, H: Ha
         return Err(Stop::Memory);
     }
     let Some(slot) = free_slot(working) else {
-        return hall.part(number, job.work());
+        return hall.part(number, job.work_here());
     };
     match start(scope, ended, slot, number, job) {
         Ok(worker) => {

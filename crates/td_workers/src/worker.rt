@@ -1,6 +1,7 @@
 //! A worker: a thread that does one job.
 
-ghost use Rattle.std.specs.Prelude.{◌≡◌, ℕ, IfOk, IfErr, OnOk};
+ghost use Rattle.std.specs.Prelude.{◌≡◌, ℕ, ◌<◌, true, false, IfOk, IfErr, OnOk};
+ghost use Rattle.std.specs.Prelude.{MatchResult};
 ghost use Rattle.td_workers.specs.Works.{Parted};
 
 use crate::hall::{Hall, Job, Stop};
@@ -9,14 +10,15 @@ use std::snapshot::Snapshot;
 use std::sync::atomic::{AtomicU64, Ordering};
 use std::thread::{Promise, PromisedHandle, Scope, Threads};
 
-/// What a worker promises: that it does this job.
+/// What a worker promises: that it does this job, on a thread of its own.
 #[derive(Drop)]
 pub struct Asked<J> {
     job: Snapshot<J>,
 }
 
-impl<D, J: Job<D>> Promise<D> for Asked<J> {
-    ghost kept_by = { λ p made. J.does p.job.value made };
+impl<D, J: Job<D>> Promise<Result<D, J>> for Asked<J> {
+    ghost kept_by = { λ p result. MatchResult result (λ made. J.does p.job.value made × J.here made ≡ false)
+        (λ job. job ≡ p.job.value) };
 }
 
 /// A worker that was started.
@@ -26,19 +28,24 @@ pub struct Worker<D, J: Job<D>> {
     pub(crate) slot: u32,
     /// The number of its job.
     pub(crate) number: u64,
-    handle: PromisedHandle<D, Asked<J>>,
+    handle: PromisedHandle<Result<D, J>, Asked<J>>,
 }
 
-/// Does a job, and as its last act tells that the worker of this place has ended.
-fn labour<D, J: Job<D>>(job: J, ended: &AtomicU64, slot: u32) -> D
-    ensures { J.does job result }
+/// Does a job, and as its last act tells that the worker of this place has ended. Where one that has ended is told of
+/// the place before, no thread was started for it, and the job is given back.
+fn labour<D, J: Job<D>>(job: J, ended: &AtomicU64, slot: u32) -> Result<D, J>
+    ensures ok { IfOk result (λ made. J.does job made × J.here made ≡ false) }
+    ensures err { IfErr result (λ back. back ≡ job) }
 {
+    if ended.load(Ordering::SeqCst) & bit(slot) != 0 {
+        return Err(job);
+    }
     let made = job.work();
     let _ = ended.fetch_or(bit(slot), Ordering::SeqCst);
-    made
+    Ok(made)
 }
 
-/// Starts a worker. Where no thread can be started the job is done here.
+/// Starts a worker at a free place. Where no thread can be started the job is done here.
 pub(crate) fn start<'s, 'b: 's, E, D: Send + Drop + 's, J: Job<D> + Send + Drop + 's>(
     scope: &Scope<'s, E>,
     ended: &'b AtomicU64,
@@ -58,11 +65,17 @@ pub(crate) fn start<'s, 'b: 's, E, D: Send + Drop + 's, J: Job<D> + Send + Drop 
             number,
             handle,
         }),
-        Err(refused) => Err((refused.value)()),
+        Err(refused) => {
+            let _ = ended.fetch_or(bit(slot), Ordering::SeqCst);
+            match (refused.value)() {
+                Ok(made) => Err(made),
+                Err(job) => Err(job.work_here()),
+            }
+        }
     }
 }
 
-/// Waits for a worker, and gives the hall what it made.
+/// Waits for a worker, and gives the hall what it made. (No worker gives its job back, since its place was free.)
 pub(crate) fn finish<D: Drop, J: Job<D>, H: Hall<D, J>, R: Threads>(
     rt: &R,
     worker: Worker<D, J>,
@@ -71,7 +84,7 @@ pub(crate) fn finish<D: Drop, J: Job<D>, H: Hall<D, J>, R: Threads>(
     requires ready { H.ready hall.old }
     requires came { H.waits hall.old worker.handle.promise.job.value }
     ensures goes { H.goes hall.old hall.new }
-    ensures parted { OnOk result (Parted H.ready H.waits J.does H.parts hall.old worker.number
+    ensures parted { OnOk result (Parted H.ready H.waits J.does J.here H.parts hall.old worker.number
         worker.handle.promise.job.value hall.new) }
     ensures stops { IfErr result (λ why. H.stops hall.old why hall.new) }
 {
@@ -80,6 +93,9 @@ pub(crate) fn finish<D: Drop, J: Job<D>, H: Hall<D, J>, R: Threads>(
         number,
         handle,
     } = worker;
-    let made = handle.join(rt);
+    let made = match handle.join(rt) {
+        Ok(made) => made,
+        Err(job) => job.work(),
+    };
     hall.part(number, made)
 }

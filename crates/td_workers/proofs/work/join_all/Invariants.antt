@@ -1,12 +1,12 @@
-use Rattle.std.proofs.Common.{map, vec_len}
+use Rattle.std.proofs.Common.{◌≤◌, map, vec_len}
 use Rattle.td_workers.specs.Works.{Moves}
 use Rattle.td_workers.proofs.work.join_all.Given as goal
 
 -- some were waited for, and are gone
 abbrev pub invariant-joining : goal.invariant-joining
 invariant-joining g l =
-    g.H.Hall.goes l.fn.hall l.hall
-    × Moves g.H.Hall.ready g.H.Hall.waits g.H.Hall.admits g.H.Hall.closes g.J.Job.does g.H.Hall.parts l.fn.hall
+    vec_len l.working ≤ 64 × g.H.Hall.goes l.fn.hall l.hall
+    × Moves g.H.Hall.ready g.H.Hall.waits g.H.Hall.admits g.H.Hall.closes g.J.Job.does g.J.Job.here g.H.Hall.parts l.fn.hall
     (map (λ w. (w.number, w.handle.promise.job.value)) l.fn.working.items) l.hall
     (map (λ w. (w.number, w.handle.promise.job.value)) l.working.items)
 
