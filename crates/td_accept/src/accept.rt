@@ -6,17 +6,18 @@ ghost use Rattle.td_accept.specs.Doors.{Binds, Door, Gives};
 ghost use Rattle.td_out.specs.Causes.{HasCause};
 
 use crate::client_sink::ClientSink;
+use crate::client_source::ClientSource;
+use crate::client_wire::ClientWire;
 use crate::visitor::Visitor;
-use td_out::{Failed, Source, Words};
-use td_wire::Wire;
+use td_out::{Failed, Words};
 
 /// Where visitors come from.
 pub trait Accept {
-    type S: Source + Send + Drop;
+    type S: ClientSource + Send + Drop;
 
     type K: ClientSink + Send + Drop;
 
-    type L: Wire + Send + Drop;
+    type L: ClientWire + Send + Drop;
 
     type W: Words + Send + Drop;
 

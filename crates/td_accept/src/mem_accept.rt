@@ -7,12 +7,13 @@ ghost use Rattle.td_out.specs.Causes.{HasCause};
 
 use crate::accept::Accept;
 use crate::client_sink::ClientSink;
+use crate::client_source::ClientSource;
+use crate::client_wire::ClientWire;
 use crate::visitor::Visitor;
 use std::alloc::Global;
 use std::marker::Model;
 use td_cdr::{List, Memory, Text};
-use td_out::{Calls, Failed, Source, Words};
-use td_wire::Wire;
+use td_out::{Calls, Failed, Words};
 
 /// A host and a port.
 #[derive(Debug, Drop)]
@@ -95,9 +96,9 @@ fn take_first<X>(items: &mut Vec<X>) -> Option<X>
 
 impl<S, K, L, W> Accept for MemAccept<S, K, L, W>
 where
-    S: Source + Send + Drop,
+    S: ClientSource + Send + Drop,
     K: ClientSink + Send + Drop,
-    L: Wire + Send + Drop,
+    L: ClientWire + Send + Drop,
     W: Words + Send + Drop,
 {
     type S = S;

@@ -6,12 +6,14 @@ ghost use Rattle.td_out.specs.Causes.{raised, HasCause};
 
 use crate::accept::Accept;
 use crate::connection::next_connection;
+use crate::refusable_wire::RefusableWire;
 use crate::tcp_sink::TcpSink;
+use crate::tcp_source::TcpSource;
 use crate::visitor::Visitor;
 use std::marker::Model;
 use std::net::{Net, OpenListener, OpenStream, TcpListener};
 use std::rt::Clock;
-use td_out::{ChaChaWords, Failed, StdSource};
+use td_out::{ChaChaWords, Failed};
 use td_wire::{ConnectionPool, TcpWire};
 
 /// An acceptor over TCP. A host is a name, which the system looks up, or an address. Each connection is a visitor; it
@@ -60,11 +62,11 @@ impl<'a, R: Net + Clock + Sync> Accept for TcpAccept<'a, R>
 where
     R::Stream: Send,
 {
-    type S = StdSource<R::Stream>;
+    type S = TcpSource<'a, R, R::Stream>;
 
     type K = TcpSink<'a, R, R::Stream>;
 
-    type L = TcpWire<'a, R>;
+    type L = RefusableWire<TcpWire<'a, R>>;
 
     type W = ChaChaWords;
 
@@ -99,7 +101,12 @@ where
         &mut self,
     ) -> Result<
         Option<
-            Visitor<StdSource<R::Stream>, TcpSink<'a, R, R::Stream>, TcpWire<'a, R>, ChaChaWords>,
+            Visitor<
+                TcpSource<'a, R, R::Stream>,
+                TcpSink<'a, R, R::Stream>,
+                RefusableWire<TcpWire<'a, R>>,
+                ChaChaWords,
+            >,
         >,
         Failed,
     >
@@ -112,9 +119,9 @@ where
     {
         match connect(self.rt, &self.listener) {
             Ok((stream, twin)) => Ok(Some(Visitor {
-                source: StdSource::new(stream),
+                source: TcpSource::new(self.rt, stream),
                 sink: TcpSink::new(self.rt, twin),
-                wire: TcpWire::with_pool(self.rt, self.pool),
+                wire: RefusableWire::new(TcpWire::with_pool(self.rt, self.pool)),
                 words: ChaChaWords::new(),
             })),
             Err(fault) => {

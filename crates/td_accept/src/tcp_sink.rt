@@ -5,6 +5,7 @@ ghost use Rattle.std.specs.Io.KnownBytes.{WriteAppends};
 ghost use Rattle.td_out.specs.Causes.{raised, HasCause, Takes};
 
 use crate::client_sink::ClientSink;
+use crate::session_limit::SessionLimit;
 use std::io::{Read, Write};
 use std::marker::Model;
 use std::net::{OpenStream, Shutdown};
@@ -12,8 +13,11 @@ use std::rt::Clock;
 use std::time::{Duration, Instant};
 use td_out::{Failed, Sink, read_some, write_some};
 
-/// For how long a connection is read on that is closed, in seconds.
-const LINGER_LIMIT: u64 = 1;
+/// For how long a connection is read on that is closed, in milliseconds.
+const LINGER_LIMIT: u64 = 1_000;
+
+/// The same of a sink that was limited.
+const SHORT_LINGER_LIMIT: u64 = 200;
 
 /// How many bytes are read of a connection that is closed, at most: 16 MiB, and less than `READ_SIZE` more.
 const REST_LIMIT: usize = 16_777_216;
@@ -27,10 +31,14 @@ const READ_SIZE: usize = 16_384;
 /// and what the client sends is read away until it ends its side too, for a second at most and 16 MiB. Only then the
 /// stream ends for reading as well. (A TCP connection that is closed while bytes of it are unread is reset, and the
 /// client may lose what it hasn't read.) The sink lets go of the stream then; a write behind that is a fault.
+///
+/// Once it is limited, a write that isn't done five seconds after is a fault, and a close reads away for a fifth of a
+/// second at most.
 #[derive(Drop)]
 pub struct TcpSink<'a, R, S> {
     rt: &'a R,
     stream: Option<S>,
+    limit: Option<SessionLimit>,
     faults: u64,
 }
 
@@ -40,17 +48,18 @@ impl<'a, R, S> Model for TcpSink<'a, R, S> {
 
     ghost Value = { Connected };
 
-    ghost view = { λ s. record { connected = is_some s.stream; faults = s.faults } };
+    ghost view = { λ s. record { connected = is_some s.stream; limited = is_some s.limit; faults = s.faults } };
 }
 
 impl<'a, R, S> TcpSink<'a, R, S> {
     /// A sink that writes to this stream. No fault was counted yet.
     pub fn new(rt: &'a R, stream: S) -> TcpSink<'a, R, S>
-        ensures { result ≡ record { connected = true; faults = 0 } }
+        ensures { result ≡ record { connected = true; limited = false; faults = 0 } }
     {
         TcpSink {
             rt,
             stream: Some(stream),
+            limit: None,
             faults: 0,
         }
     }
@@ -64,7 +73,7 @@ impl<'a, R, S> TcpSink<'a, R, S> {
     }
 }
 
-impl<'a, R, S: Write> Sink for TcpSink<'a, R, S> {
+impl<'a, R: Clock, S: Write + OpenStream> Sink for TcpSink<'a, R, S> {
     ghost written = { λ _. None };
 
     ghost faults = { λ s. s.faults };
@@ -81,8 +90,9 @@ impl<'a, R, S: Write> Sink for TcpSink<'a, R, S> {
         ensures cause { HasCause self.old.faults self.new.faults result }
         ensures connected { self.new.connected ≡ self.old.connected }
         ensures closed { OnOk result (self.old.connected ≡ true) }
+        ensures limited { self.new.limited ≡ self.old.limited }
     {
-        match write_to(&mut self.stream, piece) {
+        match write_to(self.rt, &mut self.stream, self.limit, piece) {
             Ok(size) => Ok(size),
             Err(fault) => {
                 self.count_fault();
@@ -95,43 +105,78 @@ impl<'a, R, S: Write> Sink for TcpSink<'a, R, S> {
 impl<'a, R: Clock, S: Read + Write + OpenStream + Drop> ClientSink for TcpSink<'a, R, S> {
     ghost closed = { λ s. s.connected ≡ false };
 
+    ghost limited = { λ s. s.limited ≡ true };
+
     fn close(&mut self) {
+        let linger = match self.limit {
+            Some(_) => SHORT_LINGER_LIMIT,
+            None => LINGER_LIMIT,
+        };
         if let Some(stream) = self.stream.take() {
-            end(self.rt, stream);
+            end(self.rt, stream, Duration::from_millis(linger));
         }
+    }
+
+    fn limit(&mut self) {
+        self.limit = Some(SessionLimit::new(self.rt));
     }
 }
 
-/// One write to the stream. Where none stands, it fails.
-fn write_to<S: Write>(stream: &mut Option<S>, piece: &[u8]) -> Result<usize, Failed>
+/// One write to the stream, within the limit where there is one. Where no stream stands, it fails.
+fn write_to<R: Clock, S: Write + OpenStream>(
+    rt: &R,
+    stream: &mut Option<S>,
+    limit: Option<SessionLimit>,
+    piece: &[u8],
+) -> Result<usize, Failed>
     ensures some { Takes result piece.now }
     ensures stays { is_some stream.new ≡ is_some stream.old }
     ensures connected { OnOk result (is_some stream.old ≡ true) }
 {
     match stream {
-        Some(stream) => write_some(stream, piece),
+        Some(stream) => write_within(rt, stream, limit, piece),
         None => Err(Failed),
     }
 }
 
+/// One write to the stream. Where there is a limit it takes no longer than what is left of the session.
+fn write_within<R: Clock, S: Write + OpenStream>(
+    rt: &R,
+    stream: &mut S,
+    limit: Option<SessionLimit>,
+    piece: &[u8],
+) -> Result<usize, Failed>
+    ensures some { Takes result piece.now }
+{
+    if let Some(limit) = limit {
+        let Some(rest) = limit.rest(rt) else {
+            return Err(Failed);
+        };
+        if stream.set_write_timeout(Some(rest)).is_err() {
+            return Err(Failed);
+        }
+    }
+    write_some(stream, piece)
+}
+
 /// Ends a stream for writing, reads its rest away, and ends it for reading. Other handles of the stream may stand.
-fn end<R: Clock, S: Read + OpenStream + Drop>(rt: &R, stream: S) {
+fn end<R: Clock, S: Read + OpenStream + Drop>(rt: &R, stream: S, linger: Duration) {
     let mut stream = stream;
     if stream.shutdown(Shutdown::Write).is_ok() {
-        read_away(rt, &mut stream);
+        read_away(rt, &mut stream, linger);
     }
     let _ = stream.shutdown(Shutdown::Both);
 }
 
-/// Reads what still comes, within the limits of time and of bytes.
-fn read_away<R: Clock, S: Read + OpenStream>(rt: &R, stream: &mut S) {
+/// Reads what still comes, for so long and within the limit of bytes.
+fn read_away<R: Clock, S: Read + OpenStream>(rt: &R, stream: &mut S, linger: Duration) {
     let Ok(start) = Instant::now(rt) else {
         return;
     };
     let mut room = [0u8; READ_SIZE];
     let mut taken = 0usize;
     for _ in 0..REST_LIMIT {
-        if taken >= REST_LIMIT || !is_in_time(rt, start, stream) {
+        if taken >= REST_LIMIT || !is_in_time(rt, start, linger, stream) {
             return;
         }
         match read_some(stream, &mut room) {
@@ -142,12 +187,17 @@ fn read_away<R: Clock, S: Read + OpenStream>(rt: &R, stream: &mut S) {
     }
 }
 
-/// Whether there is time left since then. The next read of the stream takes no longer.
-fn is_in_time<R: Clock, S: OpenStream>(rt: &R, start: Instant, stream: &S) -> bool {
+/// Whether there is time left of so much since then. The next read of the stream takes no longer.
+fn is_in_time<R: Clock, S: OpenStream>(
+    rt: &R,
+    start: Instant,
+    linger: Duration,
+    stream: &S,
+) -> bool {
     let Ok(passed) = start.elapsed(rt) else {
         return false;
     };
-    match Duration::from_secs(LINGER_LIMIT).checked_sub(passed) {
+    match linger.checked_sub(passed) {
         Some(left) => stream.set_read_timeout(Some(left)).is_ok(),
         None => false,
     }
