@@ -16,7 +16,7 @@ use Rattle.td_cell.specs.Lists.{itself}
 use Rattle.td_cell.specs.OwnMarks.{MarksOnce, marks_between, number_of}
 use Rattle.td_cell.specs.Rules.{Kept, Stands, Free, Taken, Numbered, Owned, Placed, Before, BothBefore, Takes, Counted}
 use Rattle.td_cell.specs.Rules.{Marks_counted, Learned, Gives, holding, counted, marked, resting, learnt, places_of}
-use Rattle.td_cell.specs.Rules.{marks_of, Marking_kept}
+use Rattle.td_cell.specs.Rules.{marks_of, Marking_kept, count_met}
 use Rattle.td_cell.proofs.Owns.{set_at, owned_same, owned_more}
 use Rattle.td_cell.proofs.Marking.{marking_same, marks_step, spaced_of}
 use Rattle.td_cell.proofs.Chains.{just, word_else, word_else2, placed_same, placed_more, known_before, chain_set}
@@ -24,13 +24,15 @@ use Rattle.td_cell.proofs.Chains.{just, word_else, word_else2, placed_same, plac
 module _ {B : Type 0} where
   -- a pass that does a turn keeps its number and its list
   pub numbered_set : (views : List (View B)) (id : ℕ) (v w : View B) → get_elem? views id ≡ some v → v.spent ≡ false
-      → w.spent ≡ false → w.number ≡ v.number → w.met ≡ v.met → Numbered views → Numbered (slice_set views id w)
-  numbered_set views id v w here live live2 number met n = record {
+      → w.spent ≡ false → w.number ≡ v.number → w.met ≡ v.met → w.meetings ≡ v.meetings → Numbered views
+      → Numbered (slice_set views id w)
+  numbered_set views id v w here live live2 number met meetings n = record {
     seats = n.seats;
     chief = found.0;
     here = found.1;
     first = found.2;
     live = found.3;
+    meetings = found.5 ∙ (n.meetings ∙ sym (ap count_met found.4));
     each =
         λ i u got unspent. elim (at_set views id i w u
         got) as (λ _. (i ≡ n.seats u.number) × (u.number ≤ length found.0.met)
@@ -48,7 +50,7 @@ module _ {B : Type 0} where
   }
     where
       found : (x : View B) × (get_elem? (slice_set views id w) (n.seats 0) ≡ some x) × (x.number ≡ 0)
-          × (x.spent ≡ false) × (x.met ≡ n.chief.met)
+          × (x.spent ≡ false) × (x.met ≡ n.chief.met) × (x.meetings ≡ n.chief.meetings)
       found = dite (ℕ_discrete (n.seats 0) id)
           (λ e.
           let same : v ≡ n.chief = some-injective v n.chief (sym here ∙ (ap (get_elem? views) (sym e) ∙ n.here)) in (
@@ -57,8 +59,9 @@ module _ {B : Type 0} where
             number ∙ (ap (λ (x : View B). x.number) same ∙ n.first),
             live2,
             met ∙ ap (λ (x : View B). x.met) same,
+            meetings ∙ ap (λ (x : View B). x.meetings) same,
           ))
-          (λ ne. (n.chief, set_else views id (n.seats 0) w ne ∙ n.here, n.first, n.live, refl))
+          (λ ne. (n.chief, set_else views id (n.seats 0) w ne ∙ n.here, n.first, n.live, refl, refl))
 
   module _ (later : B → B → Type 0) (size : B → ℕ) (kept : B → Marks) (alone : (b : B) → later b b)
       (on : (b c d : B) → later b c → later c d → later b d) (opened : B) where
@@ -105,7 +108,7 @@ module _ {B : Type 0} where
                     ];
               },
             );
-            numbers = numbered_set s.views id v w here live live refl refl k.numbers;
+            numbers = numbered_set s.views id v w here live live refl refl refl k.numbers;
             chain =
                 chain_set s.views later id v w here b (known_before s.views later b (λ i u g. (f.views i u g).1)) alone
                 sees k.chain;
@@ -225,7 +228,7 @@ module _ {B : Type 0} where
                     ];
               },
             );
-            numbers = numbered_set s.views id v w here live live refl refl k.numbers;
+            numbers = numbered_set s.views id v w here live live refl refl refl k.numbers;
             chain =
                 chain_set s.views later id v w here k.book
                 (known_before s.views later k.book (λ i u g. (t.views i u g).1)) alone (λ a q. inl q) k.chain;
@@ -310,7 +313,7 @@ module _ {B : Type 0} where
                     ];
               },
             );
-            numbers = numbered_set s.views id v w here live live refl refl k.numbers;
+            numbers = numbered_set s.views id v w here live live refl refl refl k.numbers;
             chain =
                 chain_set s.views later id v w here c
                 (λ a q. on a k.book c (known_before s.views later k.book (λ i u g. (t.views i u g).1) a q) up) alone
@@ -356,7 +359,7 @@ module _ {B : Type 0} where
                     | inr p ↦ (my.others j u p.0 p.1, subst (λ x. BothBefore later u x) (sym found) (t.views j u p.1).1)
                   ];
             });
-            numbers = numbered_set s.views id v (resting v) here live live refl refl k.numbers;
+            numbers = numbered_set s.views id v (resting v) here live live refl refl refl k.numbers;
             chain =
                 chain_set s.views later id v (resting v) here k.book
                 (known_before s.views later k.book (λ i u g. (t.views i u g).1)) alone (λ a q. inl q) k.chain;

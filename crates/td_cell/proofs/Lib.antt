@@ -1,5 +1,6 @@
 pub mod Chains
 pub mod Closes
+pub mod Counts
 pub mod Keeps
 pub mod Lists
 pub mod Marking

@@ -1,5 +1,5 @@
 -- Taking a pass in keeps the rule.
-use Rattle.std.proofs.Common.{◌≡◌, ◌≢◌, ℕ, zero, suc, ◌-◌, ◌<◌, ◌≤◌, ◌⊎◌, inl, inr, List, [], ◌∷◌, length, true, false}
+use Rattle.std.proofs.Common.{◌≡◌, ◌≢◌, ℕ, zero, suc, ◌+◌, ◌-◌, ◌<◌, ◌≤◌, ◌⊎◌, inl, inr, List, [], ◌∷◌, length, true, false}
 use Rattle.std.proofs.Common.{refl, sym, ◌∙◌, ap, subst, arith, slice_set, slice_get, slice_index, Some}
 use Rattle.std.proofs.lemmas.List.{length-set}
 use mathlib.Core.Option.{none, some, some-injective}
@@ -14,6 +14,7 @@ use Rattle.td_cell.specs.Rules.{Kept, Stands, Numbered, Known, Sees, Before, Bot
 use Rattle.td_cell.specs.Rules.{places_of, marks_of, Holds}
 use Rattle.td_cell.proofs.Owns.{set_at, owned_met, owned_same, met_back}
 use Rattle.td_cell.proofs.Marking.{marking_of, marking_same, spaced_of}
+use Rattle.td_cell.proofs.Counts.{count-set, meetings_of}
 use Rattle.td_cell.proofs.Keeps.{numbered_set}
 use Rattle.td_cell.proofs.Chains.{just, chain_of, known_met, placed_met, placed_same, word_same, before_sees}
 
@@ -50,6 +51,10 @@ module _ {B : Type 0} (views : List (View B)) (id other : ℕ) (v w : View B) wh
         ∙ set_at views id (meeting v w) v here);
     first = first;
     live = live;
+    meetings =
+        let out : slice_get v.met (w.number - 1) ≡ Some false =
+        ap (λ (x : View B). slice_get x.met (w.number - 1)) same ∙ (n.each other w there live2).2 pos in
+        ap (λ k. k + 1) (meetings_of views id v here first live n) ∙ sym (count-set v.met (w.number - 1) out);
     each =
         λ i u got unspent. elim (which i u
         got) as (λ _. (i ≡ n.seats u.number) × (u.number ≤ length (meeting v w).met)
@@ -165,7 +170,7 @@ module _ {B : Type 0} (later : B → B → Type 0) (size : B → ℕ) (kept : B 
 
   -- the later of the two is what is seen
   module _ (alone : (b : B) → later b b) (rings : (b c : B) → later b c → (kept c).ring ≡ (kept b).ring) (n : ℕ)
-      (v : View B) (id : ℕ) (live : v.spent ≡ false) (rests : v.holds ≡ false) where
+      (v : View B) (id : ℕ) (first : v.number ≡ 0) (live : v.spent ≡ false) (rests : v.holds ≡ false) where
     abbrev Rule : State B (View B) → Type 0
     Rule = Kept later size kept opened
 
@@ -231,7 +236,7 @@ module _ {B : Type 0} (later : B → B → Type 0) (size : B → ℕ) (kept : B 
         book = k.book;
         since = k.since;
         stands = stands_learnt s here x one k.book k.stands;
-        numbers = numbered_set s.views id v (learnt v x (size x) (kept x).count) here live live refl refl k.numbers;
+        numbers = numbered_set s.views id v (learnt v x (size x) (kept x).count) here live live refl refl refl k.numbers;
         chain = chain_of s.views later _ known k.chain;
         places =
             owned_same places_of s.views id v (learnt v x (size x) (kept x).count) here live live itself k.places refl;
@@ -249,6 +254,7 @@ module _ {B : Type 0} (later : B → B → Type 0) (size : B → ℕ) (kept : B 
           one = one;
           before = before;
           is = refl;
+          meetings = meetings_of s.views id v here first live k.numbers;
           places = k.places.rises id v here live;
           marks = k.marks.rises id v here live;
           spaced =

@@ -17,6 +17,7 @@ use Rattle.td_cell.specs.Rules.{places_of, marks_of, Holds}
 use Rattle.td_cell.proofs.Owns.{set_at, at_snoc2, owned_split, split_back}
 use Rattle.td_cell.proofs.Marking.{marking_of}
 use Rattle.td_cell.proofs.Chains.{just, chain_of, known_split, placed_split}
+use Rattle.td_cell.proofs.Counts.{count-more, meetings_of}
 
 get-more : {A : Type 0} (xs ys : List A) (p : ℕ) (x : A) → slice_get xs p ≡ Some x → slice_get (xs ++ ys) p ≡ Some x
 get-more [] ys p x h = absurd (cc)
@@ -54,6 +55,7 @@ module _ {B : Type 0} (views : List (View B)) (id : ℕ) (v : View B) where
         (set_at views id (opener v) v here));
     first = first;
     live = live;
+    meetings = meetings_of views id v here first live n ∙ sym (count-more v.met);
     each =
         λ i u got unspent. elim (which i u
         got) as (λ _. (i ≡ seats u.number) × (u.number ≤ length (v.met ++ false ∷ []))
@@ -201,6 +203,7 @@ begins {B} later size kept alone b = record {
     here = refl;
     first = refl;
     live = refl;
+    meetings = refl;
     each =
         λ i v got unspent. let o = only i v got in
         subst (λ (x : View B). (i ≡ 0) × (x.number ≤ 0) × (0 < x.number → slice_get [] (x.number - 1) ≡ Some false))

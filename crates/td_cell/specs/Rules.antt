@@ -10,6 +10,18 @@ use Rattle.td_cell.specs.declared.pass.Mark.{Mark}
 use Rattle.td_cell.specs.Lists.{Rises, merge, grown, itself}
 use Rattle.td_cell.specs.OwnMarks.{marks_between, number_of, Gap, Spaced}
 
+-- each has been met
+abbrev pub all_met : List Bool → Bool
+all_met [] = true
+all_met (false ∷ ms) = false
+all_met (true ∷ ms) = all_met ms
+
+-- how many have been met
+abbrev pub count_met : List Bool → ℕ
+count_met [] = 0
+count_met (false ∷ ms) = count_met ms
+count_met (true ∷ ms) = count_met ms + 1
+
 module _ {B : Type 0} where
   abbrev pub places_of : View B → List ℕ
   places_of v = v.own
@@ -25,6 +37,7 @@ module _ {B : Type 0} where
     seen = Some b;
     told = None;
     met = [];
+    meetings = 0;
     changes = n;
     marks = m;
     own = [];
@@ -56,6 +69,7 @@ module _ {B : Type 0} where
     number = length v.met + 1;
     told = None;
     met = [];
+    meetings = 0;
     own = [];
     own_marks = [];
   }
@@ -65,6 +79,7 @@ module _ {B : Type 0} where
   meeting v w = record v {
     told = w.seen;
     met = slice_set v.met (w.number - 1) true;
+    meetings = v.meetings + 1;
     own = merge itself v.own w.own;
     own_marks = merge number_of v.own_marks w.own_marks;
   }
@@ -77,6 +92,7 @@ module _ {B : Type 0} where
     seen = None;
     told = None;
     met = [];
+    meetings = 0;
     changes = 0;
     marks = 0;
     own = [];
@@ -94,6 +110,7 @@ module _ {B : Type 0} where
     pub here : get_elem? views (seats 0) ≡ some chief
     pub first : chief.number ≡ 0
     pub live : chief.spent ≡ false
+    pub meetings : chief.meetings ≡ count_met chief.met
     pub each : (i : ℕ) (v : View B) → get_elem? views i ≡ some v → v.spent ≡ false
         → (i ≡ seats v.number) × (v.number ≤ length chief.met)
         × (0 < v.number → slice_get chief.met (v.number - 1) ≡ Some false)
@@ -192,6 +209,7 @@ module _ {B : Type 0} where
         pub one : Sees v book
         pub before : BothBefore v book
         pub is : w ≡ learnt v book (size book) (kept book).count
+        pub meetings : v.meetings ≡ count_met v.met
         pub places : Rises itself v.own
         pub marks : Rises number_of v.own_marks
         pub spaced : Spaced (kept book).ring v.own_marks
@@ -234,9 +252,3 @@ pub record Turned {B A R : Type 0} (later : B → B → Type 0) (size : B → �
   pub is : w ≡ after_turn size kept v before after
   pub marks : Rises number_of w.own_marks
   pub spaced : Spaced (kept after).ring w.own_marks
-
--- each has been met
-abbrev pub all_met : List Bool → Bool
-all_met [] = true
-all_met (false ∷ ms) = false
-all_met (true ∷ ms) = all_met ms

@@ -45,9 +45,9 @@ impl<B: Book + Drop> Cell<B> {
             Ok((table, seat)) => {
                 let pass = Pass {
                     seat,
-                    number: 0,
                     changes,
-                    met: Vec::new(alloc),
+                    splits: 0,
+                    meetings: 0,
                 };
                 Ok((Cell { table }, pass))
             }
@@ -113,12 +113,12 @@ impl<B: Book + Drop> Cell<B> {
     }
 
     /// Splits one more pass off the opening one. It has seen what the opening pass has, has no acts, and the next
-    /// number.
+    /// number. Takes no memory.
     ///
     /// # Errors
     ///
-    /// `Memory` for want of memory alone. The opening pass is then as it was.
-    pub fn split(&self, alloc: Global, pass: &mut Pass<B>) -> Result<Pass<B>, Memory>
+    /// `Memory` where 2^64 - 1 passes were split off before. The opening pass is then as it was.
+    pub fn split(&self, pass: &mut Pass<B>) -> Result<Pass<B>, Memory>
         requires own { Belongs pass.old self.now }
         requires opening { IsOpening pass.old }
         ensures own { IfOk result (λ p. SameCell pass.new pass.old × SameCell p pass.old) }
@@ -126,19 +126,16 @@ impl<B: Book + Drop> Cell<B> {
         ensures split_off { IfOk result (λ p. knowledge p ≡ split_off (knowledge pass.old)) }
         ensures err { OnErr result (SameCell pass.new pass.old × (knowledge pass.new ≡ knowledge pass.old)) }
     {
-        let number = pass.met.len() as u64;
-        if number == u64::MAX {
+        if pass.splits == u64::MAX {
             return Err(Memory);
         }
-        let met = Vec::new(alloc);
-        let changes = pass.changes;
-        pass.met.push(false)?;
         let seat = self.table.shared.split_seat::<SplitOff>(&mut pass.seat);
+        pass.splits += 1;
         Ok(Pass {
             seat,
-            number: number + 1,
-            changes,
-            met,
+            changes: pass.changes,
+            splits: 0,
+            meetings: 0,
         })
     }
 
@@ -154,16 +151,11 @@ impl<B: Book + Drop> Cell<B> {
         ensures learned { Learns B.later B.size B.remembers (meeting (knowledge pass.old) (knowledge told))
             (knowledge pass.new) }
     {
-        let Pass {
-            seat,
-            number,
-            changes,
-            ..
-        } = told;
+        let Pass { seat, changes, .. } = told;
         self.table.shared.join_seat::<Meeting>(&mut pass.seat, seat);
         self.table.shared.load::<Learn>(&mut pass.seat, 1);
         pass.changes = pass.changes.max(changes);
-        pass.met[number as usize - 1] = true;
+        pass.meetings += 1;
     }
 
     /// Whether each pass that was split off has been met. Takes no memory.
@@ -172,7 +164,7 @@ impl<B: Book + Drop> Cell<B> {
         requires opening { IsOpening pass.now }
         ensures { result ≡ all_met (knowledge pass.now).met }
     {
-        every(pass.met.as_slice())
+        pass.meetings == pass.splits
     }
 
     /// Takes the book out at the end: it is later than the one that the cell was opened with and than what the opening
@@ -200,15 +192,4 @@ impl<B: Book + Drop> Cell<B> {
         closed.free();
         Ok(book)
     }
-}
-
-fn every(met: &[bool]) -> bool
-    ensures { result ≡ all_met met.now }
-{
-    for m in met {
-        if !*m {
-            return false;
-        }
-    }
-    true
 }

@@ -1,7 +1,8 @@
 //! What a pass knows.
 
-ghost use Rattle.std.specs.Prelude.{◌≡◌, [], false, None, IsSome};
+ghost use Rattle.std.specs.Prelude.{◌≡◌, [], false, None, IsSome, length};
 ghost use Rattle.std.specs.Option.{ForSome};
+ghost use Rattle.td_cell.specs.Rules.{count_met};
 
 use crate::book::Book;
 use atomic_table::Seat;
@@ -30,6 +31,8 @@ pub struct View<B> {
     pub told: Option<B>,
     /// The opening pass keeps for each pass that was split off whether it was met.
     pub met: List<bool>,
+    /// How many passes it has met.
+    pub meetings: u64,
     /// How many entries the history has that was seen.
     pub changes: u64,
     /// How many marks were made by then.
@@ -40,16 +43,19 @@ pub struct View<B> {
     pub own_marks: List<Mark>,
 }
 
-/// A pass of a cell, by which one holder does acts on its book. The opening one has the number 0, and keeps which of
-/// the others have been met.
+/// A pass of a cell, by which one holder does acts on its book. The opening one counts the others, and those of them
+/// that it has met: which ones they were is known in proofs alone.
 #[derive(Drop)]
 pub struct Pass<B: Book> {
     pub(crate) seat: Seat<B, View<B>>,
-    pub(crate) number: u64,
     pub(crate) changes: u64,
-    pub(crate) met: Vec<bool>,
-    ghost numbered: { number ≡ seat.me.0.number },
-    ghost listed: { met.items ≡ seat.me.0.met },
+    /// How many passes were split off.
+    pub(crate) splits: u64,
+    /// How many of them were met.
+    pub(crate) meetings: u64,
+    ghost splits_counted: { splits ≡ length seat.me.0.met },
+    ghost meetings_counted: { meetings ≡ seat.me.0.meetings },
+    ghost meetings_are_met: { meetings ≡ count_met seat.me.0.met },
     ghost counted: { changes ≡ seat.me.0.changes },
     ghost live: { seat.me.0.spent ≡ false },
     ghost rests: { seat.me.0.holds ≡ false },

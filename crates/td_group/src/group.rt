@@ -119,7 +119,7 @@ impl Group {
         ensures err { OnErr result (AllZip IsAsBefore passes.old.items passes.new.items) }
     {
         let mut out = Vec::with_capacity(alloc, self.cells.len())?;
-        match self.split_each(alloc, passes, &mut out) {
+        match self.split_each(passes, &mut out) {
             Ok(()) => Ok(out),
             Err(memory) => {
                 self.meet_all(passes, out);
@@ -131,7 +131,6 @@ impl Group {
     /// Splits a pass off each opening pass, as far as there is memory.
     fn split_each(
         &self,
-        alloc: Global,
         passes: &mut Vec<Pass<Stall>>,
         out: &mut Vec<Pass<Stall>>,
     ) -> Result<(), Memory>
@@ -142,7 +141,7 @@ impl Group {
         ensures err { OnErr result (SplitsInPart passes.old.items out.new.items passes.new.items) }
     {
         for k in 0..self.cells.len() {
-            let pass = self.cells[k].split(alloc, &mut passes[k])?;
+            let pass = self.cells[k].split(&mut passes[k])?;
             out.push_reserved(pass);
         }
         Ok(())

@@ -51,8 +51,8 @@ fn closed(cell: Cell<Tally>, pass: Pass<Tally>) -> Option<(u64, u64)>
 /// One turn of each of two passes, which meet in the order in which they were split off or in the other one.
 fn two_turns<R: Wait>(rt: &R, alloc: Global, in_order: bool) -> Result<Option<(u64, u64)>, Memory> {
     let (cell, mut opening) = Cell::open(alloc, tally())?;
-    let first = cell.split(alloc, &mut opening)?;
-    let second = cell.split(alloc, &mut opening)?;
+    let first = cell.split(&mut opening)?;
+    let second = cell.split(&mut opening)?;
     let first = add_multiples(rt, &cell, first, 5, 1);
     let second = add_multiples(rt, &cell, second, 70, 1);
     if in_order {
@@ -75,7 +75,7 @@ fn what_was_split_off_meets_in_any_order(rt: HostRuntime) -> Result<(), Fail> {
 /// Closes a cell while a pass is out, and again once it was met.
 fn close_early<R: Wait>(rt: &R, alloc: Global) -> Result<(bool, Option<(u64, u64)>), Memory> {
     let (cell, mut opening) = Cell::open(alloc, tally())?;
-    let out = cell.split(alloc, &mut opening)?;
+    let out = cell.split(&mut opening)?;
     let out = add_multiples(rt, &cell, out, 5, 1);
     let whole = cell.whole(&opening);
     match cell.close(opening) {
@@ -99,8 +99,8 @@ fn a_cell_is_closed_only_once_all_have_met(rt: HostRuntime) -> Result<(), Fail> 
 #[test]
 fn each_act_of_two_threads_is_in_the_book_once(rt: HostRuntime) -> Result<(), Fail> {
     let (cell, mut opening) = Cell::open(rt.alloc(), tally())?;
-    let first = cell.split(rt.alloc(), &mut opening)?;
-    let second = cell.split(rt.alloc(), &mut opening)?;
+    let first = cell.split(&mut opening)?;
+    let second = cell.split(&mut opening)?;
     let (first, second) = thread::join(
         &rt,
         || -> Pass<Tally>

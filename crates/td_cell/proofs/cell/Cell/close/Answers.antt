@@ -1,4 +1,4 @@
-use Rattle.std.proofs.Common.{◌≡◌, true, sym, ◌∙◌, subst}
+use Rattle.std.proofs.Common.{sym, ◌∙◌, subst}
 use mathlib.Core.Option.{some-injective}
 use Rattle.td_cell.specs.Rules.{Before}
 use Rattle.td_cell.proofs.Closes.{at_home}

@@ -1,9 +1,10 @@
-use Rattle.std.proofs.Common.{arith, sym, ◌∙◌, ◌<◌, subst, ap}
+use Rattle.std.proofs.Common.{◌-◌, arith, sym, ◌∙◌, subst, ap}
 use mathlib.Core.Option.{none}
 use Rattle.atomic_table.specs.Table.{Allows, step}
-use Rattle.td_cell.specs.Rules.{Kept, Learned, meeting}
+use Rattle.td_cell.specs.Rules.{Kept, Learned, count_met, meeting}
 use Rattle.td_cell.proofs.Meets.{meet_allowed, learn_allows}
 use Rattle.td_cell.proofs.Chains.{one_seen}
+use Rattle.td_cell.proofs.Counts.{meeting-within}
 use Rattle.td_cell.proofs.cell.Cell.meet.Goals as goal
 
 pub join_seat-requires : goal.join_seat-requires
@@ -36,5 +37,15 @@ load-pass-requires g c =
           (sym e)
           (learn_allows b.later b.size b.remembers tab.key.value g.met.B.Book.later_itself
           (λ x y l. (g.met.B.Book.later_marks x y l).ring) n (meeting p.seat.me.0 q.seat.me.0)
-          c.join_seat.new.seat.id p.live p.rests x.0 y.0 x.1 y.1),
+          c.join_seat.new.seat.id c.requires.opening p.live p.rests x.0 y.0 x.1 y.1),
     )
+
+pub overflow_add-pass : goal.overflow_add-pass
+overflow_add-pass g c =
+    let p = c.args.pass.now in
+    let q = c.args.told in
+    let e = c.join_seat.ensures.2 in
+    let counted = ap (λ m. m.0.meetings) (sym e) ∙ c.load-pass.ensures.2.0.meetings ∙ ap (λ m. count_met m.0.met) e in
+    let within = meeting-within p.seat.me.0.met (q.seat.me.0.number - 1) p.seat.me.0.meetings p.splits counted
+    p.splits_counted in
+    omega (arith, within, p.meetings_counted, c.fits-pass)
