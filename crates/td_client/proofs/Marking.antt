@@ -1,18 +1,20 @@
 -- A call that is noted.
-use Rattle.std.proofs.Common.{◌≡◌, ◌∙◌, ℕ, ◌≤◌, List, [], ◌∷◌, ◌++◌, Ok, Err, refl, sym, ap, arith}
+use Rattle.std.proofs.Common.{◌≡◌, ◌∙◌, ℕ, ◌≤◌, List, [], ◌∷◌, ◌++◌, map, Ok, Err, refl, sym, ap, arith}
 use Rattle.std.proofs.lemmas.List.{map-append}
 use Rattle.td_cdr.specs.Format.{Unless}
 use Rattle.td_out.specs.Causes.{Rose}
 use Rattle.td_walk.specs.Peering.{PeerCall, Exchange, Given, IsNoted, exchange, is_memory}
 use Rattle.td_walk.specs.declared.fault.PeerFault.{PeerFault}
 use Rattle.td_walk.specs.declared.fault.PeerFault.TheVariants as fault
+use Rattle.td_past.specs.Entries.{entries_of}
+use Rattle.td_past.specs.declared.past.Past.{Past}
 use Rattle.td_client.specs.Noted.{exchange_of, exchanges, failed}
 use Rattle.td_client.specs.declared.note.Note.{Note}
 
-pub one_more : (notes new : List Note) (n : Note) (e : Exchange) → new ≡ notes ++ n ∷ [] → exchange_of n ≡ e
-    → exchanges new ≡ exchanges notes ++ e ∷ []
+pub one_more : (notes new : Past Note) (n : Note) (e : Exchange) → entries_of new ≡ entries_of notes ++ n ∷ []
+    → exchange_of n ≡ e → exchanges new ≡ exchanges notes ++ e ∷ []
 one_more notes new n e is noted =
-    ap exchanges is ∙ map-append exchange_of notes (n ∷ [])
+    ap (map exchange_of) is ∙ map-append exchange_of (entries_of notes) (n ∷ [])
     ∙ ap (λ (x : Exchange). exchanges notes ++ x ∷ []) noted
 
 failed_is : {X : Type 0} (given : X → Given) (c : PeerCall) (f : PeerFault) → exchange given c (Err f) ≡ failed c f
@@ -30,8 +32,8 @@ noted_fault given c before after f0 f1 f is later cause = record {
   cause = cause;
 }
 
-pub noted_answer : {X : Type 0} (given : X → Given) (c : PeerCall) (notes new : List Note) (n : Note) (f : ℕ) (x : X)
-    → new ≡ notes ++ n ∷ [] → exchange_of n ≡ record { call = c; gave = given x }
+pub noted_answer : {X : Type 0} (given : X → Given) (c : PeerCall) (notes new : Past Note) (n : Note) (f : ℕ) (x : X)
+    → entries_of new ≡ entries_of notes ++ n ∷ [] → exchange_of n ≡ record { call = c; gave = given x }
     → IsNoted given c (exchanges notes) (exchanges new) f f (Ok x)
 noted_answer given c notes new n f x is noted = record {
   calls = one_more notes new n (record { call = c; gave = given x }) is noted;

@@ -5,6 +5,8 @@ use Rattle.td_walk.specs.Peering.{PeerCall, Querying, Evaluating, RegisterOf, Re
 use Rattle.td_walk.specs.Peering.{Answered, Evaluated, Referred, Failed}
 use Rattle.td_walk.specs.declared.fault.PeerFault.{PeerFault}
 use Rattle.td_walk.specs.declared.fault.PeerFault.TheVariants as fault
+use Rattle.td_past.specs.Entries.{entries_of}
+use Rattle.td_past.specs.declared.past.Past.{Past}
 use Rattle.td_client.specs.declared.note.CallNote.{CallNote}
 use Rattle.td_client.specs.declared.note.CallNote.TheVariants as call
 use Rattle.td_client.specs.declared.note.GaveNote.{GaveNote}
@@ -26,8 +28,8 @@ given_of (gave.Failed f) = Failed f
 abbrev pub exchange_of : Note → Exchange
 exchange_of n = record { call = call_of n.call; gave = given_of n.gave }
 
-abbrev pub exchanges : List Note → List Exchange
-exchanges notes = map exchange_of notes
+abbrev pub exchanges : Past Note → List Exchange
+exchanges notes = map exchange_of (entries_of notes)
 
 -- what a call that failed adds: one that wanted memory isn't noted
 abbrev pub failed : PeerCall → PeerFault → List Exchange

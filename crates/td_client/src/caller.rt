@@ -8,12 +8,14 @@ ghost use Rattle.td_call.specs.Requests.{request_of};
 ghost use Rattle.td_client.specs.Noted.{count_after};
 ghost use Rattle.td_gather.specs.Asking.{Asks, GivesSmallOffers};
 ghost use Rattle.td_gather.specs.Writing.{AskLeaves};
+ghost use Rattle.td_past.specs.Entries.{entries_of};
 
 use crate::note::Note;
 use std::alloc::Global;
 use td_call::call_over;
 use td_gather::{Gathered, ask_over};
 use td_ops::{Answered, Call, Query};
+use td_past::Past;
 use td_value::Ior;
 use td_walk::PeerFault;
 use td_wire::Wire;
@@ -22,21 +24,21 @@ use td_wire::Wire;
 #[derive(Drop)]
 pub struct Caller<L> {
     pub(crate) wire: L,
-    /// The calls that a visit made, in order.
-    pub(crate) notes: Vec<Note>,
+    /// The calls that a visit made, in order: clauses tell them, and the program keeps none.
+    pub(crate) notes: Past<Note>,
     pub(crate) faults: u64,
 }
 
 impl<L: Wire> Caller<L> {
     /// A caller over this wire. It made no call and counted no fault yet.
-    pub fn new(alloc: Global, wire: L) -> Caller<L>
+    pub fn new(wire: L) -> Caller<L>
         ensures wire { result.wire ≡ wire }
-        ensures notes { result.notes.items ≡ [] }
+        ensures notes { entries_of result.notes ≡ [] }
         ensures faults { result.faults ≡ 0 }
     {
         Caller {
             wire,
-            notes: Vec::new(alloc),
+            notes: Past::new(),
             faults: 0,
         }
     }

@@ -1,4 +1,4 @@
-//! The calls of a caller, as clauses see them: a note takes a few bytes, and holds no value.
+//! The calls of a caller, as clauses see them.
 
 use std::snapshot::Snapshot;
 use td_cdr::{List, Text};

@@ -1,8 +1,9 @@
-//! Calls are noted with what they gave, in room that was taken before.
+//! Calls are noted with what they gave.
 
-ghost use Rattle.std.specs.Prelude.{◌≡◌, ◌<◌, ◌≤◌, ◌++◌, ◌∷◌, [], vec_len, vec_capacity};
+ghost use Rattle.std.specs.Prelude.{◌≡◌, ◌≤◌, ◌++◌, ◌∷◌, []};
 ghost use Rattle.td_cdr.specs.Format.{Unless};
 ghost use Rattle.td_out.specs.Causes.{raised, Rose};
+ghost use Rattle.td_past.specs.Entries.{entries_of};
 ghost use Rattle.td_walk.specs.Peering.{IsNoted, Answered, Evaluated, Referred, is_memory};
 ghost use Rattle.td_client.specs.Noted.{call_of, count_after, count_fault, exchanges, failed};
 ghost use Rattle.td_client.specs.declared.note.GaveNote.TheVariants.{Failed as failed_note};
@@ -10,28 +11,28 @@ ghost use Rattle.td_client.specs.declared.note.GaveNote.TheVariants.{Failed as f
 use crate::note::{CallNote, GaveNote, Note};
 use std::snapshot::Snapshot;
 use td_cdr::Boxed;
+use td_past::Past;
 use td_value::{Any, Ior};
 use td_walk::{PeerFault, SubAnswer};
 
 /// Notes a call with its fault, and counts the fault.
-fn keep_fault(notes: &mut Vec<Note>, faults: &mut u64, call: CallNote, fault: PeerFault)
-    requires { vec_len notes.old < vec_capacity notes.old }
-    ensures noted { notes.new.items ≡ notes.old.items ++ record { call = call; gave = failed_note fault } ∷ [] }
+fn keep_fault(notes: &mut Past<Note>, faults: &mut u64, call: CallNote, fault: PeerFault)
+    ensures noted { entries_of notes.new ≡ entries_of notes.old ++ record { call = call; gave = failed_note fault } ∷ [] }
     ensures counted { faults.new ≡ raised faults.old }
     ensures later { faults.old ≤ faults.new }
 {
-    notes.push_reserved(Note {
+    let note = Note {
         call,
         gave: GaveNote::Failed(fault),
-    });
+    };
+    notes.note(&note);
     *faults = faults.saturating_add(1);
 }
 
 /// Notes a call that failed; one that wanted memory isn't noted.
 #[tactic(auto, using(crate::proofs::Marking::one_more))]
-fn note_fault(notes: &mut Vec<Note>, faults: &mut u64, call: CallNote, fault: PeerFault)
-    requires { vec_len notes.old < vec_capacity notes.old }
-    ensures noted { exchanges notes.new.items ≡ exchanges notes.old.items ++ failed (call_of call) fault }
+fn note_fault(notes: &mut Past<Note>, faults: &mut u64, call: CallNote, fault: PeerFault)
+    ensures noted { exchanges notes.new ≡ exchanges notes.old ++ failed (call_of call) fault }
     ensures later { faults.old ≤ faults.new }
     ensures cause { Unless (is_memory fault) (Rose faults.old faults.new) }
     ensures counted { faults.new ≡ count_fault faults.old fault }
@@ -47,18 +48,17 @@ fn note_fault(notes: &mut Vec<Note>, faults: &mut u64, call: CallNote, fault: Pe
 /// Notes a query.
 #[tactic(auto, using(crate::proofs::Marking::noted_answer, crate::proofs::Marking::noted_fault))]
 pub(crate) fn note_offers(
-    notes: &mut Vec<Note>,
+    notes: &mut Past<Note>,
     faults: &mut u64,
     call: CallNote,
     answer: &Result<SubAnswer, PeerFault>,
 )
-    requires { vec_len notes.old < vec_capacity notes.old }
-    ensures noted { IsNoted (λ a. Answered a) (call_of call) (exchanges notes.old.items) (exchanges notes.new.items)
+    ensures noted { IsNoted (λ a. Answered a) (call_of call) (exchanges notes.old) (exchanges notes.new)
         faults.old faults.new answer.now }
     ensures counted { faults.new ≡ count_after faults.old answer.now }
 {
     match answer {
-        Ok(offers) => notes.push_reserved(Note {
+        Ok(offers) => notes.note(&Note {
             call,
             gave: GaveNote::Offers(Snapshot::of(offers)),
         }),
@@ -69,18 +69,17 @@ pub(crate) fn note_offers(
 /// Notes an evaluation.
 #[tactic(auto, using(crate::proofs::Marking::noted_answer, crate::proofs::Marking::noted_fault))]
 pub(crate) fn note_value(
-    notes: &mut Vec<Note>,
+    notes: &mut Past<Note>,
     faults: &mut u64,
     call: CallNote,
     answer: &Result<Boxed<Any>, PeerFault>,
 )
-    requires { vec_len notes.old < vec_capacity notes.old }
-    ensures noted { IsNoted (λ v. Evaluated v) (call_of call) (exchanges notes.old.items) (exchanges notes.new.items)
+    ensures noted { IsNoted (λ v. Evaluated v) (call_of call) (exchanges notes.old) (exchanges notes.new)
         faults.old faults.new answer.now }
     ensures counted { faults.new ≡ count_after faults.old answer.now }
 {
     match answer {
-        Ok(value) => notes.push_reserved(Note {
+        Ok(value) => notes.note(&Note {
             call,
             gave: GaveNote::Value(Snapshot::of(value.get())),
         }),
@@ -91,18 +90,17 @@ pub(crate) fn note_value(
 /// Notes a call that gives a reference.
 #[tactic(auto, using(crate::proofs::Marking::noted_answer, crate::proofs::Marking::noted_fault))]
 pub(crate) fn note_reference(
-    notes: &mut Vec<Note>,
+    notes: &mut Past<Note>,
     faults: &mut u64,
     call: CallNote,
     answer: &Result<Ior, PeerFault>,
 )
-    requires { vec_len notes.old < vec_capacity notes.old }
-    ensures noted { IsNoted (λ r. Referred r) (call_of call) (exchanges notes.old.items) (exchanges notes.new.items)
+    ensures noted { IsNoted (λ r. Referred r) (call_of call) (exchanges notes.old) (exchanges notes.new)
         faults.old faults.new answer.now }
     ensures counted { faults.new ≡ count_after faults.old answer.now }
 {
     match answer {
-        Ok(reference) => notes.push_reserved(Note {
+        Ok(reference) => notes.note(&Note {
             call,
             gave: GaveNote::Reference(Snapshot::of(reference)),
         }),

@@ -33,7 +33,7 @@ use td_walk::{PeerFault, Peers, SubAnswer};
 use td_wire::Wire;
 
 impl<L: Wire> Peers for Caller<L> {
-    ghost calls = { λ c. exchanges c.notes.items };
+    ghost calls = { λ c. exchanges c.notes };
 
     ghost faults = { λ c. c.faults };
 
@@ -48,8 +48,8 @@ impl<L: Wire> Peers for Caller<L> {
     fn query(&mut self, alloc: Global, target: &Ior, q: &Query) -> Result<SubAnswer, PeerFault>
         ensures same { L.same self.old.wire self.new.wire }
         ensures count { self.new.faults ≡ count_after self.old.faults result }
-        ensures noted { IsNoted (λ a. Answered a) (Querying target.now q.now) (exchanges self.old.notes.items)
-            (exchanges self.new.notes.items) self.old.faults self.new.faults result }
+        ensures noted { IsNoted (λ a. Answered a) (Querying target.now q.now) (exchanges self.old.notes)
+            (exchanges self.new.notes) self.old.faults self.new.faults result }
         ensures small { IfOk result (λ a. HasSmallOffers a) }
         ensures exact { (r : Result Given PeerFault) × Asks target.now q.now (L.told self.old.wire)
             (L.told self.new.wire) (L.faults self.old.wire) (L.faults self.new.wire) r
@@ -57,10 +57,6 @@ impl<L: Wire> Peers for Caller<L> {
         ensures leaves { AskLeaves target.now q.now (L.told self.old.wire) (L.told self.new.wire) }
         ensures disconnected { StaysDisconnected (L.told self.old.wire) (L.told self.new.wire) }
     {
-        match self.notes.reserve(1) {
-            Err(_) => return Err(PeerFault::Memory),
-            Ok(()) => {}
-        }
         let answer = offers_meant(ask_over(alloc, &mut self.wire, target, q));
         let call = CallNote::Query {
             target: Snapshot::of(target),
@@ -83,7 +79,7 @@ impl<L: Wire> Peers for Caller<L> {
         ensures same { L.same self.old.wire self.new.wire }
         ensures count { self.new.faults ≡ count_after self.old.faults result }
         ensures noted { IsNoted (λ v. Evaluated v) (Evaluating evaluator.now name.now returned.now extra.now)
-            (exchanges self.old.notes.items) (exchanges self.new.notes.items) self.old.faults self.new.faults result }
+            (exchanges self.old.notes) (exchanges self.new.notes) self.old.faults self.new.faults result }
         ensures exact { (r : Result (Option Any) PeerFault) × Called (evaluation_told returned.now)
             (λ key. evaluation_of first_id key name.now returned.now extra.now) evaluator.now (L.told self.old.wire)
             (L.told self.new.wire) (L.faults self.old.wire) (L.faults self.new.wire) r
@@ -92,10 +88,6 @@ impl<L: Wire> Peers for Caller<L> {
             (L.told self.old.wire) (L.told self.new.wire) }
         ensures disconnected { StaysDisconnected (L.told self.old.wire) (L.told self.new.wire) }
     {
-        match self.notes.reserve(1) {
-            Err(_) => return Err(PeerFault::Memory),
-            Ok(()) => {}
-        }
         let answer = value_meant(evaluate_over(
             alloc,
             &mut self.wire,
@@ -119,8 +111,8 @@ impl<L: Wire> Peers for Caller<L> {
     fn register_of(&mut self, alloc: Global, lookup: &Ior) -> Result<Ior, PeerFault>
         ensures same { L.same self.old.wire self.new.wire }
         ensures count { self.new.faults ≡ count_after self.old.faults result }
-        ensures noted { IsNoted (λ r. Referred r) (RegisterOf lookup.now) (exchanges self.old.notes.items)
-            (exchanges self.new.notes.items) self.old.faults self.new.faults result }
+        ensures noted { IsNoted (λ r. Referred r) (RegisterOf lookup.now) (exchanges self.old.notes)
+            (exchanges self.new.notes) self.old.faults self.new.faults result }
         ensures exact { (r : Result Told PeerFault) × Called (outcome_told register_call)
             (λ key. request_of first_id key register_call) lookup.now (L.told self.old.wire) (L.told self.new.wire)
             (L.faults self.old.wire) (L.faults self.new.wire) r × (result ≡ with_meaning reference_meant r) }
@@ -128,10 +120,6 @@ impl<L: Wire> Peers for Caller<L> {
             (L.told self.new.wire) }
         ensures disconnected { StaysDisconnected (L.told self.old.wire) (L.told self.new.wire) }
     {
-        match self.notes.reserve(1) {
-            Err(_) => return Err(PeerFault::Memory),
-            Ok(()) => {}
-        }
         let answer = reference_meant(ask_register(alloc, &mut self.wire, lookup));
         let call = CallNote::Register {
             lookup: Snapshot::of(lookup),
@@ -150,8 +138,8 @@ impl<L: Wire> Peers for Caller<L> {
     ) -> Result<Ior, PeerFault>
         ensures same { L.same self.old.wire self.new.wire }
         ensures count { self.new.faults ≡ count_after self.old.faults result }
-        ensures noted { IsNoted (λ r. Referred r) (Resolving register.now name.now) (exchanges self.old.notes.items)
-            (exchanges self.new.notes.items) self.old.faults self.new.faults result }
+        ensures noted { IsNoted (λ r. Referred r) (Resolving register.now name.now) (exchanges self.old.notes)
+            (exchanges self.new.notes) self.old.faults self.new.faults result }
         ensures exact { (r : Result Told PeerFault) × Called (outcome_told (resolve_call name.now))
             (λ key. request_of first_id key (resolve_call name.now)) register.now (L.told self.old.wire)
             (L.told self.new.wire) (L.faults self.old.wire) (L.faults self.new.wire) r
@@ -160,10 +148,6 @@ impl<L: Wire> Peers for Caller<L> {
             (L.told self.old.wire) (L.told self.new.wire) }
         ensures disconnected { StaysDisconnected (L.told self.old.wire) (L.told self.new.wire) }
     {
-        match self.notes.reserve(1) {
-            Err(_) => return Err(PeerFault::Memory),
-            Ok(()) => {}
-        }
         let answer = reference_meant(ask_to_resolve(alloc, &mut self.wire, register, name));
         let call = CallNote::Resolution {
             register: Snapshot::of(register),

@@ -84,7 +84,7 @@ fn serve_opened<S: Source, K: Sink, L: Wire, W: Words>(
     let Ok(mut room) = Room::<PastJournal>::new(alloc, home) else {
         return Ended::Memory;
     };
-    let mut peers = Caller::new(alloc, wire);
+    let mut peers = Caller::new(wire);
     let end = serve_connection(alloc, &mut solo, &mut room, source, sink, &mut peers, words);
     Ended::Served(end)
 }

@@ -111,7 +111,7 @@ fn serve_visitor<T: Traders, S: Source, K: ClientSink, L: Wire, W: Words, J: Jou
         (T.world traders.new) }
 {
     visitor.words.seed(seed.as_slice(), number);
-    let mut peers = Caller::new(alloc, &mut visitor.wire);
+    let mut peers = Caller::new(&mut visitor.wire);
     let end = serve_connection(
         alloc,
         traders,

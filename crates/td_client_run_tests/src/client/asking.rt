@@ -122,7 +122,7 @@ fn call(alloc: Global, wire: &mut MemWire, target: &Ior) -> Result<Told, PeerFau
 }
 
 fn caller_call(alloc: Global, wire: &mut MemWire, target: &Ior) -> Result<Told, PeerFault> {
-    let mut caller = Caller::new(alloc, wire);
+    let mut caller = Caller::new(wire);
     let asked = Call::NonExistent;
     let answer = caller.call(alloc, target, &asked);
     drop(asked);
@@ -163,7 +163,7 @@ fn evaluate(alloc: Global, wire: &mut MemWire, evaluator: &Ior) -> Result<Told, 
 fn visit_evaluate(alloc: Global, wire: &mut MemWire, evaluator: &Ior) -> Result<Told, PeerFault> {
     let name = Text::from_slice(alloc, b"Cost")?;
     let extra = extra();
-    let mut caller = Caller::new(alloc, wire);
+    let mut caller = Caller::new(wire);
     let answer = caller.eval_dp(alloc, evaluator, &name, &TypeCode::Long, &extra);
     drop(extra);
     let told = match &answer {
@@ -203,7 +203,7 @@ fn told_offers(answer: &SubAnswer) -> Told {
 
 fn ask(alloc: Global, wire: &mut MemWire, target: &Ior) -> Result<Told, PeerFault> {
     let query = printers(alloc)?;
-    let mut caller = Caller::new(alloc, wire);
+    let mut caller = Caller::new(wire);
     let answer = caller.ask(alloc, target, &query);
     drop(query);
     let told = match &answer {
@@ -217,7 +217,7 @@ fn ask(alloc: Global, wire: &mut MemWire, target: &Ior) -> Result<Told, PeerFaul
 
 fn visit_ask(alloc: Global, wire: &mut MemWire, target: &Ior) -> Result<Told, PeerFault> {
     let query = printers(alloc)?;
-    let mut caller = Caller::new(alloc, wire);
+    let mut caller = Caller::new(wire);
     let answer = caller.query(alloc, target, &query);
     drop(query);
     let told = match &answer {
@@ -242,7 +242,7 @@ fn told_reference(answer: &Result<Ior, PeerFault>) -> Result<Told, PeerFault> {
 }
 
 fn register(alloc: Global, wire: &mut MemWire, lookup: &Ior) -> Result<Told, PeerFault> {
-    let mut caller = Caller::new(alloc, wire);
+    let mut caller = Caller::new(wire);
     let answer = caller.register_of(alloc, lookup);
     let told = told_reference(&answer);
     drop(answer);
@@ -251,7 +251,7 @@ fn register(alloc: Global, wire: &mut MemWire, lookup: &Ior) -> Result<Told, Pee
 
 fn resolve(alloc: Global, wire: &mut MemWire, register: &Ior) -> Result<Told, PeerFault> {
     let names = names(alloc)?;
-    let mut caller = Caller::new(alloc, wire);
+    let mut caller = Caller::new(wire);
     let answer = caller.resolve(alloc, register, &names);
     drop(names);
     let told = told_reference(&answer);

@@ -1,6 +1,6 @@
-use Rattle.std.proofs.Common.{ℕ, List, [], ap, ◌∙◌}
+use Rattle.std.proofs.Common.{ℕ, List, [], map, ap, ◌∙◌}
 use Rattle.td_client.specs.declared.note.Note.{Note}
-use Rattle.td_client.specs.Noted.{exchanges}
+use Rattle.td_client.specs.Noted.{exchange_of}
 use Rattle.td_file.specs.Files.{seen}
 use Rattle.td_reply.specs.Linking.{peers_seen}
 use Rattle.td_command.proofs.Serving.{begun}
@@ -11,7 +11,7 @@ returns g c =
     let seeded = g.W.Words.word_after c.args.words.now in
     begun (seen c.args.opened) seeded c.in-Ok.room.home c.in-Ok.room.desk _ _ _ _ _ _ _ c.in-Ok.ensures.home
     c.in-Ok.ensures.new.desk
-    (ap (λ (n : List Note). peers_seen (exchanges n) c.new-peers.result.faults) c.new-peers.ensures.notes
+    (ap (λ (n : List Note). peers_seen (map exchange_of n) c.new-peers.result.faults) c.new-peers.ensures.notes
     ∙ ap (λ (k : ℕ). peers_seen [] k) c.new-peers.ensures.faults)
     (λ k. c.seed.ensures.words k ∙ ap (λ (s : List ℕ). seeded (record { key = s; stream = 0 }) k) c.as_slice.ensures)
     c.serve_connection-end.ensures.serves

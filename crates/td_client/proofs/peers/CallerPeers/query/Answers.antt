@@ -1,16 +1,8 @@
-use Rattle.std.proofs.Common.{Err, refl}
-use Rattle.td_walk.specs.declared.fault.PeerFault.TheVariants as fault
 use Rattle.td_client.proofs.Smallness.{small_meant}
 use Rattle.td_client.proofs.peers.CallerPeers.query.Goals as goal
-
-pub returns-in-Err-clause-exact : goal.returns-in-Err-clause-exact
-returns-in-Err-clause-exact g c = (Err fault.Memory, tt, refl)
 
 pub returns-clause-exact : goal.returns-clause-exact
 returns-clause-exact g c = (c.ask_over.result, c.ask_over.ensures.asks, c.offers_meant-answer.ensures)
 
 pub returns-clause-small : goal.returns-clause-small
 returns-clause-small g c = small_meant _ _ c.offers_meant-answer.ensures c.ask_over.ensures.small
-
-pub returns-in-Err-clause-disconnected : goal.returns-in-Err-clause-disconnected
-returns-in-Err-clause-disconnected g c = λ none. none
