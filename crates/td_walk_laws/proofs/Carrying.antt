@@ -1,4 +1,4 @@
--- Each query that a search passes on carries the search's identifier.
+-- Each query that a search passes on carries the search's identifier, and states it where its policies can be read.
 use Rattle.std.proofs.Common.{◌≡◌, ℕ, List, Option, Some, None, refl, ◌∙◌, codes}
 use Rattle.td_codes.specs.declared.reference.Ior.{Ior}
 use Rattle.td_ops.specs.declared.call.Query.{Query}
@@ -12,8 +12,8 @@ use Rattle.td_walk.specs.Visits.{next_of}
 use Rattle.td_walk.specs.declared.answer.Next.TheVariants.{Forward}
 use Rattle.td_walk.specs.declared.answer.StepAnswer.{StepAnswer}
 use Rattle.td_walk_laws.specs.Reach.{IsPassed, over_link, to_proxy, along_path}
-use Rattle.td_walk_laws.specs.SubQueryLaws.{CarriesIdentifier}
-use Rattle.td_walk_laws.proofs.Passed.{identifier-kept}
+use Rattle.td_walk_laws.specs.SubQueryLaws.{CarriesIdentifier, StatesIdentifier}
+use Rattle.td_walk_laws.proofs.Passed.{along_a_path as states_along, identifier-kept, over_a_link, to_a_proxy}
 use Rattle.td_walk_laws.proofs.Questions.{only_passed}
 use Rattle.td_walk_laws.proofs.Replaced.{identifier-there, path-stays}
 
@@ -48,3 +48,22 @@ carries l target sub (Some link) is (along_path other at) = along-a-path l link
 pub carry : (l : Local) (answers : List StepAnswer) (target : Ior) (sub : Query)
     → next_of l answers ≡ Forward target sub → CarriesIdentifier l.path l sub
 carry l answers target sub asked = carries l target sub l.path refl (only_passed l answers target sub asked)
+
+-- ---- where its policies can be read
+
+states : (l : Local) (target : Ior) (sub : Query) (p : Option LinkRecord) → l.path ≡ p → IsPassed l target sub
+    → StatesIdentifier p l sub
+unfolding path_query
+states l target sub None is (over_link link none hops) = λ id s named read.
+    (over_a_link l link s read).identifier id named
+states l target sub None is (to_proxy o part constraint none hops) = λ id s named read.
+    (to_a_proxy l part constraint s read).identifier id named
+states l target sub None is (along_path link other) = absurd cc
+states l target sub (Some link) is (over_link other none hops) = absurd cc
+states l target sub (Some link) is (to_proxy o part constraint none hops) = absurd cc
+states l target sub (Some link) is (along_path other at) = λ own s stated_so read.
+    (states_along (path_left l.stated.start) l.query.policies own s stated_so read).identifier
+
+pub state : (l : Local) (answers : List StepAnswer) (target : Ior) (sub : Query)
+    → next_of l answers ≡ Forward target sub → StatesIdentifier l.path l sub
+state l answers target sub asked = states l target sub l.path refl (only_passed l answers target sub asked)

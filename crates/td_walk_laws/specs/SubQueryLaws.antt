@@ -90,3 +90,11 @@ CarriesIdentifier None l sub = (id : List ℕ) → l.identifier ≡ Some id
     → policy_named sub.policies (codes "request_id") ≡ Some (identifier_policy id)
 CarriesIdentifier (Some link) l sub =
     policy_named sub.policies (codes "request_id") ≡ policy_named l.query.policies (codes "request_id")
+
+-- Where its policies can be read, a query that a search passes on states the search's identifier; and one along a path
+-- the identifier that the visit's own query states, where that one's policies can be read, or none where it states none.
+abbrev pub StatesIdentifier : (path : Option LinkRecord) → Local → Query → Type 0
+StatesIdentifier None l sub =
+    (id : List ℕ) (s : Stated) → l.identifier ≡ Some id → stated sub.policies ≡ Ok s → s.request_id ≡ Some id
+StatesIdentifier (Some link) l sub =
+    (own s : Stated) → stated l.query.policies ≡ Ok own → stated sub.policies ≡ Ok s → s.request_id ≡ own.request_id

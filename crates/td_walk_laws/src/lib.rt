@@ -17,6 +17,6 @@ pub use sub_queries::{
     sub_queries_with_passed_policies,
 };
 pub use walks::{
-    identifiers_are_carried, queries_are_passed_on, visits_end, visits_reach_no_farther,
-    walks_are_asked, walks_end,
+    identifiers_are_carried, identifiers_are_stated, queries_are_passed_on, visits_end,
+    visits_reach_no_farther, walks_are_asked, walks_end,
 };

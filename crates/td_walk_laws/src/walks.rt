@@ -13,7 +13,7 @@ ghost use Rattle.td_walk.specs.declared.answer.StepAnswer.{StepAnswer};
 ghost use Rattle.td_walk.specs.declared.trace.TraceItem.{TraceItem};
 ghost use Rattle.td_walk.specs.declared.trace.Visit.{Visit};
 ghost use Rattle.td_walk_laws.specs.Reach.{IsPassed, IsRead, weight_of, reach_of, turns_of};
-ghost use Rattle.td_walk_laws.specs.SubQueryLaws.{CarriesIdentifier};
+ghost use Rattle.td_walk_laws.specs.SubQueryLaws.{CarriesIdentifier, StatesIdentifier};
 ghost use Rattle.td_walk_laws.specs.WalkLaws.{BeginsIn, Group, Shows};
 ghost use Rattle.td_walk_laws.specs.Walks.{Course, Walk};
 
@@ -30,6 +30,14 @@ pub fn queries_are_passed_on()
 pub fn identifiers_are_carried()
     ensures { (l : Local) (answers : List StepAnswer) (target : Ior) (sub : Query)
         → next_of l answers ≡ Forward target sub → CarriesIdentifier l.path l sub }
+{}
+
+/// Where its policies can be read, each query that a search passes on states the search's identifier, and one along a
+/// path what the visit's own query states.
+#[tactic(auto, using(crate::proofs::Carrying::state))]
+pub fn identifiers_are_stated()
+    ensures { (l : Local) (answers : List StepAnswer) (target : Ior) (sub : Query)
+        → next_of l answers ≡ Forward target sub → StatesIdentifier l.path l sub }
 {}
 
 /// A visit asks at most `turns_of` questions.
