@@ -14,7 +14,7 @@ use td_file::FileFault;
 use td_session::End;
 
 /// A query for the two printers, and its reply.
-const QUERY: &str = "\
+pub const QUERY: &str = "\
     > 47494f50010000000000004c00000000000000010100000000000003412f4c000000000671756572790000000000000000\
     0000085072696e746572000000000100000000000000010000000000000000000000000000000a\
     < 47494f500100000100000090000000000000000100000000000000020000001049444c3a5072696e7465723a312e300000\
@@ -27,18 +27,18 @@ const SHORT: &str = "> 47494f500100000000000018000000000000000100000000000000000
 
 /// So many bytes of the input that is the same bytes again and again, and how the session ends.
 #[derive(Clone, Copy)]
-struct Often<'a> {
-    lines: &'a str,
-    times: usize,
+pub struct Often<'a> {
+    pub lines: &'a str,
+    pub times: usize,
     /// How many bytes at the end are missing.
-    missing: usize,
+    pub missing: usize,
     /// How many replies are written.
-    replies: usize,
-    end: End,
+    pub replies: usize,
+    pub end: End,
 }
 
 /// So many times the same bytes.
-fn repeated(alloc: Global, bytes: &[u8], times: usize) -> Result<Vec<u8>, Memory> {
+pub fn repeated(alloc: Global, bytes: &[u8], times: usize) -> Result<Vec<u8>, Memory> {
     let mut all = Vec::new(alloc);
     for _ in 0..times {
         all.extend_from_slice(bytes)?;
@@ -53,7 +53,7 @@ fn input(alloc: Global, bytes: &[u8], often: &Often) -> Result<Vec<u8>, Memory> 
     Ok(input)
 }
 
-fn printers(alloc: Global) -> Result<Server, FileFault> {
+pub fn printers(alloc: Global) -> Result<Server, FileFault> {
     opened_server(alloc, PRINTERS.as_bytes(), nobody(alloc))
 }
 
@@ -78,7 +78,7 @@ fn is_so(
     }
 }
 
-fn is_often(alloc: Global, often: &Often, outside: &Outside) -> bool {
+pub fn is_often(alloc: Global, often: &Often, outside: &Outside) -> bool {
     match read_streams(alloc, often.lines) {
         Ok(bytes) => {
             let input = input(alloc, bytes.input.as_slice(), often);
@@ -91,7 +91,7 @@ fn is_often(alloc: Global, often: &Often, outside: &Outside) -> bool {
 }
 
 /// Two queries and their replies.
-const TWICE: Often<'static> = Often {
+pub const TWICE: Often<'static> = Often {
     lines: QUERY,
     times: 2,
     missing: 0,
@@ -117,7 +117,7 @@ fn messages_come_in_pieces(rt: HostRuntime) -> Result<(), Fail> {
 }
 
 /// A query of which so many bytes are missing.
-const fn without(missing: usize) -> Often<'static> {
+pub const fn without(missing: usize) -> Often<'static> {
     Often {
         times: 1,
         missing,

@@ -8,6 +8,8 @@ mod answering;
 #[cfg(test)]
 mod broken;
 #[cfg(test)]
+mod broken_input;
+#[cfg(test)]
 mod cities;
 #[cfg(test)]
 mod cities_file;
