@@ -2,7 +2,7 @@
 
 use crate::listen::serve;
 use std::alloc::Global;
-use std::io::{Read, Write};
+use std::io::{ErrorKind, Read, Write};
 use std::net::{Net, TcpListener, TcpStream};
 use std::process::ExitCode;
 use std::rt::{Clock, Env, Files};
@@ -12,14 +12,15 @@ use std::thread;
 use std::thread::Threads;
 use std::time::Duration;
 use td_accept::{NoGate, TcpAccept};
-use td_command::arguments;
+use td_command::{Ended, arguments, report};
 use td_journal::PastJournal;
 use td_out::{FileTexts, StdSink};
 use td_sessions::DropEnded;
 use td_wire::ConnectionPool;
 
 /// The program over the arguments, the files, the network, the clock and the threads of this runtime, and these streams.
-/// It listens where its first word is `listen`, and does what `td_command::start` does otherwise.
+/// It listens where its first word is `listen`, and does what `td_command::start` does otherwise. Where its words can't
+/// be had for want of memory, that is told here: they might be had a second time, and `listen` is no word of the others.
 pub fn start<
     R: Env
         + Files
@@ -39,8 +40,15 @@ pub fn start<
             drop(output);
             listen(rt, args.as_slice(), errors)
         }
+        Err(e) if e.kind() == ErrorKind::OutOfMemory => refuse_memory(errors),
         _ => td_command::start(rt, input, output, errors),
     }
+}
+
+/// What the program does that has no memory for its arguments.
+fn refuse_memory<E: Write + Drop>(errors: E) -> ExitCode {
+    report(&mut StdSink::new(errors), Ended::Memory);
+    ExitCode::from(Ended::Memory.status())
 }
 
 /// Whether the first word is `listen`.
