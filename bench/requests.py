@@ -2,7 +2,7 @@
 
 import struct
 
-ULONG, STRING = 5, 18
+ULONG, OCTET, STRING, SEQUENCE = 5, 10, 18, 19
 
 
 class Draft:
@@ -41,6 +41,13 @@ class Draft:
         self.ulong(0)
         self.string(value)
 
+    def octet_list(self, name, value):
+        """A property or a policy that holds a sequence of octets."""
+        self.string(name)
+        self.ulong(SEQUENCE)
+        self.octets(struct.pack(">III", 0, OCTET, 0))
+        self.octets(value)
+
     def reference(self, name, key):
         profile = Draft()
         profile.bytes += b"\0\1\0"
@@ -68,15 +75,17 @@ def request(key, operation, body):
     return bytes(it.bytes)
 
 
-def query(constraint, preference, desired, how_many, service_type="Printer", numbers=(), key="A/L"):
-    """A query; each of the numbers is a policy with its name."""
+def query(constraint, preference, desired, how_many, service_type="Printer", numbers=(), key="A/L", identifier=None):
+    """A query; each of the numbers is a policy with its name, and so is the identifier, where one is given."""
 
     def body(it):
         for word in (service_type, constraint, preference):
             it.string(word)
-        it.ulong(len(numbers))
+        it.ulong(len(numbers) + (identifier is not None))
         for name, value in numbers:
             it.number(name, value)
+        if identifier is not None:
+            it.octet_list("request_id", identifier)
         it.ulong(desired)
         it.ulong(how_many)
 
