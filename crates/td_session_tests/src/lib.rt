@@ -18,6 +18,8 @@ mod cut_tests;
 #[cfg(test)]
 mod journal;
 #[cfg(test)]
+mod journals;
+#[cfg(test)]
 mod linking;
 #[cfg(test)]
 mod offering;

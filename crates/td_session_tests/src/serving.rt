@@ -7,7 +7,7 @@ use crate::story::{Story, Streams, read_streams};
 use std::alloc::Global;
 use td_cdr::{List, Memory, Octets};
 use td_file::FileFault;
-use td_journal::KeptJournal;
+use td_journal::{Journal, KeptJournal};
 use td_out::{MemSink, MemSource, MemWords};
 use td_session::{End, Room, serve_connection};
 
@@ -34,18 +34,46 @@ pub struct Expected<'a> {
     pub end: End,
 }
 
-fn source(alloc: Global, input: Vec<u8>, outside: &Outside) -> Result<MemSource, Memory> {
+pub fn source(alloc: Global, input: Vec<u8>, outside: &Outside) -> Result<MemSource, Memory> {
     let pieces = List::from_slice(alloc, outside.pieces)?;
     let failing = List::from_slice(alloc, outside.reads_failing)?;
     Ok(MemSource::new(Octets::from_vec(input), pieces, failing))
 }
 
-fn sink(alloc: Global, outside: &Outside) -> Result<MemSink, Memory> {
+pub fn sink(alloc: Global, outside: &Outside) -> Result<MemSink, Memory> {
     let failing = List::from_slice(alloc, outside.writes_failing)?;
     Ok(MemSink::new(alloc, failing))
 }
 
-/// Whether the session ends and notes as said. The random words are 7 and 4, and then 0.
+/// How a session ends, and what is noted of it in such a journal. The random words are 7 and 4, and then 0.
+pub fn served_noting<J: Journal + Drop>(
+    alloc: Global,
+    server: Server,
+    source: &mut MemSource,
+    sink: &mut MemSink,
+) -> Result<(End, Room<J>), Memory> {
+    let Server {
+        home,
+        mut solo,
+        mut peers,
+    } = server;
+    let mut room = Room::new(alloc, home)?;
+    match List::from_slice(alloc, &[7, 4]) {
+        Err(memory) => {
+            drop(room);
+            Err(memory)
+        }
+        Ok(drawn) => {
+            let mut words = MemWords::new(drawn);
+            let end = serve_connection(
+                alloc, &mut solo, &mut room, source, sink, &mut peers, &mut words,
+            );
+            Ok((end, room))
+        }
+    }
+}
+
+/// Whether the session ends and notes as said.
 fn ends_so(
     alloc: Global,
     server: Server,
@@ -53,22 +81,10 @@ fn ends_so(
     sink: &mut MemSink,
     expected: &Expected,
 ) -> bool {
-    let Server {
-        home,
-        mut solo,
-        mut peers,
-    } = server;
-    let Ok(mut room) = Room::<KeptJournal>::new(alloc, home) else {
-        return false;
-    };
-    let Ok(drawn) = List::from_slice(alloc, &[7, 4]) else {
-        return false;
-    };
-    let mut words = MemWords::new(drawn);
-    let end = serve_connection(
-        alloc, &mut solo, &mut room, source, sink, &mut peers, &mut words,
-    );
-    end == expected.end && is_journal(&room, expected.journal)
+    match served_noting(alloc, server, source, sink) {
+        Ok((end, room)) => end == expected.end && is_journal(&room, expected.journal),
+        Err(_) => false,
+    }
 }
 
 fn is_journal(room: &Room<KeptJournal>, words: Option<&str>) -> bool {
