@@ -1,7 +1,7 @@
 //! Visitors who are served at the same time, and one after the other.
 
 use crate::gates::{Crowded, Held};
-use crate::visitors::{Story, goes, serving};
+use crate::visitors::{Case, Story, goes, serving};
 use std::test::Fail;
 use td_accept::{Gate, NoGate};
 
@@ -61,17 +61,16 @@ fn one_after_the_other_is_noticed(rt: HostRuntime) -> Result<(), Fail> {
     Ok(())
 }
 
-/// The first 64 visitors each have a thread of their own. Behind them one is accepted only once the one before was
-/// served.
+/// The first 64 visitors each have a thread of their own, and are served without a limit. Behind them one is accepted
+/// only once the one before was served, with its visitor limited.
 #[test]
 fn visitors_beyond_64_are_served_by_the_accepting_thread(rt: HostRuntime) -> Result<(), Fail> {
     let gate = Crowded::new(LOOKS);
-    let good = goes(
-        &rt,
-        rt.alloc(),
-        &serving(&LISTEN, Story::Queries, 66),
-        &gate,
-    );
+    let case = Case {
+        threads: Some(64),
+        ..serving(&LISTEN, Story::Queries, 66)
+    };
+    let good = goes(&rt, rt.alloc(), &case, &gate);
     assert!(rt; good && gate.came_through());
     Ok(())
 }

@@ -82,9 +82,13 @@ impl<'a> Sink for CountedSink<'a> {
 impl<'a> ClientSink for CountedSink<'a> {
     ghost closed = { λ _. Unit {0} };
 
+    ghost limited = { λ _. Unit {0} };
+
     fn close(&mut self) {
         self.gate.closes.fetch_add(1, Ordering::SeqCst);
     }
+
+    fn limit(&mut self) {}
 }
 
 /// Visitors: how many, what each sends, and which calls of their sources and sinks fail.

@@ -7,7 +7,7 @@ use crate::messages::{
 use std::alloc::Global;
 use std::sync::Wait;
 use std::thread::Threads;
-use td_accept::{Gate, MemAccept, Visitor};
+use td_accept::{Gate, Limited, MemAccept, Visitor};
 use td_cdr::{List, Memory, Octets, Text};
 use td_journal::KeptJournal;
 use td_listen::serve;
@@ -22,6 +22,9 @@ type Guest = Visitor<MemSource, MemSink, MemWire, MemWords>;
 
 /// An acceptor of such visitors.
 type Guests = MemAccept<MemSource, MemSink, MemWire, MemWords>;
+
+/// A session as it was handed on: its number, its visitor, how it ended, that its visitor was limited, its journal.
+type Session = (u64, Guest, End, Option<Limited>, KeptJournal);
 
 /// What the visitors ask for.
 #[derive(Clone, Copy, PartialEq, Eq)]
@@ -78,6 +81,8 @@ pub struct Case<'a> {
     pub status: u8,
     pub line: &'a [u8],
     pub bound: bool,
+    /// Up to which number each session has a thread of its own and none beyond does, where that is sure.
+    pub threads: Option<u64>,
 }
 
 /// A server that serves so many visitors of this story.
@@ -91,6 +96,7 @@ pub const fn serving<'a>(words: &'a [&'a str], story: Story, visitors: u64) -> C
         status: 0,
         line: b"",
         bound: true,
+        threads: if visitors <= 64 { Some(64) } else { None },
     }
 }
 
@@ -245,7 +251,7 @@ fn is_bound(accept: &Guests) -> bool {
 /// traders. Each session that was handed on was served, whatever came behind it.
 fn has_ended(ended: &KeepEnded<Guest, KeptJournal>, case: &Case) -> bool {
     let sessions = ended.sessions().as_slice();
-    if !were_served(sessions, case.story) {
+    if !were_served(sessions, case) {
         return false;
     }
     if case.status != 0 {
@@ -255,7 +261,7 @@ fn has_ended(ended: &KeepEnded<Guest, KeptJournal>, case: &Case) -> bool {
 }
 
 /// Whether there is a session of each number up to this one, and no other.
-fn are_numbered(sessions: &[(u64, Guest, End, KeptJournal)], count: u64) -> bool {
+fn are_numbered(sessions: &[Session], count: u64) -> bool {
     for before in 0..count {
         if !has_number(sessions, before + 1) {
             return false;
@@ -264,7 +270,7 @@ fn are_numbered(sessions: &[(u64, Guest, End, KeptJournal)], count: u64) -> bool
     sessions.len() as u64 == count
 }
 
-fn has_number(sessions: &[(u64, Guest, End, KeptJournal)], number: u64) -> bool {
+fn has_number(sessions: &[Session], number: u64) -> bool {
     for session in sessions {
         if session.0 == number {
             return true;
@@ -273,20 +279,26 @@ fn has_number(sessions: &[(u64, Guest, End, KeptJournal)], number: u64) -> bool 
     false
 }
 
-fn were_served(sessions: &[(u64, Guest, End, KeptJournal)], story: Story) -> bool {
+fn were_served(sessions: &[Session], case: &Case) -> bool {
     for session in sessions {
-        if !was_served(session, story) {
+        if !was_served(session, case) {
             return false;
         }
     }
     true
 }
 
-/// Whether the session was closed, with the replies to its requests and an entry in its journal for each of them.
-fn was_served(session: &(u64, Guest, End, KeptJournal), story: Story) -> bool {
-    let (number, visitor, end, journal) = session;
-    let visit = story.visit(*number);
-    *end == End::Closed
+/// Whether the session was closed, with the replies to its requests and an entry in its journal for each of them. Its
+/// visitor was limited where it had no thread of its own.
+fn was_served(session: &Session, case: &Case) -> bool {
+    let (number, visitor, end, limited, journal) = session;
+    let visit = case.story.visit(*number);
+    let as_told = match case.threads {
+        Some(last) => limited.is_some() == (*number > last),
+        None => true,
+    };
+    as_told
+        && *end == End::Closed
         && visitor.sink.written() == visit.answer
         && journal.entries().len() == visit.requests
 }

@@ -145,20 +145,24 @@ Splits a number ns b = Rows Split a ns b
 abbrev pub Stays : List (List Bool) → List (List Bool) → Type 0
 Stays a b = b ≡ a
 
-abbrev pub Keeps : List ℕ → List ℕ → Type 0
-Keeps ns ms = ns ≡ ms
+-- what was made of a session has its passes still; where it was made isn't looked at
+abbrev pub Keeps : List ℕ → List ℕ × Bool → Type 0
+Keeps ns made = ns ≡ made.0
 
-abbrev pub Meet : List (List Bool) → ℕ → List ℕ → List (List Bool) → Type 0
-Meet a number ns b = Rows Met a ns b
+abbrev pub place_of : List ℕ × Bool → Bool
+place_of made = made.1
+
+abbrev pub Meet : List (List Bool) → ℕ → List ℕ × Bool → List (List Bool) → Type 0
+Meet a number made b = Rows Met a made.0 b
 
 none_left_from : {more : Bool} {a b : List (List Bool)} {n : ℕ} {out : List (ℕ × List ℕ)}
-    → Working Splits Stays Keeps Meet more a n out b → AreOut a out → AreOut b []
+    → Working Splits Stays Keeps place_of Meet more a n out b → AreOut a out → AreOut b []
 none_left_from {a = a} {out = out} (came {m = m} {job = job} s w) h =
     none_left_from w
     (λ k j. out_more (flags_at a k) (flags_at m k) _ k j out (_, job) refl (row_at Split a job m k s) (h k j))
 none_left_from {a = a} {out = out} (closed {m = m} c w) h =
     none_left_from w (subst (λ (flags : List (List Bool)). AreOut flags out) (sym c) h)
-none_left_from {a = a} (went {m = m} before after {job = job} {made = made} d p w) h =
+none_left_from {a = a} (went {m = m} before after {job = job} {made = made} d few last p w) h =
     none_left_from w
     (λ k j. out_less (flags_at a k) (flags_at m k) _ k j before after (_, job) refl
     (row_at Met a job m k (subst (λ (ns : List ℕ). Rows Met a ns m) (sym d) p)) (h k j))
@@ -221,7 +225,7 @@ module _ {A R : Type 0} {g : Ghosts PlainTrader A R} where
 
   -- where each pass was met at first, each is met in the end
   pub all_are_met : (ps qs : List (Pass PlainTrader A R g)) → are_met ps ≡ true
-      → Working Splits Stays Keeps Meet true (map flags_of ps) 0 [] (map flags_of qs) → are_met qs ≡ true
+      → Working Splits Stays Keeps place_of Meet true (map flags_of ps) 0 [] (map flags_of qs) → are_met qs ≡ true
   all_are_met ps qs e w = met_from qs (none_left_from w (out_from ps e))
 
   -- nothing was split off the opening pass of a new cell

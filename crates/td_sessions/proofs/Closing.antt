@@ -1,5 +1,5 @@
 -- The sessions of a server, from the binding of its acceptor to the traders in the end.
-use Rattle.std.proofs.Common.{◌≡◌, ◌∙◌, ℕ, List, [], OnOk, Option, Result, option_map, true, ap, subst}
+use Rattle.std.proofs.Common.{◌≡◌, ◌∙◌, ℕ, Bool, List, [], OnOk, Option, Result, option_map, true, ap, subst}
 use Rattle.std.proofs.lemmas.Result.{on_ok_weaker}
 use Rattle.td_accept.specs.Doors.{Door, bound_to}
 use Rattle.td_reply.specs.declared.entry.Entry.{Entry}
@@ -21,8 +21,9 @@ abbrev pub begun : {X : Type 0} → ℕ → Address → List ℕ → X → List 
 begun number home seed visitor first =
     record { number = number; home = home; seed = seed; visitor = visitor; first = first }
 
-abbrev pub ended : {X : Type 0} → X → End → List Entry → List View → Ended X
-ended visitor end journal last = record { visitor = visitor; end = end; journal = journal; last = last }
+abbrev pub ended : {X : Type 0} → X → End → Bool → List Entry → List View → Ended X
+ended visitor end limited journal last =
+    record { visitor = visitor; end = end; limited = limited; journal = journal; last = last }
 
 -- ---- from the end of one call to the next
 

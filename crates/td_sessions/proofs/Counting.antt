@@ -266,7 +266,8 @@ module _ {X : Type 0} (outside_of : X → Outside) (seeded : X → Seeded) where
       let on : AllZip Continues h.world m.world = joins_before h.world e.last m.world g.joined in
       let told : m.told ≡ option_map (with_sessions (map handed p.visits ++ handed v ∷ [])) s.told =
       told_more s.told h.told m.told (map handed p.visits) (handed v) p.told
-      (g.handed ∙ ap (λ (k : ℕ). option_map (with_session (k, e.visitor, e.end, e.journal)) h.told) (sym numbered)) in
+      (g.handed
+      ∙ ap (λ (k : ℕ). option_map (with_session (k, e.visitor, e.end, e.limited, e.journal)) h.told) (sym numbered)) in
       record {
         came_in = p.came_in;
         visits = p.visits ++ v ∷ [];
@@ -328,7 +329,7 @@ module _ {X : Type 0} (outside_of : X → Outside) (seeded : X → Seeded) where
       → ServesOn outside_of seeded more h n out t → Past more s h n out → Whole outside_of seeded s t
   whole_from s (came a w) p = whole_from s w (past_came s _ _ _ _ _ p a)
   whole_from s (closed c w) p = whole_from s w (past_closed s _ _ _ _ p c)
-  whole_from s (went before after d g w) p = whole_from s w (past_went _ s _ _ _ before after _ _ _ p d g)
+  whole_from s (went before after d few last g w) p = whole_from s w (past_went _ s _ _ _ before after _ _ _ p d g)
   whole_from s over p = past_over s _ _ p
 
   pub whole : (s t : Stand X) → ServesOn outside_of seeded true s 0 [] t → Whole outside_of seeded s t

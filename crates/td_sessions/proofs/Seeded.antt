@@ -40,3 +40,20 @@ served others later home first desk peers drawn words after journal end before n
       (same_scene first desk ([], 1) peers (peers_seen [] 0) drawn words d p f)
       (subst (λ (x : Outside). Serves others later home (scene first desk peers drawn) after journal end before x) c s);
 }
+
+-- limiting a visitor changes nothing that its session tells
+pub served_limited : (others : List Accepted → Type 0) (later : Marks → Marks → Type 0) (home : Address)
+    (first : List View) (words drawn : ℕ → ℕ) (journal noted : List Entry) (end : End) (before limited after : Outside)
+    (last : List View) → drawn ≡ words → limited ≡ before → noted ≡ journal
+    → ServesOver others later home first drawn noted end limited after last
+    → ServesOver others later home first words journal end before after last
+served_limited others later home first words drawn journal noted end before limited after last w o j s =
+    subst (λ (x : List Entry). ServesOver others later home first words x end before after last) j
+    (subst (λ (x : Outside). ServesOver others later home first words noted end x after last) o
+    (subst (λ (f : ℕ → ℕ). ServesOver others later home first f noted end limited after last) w s))
+
+pub limited_outside : (l0 l1 : Option (List ℕ)) (r0 r1 : ℕ) (w0 w1 : Option (List ℕ)) (n0 n1 : ℕ) → l1 ≡ l0 → r1 ≡ r0
+    → w1 ≡ w0 → n1 ≡ n0 → outside l1 r1 w1 n1 ≡ outside l0 r0 w0 n0
+limited_outside l0 l1 r0 r1 w0 w1 n0 n1 l r w n =
+    ap (λ (x : Option (List ℕ)). outside x r1 w1 n1) l ∙ ap (λ (x : ℕ). outside l0 x w1 n1) r
+    ∙ ap (λ (x : Option (List ℕ)). outside l0 r0 x n1) w ∙ ap (λ (x : ℕ). outside l0 r0 w0 x) n

@@ -4,6 +4,7 @@ use denote.RattleType.{RattleType}
 use denote.Ref.{NamedLft}
 use denote.Struct.Declared.{shape}
 use Rattle.std.proofs.Crossing.{crosses}
+use Rattle.td_accept.proofs.visitor.Limited.TheSendSync as limited_cross
 use Rattle.td_accept.proofs.visitor.Visitor.TheSendSync as visitor_cross
 use Rattle.td_cdr.proofs.boxed.Boxed.TheSendSync as boxed_cross
 use Rattle.td_cdr.proofs.list.List.TheSendSync as list_cross
@@ -60,7 +61,10 @@ module _ (a : NamedLft) (S K L W J R : RattleType) (s : IsSend S) (k : IsSend K)
       recorded_send (served.the_field a S K L W J R).row _ _ (served.the_type a S K L W J R).to_one
       (struct_send (shape (served.the_type a S K L W J R)) (
         visitor_cross.the_field_send S K L W s k l w,
-        (end_cross.the_field_send, (search (j, sendable), (group_pass_field a R r, tt))),
+        (
+          end_cross.the_field_send,
+          (search (limited_cross.the_send, sendable, crosses), (search (j, sendable), (group_pass_field a R r, tt))),
+        ),
       ))
 
   pub session_send : (G : RattleType) (n : Ghosts J.Denot) → IsSync G → IsSend (session.the_row a S K L W J G R n)

@@ -26,9 +26,10 @@ use Rattle.td_workers.specs.declared.hall.Stop.TheVariants.{Failed, Memory}
 
 -- ---- what is handed on
 
--- a session that has ended: its number, its visitor, how it ended, and what was noted of its Requests
+-- a session that has ended: its number, its visitor, how it ended, whether its visitor was limited before, and what was
+-- noted of its Requests
 abbrev pub Handed : Type 0 → Type 0
-Handed X = ℕ × X × End × List Entry
+Handed X = ℕ × X × End × Bool × List Entry
 
 -- the sessions that were handed on, in order, and the traders, once they were
 pub record Told (X : Type 0) : Type 0 where
@@ -100,10 +101,12 @@ pub record Begun (X : Type 0) : Type 0 where
   pub visitor : X
   pub first : List View
 
--- a session that has ended
+-- a session that has ended; the thread that takes the visitors in limited its visitor and served it, or another thread
+-- served it without a limit
 pub record Ended (X : Type 0) : Type 0 where
   pub visitor : X
   pub end : End
+  pub limited : Bool
   pub journal : List Entry
   pub last : List View
 
@@ -154,15 +157,18 @@ pub record ComesToAnEnd {X : Type 0} (s t : Stand X) : Type 0 where
 
 -- a session that has ended is handed on, under its number, and what it has seen and done is taken in
 pub record GoesOut {X : Type 0} (s : Stand X) (number : ℕ) (e : Ended X) (t : Stand X) : Type 0 where
-  pub handed : t.told ≡ option_map (with_session (number, e.visitor, e.end, e.journal)) s.told
+  pub handed : t.told ≡ option_map (with_session (number, e.visitor, e.end, e.limited, e.journal)) s.told
   pub joined : Rows Joins s.world e.last t.world
   pub rest : t ≡ record s { told = t.told; world = t.world }
+
+abbrev pub was_limited : {X : Type 0} → Ended X → Bool
+was_limited e = e.limited
 
 -- from one stand on to the end: so many visitors have come, and these sessions go on
 abbrev pub ServesOn : {X : Type 0} → (X → Outside) → (X → Seeded) → Bool → Stand X → ℕ → List (ℕ × Begun X) → Stand X
     → Type 0
 ServesOn outside_of seeded more s n out t =
-    Working ComesIn ComesToAnEnd (Serving outside_of seeded) GoesOut more s n out t
+    Working ComesIn ComesToAnEnd (Serving outside_of seeded) was_limited GoesOut more s n out t
 
 -- why a server stops before its last visitor: its acceptor failed, or memory was wanted
 abbrev pub StopsSo : Stop → (before now : ℕ) → Type 0

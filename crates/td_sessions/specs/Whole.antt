@@ -26,7 +26,7 @@ pub record Visit (X : Type 0) : Type 0 where
 
 -- as it is handed on
 abbrev pub handed : {X : Type 0} → Visit X → Handed X
-handed v = (v.begun.number, v.ended.visitor, v.ended.end, v.ended.journal)
+handed v = (v.begun.number, v.ended.visitor, v.ended.end, v.ended.limited, v.ended.journal)
 
 -- they have the numbers from this one on, in order
 abbrev pub AreNumbered : {X : Type 0} → ℕ → List (Begun X) → Type 0

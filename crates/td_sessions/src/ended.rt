@@ -1,10 +1,11 @@
 //! Where sessions go that have ended.
 
-ghost use Rattle.std.specs.Prelude.{◌≡◌, [], None, Some, Option, IfOk, OnOk, OnErr, map, option_map};
+ghost use Rattle.std.specs.Prelude.{◌≡◌, [], None, Some, Option, IfOk, OnOk, OnErr, is_some, map, option_map};
 ghost use Rattle.td_sessions.specs.Sessions.{Told, with_group, with_session};
 
 use std::alloc::Global;
 use std::marker::PhantomData;
+use td_accept::Limited;
 use td_cdr::{List, Memory};
 use td_journal::Journal;
 use td_session::End;
@@ -21,15 +22,24 @@ pub trait Ended<V> {
     /// It is the same still: of a borrow, that no other was put in its place.
     ghost same: { Self → Self → Type 0 };
 
-    /// A session has ended: its number, its visitor, how it ended, and its journal.
+    /// A session has ended: its number, its visitor, how it ended, that its visitor was limited before, where it was,
+    /// and its journal.
     ///
     /// # Errors
     ///
     /// `Memory` for want of memory alone; the session is then dropped.
-    fn session(&mut self, number: u64, visitor: V, end: End, journal: Self::J) -> Result<(), Memory>
+    fn session(
+        &mut self,
+        number: u64,
+        visitor: V,
+        end: End,
+        limited: Option<Limited>,
+        journal: Self::J,
+    ) -> Result<(), Memory>
         ensures same { same self.old self.new }
         ensures ok { OnOk result
-            (told self.new ≡ option_map (with_session (number, visitor, end, Self.J.entries journal)) (told self.old)) }
+            (told self.new ≡ option_map (with_session
+            (number, visitor, end, is_some limited, Self.J.entries journal)) (told self.old)) }
         ensures err { OnErr result (told self.new ≡ told self.old) };
 
     /// All sessions have ended.
@@ -43,7 +53,7 @@ pub trait Ended<V> {
 /// It keeps what it is handed, and tells it.
 #[derive(Drop)]
 pub struct KeepEnded<V, J> {
-    sessions: List<(u64, V, End, J)>,
+    sessions: List<(u64, V, End, Option<Limited>, J)>,
     closed: Option<Solo>,
 }
 
@@ -64,7 +74,7 @@ impl<V, J> KeepEnded<V, J> {
     }
 
     /// The sessions, in the order in which they were handed on.
-    pub fn sessions(&self) -> &List<(u64, V, End, J)>
+    pub fn sessions(&self) -> &List<(u64, V, End, Option<Limited>, J)>
         ensures { result.now ≡ self.now.sessions }
     {
         &self.sessions
@@ -82,7 +92,7 @@ impl<V: Drop, J: Journal + Send + Drop> Ended<V> for KeepEnded<V, J> {
     type J = J;
 
     ghost told = { λ k. Some (record {
-      sessions = map (λ h. (h.0, h.1, h.2, J.entries h.3)) k.sessions;
+      sessions = map (λ h. (h.0, h.1, h.2, is_some h.3, J.entries h.4)) k.sessions;
       closed = k.closed;
     }) };
 
@@ -90,8 +100,15 @@ impl<V: Drop, J: Journal + Send + Drop> Ended<V> for KeepEnded<V, J> {
 
     ghost same_on = { λ _ _ _ _ _. tt };
 
-    fn session(&mut self, number: u64, visitor: V, end: End, journal: J) -> Result<(), Memory> {
-        self.sessions.push((number, visitor, end, journal))
+    fn session(
+        &mut self,
+        number: u64,
+        visitor: V,
+        end: End,
+        limited: Option<Limited>,
+        journal: J,
+    ) -> Result<(), Memory> {
+        self.sessions.push((number, visitor, end, limited, journal))
     }
 
     fn group(&mut self, solo: Solo) {
@@ -123,7 +140,14 @@ impl<V: Drop, J: Journal + Send + Drop> Ended<V> for DropEnded<J> {
 
     ghost same_on = { λ _ _ _ _ _. tt };
 
-    fn session(&mut self, _number: u64, visitor: V, _end: End, journal: J) -> Result<(), Memory> {
+    fn session(
+        &mut self,
+        _number: u64,
+        visitor: V,
+        _end: End,
+        _limited: Option<Limited>,
+        journal: J,
+    ) -> Result<(), Memory> {
         drop(visitor);
         drop(journal);
         Ok(())

@@ -1,6 +1,6 @@
 //! Where visitors come in, and where their sessions go out.
 
-ghost use Rattle.std.specs.Prelude.{◌≡◌, ◌≤◌, ℕ, length, map, true, IfOk};
+ghost use Rattle.std.specs.Prelude.{◌≡◌, ◌≤◌, ℕ, is_some, length, map, true, IfOk};
 ghost use Rattle.std.specs.List.{AllZip};
 ghost use Rattle.td_group.specs.Grouping.{AreOpening, IsOut, Meets, OutStays, SplitsOff};
 ghost use Rattle.td_group.specs.Rows.{Rows};
@@ -110,6 +110,7 @@ where
         (record {
           visitor = made.visitor;
           end = made.end;
+          limited = is_some made.limited;
           journal = N.J.entries made.journal;
           last = map seen_by made.pass.passes.items;
         })
@@ -166,11 +167,12 @@ where
         let Served {
             visitor,
             end,
+            limited,
             journal,
             pass,
         } = made;
         self.group.take_in(&mut self.passes, pass);
-        match self.ended.session(number, visitor, end, journal) {
+        match self.ended.session(number, visitor, end, limited, journal) {
             Ok(()) => Ok(()),
             Err(_) => Err(Stop::Memory),
         }

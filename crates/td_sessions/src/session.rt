@@ -1,6 +1,6 @@
-//! One session, which a worker serves.
+//! One session, which a worker serves, or the thread that takes the visitors in.
 
-ghost use Rattle.std.specs.Prelude.{◌≡◌, ℕ, length, map};
+ghost use Rattle.std.specs.Prelude.{◌≡◌, ℕ, is_some, length, map};
 ghost use Rattle.td_group.specs.Grouping.{SamePasses};
 ghost use Rattle.td_group.specs.Seeing.{seen_by};
 ghost use Rattle.td_session.specs.Outside.{outside};
@@ -9,7 +9,7 @@ ghost use Rattle.td_sessions.specs.Sessions.{Serving, ServesOver};
 
 use std::alloc::Global;
 use std::sync::Wait;
-use td_accept::{ClientSink, Gate, Visitor};
+use td_accept::{ClientSink, ClientSource, ClientWire, Gate, Limited, Visitor};
 use td_cdr::Octets;
 use td_client::Caller;
 use td_group::GroupPass;
@@ -41,11 +41,13 @@ pub(crate) struct Session<'g, S, K, L, W, J: Journal, G, R: Wait> {
 pub(crate) struct Served<'g, S, K, L, W, J, R: Wait> {
     pub(crate) visitor: Visitor<S, K, L, W>,
     pub(crate) end: End,
+    /// That its visitor was limited before, where it was.
+    pub(crate) limited: Option<Limited>,
     pub(crate) journal: J,
     pub(crate) pass: GroupPass<'g, R>,
 }
 
-impl<'g, S: Source, K: ClientSink, L: Wire, W: Words, J: Journal, G: Gate, R: Wait> Job<
+impl<'g, S: ClientSource, K: ClientSink, L: ClientWire, W: Words, J: Journal, G: Gate, R: Wait> Job<
     Served<'g, S, K, L, W, J, R>,
 > for Session<'g, S, K, L, W, J, G, R> {
     ghost does = { λ s e. SamePasses s.pass.passes.items e.pass.passes.items
@@ -62,9 +64,12 @@ impl<'g, S: Source, K: ClientSink, L: Wire, W: Words, J: Journal, G: Gate, R: Wa
         (record {
           visitor = e.visitor;
           end = e.end;
+          limited = is_some e.limited;
           journal = J.entries e.journal;
           last = map seen_by e.pass.passes.items;
         }) };
+
+    ghost here = { λ e. is_some e.limited };
 
     fn work(self) -> Served<'g, S, K, L, W, J, R> {
         let Session {
@@ -82,10 +87,48 @@ impl<'g, S: Source, K: ClientSink, L: Wire, W: Words, J: Journal, G: Gate, R: Wa
         Served {
             visitor,
             end,
+            limited: None,
             journal: room.into_journal(),
             pass,
         }
     }
+
+    /// Its visitor is limited before.
+    fn work_here(self) -> Served<'g, S, K, L, W, J, R> {
+        let Session {
+            alloc,
+            gate,
+            seed,
+            number,
+            mut visitor,
+            mut room,
+            mut pass,
+        } = self;
+        let limited = limit(&mut visitor);
+        gate.enter(number);
+        let end = serve_visitor(alloc, seed, number, &mut pass, &mut room, &mut visitor);
+        gate.leave(number);
+        Served {
+            visitor,
+            end,
+            limited: Some(limited),
+            journal: room.into_journal(),
+            pass,
+        }
+    }
+}
+
+/// Limits a visitor. Nothing changes that its session tells.
+fn limit<S: ClientSource, K: ClientSink, L: ClientWire, W: Words>(
+    visitor: &mut Visitor<S, K, L, W>,
+) -> Limited
+    ensures outside { outside (S.left visitor.new.source) (S.faults visitor.new.source)
+        (K.written visitor.new.sink) (K.faults visitor.new.sink)
+        ≡ outside (S.left visitor.old.source) (S.faults visitor.old.source) (K.written visitor.old.sink)
+        (K.faults visitor.old.sink) }
+    ensures words { visitor.new.words ≡ visitor.old.words }
+{
+    visitor.limit()
 }
 
 /// Serves a visitor's session with these traders, and closes its connection. Its words are those that come after a
