@@ -2,6 +2,7 @@
 
 mod fake_net;
 mod in_memory;
+mod limited;
 mod over_tcp;
 mod shortage;
 mod sinks;

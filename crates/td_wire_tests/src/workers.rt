@@ -12,22 +12,43 @@ struct Doubling {
     number: u64,
 }
 
-impl Job<u64> for Doubling {
+/// What was made of it, and whether the thread that takes the jobs in did it.
+#[derive(Drop)]
+struct Doubled {
+    value: u64,
+    here: bool,
+}
+
+impl Job<Doubled> for Doubling {
     ghost does = { λ _ _. Unit {0} };
 
-    fn work(self) -> u64 {
-        self.number.wrapping_mul(2)
+    ghost here = { λ made. made.here };
+
+    fn work(self) -> Doubled {
+        Doubled {
+            value: self.number.wrapping_mul(2),
+            here: false,
+        }
+    }
+
+    fn work_here(self) -> Doubled {
+        Doubled {
+            value: self.number.wrapping_mul(2),
+            here: true,
+        }
     }
 }
 
-/// A hall of so many jobs, which counts for each how often its double came back under its number.
+/// A hall of so many jobs, which counts for each how often its double came back under its number, and how many were
+/// done by the thread that takes them in.
 #[derive(Drop)]
 struct Counting {
     jobs: u64,
     returns: Vec<u64>,
+    here: u64,
 }
 
-impl Hall<u64, Doubling> for Counting {
+impl Hall<Doubled, Doubling> for Counting {
     ghost goes = { λ _ _. Unit {0} };
 
     ghost ready = { λ _. Unit {0} };
@@ -60,8 +81,10 @@ impl Hall<u64, Doubling> for Counting {
         }
     }
 
-    fn part(&mut self, number: u64, made: u64) -> Result<(), Stop> {
-        if made != number.wrapping_mul(2) {
+    fn part(&mut self, number: u64, made: Doubled) -> Result<(), Stop> {
+        let Doubled { value, here } = made;
+        self.here = self.here.saturating_add(u64::from(here));
+        if value != number.wrapping_mul(2) {
             return Err(Stop::Failed);
         }
         match self.returns.get_mut(number.wrapping_sub(1) as usize) {
@@ -74,17 +97,19 @@ impl Hall<u64, Doubling> for Counting {
     }
 }
 
-/// Whether each of so many jobs comes back once.
+/// Whether each of so many jobs comes back once. Up to 64 of them each have a thread of their own.
 fn all_come_back<R: Threads + Wait>(rt: &R, alloc: Global, jobs: u64) -> bool {
     let hall = Counting {
         jobs,
         returns: Vec::new(alloc),
+        here: 0,
     };
     let (stop, hall) = work_all(rt, alloc, hall);
     let complete = stop.is_ok() && hall.returns.len() as u64 == jobs;
     let once = hall.returns.iter().all(|count| *count == 1);
+    let elsewhere = jobs > 64 || hall.here == 0;
     drop(hall);
-    complete && once
+    complete && once && elsewhere
 }
 
 #[test]

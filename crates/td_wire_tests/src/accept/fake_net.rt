@@ -45,8 +45,10 @@ pub struct FakeNet {
     /// How often a stream was ended for writing, and for both.
     shuts: AtomicU64,
     closes: AtomicU64,
-    /// The limit of time of writes, in seconds.
+    /// The limits of time of reads and of writes, in milliseconds. 0 is none yet.
+    read_limit: AtomicU64,
     write_limit: AtomicU64,
+    connects: AtomicU64,
     /// The time, in milliseconds.
     time: AtomicU64,
     slept: AtomicU64,
@@ -55,6 +57,11 @@ pub struct FakeNet {
 /// One more.
 fn count(number: &AtomicU64) -> u64 {
     number.fetch_add(1, Ordering::SeqCst)
+}
+
+/// A duration in milliseconds.
+fn millis(duration: Duration) -> u64 {
+    u64::try_from(duration.as_millis()).unwrap_or(u64::MAX)
 }
 
 fn unsupported() -> io::Error {
@@ -70,7 +77,9 @@ impl FakeNet {
             reads: AtomicU64::new(0),
             shuts: AtomicU64::new(0),
             closes: AtomicU64::new(0),
+            read_limit: AtomicU64::new(0),
             write_limit: AtomicU64::new(0),
+            connects: AtomicU64::new(0),
             time: AtomicU64::new(0),
             slept: AtomicU64::new(0),
         }
@@ -94,9 +103,24 @@ impl FakeNet {
         )
     }
 
-    /// The limit of time of writes, in seconds.
+    /// The limit of time of reads, in milliseconds. 0 is none yet.
+    pub fn read_limit(&self) -> u64 {
+        self.read_limit.load(Ordering::SeqCst)
+    }
+
+    /// The limit of time of writes, in milliseconds. 0 is none yet.
     pub fn write_limit(&self) -> u64 {
         self.write_limit.load(Ordering::SeqCst)
+    }
+
+    /// How often it was to connect to a peer.
+    pub fn connects(&self) -> u64 {
+        self.connects.load(Ordering::SeqCst)
+    }
+
+    /// Puts the clock forward, by milliseconds.
+    pub fn put_forward(&self, time: u64) {
+        self.time.fetch_add(time, Ordering::SeqCst);
     }
 
     /// How long was slept, in milliseconds.
@@ -116,8 +140,7 @@ impl<'n> Clock for &'n FakeNet {
     }
 
     fn sleep(&self, duration: Duration) {
-        let millis = u64::try_from(duration.as_millis()).unwrap_or(u64::MAX);
-        self.slept.fetch_add(millis, Ordering::SeqCst);
+        self.slept.fetch_add(millis(duration), Ordering::SeqCst);
     }
 }
 
@@ -168,7 +191,10 @@ impl<'n> OpenStream for FakeStream<'n> {
 
     fn set_read_timeout(&self, dur: Option<Duration>) -> io::Result<()> {
         match dur {
-            Some(dur) if !dur.is_zero() => Ok(()),
+            Some(dur) if !dur.is_zero() => {
+                self.net.read_limit.store(millis(dur), Ordering::SeqCst);
+                Ok(())
+            }
             _ => Err(unsupported()),
         }
     }
@@ -176,7 +202,7 @@ impl<'n> OpenStream for FakeStream<'n> {
     fn set_write_timeout(&self, dur: Option<Duration>) -> io::Result<()> {
         match dur {
             Some(dur) => {
-                self.net.write_limit.store(dur.as_secs(), Ordering::SeqCst);
+                self.net.write_limit.store(millis(dur), Ordering::SeqCst);
                 Ok(())
             }
             None => Err(unsupported()),
@@ -232,6 +258,11 @@ impl<'n> Net for &'n FakeNet {
     }
 
     fn connect(&self, _addr: SocketAddr) -> io::Result<FakeStream<'n>> {
+        count(&self.connects);
         Err(unsupported())
+    }
+
+    fn connect_timeout(&self, addr: SocketAddr, _limit: Duration) -> io::Result<FakeStream<'n>> {
+        self.connect(addr)
     }
 }

@@ -91,5 +91,5 @@ fn a_connection_without_a_second_handle_is_let_go(rt: HostRuntime) {
 fn writes_to_clients_have_a_limit_of_time(rt: HostRuntime) {
     let net = FakeNet::new(PLAIN);
     let taken = takes(&&net);
-    assert!(rt; taken && net.write_limit() == 60);
+    assert!(rt; taken && net.write_limit() == 60_000);
 }
