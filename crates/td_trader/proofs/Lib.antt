@@ -5,4 +5,5 @@ pub mod Growing
 pub mod Kept
 pub mod MarkedOnce
 pub mod Starting
+pub mod Taken
 pub mod Worked

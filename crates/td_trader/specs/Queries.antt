@@ -123,6 +123,14 @@ refusal bounds count s q =
     otherwise parts_cause q
     otherwise others_cause bounds count s.links q (parts_of q).stated
 
+-- ---- what holds of a query that is taken
+
+-- the policies of a query that isn't refused can be read
+abbrev pub TakenQueriesAreRead : Type 0
+TakenQueriesAreRead =
+    (bounds : Bounds) (count : ℕ) (s : Store) (q : Query) → refusal bounds count s q ≡ None
+    → stated q.policies ≡ Ok (parts_of q).stated
+
 -- ---- what holds of a path
 
 -- starting_trader is refused as it is stated

@@ -17,7 +17,9 @@ pub use begin_laws::{only_searches_mark, queries_are_served, queries_begin};
 pub use following::{acts_follow, changes_are_recorded};
 pub use local::{path_local, search_local};
 pub use query::{Parts, judge};
-pub use query_laws::{points_stay, unknown_starts_are_refused, worked_queries};
+pub use query_laws::{
+    points_stay, taken_queries_are_read, unknown_starts_are_refused, worked_queries,
+};
 pub use solo::Solo;
 pub use trader::Trader;
 pub use traders::Traders;

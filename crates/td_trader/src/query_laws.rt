@@ -4,7 +4,7 @@ ghost use Rattle.std.specs.Prelude.{◌≡◌, ℕ, ◌≤◌, [], ◌∷◌, �
 ghost use Rattle.td_exceptions.specs.declared.exception.UserException.TheVariants as user;
 ghost use Rattle.td_changes.specs.Examples.{masked, printer};
 ghost use Rattle.td_changes.specs.Histories.{at};
-ghost use Rattle.td_trader.specs.Queries.{refusal, UnknownStartsAreRefused};
+ghost use Rattle.td_trader.specs.Queries.{refusal, TakenQueriesAreRead, UnknownStartsAreRefused};
 ghost use Rattle.td_trader.specs.QueryExamples.{asks, judged, misnamed, path, three};
 ghost use Rattle.td_register.specs.Stores.{Store};
 ghost use Rattle.td_register.specs.declared.history.Accepted.{Accepted};
@@ -14,6 +14,11 @@ ghost use Rattle.td_register.specs.declared.refusal.Refusal.TheVariants as refus
 pub fn points_stay()
     ensures { (opening : Store) (history more : List Accepted) (point : ℕ) → point ≤ length history →
         at opening (history ++ more) point ≡ at opening history point }
+{}
+
+/// The policies of a query that isn't refused can be read.
+pub fn taken_queries_are_read()
+    ensures { TakenQueriesAreRead }
 {}
 
 /// A path whose first name no link has is refused: by the policy starting_trader, as it is stated.
