@@ -3,4 +3,4 @@
 
 mod target;
 
-pub use target::{inside_group, place_of, register_inside};
+pub use target::{home_key, inside_group, place_of, register_inside};

@@ -50,8 +50,13 @@ pub fn register_inside<T: Traders>(
     }
 }
 
-/// The key of a reference that has the server's host and port.
-fn home_key(alloc: Global, home: &Address, reference: &Ior) -> Result<Option<ObjectKey>, Memory>
+/// The key of the object of this server that a reference stands for: of one whose profile has the server's host and
+/// port, and an object key in the form of this server's.
+///
+/// # Errors
+///
+/// `Memory` for want of memory alone.
+pub fn home_key(alloc: Global, home: &Address, reference: &Ior) -> Result<Option<ObjectKey>, Memory>
     ensures { IfOk result (λ key. key ≡ home_key home.now reference.now) }
 {
     match iiop_of(alloc, reference) {
