@@ -1,3 +1,4 @@
+pub mod ChangeAnswers
 pub mod LinkCauses
 pub mod Masking
 pub mod TypesTold

@@ -4,6 +4,7 @@ use Rattle.td_ops.specs.declared.outcome.Reply.{Reply}
 use Rattle.td_types.specs.declared.fault.TypesFault.{TypesFault}
 use Rattle.td_types.specs.declared.fault.TypesFault.TheVariants as types
 use Rattle.td_types.specs.declared.reply.TypesReply.{TypesReply}
+use Rattle.td_types.specs.declared.reply.TypesReply.TheVariants as told
 use Rattle.td_register.specs.declared.refusal.Fault.{Fault}
 use Rattle.td_register.specs.declared.refusal.Fault.TheVariants.{Refused, Memory}
 use Rattle.td_admin.specs.Repositories.{reply_of, refusal_of}
@@ -13,3 +14,13 @@ abbrev pub IsAnswer : Result TypesReply TypesFault → Result Reply Fault → Ty
 IsAnswer (Ok answer) result = result ≡ Ok (reply_of answer)
 IsAnswer (Err types.Memory) result = result ≡ Err Memory
 IsAnswer (Err f) result = result ≡ Err (Refused (refusal_of f))
+
+-- it is no answer to a look
+abbrev pub IsOfChange : Result TypesReply TypesFault → Type 0
+IsOfChange (Ok (told.Added incarnation)) = Unit {0}
+IsOfChange (Ok told.Removed) = Unit {0}
+IsOfChange (Ok told.Masked) = Unit {0}
+IsOfChange (Ok told.Unmasked) = Unit {0}
+IsOfChange (Ok (told.Names names)) = ⊥
+IsOfChange (Ok (told.Described described)) = ⊥
+IsOfChange (Err f) = Unit {0}

@@ -17,7 +17,7 @@ use td_ops::{
     TruthAttribute,
 };
 use td_policy::Attributes;
-use td_register::{Accepted, Fault, Refusal, entry_of};
+use td_register::{Accepted, ChangeReply, Fault, Refusal, entry_of};
 use td_store::Store;
 use td_types::halves;
 use td_value::{FollowOption, Ior};
@@ -130,7 +130,10 @@ pub fn set_truth(
 {
     let old = truth_of(attribute, &store.attributes);
     put_truth(attribute, value, &mut store.attributes);
-    Ok(entry_of(Change::SetTruth { attribute, value }, Reply::Truth(old)))
+    Ok(entry_of(
+        Change::SetTruth { attribute, value },
+        ChangeReply::truth(old),
+    ))
 }
 
 /// Sets a number, and answers the old one. Takes no memory.
@@ -150,7 +153,10 @@ pub fn set_number(
 {
     let old = number_of(attribute, &store.attributes);
     put_number(attribute, value, &mut store.attributes);
-    Ok(entry_of(Change::SetNumber { attribute, value }, Reply::Number(old)))
+    Ok(entry_of(
+        Change::SetNumber { attribute, value },
+        ChangeReply::number(old),
+    ))
 }
 
 /// Sets a rule for following links, and answers the old one. Takes no memory.
@@ -170,7 +176,10 @@ pub fn set_follow(
 {
     let old = follow_of(attribute, &store.attributes);
     put_follow(attribute, value, &mut store.attributes);
-    Ok(entry_of(Change::SetFollow { attribute, value }, Reply::Follow(old)))
+    Ok(entry_of(
+        Change::SetFollow { attribute, value },
+        ChangeReply::follow(old),
+    ))
 }
 
 /// Sets the stem, and answers the old one.
@@ -191,7 +200,7 @@ pub fn set_request_id_stem(
     }
     let stem = value.copy(alloc)?;
     let old = mem::replace(&mut store.attributes.request_id_stem, stem);
-    Ok(entry_of(Change::SetRequestIdStem { value }, Reply::Stem(old)))
+    Ok(entry_of(Change::SetRequestIdStem { value }, ChangeReply::stem(old)))
 }
 
 /// An attribute's value.

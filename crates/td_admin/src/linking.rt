@@ -13,8 +13,8 @@ use std::alloc::Global;
 use td_cdr::{Memory, Text, Twin, is_word_name, share_three};
 use td_exceptions::UserException;
 use td_ior::{IorFault, iiop_of};
-use td_ops::{Change, Reply};
-use td_register::{Accepted, Fault, Refusal, entry_of, invalid_lookup, raised};
+use td_ops::Change;
+use td_register::{Accepted, ChangeReply, Fault, Refusal, entry_of, invalid_lookup, raised};
 use td_store::{LinkRecord, Links, Store, StoreFault};
 use td_value::{FollowOption, Ior};
 
@@ -211,6 +211,6 @@ pub fn add_link(
             limiting,
             register,
         },
-        Reply::Nothing,
+        ChangeReply::nothing(),
     ))
 }

@@ -11,7 +11,7 @@ use std::alloc::Global;
 use td_cdr::{Memory, Text, Twin, is_word_name};
 use td_exceptions::UserException;
 use td_ops::{Change, Outcome, Reply};
-use td_register::{Accepted, Fault, entry_of, raised, refused};
+use td_register::{Accepted, ChangeReply, Fault, entry_of, raised, refused};
 use td_store::{LinkRecord, Links, Store};
 use td_value::LinkInfo;
 
@@ -49,7 +49,7 @@ pub fn remove_link(store: &mut Store, name: Text) -> Result<Accepted, Fault>
         return Err(raised(UserException::UnknownLinkName { name }));
     }
     store.links.remove(&name);
-    Ok(entry_of(Change::RemoveLink { name }, Reply::Nothing))
+    Ok(entry_of(Change::RemoveLink { name }, ChangeReply::nothing()))
 }
 
 /// What a link is.

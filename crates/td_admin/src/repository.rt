@@ -1,14 +1,14 @@
 //! The changes and looks of the type repository (OMG's Trading Object Service, interface
 //! CosTradingRepos::ServiceTypeRepository).
 
-ghost use Rattle.std.specs.Prelude.{◌≡◌, Ok};
+ghost use Rattle.std.specs.Prelude.{◌≡◌, Ok, Err};
 ghost use Rattle.td_ops.specs.declared.call.Change.TheVariants as change;
 ghost use Rattle.td_types.specs.Calls as types;
 ghost use Rattle.td_types.specs.Repository.{Repository};
 ghost use Rattle.td_register.specs.declared.refusal.Fault.TheVariants as fault;
 ghost use Rattle.td_register.specs.declared.refusal.Refusal.TheVariants as refusal;
 ghost use Rattle.td_register.specs.Judged.{Accepts, Tells};
-ghost use Rattle.td_admin.specs.RepositoryJudged.{IsAnswer};
+ghost use Rattle.td_admin.specs.RepositoryJudged.{IsAnswer, IsOfChange};
 ghost use Rattle.td_register.specs.Needs.{NeedsNone};
 ghost use Rattle.td_admin.specs.Repositories.{add_type, describe_type, exception_of};
 ghost use Rattle.td_admin.specs.Repositories.{fully_describe_type, list_types, mask_type, number_of, outcome_of};
@@ -19,7 +19,7 @@ use td_cdr::{List, Memory, Text, copy_four};
 use td_exceptions::UserException;
 use td_ops::{Change, Outcome, Reply};
 use td_register::{
-    Accepted, Fault, Refusal, entry_of, illegal_type, raised, refused, unknown_type,
+    Accepted, ChangeReply, Fault, Refusal, entry_of, illegal_type, raised, refused, unknown_type,
 };
 use td_store::Store;
 use td_types::{Judgement, RepoFault, TypesFault, TypesReply, halves};
@@ -52,7 +52,7 @@ pub fn add_type(
         &super_types,
     )?;
     let answer = store.types.add(name_twin, if_twin, props_twin, supers_twin);
-    let reply = reply_from(answer)?;
+    let reply = change_reply(answer)?;
     Ok(entry_of(
         Change::AddType {
             name,
@@ -74,7 +74,7 @@ pub fn remove_type(store: &mut Store, name: Text) -> Result<Accepted, Fault>
     ensures { Accepts (change.RemoveType name) (remove_type store.old name) store.old store.new result }
 {
     let answer = store.types.remove(&name);
-    let reply = reply_from(answer)?;
+    let reply = change_reply(answer)?;
     Ok(entry_of(Change::RemoveType { name }, reply))
 }
 
@@ -91,7 +91,7 @@ pub fn mask_type(store: &mut Store, name: Text) -> Result<Accepted, Fault>
     match store.types.judge_mask(&name) {
         Judgement::Accepted => {
             let answer = store.types.mask(&name);
-            let reply = reply_from(answer)?;
+            let reply = change_reply(answer)?;
             Ok(entry_of(Change::MaskType { name }, reply))
         }
         Judgement::IllegalServiceType => Err(illegal_type(name)),
@@ -115,7 +115,7 @@ pub fn unmask_type(store: &mut Store, name: Text) -> Result<Accepted, Fault>
     match store.types.judge_unmask(&name) {
         Judgement::Accepted => {
             let answer = store.types.unmask(&name);
-            let reply = reply_from(answer)?;
+            let reply = change_reply(answer)?;
             Ok(entry_of(Change::UnmaskType { name }, reply))
         }
         Judgement::IllegalServiceType => Err(illegal_type(name)),
@@ -126,15 +126,39 @@ pub fn unmask_type(store: &mut Store, name: Text) -> Result<Accepted, Fault>
     }
 }
 
+/// Why a call of the repository isn't done.
+fn fault_from(fault: TypesFault) -> Fault
+    ensures { IsAnswer (Err fault) (Err result) }
+{
+    match fault {
+        TypesFault::User(fault) => raised(exception_of(fault)),
+        TypesFault::Full => Fault::Refused(Refusal::Limit),
+        TypesFault::Memory => Fault::Memory,
+    }
+}
+
+/// What the repository's answer to a change is as a reply.
+fn change_reply(answer: Result<TypesReply, TypesFault>) -> Result<ChangeReply, Fault>
+    requires { IsOfChange answer }
+    ensures { IsAnswer answer result }
+{
+    match answer {
+        Ok(TypesReply::Added(incarnation)) => Ok(ChangeReply::incarnation(halves(incarnation))),
+        Ok(TypesReply::Removed | TypesReply::Masked | TypesReply::Unmasked) => {
+            Ok(ChangeReply::nothing())
+        }
+        Ok(TypesReply::Names(_) | TypesReply::Described(_)) => unreachable!(),
+        Err(fault) => Err(fault_from(fault)),
+    }
+}
+
 /// What the repository's answer is as a reply.
 fn reply_from(answer: Result<TypesReply, TypesFault>) -> Result<Reply, Fault>
     ensures { IsAnswer answer result }
 {
     match answer {
         Ok(reply) => Ok(reply_of(reply)),
-        Err(TypesFault::User(fault)) => Err(raised(exception_of(fault))),
-        Err(TypesFault::Full) => Err(Fault::Refused(Refusal::Limit)),
-        Err(TypesFault::Memory) => Err(Fault::Memory),
+        Err(fault) => Err(fault_from(fault)),
     }
 }
 

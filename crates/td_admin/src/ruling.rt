@@ -9,8 +9,8 @@ ghost use Rattle.td_register.specs.Needs.{NeedsNone};
 use crate::linking::check_rules;
 use td_cdr::{Text, is_word_name};
 use td_exceptions::UserException;
-use td_ops::{Change, Reply};
-use td_register::{Accepted, Fault, entry_of, raised};
+use td_ops::Change;
+use td_register::{Accepted, ChangeReply, Fault, entry_of, raised};
 use td_store::Store;
 use td_value::FollowOption;
 
@@ -70,6 +70,6 @@ pub fn modify_link(
             def_pass_on,
             limiting,
         },
-        Reply::Nothing,
+        ChangeReply::nothing(),
     ))
 }

@@ -1,5 +1,6 @@
 pub mod Acceptances
 pub mod Accepting
+pub mod Answering
 pub mod Barred
 pub mod Entering
 pub mod Extending

@@ -8,6 +8,7 @@ ghost use Rattle.td_register.specs.Needs.{NeedsNone};
 ghost use Rattle.td_changes.specs.Numbering.{AreNumbered};
 ghost use Rattle.td_changes.specs.Outcomes.{Ends};
 
+use crate::replying::acceptance;
 use std::alloc::Global;
 use td_admin::{
     add_link, add_type, mask_type, modify_link, remove_link, remove_type, set_follow, set_number,
@@ -119,11 +120,15 @@ pub fn apply(alloc: Global, store: &mut Store, c: Change) -> Result<Outcome, Mem
     ensures applies { Applies (apply store.old c) store.old store.new result }
     ensures numbered { AreNumbered store.new }
 {
+    let told = acceptance(alloc, store, &c)?;
     match perform(alloc, store, c) {
         Ok(accepted) => {
-            let Accepted { reply, .. } = accepted;
-            Ok(Outcome::Done(reply))
+            drop(accepted);
+            Ok(Outcome::Done(told))
         }
-        Err(fault) => not_done(fault),
+        Err(fault) => {
+            drop(told);
+            not_done(fault)
+        }
     }
 }

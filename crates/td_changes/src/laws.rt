@@ -1,6 +1,6 @@
 //! What holds of every trader, as functions that do nothing: each one's contract is the law.
 
-ghost use Rattle.std.specs.Prelude.{◌≡◌, ℕ, List, [], codes, false, length, replicate};
+ghost use Rattle.std.specs.Prelude.{◌≡◌, ℕ, List, [], codes, false, length, replicate, true};
 ghost use Rattle.td_codes.specs.declared.reference.Ior.{Ior};
 ghost use Rattle.td_ops.specs.declared.call.Change.{Change};
 ghost use Rattle.td_ops.specs.declared.call.Change.TheVariants as change;
@@ -12,6 +12,7 @@ ghost use Rattle.td_exceptions.specs.declared.exception.UserException.TheVariant
 ghost use Rattle.td_value.specs.declared.structures.Property.{Property};
 ghost use Rattle.td_changes.specs.Applying.{apply, apply_counted};
 ghost use Rattle.td_register.specs.Causes.{system};
+ghost use Rattle.td_register.specs.ChangeReplies.{answers_change};
 ghost use Rattle.td_changes.specs.Examples.{export_printer, masked, modify_all, opening, printer, with_printer};
 ghost use Rattle.td_changes.specs.Histories.{Legal, after_all, at, is_done, noted};
 ghost use Rattle.td_register.specs.Ids.{id_of};
@@ -33,6 +34,12 @@ pub fn exports_take_the_next_number()
     ensures { (s : Store) (reference : Ior) (type_name : List ℕ) (properties : List Property) (told : Reply) →
         (apply s (change.Export reference type_name properties)).outcome ≡ outcome.Done told →
         TakesNext s reference type_name properties told (apply s (change.Export reference type_name properties)).store }
+{}
+
+/// An accepted change is answered with a reply that a history keeps in short (`td_register::ChangeReply`).
+pub fn changes_have_their_replies()
+    ensures { (s : Store) (c : Change) (told : Reply) → (apply s c).outcome ≡ outcome.Done told →
+        answers_change told ≡ true }
 {}
 
 /// A history is legal from its opening on: no change at all makes one, and each change extends it.

@@ -1,5 +1,5 @@
-//! With what a change is answered where it is accepted. It is made before the change is done, since the
-//! history keeps one copy and the outcome another.
+//! With what a change is answered where it is accepted. It is made before the change is done, since it may want
+//! memory; the history keeps the reply in short ([`td_register::ChangeReply`]).
 
 ghost use Rattle.std.specs.Prelude.{◌≡◌, ◌+◌, true, IfOk, IsOk};
 ghost use Rattle.td_register.specs.Ids.{id_of};

@@ -7,6 +7,7 @@ use Rattle.td_codes.specs.declared.reference.Ior.{Ior}
 use Rattle.td_exceptions.specs.declared.exception.UserException.TheVariants.{InvalidObjectRef}
 use Rattle.td_ior.specs.Nil.{is_nil}
 use Rattle.td_ops.specs.declared.call.Change.TheVariants as change
+use Rattle.td_ops.specs.declared.outcome.Reply.{Reply}
 use Rattle.td_ops.specs.declared.outcome.Reply.TheVariants as reply
 use Rattle.td_store.specs.OfferLists.{most_offers}
 use Rattle.td_store.specs.declared.record.OfferRecord.{OfferRecord}
@@ -72,23 +73,23 @@ unadded s new reference type_name properties f none added =
     (exported s reference type_name properties) s new (with_offer s (exported s reference type_name properties)) f
     (limits s reference type_name properties) none added
 
-pub added : (s new : Store) (reference : Ior) (type_name : List ℕ) (properties : List Property) (id : List ℕ) →
+pub added : (s new : Store) (reference : Ior) (type_name : List ℕ) (properties : List Property) (told : Reply) →
     front_cause s reference type_name properties ≡ None →
-    IsAdded (exported s reference type_name properties) s new (Ok id) →
-    export s reference type_name properties ≡ Ok (reply.Id id, new)
+    IsAdded (exported s reference type_name properties) s new (Ok told) →
+    export s reference type_name properties ≡ Ok (told, new)
 unfolding export
-added s new reference type_name properties id none is =
+added s new reference type_name properties told none is =
     is_added (nat_le last_number s.last_offer) (is_too_large reference properties)
     (front_cause s reference type_name properties) (export_cause s reference type_name properties)
-    (id_of (s.last_offer + 1)) id (exported s reference type_name properties) s new
+    (id_of (s.last_offer + 1)) told (exported s reference type_name properties) s new
     (limits s reference type_name properties) none is refl
 
 -- what adding it comes to, where nothing else is at fault
 pub done : (s new : Store) (reference : Ior) (type_name : List ℕ) (properties : List Property)
-    (r : Result (List ℕ) Fault) → front_cause s reference type_name properties ≡ None →
+    (r : Result Reply Fault) → front_cause s reference type_name properties ≡ None →
     IsAdded (exported s reference type_name properties) s new r →
-    MatchResult r (λ (id : List ℕ). export s reference type_name properties ≡ Ok (reply.Id id, new))
+    MatchResult r (λ (told : Reply). export s reference type_name properties ≡ Ok (told, new))
     (λ (f : Fault). Accepts (change.Export reference type_name properties) (export s reference type_name properties) s
     new (Err f))
-done s new reference type_name properties (Ok id) none is = added s new reference type_name properties id none is
+done s new reference type_name properties (Ok told) none is = added s new reference type_name properties told none is
 done s new reference type_name properties (Err f) none is = unadded s new reference type_name properties f none is

@@ -5,6 +5,7 @@ use Rattle.td_codes.specs.declared.reference.Ior.{Ior}
 use Rattle.td_exceptions.specs.declared.exception.UserException.TheVariants.{IllegalRecipe, InvalidLookupRef}
 use Rattle.td_ior.specs.Profiles.{iiop_of}
 use Rattle.td_ops.specs.declared.call.Change.TheVariants as change
+use Rattle.td_ops.specs.declared.outcome.Reply.{Reply}
 use Rattle.td_ops.specs.declared.outcome.Reply.TheVariants as reply
 use Rattle.td_store.specs.OfferLists.{most_offers}
 use Rattle.td_store.specs.declared.record.ProxyPart.{ProxyPart}
@@ -78,26 +79,26 @@ unadded s new target type_name properties part f none added =
     (limits s target type_name properties part.recipe part.policies) none added
 
 pub added : (s new : Store) (target : Ior) (type_name : List ℕ) (properties : List Property) (part : ProxyPart)
-    (id : List ℕ) → proxy_front_cause s target type_name properties part.recipe part.policies ≡ None →
-    IsAdded (exported_proxy s target type_name properties part) s new (Ok id) →
-    export_proxy s target type_name properties part.if_match_all part.recipe part.policies ≡ Ok (reply.Id id, new)
+    (told : Reply) → proxy_front_cause s target type_name properties part.recipe part.policies ≡ None →
+    IsAdded (exported_proxy s target type_name properties part) s new (Ok told) →
+    export_proxy s target type_name properties part.if_match_all part.recipe part.policies ≡ Ok (told, new)
 unfolding export_proxy
-added s new target type_name properties part id none is =
+added s new target type_name properties part told none is =
     is_added (nat_le last_number s.last_offer) (is_too_large target properties)
     (proxy_front_cause s target type_name properties part.recipe part.policies)
     (export_proxy_cause s target type_name properties part.recipe part.policies)
-    (id_of (s.last_offer + 1)) id (exported_proxy s target type_name properties part) s new
+    (id_of (s.last_offer + 1)) told (exported_proxy s target type_name properties part) s new
     (limits s target type_name properties part.recipe part.policies) none is refl
 
 -- what adding it comes to, where nothing else is at fault
 pub done : (s new : Store) (target : Ior) (type_name : List ℕ) (properties : List Property) (part : ProxyPart)
-    (r : Result (List ℕ) Fault) → proxy_front_cause s target type_name properties part.recipe part.policies ≡ None →
+    (r : Result Reply Fault) → proxy_front_cause s target type_name properties part.recipe part.policies ≡ None →
     IsAdded (exported_proxy s target type_name properties part) s new r →
-    MatchResult r (λ (id : List ℕ). export_proxy s target type_name properties part.if_match_all part.recipe
-    part.policies ≡ Ok (reply.Id id, new))
+    MatchResult r (λ (told : Reply). export_proxy s target type_name properties part.if_match_all part.recipe
+    part.policies ≡ Ok (told, new))
     (λ (f : Fault). Accepts (change.ExportProxy target type_name properties part.if_match_all part.recipe part.policies)
     (export_proxy s target type_name properties part.if_match_all part.recipe part.policies) s new (Err f))
-done s new target type_name properties part (Ok id) none is =
-    added s new target type_name properties part id none is
+done s new target type_name properties part (Ok told) none is =
+    added s new target type_name properties part told none is
 done s new target type_name properties part (Err f) none is =
     unadded s new target type_name properties part f none is

@@ -4,7 +4,6 @@ ghost use Rattle.std.specs.Prelude.{◌≡◌, ◌≤◌, ◌<◌, Ok, Err, IfOk
 ghost use Rattle.std.specs.List.{AllByRecursion};
 ghost use Rattle.td_ior.specs.Nil.{is_nil};
 ghost use Rattle.td_ops.specs.declared.call.Change.TheVariants as change;
-ghost use Rattle.td_ops.specs.declared.outcome.Reply.TheVariants as reply;
 ghost use Rattle.td_exceptions.specs.declared.exception.UserException.TheVariants as user;
 ghost use Rattle.td_store.specs.declared.record.OfferRecord.{OfferRecord as Kept};
 ghost use Rattle.td_register.specs.Causes.{raise_if};
@@ -16,10 +15,10 @@ use std::alloc::Global;
 use td_cdr::{List, Memory, Shared, Text, Twin, copy_three};
 use td_exceptions::UserException;
 use td_ior::is_nil;
-use td_ops::{Change, Reply};
+use td_ops::Change;
 use td_register::{
-    Accepted, Fault, Refusal, check_interface, check_missing, check_open, check_properties,
-    check_size, entry_of, id_of, raised,
+    Accepted, ChangeReply, Fault, Refusal, check_interface, check_missing, check_open,
+    check_properties, check_size, entry_of, raised,
 };
 use td_store::{OfferRecord, Store, StoreFault};
 use td_value::{Ior, Property};
@@ -131,16 +130,15 @@ fn new_offer(
 }
 
 /// Adds an offer of the next number, and answers its id.
-pub(crate) fn add_offer(alloc: Global, store: &mut Store, offer: OfferRecord) -> Result<Text, Fault>
+pub(crate) fn add_offer(store: &mut Store, offer: OfferRecord) -> Result<ChangeReply, Fault>
     requires { AllByRecursion (λ (o : Kept). o.number < offer.number) store.old.offers }
     ensures { IsAdded offer store.old store.new result }
 {
     let number = offer.number;
-    let id = id_of(alloc, number)?;
     match store.offers.insert(offer) {
         Ok(()) => {
             store.last_offer = number;
-            Ok(id)
+            Ok(ChangeReply::id(number))
         }
         Err(StoreFault::Full) => Err(Fault::Refused(Refusal::Limit)),
         Err(StoreFault::Memory) => Err(Fault::Memory),
@@ -154,17 +152,17 @@ fn add_export(
     reference: &Shared<Ior>,
     service_type: &Shared<Text>,
     properties: &Shared<List<Property>>,
-) -> Result<Text, Fault>
+) -> Result<ChangeReply, Fault>
     requires given { AllByRecursion (λ (o : Kept). (0 < o.number) × (o.number ≤ store.old.last_offer))
         store.old.offers }
     ensures { MatchResult result
-        (λ id. export store.old reference.now service_type.now properties.now ≡ Ok (reply.Id id, store.new))
+        (λ told. export store.old reference.now service_type.now properties.now ≡ Ok (told, store.new))
         (λ f. Accepts (change.Export reference.now service_type.now properties.now)
         (export store.old reference.now service_type.now properties.now) store.old store.new (Err f)) }
 {
     check_export(alloc, store, reference, service_type, properties)?;
     let offer = new_offer(alloc, store, reference, service_type, properties)?;
-    add_offer(alloc, store, offer)
+    add_offer(store, offer)
 }
 
 /// Exports an offer, and answers its id.
@@ -186,13 +184,13 @@ pub fn export(
     ensures { Accepts (change.Export reference service_type properties) (export store.old reference service_type
         properties) store.old store.new result }
 {
-    let id = add_export(alloc, store, &reference, &service_type, &properties)?;
+    let reply = add_export(alloc, store, &reference, &service_type, &properties)?;
     Ok(entry_of(
         Change::Export {
             reference,
             service_type,
             properties,
         },
-        Reply::Id(id),
+        reply,
     ))
 }

@@ -5,7 +5,6 @@ ghost use Rattle.std.specs.List.{AllByRecursion};
 ghost use Rattle.td_exceptions.specs.declared.exception.UserException.TheVariants as user;
 ghost use Rattle.td_ior.specs.Profiles.{iiop_of};
 ghost use Rattle.td_ops.specs.declared.call.Change.TheVariants as change;
-ghost use Rattle.td_ops.specs.declared.outcome.Reply.TheVariants as reply;
 ghost use Rattle.td_store.specs.declared.record.OfferRecord.{OfferRecord as Kept};
 ghost use Rattle.td_register.specs.Causes.{raise_if, given, unless_supported};
 ghost use Rattle.td_register.specs.Judged.{Accepts, Judges, proxy_front_cause};
@@ -19,8 +18,10 @@ use td_cdr::{List, Memory, Shared, Text, Twin, copy_three, nothing_seen, see};
 use td_exceptions::UserException;
 use td_ior::{IorFault, iiop_of};
 use td_lang::{LangFault, read_recipe};
-use td_ops::{Change, Reply};
-use td_register::{Accepted, Fault, Refusal, check_open, entry_of, invalid_lookup, raised};
+use td_ops::Change;
+use td_register::{
+    Accepted, ChangeReply, Fault, Refusal, check_open, entry_of, invalid_lookup, raised,
+};
 use td_store::{OfferRecord, ProxyPart, Store};
 use td_value::{Ior, Policy, Property};
 
@@ -166,12 +167,12 @@ fn add_proxy(
     service_type: &Shared<Text>,
     properties: &Shared<List<Property>>,
     part: &ProxyPart,
-) -> Result<Text, Fault>
+) -> Result<ChangeReply, Fault>
     requires given { AllByRecursion (λ (o : Kept). (0 < o.number) × (o.number ≤ store.old.last_offer))
         store.old.offers }
     ensures { MatchResult result
-        (λ id. export_proxy store.old target.now service_type.now properties.now part.now.if_match_all part.now.recipe
-        part.now.policies ≡ Ok (reply.Id id, store.new))
+        (λ told. export_proxy store.old target.now service_type.now properties.now part.now.if_match_all part.now.recipe
+        part.now.policies ≡ Ok (told, store.new))
         (λ f. Accepts (change.ExportProxy target.now service_type.now properties.now part.now.if_match_all
         part.now.recipe part.now.policies)
         (export_proxy store.old target.now service_type.now properties.now part.now.if_match_all part.now.recipe
@@ -179,7 +180,7 @@ fn add_proxy(
 {
     check_export_proxy(alloc, store, target, service_type, properties, part)?;
     let offer = new_proxy(alloc, store, target, service_type, properties, part)?;
-    add_offer(alloc, store, offer)
+    add_offer(store, offer)
 }
 
 /// Exports a proxy offer, and answers its id.
@@ -210,7 +211,7 @@ pub fn export_proxy(
         recipe,
         policies,
     };
-    let id = add_proxy(alloc, store, &target, &service_type, &properties, &part)?;
+    let reply = add_proxy(alloc, store, &target, &service_type, &properties, &part)?;
     Ok(entry_of(
         Change::ExportProxy {
             target,
@@ -220,6 +221,6 @@ pub fn export_proxy(
             recipe: part.recipe,
             policies: part.policies,
         },
-        Reply::Id(id),
+        reply,
     ))
 }

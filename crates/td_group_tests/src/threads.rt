@@ -137,7 +137,7 @@ fn has_each(alloc: Global, history: &[Accepted], count: usize) -> Result<bool, M
         free.push(true)?;
     }
     for entry in history {
-        if !takes(&mut free, entry) {
+        if !takes(alloc, &mut free, entry) {
             return Ok(false);
         }
     }
@@ -145,8 +145,8 @@ fn has_each(alloc: Global, history: &[Accepted], count: usize) -> Result<bool, M
 }
 
 /// Takes the number of the id that an export was answered with, and says whether it was free.
-fn takes(free: &mut Vec<bool>, entry: &Accepted) -> bool {
-    match number_of(entry) {
+fn takes(alloc: Global, free: &mut Vec<bool>, entry: &Accepted) -> bool {
+    match number_of(alloc, entry) {
         Some(number) => take(free, number as usize),
         None => false,
     }
@@ -159,9 +159,9 @@ fn take(free: &mut Vec<bool>, number: usize) -> bool {
     mem::replace(&mut free[number - 1], false)
 }
 
-fn number_of(entry: &Accepted) -> Option<u32> {
-    match &entry.reply {
-        Reply::Id(id) => number_in(id),
+fn number_of(alloc: Global, entry: &Accepted) -> Option<u32> {
+    match entry.reply.reply(alloc) {
+        Ok(Reply::Id(id)) => number_in(&id),
         _ => None,
     }
 }

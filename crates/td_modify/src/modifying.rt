@@ -15,10 +15,10 @@ use std::alloc::Global;
 use std::collections::BTreeSet;
 use td_cdr::{List, Memory, Shared, Text, Twin, copy_two, nothing_seen};
 use td_exceptions::UserException;
-use td_ops::{Change, Reply, is_among};
+use td_ops::{Change, is_among};
 use td_register::{
-    Accepted, Fault, carries, check_name, check_size, check_value, demanded, entry_of, mode_of,
-    ordinary, push_copy, raised,
+    Accepted, ChangeReply, Fault, carries, check_name, check_size, check_value, demanded, entry_of,
+    mode_of, ordinary, push_copy, raised,
 };
 use td_store::{OfferRecord, Store};
 use td_types::{is_mandatory, is_readonly};
@@ -264,6 +264,6 @@ pub fn modify(
             deleted,
             changed,
         },
-        Reply::Nothing,
+        ChangeReply::nothing(),
     ))
 }

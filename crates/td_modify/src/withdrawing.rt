@@ -18,8 +18,10 @@ use td_cdr::{List, Memory, Text, Twin, is_word_name};
 use td_eval::matches;
 use td_exceptions::UserException;
 use td_lang::{Constraint, LangFault, read_constraint};
-use td_ops::{Change, Reply};
-use td_register::{Accepted, Fault, entry_of, illegal_type, push_copy, raised, unknown_type};
+use td_ops::Change;
+use td_register::{
+    Accepted, ChangeReply, Fault, entry_of, illegal_type, push_copy, raised, unknown_type,
+};
 use td_store::{OfferRecord, Offers, Steps, Store};
 use td_types::Types;
 use td_value::{Property, is_dynamic};
@@ -220,6 +222,6 @@ pub fn withdraw_using_constraint(
             service_type,
             constraint,
         },
-        Reply::Nothing,
+        ChangeReply::nothing(),
     ))
 }

@@ -91,12 +91,13 @@ not_added last large front whole c told o old new after (Refused x) l none added
 )
 not_added last large front whole c told o old new after Memory l none added = added
 
-pub is_added : (last large : Bool) (front whole : Cause) (told id : List ℕ) (o : OfferRecord) (old new : Store) →
-    Limits (nat_le most_offers (length old.offers)) last large front whole →
-    front ≡ None → IsAdded o old new (Ok id) → id_of o.number ≡ told →
-    unless whole (reply.Id told) (with_offer old o) ≡ Ok (reply.Id id, new)
-is_added last large front whole told id o old new l none added is =
-    is_accepted whole (reply.Id told) (with_offer old o)
+pub is_added : (last large : Bool) (front whole : Cause) (id : List ℕ) (told : Reply) (o : OfferRecord) (old new :
+    Store) → Limits (nat_le most_offers (length old.offers)) last large front whole →
+    front ≡ None → IsAdded o old new (Ok told) → id_of o.number ≡ id →
+    unless whole (reply.Id id) (with_offer old o) ≡ Ok (told, new)
+is_added last large front whole id told o old new l none added is =
+    is_accepted whole (reply.Id id) (with_offer old o)
     (l.free none (not_full most_offers (length old.offers) added.0))
-    ∙ ap (λ (i : List ℕ). (let r : Comes = Ok (reply.Id i, with_offer old o) in r)) (sym is ∙ sym added.1)
-    ∙ ap (λ (s : Store). (let r : Comes = Ok (reply.Id id, s) in r)) (sym added.2)
+    ∙ ap (λ (i : List ℕ). (let r : Comes = Ok (reply.Id i, with_offer old o) in r)) (sym is)
+    ∙ ap (λ (t : Reply). (let r : Comes = Ok (t, with_offer old o) in r)) (sym added.1)
+    ∙ ap (λ (s : Store). (let r : Comes = Ok (told, s) in r)) (sym added.2)

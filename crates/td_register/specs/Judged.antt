@@ -4,6 +4,8 @@ use Rattle.std.specs.Prelude.{Result, Ok, Err, Bool, false}
 use Rattle.td_cdr.specs.declared.memory.Memory.{Memory as Wanting}
 use Rattle.td_ops.specs.declared.call.Change.{Change}
 use Rattle.td_ops.specs.declared.outcome.Outcome.{Outcome}
+use Rattle.td_ops.specs.declared.outcome.Reply.{Reply}
+use Rattle.td_ops.specs.declared.outcome.Reply.TheVariants.{Id}
 use Rattle.td_codes.specs.declared.reference.Ior.{Ior}
 use Rattle.td_exceptions.specs.declared.exception.UserException.TheVariants.{IllegalRecipe, InvalidLookupRef}
 use Rattle.td_exceptions.specs.declared.exception.UserException.TheVariants.{InvalidObjectRef}
@@ -80,10 +82,11 @@ front_cause s reference type_name properties =
     otherwise offer_cause s type_name properties
     otherwise size_cause s reference properties
 
--- The offer came last, its number was given, and this is its id; or there are as many offers as may be, or memory was
+-- The offer came last, its number was given, and its id is the reply; or there are as many offers as may be, or memory was
 -- wanted, and nothing changed.
-abbrev pub IsAdded : OfferRecord → (old new : Store) → Result (List ℕ) Fault → Type 0
-IsAdded o old new (Ok id) = (length old.offers < most_offers) × (id ≡ id_of o.number) × (new ≡ with_offer old o)
+abbrev pub IsAdded : OfferRecord → (old new : Store) → Result Reply Fault → Type 0
+IsAdded o old new (Ok told) =
+    (length old.offers < most_offers) × (told ≡ Id (id_of o.number)) × (new ≡ with_offer old o)
 IsAdded o old new (Err (Refused f)) = (most_offers ≤ length old.offers) × (f ≡ Limit) × (new ≡ old)
 IsAdded o old new (Err Memory) = new ≡ old
 

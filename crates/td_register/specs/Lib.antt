@@ -1,4 +1,5 @@
 pub mod Causes
+pub mod ChangeReplies
 pub mod Entries
 pub mod Ids
 pub mod Judged

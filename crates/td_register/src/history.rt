@@ -3,17 +3,18 @@
 ghost use Rattle.std.specs.Prelude.{◌≡◌};
 ghost use Rattle.td_register.specs.Entries.{entry};
 
-use td_ops::{Change, Reply};
+use crate::change_reply::ChangeReply;
+use td_ops::Change;
 
 /// An accepted change with its reply.
 #[derive(Drop)]
 pub struct Accepted {
     pub change: Change,
-    pub reply: Reply,
+    pub reply: ChangeReply,
 }
 
 /// The change with its reply.
-pub fn entry_of(change: Change, reply: Reply) -> Accepted
+pub fn entry_of(change: Change, reply: ChangeReply) -> Accepted
     ensures { result ≡ entry change reply }
 {
     Accepted { change, reply }

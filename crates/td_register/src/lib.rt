@@ -2,6 +2,7 @@
 //! interfaces Register and Proxy).
 #![tactic(auto)]
 
+mod change_reply;
 mod history;
 mod ids;
 mod named;
@@ -11,6 +12,7 @@ mod refusal;
 mod register;
 mod typing;
 
+pub use change_reply::ChangeReply;
 pub use history::{Accepted, entry_of};
 pub use ids::{id_of, number_in};
 pub use named::{check_interface, check_open, demanded};

@@ -7,6 +7,7 @@ ghost use Rattle.td_register.specs.Judged.{Accepts, IsAbsent, Tells};
 ghost use Rattle.td_register.specs.Needs.{NeedsNone};
 ghost use Rattle.td_register.specs.Proxies.{describe_proxy, proxy_info, proxy_info_of, withdraw_proxy};
 
+use crate::change_reply::ChangeReply;
 use crate::history::{Accepted, entry_of};
 use crate::ids::number_in;
 use crate::refusal::{Fault, Refusal, raised, refused};
@@ -62,7 +63,7 @@ pub fn withdraw_proxy(store: &mut Store, id: Text) -> Result<Accepted, Fault>
         Some(false) => Err(raised(UserException::NotProxyOfferId { id })),
         Some(true) => {
             store.offers.remove(number);
-            Ok(entry_of(Change::WithdrawProxy { id }, Reply::Nothing))
+            Ok(entry_of(Change::WithdrawProxy { id }, ChangeReply::nothing()))
         }
     }
 }

@@ -9,6 +9,7 @@ ghost use Rattle.td_register.specs.Judged.{Accepts, IsAbsent, Tells};
 ghost use Rattle.td_register.specs.Needs.{NeedsNone};
 ghost use Rattle.td_register.specs.Registers.{describe, withdraw};
 
+use crate::change_reply::ChangeReply;
 use crate::history::{Accepted, entry_of};
 use crate::ids::number_in;
 use crate::refusal::{Fault, raised, refused};
@@ -73,7 +74,7 @@ pub fn withdraw(store: &mut Store, id: Text) -> Result<Accepted, Fault>
         Some(true) => Err(raised(UserException::ProxyOfferId { id })),
         Some(false) => {
             store.offers.remove(number);
-            Ok(entry_of(Change::Withdraw { id }, Reply::Nothing))
+            Ok(entry_of(Change::Withdraw { id }, ChangeReply::nothing()))
         }
     }
 }

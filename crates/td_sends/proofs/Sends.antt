@@ -24,8 +24,8 @@ use Rattle.td_codes.specs.contracts.code.TypeCode as code
 use Rattle.td_group.specs.contracts.pass.GroupPass as group_pass
 use Rattle.td_marks.proofs.ring.Ring.TheSendSync as ring_cross
 use Rattle.td_ops.specs.contracts.call.Change as change
-use Rattle.td_ops.specs.contracts.outcome.Reply as reply
 use Rattle.td_policy.proofs.attributes.Attributes.TheSendSync as attributes_cross
+use Rattle.td_register.proofs.change_reply.ChangeReply.TheSendSync as change_reply_cross
 use Rattle.td_register.specs.contracts.history.Accepted as accepted
 use Rattle.td_stall.specs.contracts.stall.Stall as stall
 use Rattle.td_stall.specs.contracts.stall.Stall.TheInside as stall_inside
@@ -41,12 +41,9 @@ use Rattle.td_types.specs.contracts.types.Types as types
 use Rattle.td_types.specs.contracts.types.Types.TheInside as types_inside
 use Rattle.td_value.proofs.enumerations.PropertyMode.TheSendSync as mode_cross
 use Rattle.td_value.specs.contracts.structures.Offer as offer
-use Rattle.td_value.specs.contracts.structures.OfferInfo as offer_info
 use Rattle.td_value.specs.contracts.structures.Policy as policy
 use Rattle.td_value.specs.contracts.structures.PropStruct as prop
 use Rattle.td_value.specs.contracts.structures.Property as property
-use Rattle.td_value.specs.contracts.structures.ProxyInfo as proxy_info
-use Rattle.td_value.specs.contracts.structures.TypeStruct as type_struct
 
 -- ---- the rows below, which Rattle itself shows to cross
 ruleset rows = (text_cross.the_send, list_cross.the_send, boxed_cross.the_send, shared_cross.the_send)
@@ -127,22 +124,10 @@ store_field =
 change_field : IsSend (change.the_field).row
 change_field = search (property_sync, seen, valued) depth 30 fits 20000
 
-offer_info_field : IsSend (offer_info.the_field).row
-offer_info_field = search valued depth 20
-
-proxy_info_field : IsSend (proxy_info.the_field).row
-proxy_info_field = search valued depth 20
-
-type_struct_field : IsSend (type_struct.the_field).row
-type_struct_field = search valued depth 20
-
-reply_field : IsSend (reply.the_field).row
-reply_field = search (offer_info_field, proxy_info_field, type_struct_field, valued) depth 30 fits 20000
-
 accepted_send : IsSend accepted.the_row
 accepted_send =
     recorded_send (accepted.the_field).row _ _ (accepted.the_type).to_one
-    (struct_send (shape accepted.the_type) (change_field, (reply_field, tt)))
+    (struct_send (shape accepted.the_type) (change_field, (change_reply_cross.the_send, tt)))
 
 -- ---- a trader
 pub trader_send : IsSend trader.the_row

@@ -8,7 +8,7 @@ use std::process::Abort;
 use std::test::Fail;
 use td_cdr::{Boxed, Memory};
 use td_ops::{Call, Change, OpsFault, Outcome};
-use td_register::Accepted;
+use td_register::{Accepted, ChangeReply};
 use td_trader::Trader;
 
 /// A trader: the number that it gave last, how many changes it accepts, and the lines that it follows first.
@@ -68,32 +68,58 @@ fn is_so(alloc: Global, trader: &mut Trader, line: &str) -> bool {
     match word {
         "add_link" => links(alloc, trader, rest, told),
         "links" => links_all(alloc, trader, rest),
-        "history" => is_history(trader.history(), told),
+        "history" => is_history(alloc, trader.history(), told),
         "point" => told.parse::<u64>() == Ok(trader.point()),
         "marks" => told.parse::<u64>() == Ok(trader.marks()),
         "reserve" => trader.reserve_change().is_ok(),
-        _ => answers(trader, call(alloc, asked), told),
+        _ => answers(alloc, trader, call(alloc, asked), told),
     }
 }
 
-fn answers(trader: &mut Trader, call: Result<Boxed<Call>, OpsFault>, told: &str) -> bool {
+fn answers(
+    alloc: Global,
+    trader: &mut Trader,
+    call: Result<Boxed<Call>, OpsFault>,
+    told: &str,
+) -> bool {
     let Ok(call) = call else {
         return false;
     };
     match call.get() {
         Call::Look(look) => is_shown(trader.look(look), trader.store().attributes.max_list, told),
         Call::Query(query) => is_begun(trader.begin(query), told),
-        _ => changes(trader, call.into_inner(), told),
+        _ => changes(alloc, trader, call.into_inner(), told),
     }
 }
 
-fn changes(trader: &mut Trader, call: Call, told: &str) -> bool {
+fn changes(alloc: Global, trader: &mut Trader, call: Call, told: &str) -> bool {
     match call {
-        Call::Change(change) => is_answer(trader.change(change), told),
+        Call::Change(change) => is_noted(alloc, trader, change, told),
         other => {
             drop(other);
             false
         }
+    }
+}
+
+/// Whether a change is answered so, and stands at the end of the history with this reply where it is accepted.
+fn is_noted(alloc: Global, trader: &mut Trader, change: Change, told: &str) -> bool {
+    let before = trader.history().len();
+    if !is_answer(trader.change(change), told) {
+        return false;
+    }
+    match &trader.history()[before..] {
+        [] => true,
+        [entry] => is_kept(alloc, &entry.reply, told),
+        _ => false,
+    }
+}
+
+/// Whether a history's reply is this.
+fn is_kept(alloc: Global, kept: &ChangeReply, told: &str) -> bool {
+    match kept.reply(alloc) {
+        Ok(reply) => is_reply(&reply, told),
+        Err(_) => false,
     }
 }
 
@@ -137,12 +163,12 @@ fn links_all(alloc: Global, trader: &mut Trader, count: &str) -> bool {
 }
 
 /// Whether a history is the first type of this name alone, or nothing.
-fn is_history(history: &[Accepted], expected: &str) -> bool {
+fn is_history(alloc: Global, history: &[Accepted], expected: &str) -> bool {
     match history {
         [] => expected.is_empty(),
         [only] => match &only.change {
             Change::AddType { name, .. } => name.as_slice() == expected.as_bytes()
-                && is_reply(&only.reply, "incarnation 1"),
+                && is_kept(alloc, &only.reply, "incarnation 1"),
             _ => false,
         },
         _ => false,

@@ -25,5 +25,6 @@ returns c = (
   is_added c.args.store.now c.args.name c.args.target c.args.def_pass_on c.args.limiting c.args.register
       c.in_ok-link.link c.insert_link.new.store c.in_ok-link.ensures.0 c.in_ok-link.ensures.2
       c.in_ok-insert_link.ensures
-      ∙ ap (λ (r : Reply). Ok (r, c.insert_link.new.store)) (sym (ap (λ (a : Accepted). a.reply) c.entry_of.ensures)),
+      ∙ ap (λ (r : Reply). Ok (r, c.insert_link.new.store)) (sym (ap (λ (a : Accepted). a.reply) c.entry_of.ensures
+      ∙ c.nothing.ensures)),
 )

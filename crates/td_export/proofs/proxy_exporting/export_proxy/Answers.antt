@@ -4,14 +4,14 @@ use Rattle.td_register.specs.Causes.{Comes}
 use Rattle.td_register.specs.declared.history.Accepted.{Accepted}
 use Rattle.td_export.proofs.proxy_exporting.export_proxy.Goals as goal
 
-pub returns-in_err-id : goal.returns-in_err-id
-returns-in_err-id c =
+pub returns-in_err-reply : goal.returns-in_err-reply
+returns-in_err-reply c =
     let p = err_from_is_err_and c.from_residual.result c.from_residual.ensures.1 in
-    rw (p.1, p.2) c.in_err-id.ensures
+    rw (p.1, p.2) c.in_err-reply.ensures
 
 pub returns : goal.returns
 returns c =
     let new = c.add_proxy.new.store in (
       ap (λ (a : Accepted). a.change) c.entry_of.ensures,
-      c.in_ok-id.ensures ∙ ap (λ (a : Accepted). (let r : Comes = Ok (a.reply, new) in r)) (sym c.entry_of.ensures),
+      c.in_ok-reply.ensures ∙ ap (λ (a : Accepted). (let r : Comes = Ok (a.reply, new) in r)) (sym c.entry_of.ensures),
     )
