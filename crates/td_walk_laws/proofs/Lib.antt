@@ -2,12 +2,15 @@ pub mod Answering
 pub mod Carrying
 pub mod Fields
 pub mod Named
+pub mod Ordering
 pub mod Passed
 pub mod Proxied
 pub mod Questions
+pub mod Readings
 pub mod Replaced
 pub mod Spending
 pub mod Stating
+pub mod Stepping
 pub mod Walked
 pub mod Walking
 pub mod Weights

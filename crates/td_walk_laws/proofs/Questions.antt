@@ -20,7 +20,7 @@ use Rattle.td_walk.specs.Visits.{Reads, ask, question_on, evaluated_property, ev
 use Rattle.td_walk.specs.Visits.{tried, searched, completed, all_completed, forwarded, gathered, search_of}
 use Rattle.td_walk.specs.Visits.{visit_by, visit_of, steps, is_ordinary, desired_names, next_of, question_of}
 use Rattle.td_walk.specs.declared.answer.Next.{Next}
-use Rattle.td_walk.specs.declared.answer.Next.TheVariants.{Forward}
+use Rattle.td_walk.specs.declared.answer.Next.TheVariants.{Done, Forward}
 use Rattle.td_walk.specs.declared.answer.StepAnswer.{StepAnswer}
 use Rattle.td_walk.specs.declared.evaluation.Evaluation.{Evaluation}
 use Rattle.td_walk.specs.declared.found.Found.{Found}
@@ -208,3 +208,70 @@ only_passed l answers target sub e = by_visit (visit_by l.path l answers) refl e
         → IsPassed l target sub
     by_visit (Ok r) is e = absurd cc
     by_visit (Err q) is e = visit-goes l l.path answers refl q is target sub e
+
+-- ---- no question is that nothing is left
+
+abbrev Stands : Next → Type 0
+Stands q = q ≡ Done → ⊥
+
+stands-forward : (target : Ior) (sub : Query) (q : Next) → Forward target sub ≡ q → Stands q
+stands-forward target sub q same e = absurd cc
+
+link-stands : (l : Local) (local_match : Bool) (link : LinkRecord) (q : Next) → link_step l local_match link ≡ Some q
+    → Stands q
+unfolding link_step
+link-stands l local_match link q e = by_rule (follows l local_match link) e
+  where
+    by_rule : (b : Bool) → (if b then Some (Forward link.target (link_query l link)) else None) ≡ Some q → Stands q
+    by_rule true e = stands-forward link.target (link_query l link) q cc
+    by_rule false e = absurd cc
+
+proxy-stands : (l : Local) (o : OfferRecord) (q : Next) → proxy_step l o ≡ Some q → Stands q
+unfolding proxy_step
+proxy-stands l o q e = by_part o.proxy e
+  where
+    by_text : (part : ProxyPart) (t : Option (List ℕ))
+        → option_map (λ (text : List ℕ). Forward o.reference (proxy_query l part text)) t ≡ Some q → Stands q
+    by_text part None e = absurd cc
+    by_text part (Some text) e = stands-forward o.reference (proxy_query l part text) q cc
+
+    by_hops : (part : ProxyPart) (b : Bool)
+        → (if b then option_map (λ (text : List ℕ). Forward o.reference (proxy_query l part text))
+        (expanded l.query.constraint o part) else None) ≡ Some q → Stands q
+    by_hops part true e = by_text part (expanded l.query.constraint o part) e
+    by_hops part false e = absurd cc
+
+    by_part : (p : Option ProxyPart) → proxy_call l o p ≡ Some q → Stands q
+    by_part None e = absurd cc
+    by_part (Some part) e = by_hops part (has_hops l) e
+
+steps-stand : (l : Local) (found : List Found) → AllByRecursion Stands (steps l found)
+unfolding steps
+steps-stand l found =
+    all-joined Stands _ _
+    (all-steps Stands (λ (f : Found). proxy_step l f.offer) (λ f q e. proxy-stands l f.offer q e) found)
+    (all-steps Stands (link_step l (list_any (λ (f : Found). is_ordinary f.offer) found))
+    (λ link q e. link-stands l (list_any (λ (f : Found). is_ordinary f.offer) found) link q e) l.links)
+
+gathered-stands : (found : List Found) (answers : List StepAnswer) (qs : List Next) → AllByRecursion Stands qs
+    → Only Stands (gathered found answers qs)
+gathered-stands found answers qs h =
+    only-then Stands (forwarded qs answers) _ (only-forwarded Stands qs answers h) (λ r. only-ok Stands _)
+
+evaluation-stands : (name : List ℕ) (d : DynamicProp) → Stands (question_on name d)
+evaluation-stands name d e = absurd cc
+
+visit-stands : (l : Local) (p : Option LinkRecord) (answers : List StepAnswer) → Only Stands (visit_by p l answers)
+visit-stands l None answers =
+    only-then Stands (searched l l.candidates [] answers) _
+    (only-searched Stands evaluation-stands l l.candidates [] answers)
+    (λ r. only-then Stands (all_completed l.query.desired [] r.0 r.1) _
+    (only-all-completed Stands evaluation-stands l.query.desired [] r.0 r.1)
+    (λ s. gathered-stands s.0 s.1 (steps l s.0) (steps-stand l s.0)))
+visit-stands l (Some link) answers =
+    gathered-stands [] answers (Forward link.target (path_query l) ∷ [])
+    (stands-forward link.target (path_query l) (Forward link.target (path_query l)) refl, tt)
+
+pub never_done : (l : Local) (answers : List StepAnswer) (q : Next) → visit_of l answers ≡ Err q → q ≡ Done → ⊥
+unfolding visit_of
+never_done l answers q is = visit-stands l l.path answers q is

@@ -1,6 +1,9 @@
 pub mod Answering
 pub mod Examples
+pub mod OrderExamples
 pub mod Reach
+pub mod SearchOrder
+pub mod StepOrder
 pub mod SubQueryLaws
 pub mod WalkExamples
 pub mod WalkLaws

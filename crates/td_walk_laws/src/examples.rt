@@ -3,6 +3,7 @@
 ghost use Rattle.std.specs.Prelude.{ℕ};
 ghost use Rattle.td_walk_laws.specs.Examples.{WorkedVisits, WorkedProxies, WorkedEvaluations};
 ghost use Rattle.td_walk_laws.specs.Examples.{WorkedResolving, WorkedAnswers};
+ghost use Rattle.td_walk_laws.specs.OrderExamples.{WorkedOrder};
 ghost use Rattle.td_walk_laws.specs.WalkExamples.{WorkedWalks};
 
 /// The questions of a visit: over a link, and along a path.
@@ -18,6 +19,11 @@ pub fn worked_proxies()
 /// A desired dynamic property is evaluated.
 pub fn worked_evaluations()
     ensures { WorkedEvaluations }
+{}
+
+/// What is evaluated of an offer, each once, and the others that are asked.
+pub fn worked_orders()
+    ensures { WorkedOrder }
 {}
 
 /// Properties as resolved.

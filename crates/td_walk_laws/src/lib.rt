@@ -4,14 +4,16 @@
 
 mod answers;
 mod examples;
+mod orders;
 mod sub_queries;
 mod walks;
 
 pub use answers::{answers_are_one, failed_steps_give_nothing};
 pub use examples::{
-    worked_answers, worked_evaluations, worked_proxies, worked_resolving, worked_visits,
-    worked_walks,
+    worked_answers, worked_evaluations, worked_orders, worked_proxies, worked_resolving,
+    worked_visits, worked_walks,
 };
+pub use orders::{paths_ask_once, searches_ask_in_order, walks_step_in_order};
 pub use sub_queries::{
     sub_queries_along_a_path, sub_queries_over_a_link, sub_queries_to_a_proxy,
     sub_queries_with_passed_policies,
