@@ -38,6 +38,7 @@ module _ {B : Type 0} where
     told = None;
     met = [];
     meetings = 0;
+    turns = 0;
     changes = n;
     marks = m;
     own = [];
@@ -55,8 +56,9 @@ module _ {B : Type 0} where
   abbrev pub marked : View B → B → List Mark → ℕ → View B
   marked v c more m = record v { seen = Some c; marks = m; own_marks = v.own_marks ++ more }
 
+  -- the turn was given back, and with that one turn more was made
   abbrev pub resting : View B → View B
-  resting v = record v { holds = false }
+  resting v = record v { holds = false; turns = v.turns + 1 }
 
   -- the opening pass, after one more was split off, and that one
   abbrev pub opener : View B → View B
@@ -70,6 +72,7 @@ module _ {B : Type 0} where
     told = None;
     met = [];
     meetings = 0;
+    turns = 0;
     own = [];
     own_marks = [];
   }
@@ -80,6 +83,7 @@ module _ {B : Type 0} where
     told = w.seen;
     met = slice_set v.met (w.number - 1) true;
     meetings = v.meetings + 1;
+    turns = v.turns + w.turns;
     own = merge itself v.own w.own;
     own_marks = merge number_of v.own_marks w.own_marks;
   }
@@ -93,6 +97,7 @@ module _ {B : Type 0} where
     told = None;
     met = [];
     meetings = 0;
+    turns = 0;
     changes = 0;
     marks = 0;
     own = [];

@@ -1,6 +1,6 @@
 //! A cell: one book, on which passes do acts, one after the other.
 
-ghost use Rattle.std.specs.Prelude.{◌≡◌, ℕ, ◌-◌, ◌<◌, ◌≤◌, vec_len, slice_set, [], ◌∷◌, false, IfOk, IfErr, OnErr};
+ghost use Rattle.std.specs.Prelude.{◌≡◌, ℕ, ◌+◌, ◌-◌, ◌<◌, ◌≤◌, vec_len, slice_set, [], ◌∷◌, false, IfOk, IfErr, OnErr};
 ghost use Rattle.std.specs.Prelude.{true};
 ghost use Rattle.td_cdr.specs.Marks.{In};
 ghost use Rattle.td_cell.specs.Rules.{first_view, holding, Turned, BothBefore, opener, split_off, meeting, Learns};
@@ -100,11 +100,13 @@ impl<B: Book + Drop> Cell<B> {
     }
 
     /// Waits for the turn, does one act on the book, and gives the turn back. The book on which it was done is later
-    /// than what the pass has seen, and what the act has left is what the pass has seen then.
+    /// than what the pass has seen, and what the act has left is what the pass has seen then. It makes one turn;
+    /// `split` and `meet` make none.
     pub fn turn<R: Wait>(&self, rt: &R, pass: &mut Pass<B>, a: B::Act) -> B::Reply
         requires { Belongs pass.old self.now }
         ensures own { SameCell pass.new pass.old }
         ensures turned { Turned B.later B.size B.remembers B.acts (knowledge pass.old) a result (knowledge pass.new) }
+        ensures once { (knowledge pass.new).turns ≡ (knowledge pass.old).turns + 1 }
         ensures same { SameNumbers (knowledge pass.old) (knowledge pass.new) }
     {
         let (reply, changes) = self.act(rt, &mut pass.seat, a);

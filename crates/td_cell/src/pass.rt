@@ -33,6 +33,8 @@ pub struct View<B> {
     pub met: List<bool>,
     /// How many passes it has met.
     pub meetings: u64,
+    /// How many turns were made through this pass, and through those that it has met.
+    pub turns: u64,
     /// How many entries the history has that was seen.
     pub changes: u64,
     /// How many marks were made by then.
