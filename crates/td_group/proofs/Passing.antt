@@ -1,7 +1,7 @@
 -- Passes that are split off opening passes, and met again.
 use Rattle.std.proofs.Common.{◌≡◌, ℕ, ◌+◌, ◌-◌, ◌<◌, ◌≤◌, inl, inr, zero, suc, List, [], ◌∷◌, ◌++◌, map, length}
 use Rattle.std.proofs.Common.{slice_set, slice_index_or, Some, Bool, true, false, refl, sym, ◌∙◌, ap, ap₂, subst}
-use Rattle.std.proofs.Common.{arith, length-append, Result, Ok, Err, OnErr}
+use Rattle.std.proofs.Common.{arith, length-append, Result, Ok, Err, OnErr, OnOk}
 use Rattle.std.proofs.lemmas.List.{length-set, set_at}
 use Rattle.std.specs.List.{All, AllZip}
 use Rattle.td_cell.specs.Lists.{itself, merge}
@@ -26,6 +26,11 @@ use Rattle.td_group.proofs.RowLaws.{rows_left, rows_outer, rows_turned}
 use Rattle.td_group.proofs.RowLaws.{zip_all, zip_at, zip_itself, zip_length, zip_map, zip_over, zip_set, zip_through}
 use Rattle.td_group.proofs.RowLaws.{zip_weaker}
 use Rattle.td_group.proofs.Seen.{before_one, sound_on, one_is, some_one}
+
+-- what holds holds where there is an answer
+pub on_ok : {X E : Type 0} {P : Type 0} (r : Result X E) → P → OnOk r P
+on_ok (Ok x) p = p
+on_ok (Err e) p = tt
 
 -- what holds holds where there is a fault
 pub on_err : {X E : Type 0} {P : Type 0} (r : Result X E) → P → OnErr r P
@@ -125,6 +130,10 @@ module _ {A R : Type 0} {g : Ghosts PlainTrader A R} where
         own_marks = ap (λ (v : Knowledge PlainTrader). v.own_marks) l.is
             ∙ ap₂ (λ (xs ys : List Mark). merge number_of xs ys) (ap (λ (v : Knowledge PlainTrader). v.own_marks)
             s.opening) (ap (λ (v : Knowledge PlainTrader). v.own_marks) s.out);
+        turns = ap (λ (v : Knowledge PlainTrader). v.turns) l.is
+            ∙ (ap₂ (λ (m n : ℕ). m + n) (ap (λ (v : Knowledge PlainTrader). v.turns) s.opening) (ap (λ (v : Knowledge
+            PlainTrader). v.turns) s.out) ∙ (let none : (knowledge p).turns + 0 ≡ (knowledge p).turns = omega arith in
+            none));
         longer = ap length m.met
             ∙ (length-set (knowledge q).met ((knowledge t).number - 1) true
             ∙ (ap (λ (v : Knowledge PlainTrader). length v.met) s.opening

@@ -1,7 +1,7 @@
 -- A session's passes: what each has seen, and what a turn through one of them makes of it.
 use Rattle.std.proofs.Common.{◌≡◌, ℕ, ◌<◌, List, length, map, slice_get, slice_set, slice_index_or, Some, refl, sym, ap}
-use Rattle.std.proofs.Common.{◌∙◌, subst, arith}
-use Rattle.std.proofs.lemmas.List.{length-map}
+use Rattle.std.proofs.Common.{◌∙◌, ◌+◌, subst, arith}
+use Rattle.std.proofs.lemmas.List.{length-map, map-set}
 use Rattle.std.proofs.lemmas.List.Elements.{All-set}
 use Rattle.std.proofs.lemmas.Option.{slice_get_read}
 use Rattle.std.specs.List.{All, IsDistinct}
@@ -15,7 +15,7 @@ use Rattle.td_trader.specs.Following.{Follows}
 use Rattle.td_trader.specs.PlainTraders.{PlainTrader}
 use Rattle.td_trader.specs.Worlds.{AdmittedAt, AdmittedIn, LegalAt, LegalIn, View, history_at, history_in, name_at}
 use Rattle.td_stall.specs.Acting.{Acts}
-use Rattle.td_group.specs.Grouping.{marks_of, size_of}
+use Rattle.td_group.specs.Grouping.{MakesOneTurn, marks_of, size_of}
 use Rattle.td_group.specs.Seeing.{TurnAt, seen_by, trader_of}
 use Rattle.td_group.specs.Soundness.{IsSound}
 use Rattle.td_stall.specs.declared.stall.Act.{Act}
@@ -53,6 +53,14 @@ module _ {A R : Type 0} {g : Ghosts PlainTrader A R} where
         → map (λ (x : Pass PlainTrader A R g). (knowledge x).number) (slice_set ps k q)
         ≡ map (λ (x : Pass PlainTrader A R g). (knowledge x).number) ps
     kept_numbers same = kept_at (λ (x : Pass PlainTrader A R g). (knowledge x).number) ps k p q is same
+
+    pub one_turn : (knowledge q).turns ≡ (knowledge p).turns + 1 → k < length ps → MakesOneTurn ps k (slice_set ps k q)
+    one_turn more inside = record {
+      turns = (knowledge p).turns;
+      here = got (λ (x : Pass PlainTrader A R g). (knowledge x).turns) ps k p inside is;
+      after = map-set (λ (x : Pass PlainTrader A R g). (knowledge x).turns) ps k q
+          ∙ ap (slice_set (map (λ (x : Pass PlainTrader A R g). (knowledge x).turns) ps) k) more;
+    }
 
     pub turn_seen : (a : Act) (r : Reply) → Turned Follows size_of marks_of Acts (knowledge p) a r (knowledge q)
         → k < length ps → TurnAt (map seen_by ps) k a r (map seen_by (slice_set ps k q))

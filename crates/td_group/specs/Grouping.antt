@@ -1,6 +1,6 @@
 -- A group of traders in cells, and the passes of its sessions.
 use Rattle.std.specs.Prelude.{◌≡◌, ℕ, ◌+◌, ◌-◌, ◌<◌, ◌≤◌, ◌⊎◌, List, [], ◌∷◌, ◌++◌, map, length, slice_set, Bool}
-use Rattle.std.specs.Prelude.{reverse, slice_index_or, ◌&&◌, true}
+use Rattle.std.specs.Prelude.{reverse, slice_get, slice_index_or, Some, ◌&&◌, true}
 use Rattle.std.specs.List.{AllZip}
 use Rattle.td_cdr.specs.Marks.{In, Marks}
 use Rattle.td_cell.specs.Lists.{itself, merge}
@@ -81,6 +81,22 @@ module _ {A R : Type 0} {g : Ghosts PlainTrader A R} where
       × (map (λ (p : Pass PlainTrader A R g). (knowledge p).number) ps
       ≡ map (λ (p : Pass PlainTrader A R g). (knowledge p).number) qs)
 
+  -- how many turns were made through each
+  abbrev pub turns_of : List (Pass PlainTrader A R g) → List ℕ
+  turns_of ps = map (λ (p : Pass PlainTrader A R g). (knowledge p).turns) ps
+
+  -- one turn more was made at trader k, and none at another
+  pub record MakesOneTurn (ps : List (Pass PlainTrader A R g)) (k : ℕ) (qs : List (Pass PlainTrader A R g)) : Type 0
+    where
+      pub turns : ℕ
+      pub here : slice_get (turns_of ps) k ≡ Some turns
+      pub after : turns_of qs ≡ slice_set (turns_of ps) k (turns + 1)
+
+  -- that, or none anywhere
+  abbrev pub MakesOneTurnAtMost : (ps : List (Pass PlainTrader A R g)) (k : ℕ) (qs : List (Pass PlainTrader A R g))
+      → Type 0
+  MakesOneTurnAtMost ps k qs = (turns_of qs ≡ turns_of ps) ⊎ MakesOneTurn ps k qs
+
   -- q is p, an opening pass, after it met t: it has seen the later of what both have, and has the acts of both
   pub record Meets (p t q : Pass PlainTrader A R g) : Type 0 where
     pub same_cell : SameCell q p
@@ -94,12 +110,13 @@ module _ {A R : Type 0} {g : Ghosts PlainTrader A R} where
     pub same_cell : SameCell q p
     pub knows : knowledge q ≡ knowledge p
 
-  -- one more pass was split off p and met again: it has seen what it had, and has the acts that it had
+  -- one more pass was split off p and met again: it has seen what it had, and has the acts and the turns that it had
   pub record IsMetAgain (p q : Pass PlainTrader A R g) : Type 0 where
     pub same_cell : SameCell q p
     pub seen : trader_of q ≡ trader_of p
     pub own : (knowledge q).own ≡ merge itself (knowledge p).own []
     pub own_marks : (knowledge q).own_marks ≡ merge number_of (knowledge p).own_marks []
+    pub turns : (knowledge q).turns ≡ (knowledge p).turns
     pub longer : length (knowledge q).met ≡ length (knowledge p).met + 1
     pub met : all_met (knowledge q).met ≡ all_met (knowledge p).met
 

@@ -2,13 +2,13 @@
 
 ghost use Rattle.std.proofs.Props.{props};
 ghost use Rattle.std.specs.List.{All, IsDistinct};
-ghost use Rattle.std.specs.Prelude.{◌≡◌, ◌<◌, length, map, IfOk, OnErr};
+ghost use Rattle.std.specs.Prelude.{◌≡◌, ◌<◌, length, map, IfOk, OnErr, OnOk};
 ghost use Rattle.std.specs.Str.{bytes_eq};
 ghost use Rattle.td_cdr.specs.Marks.{Later};
 ghost use Rattle.td_group.specs.Soundness.{IsSound, all_sound_prop};
-ghost use Rattle.td_group.specs.Grouping.{SamePasses};
+ghost use Rattle.td_group.specs.Grouping.{MakesOneTurn, MakesOneTurnAtMost, SamePasses};
 ghost use Rattle.td_group.specs.Seeing.{TurnAt, anything, seen_by, trader_of};
-ghost use Rattle.td_trader.specs.Worlds.{Begun, Looks, Watches};
+ghost use Rattle.td_trader.specs.Worlds.{Begun, Changes, Looks, Watches};
 
 use std::alloc::Global;
 use std::sync::Wait;
@@ -72,6 +72,7 @@ impl<'a, R: Wait> GroupPass<'a, R> {
         ensures same { SamePasses self.old.passes.items self.new.passes.items }
         ensures turned { TurnAt (map seen_by self.old.passes.items) trader a result
             (map seen_by self.new.passes.items) }
+        ensures once { MakesOneTurn self.old.passes.items trader self.new.passes.items }
     {
         self.cells[trader].turn(self.rt, &mut self.passes[trader], a)
     }
@@ -84,6 +85,7 @@ impl<'a, R: Wait> GroupPass<'a, R> {
             (map seen_by self.new.passes.items)) }
         ensures err { OnErr result (Watches anything Later (map seen_by self.old.passes.items) trader
             (map seen_by self.new.passes.items)) }
+        ensures once { MakesOneTurn self.old.passes.items trader self.new.passes.items }
     {
         match self.turn(trader, Act::Look(l)) {
             Reply::Changed(_) => unreachable!(),
@@ -100,6 +102,7 @@ impl<'a, R: Wait> GroupPass<'a, R> {
             (map seen_by self.new.passes.items)) }
         ensures err { OnErr result (Watches anything Later (map seen_by self.old.passes.items) trader
             (map seen_by self.new.passes.items)) }
+        ensures once { MakesOneTurn self.old.passes.items trader self.new.passes.items }
     {
         match self.turn(trader, Act::Query(q)) {
             Reply::Changed(_) => unreachable!(),
@@ -126,7 +129,16 @@ impl<'a, R: Wait> Traders for GroupPass<'a, R> {
         &self.names[trader]
     }
 
-    fn change(&mut self, trader: usize, c: Change) -> Result<Outcome, Memory> {
+    /// Makes one turn, whatever comes of it.
+    fn change(&mut self, trader: usize, c: Change) -> Result<Outcome, Memory>
+        requires { trader < length (map seen_by self.old.passes.items) }
+        ensures same { SamePasses self.old.passes.items self.new.passes.items }
+        ensures ok { IfOk result (λ o. Changes anything Later (map seen_by self.old.passes.items) trader c o
+            (map seen_by self.new.passes.items)) }
+        ensures err { OnErr result (Watches anything Later (map seen_by self.old.passes.items) trader
+            (map seen_by self.new.passes.items)) }
+        ensures once { MakesOneTurn self.old.passes.items trader self.new.passes.items }
+    {
         match self.turn(trader, Act::Change(c)) {
             Reply::Changed(answer) => answer,
             Reply::Looked(_) => unreachable!(),
@@ -134,15 +146,34 @@ impl<'a, R: Wait> Traders for GroupPass<'a, R> {
         }
     }
 
-    // An act is owned, so a look and a query are copied before the turn.
-    fn look(&mut self, trader: usize, l: &Look) -> Result<(Outcome, u32), Memory> {
+    /// Makes one turn. An act is owned, so the look is copied before: where memory is wanted for that, it makes none.
+    fn look(&mut self, trader: usize, l: &Look) -> Result<(Outcome, u32), Memory>
+        requires { trader < length (map seen_by self.old.passes.items) }
+        ensures same { SamePasses self.old.passes.items self.new.passes.items }
+        ensures ok { IfOk result (λ a. Looks anything Later (map seen_by self.old.passes.items) trader l.now a
+            (map seen_by self.new.passes.items)) }
+        ensures err { OnErr result (Watches anything Later (map seen_by self.old.passes.items) trader
+            (map seen_by self.new.passes.items)) }
+        ensures once { OnOk result (MakesOneTurn self.old.passes.items trader self.new.passes.items) }
+        ensures most { OnErr result (MakesOneTurnAtMost self.old.passes.items trader self.new.passes.items) }
+    {
         match l.copy(self.alloc) {
             Ok(copied) => self.look_at(trader, copied),
             Err(memory) => Err(memory),
         }
     }
 
-    fn begin(&mut self, trader: usize, q: &Query) -> Result<Begin, Memory> {
+    /// Makes one turn. The query is copied before: where memory is wanted for that, it makes none.
+    fn begin(&mut self, trader: usize, q: &Query) -> Result<Begin, Memory>
+        requires { trader < length (map seen_by self.old.passes.items) }
+        ensures same { SamePasses self.old.passes.items self.new.passes.items }
+        ensures ok { IfOk result (λ b. Begun anything Later (map seen_by self.old.passes.items) trader q.now b
+            (map seen_by self.new.passes.items)) }
+        ensures err { OnErr result (Watches anything Later (map seen_by self.old.passes.items) trader
+            (map seen_by self.new.passes.items)) }
+        ensures once { OnOk result (MakesOneTurn self.old.passes.items trader self.new.passes.items) }
+        ensures most { OnErr result (MakesOneTurnAtMost self.old.passes.items trader self.new.passes.items) }
+    {
         match q.copy(self.alloc) {
             Ok(copied) => self.begin_at(trader, copied),
             Err(memory) => Err(memory),

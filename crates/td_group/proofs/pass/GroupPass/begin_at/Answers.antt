@@ -12,3 +12,6 @@ returns-clause-ok g c = begins_ok _ _ _ c.args.q c.in-Begun.answer c.in-Begun.en
 
 pub returns-clause-err : goal.returns-clause-err
 returns-clause-err g c = begins_err _ _ _ c.args.q c.in-Begun.answer c.in-Begun.ensures.turned
+
+pub returns-clause-once : goal.returns-clause-once
+returns-clause-once g c = c.in-Begun.ensures.once

@@ -12,3 +12,6 @@ returns-clause-ok g c = looks_ok _ _ _ c.args.l c.in-Looked.answer c.in-Looked.e
 
 pub returns-clause-err : goal.returns-clause-err
 returns-clause-err g c = looks_err _ _ _ c.args.l c.in-Looked.answer c.in-Looked.ensures.turned
+
+pub returns-clause-once : goal.returns-clause-once
+returns-clause-once g c = c.in-Looked.ensures.once

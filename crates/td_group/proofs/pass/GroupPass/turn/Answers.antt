@@ -1,6 +1,6 @@
 use Rattle.std.proofs.Common.{arith, sym, ◌∙◌}
 use Rattle.td_group.proofs.Taken.{belongs_at, cell_inside, kept_cells, kept_names, kept_numbers, pass_follows}
-use Rattle.td_group.proofs.Taken.{stay_sound, turn_seen}
+use Rattle.td_group.proofs.Taken.{one_turn, stay_sound, turn_seen}
 use Rattle.td_group.proofs.pass.GroupPass.turn.Goals as goal
 
 pub index-requires : goal.index-requires
@@ -42,3 +42,9 @@ returns-clause-turned g c =
     let s = c.args.self.now in
     turn_seen s.passes.items c.args.trader c.index_mut.result.now c.turn.new.pass c.index_mut.ensures.value c.args.a
     c.turn.result c.turn.ensures.turned c.requires
+
+pub returns-clause-once : goal.returns-clause-once
+returns-clause-once g c =
+    let s = c.args.self.now in
+    one_turn s.passes.items c.args.trader c.index_mut.result.now c.turn.new.pass c.index_mut.ensures.value
+    c.turn.ensures.once c.requires

@@ -12,3 +12,6 @@ returns-clause-ok g c = changes_ok _ _ _ c.args.c c.in-Changed.answer c.in-Chang
 
 pub returns-clause-err : goal.returns-clause-err
 returns-clause-err g c = changes_err _ _ _ c.args.c c.in-Changed.answer c.in-Changed.ensures.turned
+
+pub returns-clause-once : goal.returns-clause-once
+returns-clause-once g c = c.in-Changed.ensures.once
