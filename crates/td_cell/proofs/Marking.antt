@@ -1,13 +1,16 @@
 -- Own marks, over the steps.
 use Rattle.std.proofs.Common.{◌≡◌, ℕ, ◌+◌, ◌-◌, ◌<◌, ◌≤◌, ◌⊎◌, inl, inr, List, [], ◌∷◌, ◌++◌, append-nil, Bool, true}
 use Rattle.std.proofs.Common.{false, cond, nat_lt, ltb-true, ltb-false, refl, sym, ◌∙◌, ap, subst, arith, slice_set}
-use Rattle.std.proofs.Common.{Some, None}
+use Rattle.std.proofs.Common.{Some, None, length, length-append, ◌^◌, ◌≢◌}
 use mathlib.Core.Option.{some}
 use lib.ListN.{get_elem?}
-use Rattle.td_cdr.specs.Marks.{In, Later, Marks, NewMark, last_identifier}
+use Rattle.td_cdr.proofs.Marking.{made_apart}
+use Rattle.td_cdr.specs.Gap.{bytes_of}
+use Rattle.td_cdr.specs.Marks.{In, Later, Marks, NewMark, last_identifier, made_identifier}
+use Rattle.td_cdr.specs.declared.order.Order.TheVariants.{Big}
 use Rattle.td_cell.specs.declared.pass.View.{View}
 use Rattle.td_cell.specs.declared.pass.Mark.{Mark}
-use Rattle.td_cell.specs.OwnMarks.{MarksOnce, Gap, Spaced, mark_between, number_of}
+use Rattle.td_cell.specs.OwnMarks.{MarksOnce, Gap, IsMadeOf, LastIsMade, Spaced, mark_between, number_of}
 use Rattle.td_cell.specs.Rules.{Holds, Owned, Marking_kept, marks_of}
 use Rattle.td_cell.proofs.Lists.{in-snoc}
 use Rattle.td_cell.proofs.Owns.{set_back, owned_same, owned_more}
@@ -20,6 +23,36 @@ lt_by x y false e = inr (ltb-false x y e)
 lt_or : (x y : ℕ) → (x < y) ⊎ (y ≤ x)
 lt_or x y = lt_by x y (nat_lt x y) refl
 
+-- ---- made identifiers
+
+same_front : (xs ys a b : List ℕ) → length xs ≡ length ys → xs ++ a ≡ ys ++ b → xs ≡ ys
+same_front [] [] a b long e = refl
+same_front [] (y ∷ ys) a b long e = absurd (omega arith)
+same_front (x ∷ xs) [] a b long e = absurd (omega arith)
+same_front (x ∷ xs) (y ∷ ys) a b long e =
+    let first : x ≡ y = cc in
+    let rest : xs ++ a ≡ ys ++ b = cc in
+    let more = same_front xs ys a b (omega arith) rest in
+    cc
+
+values_same : (s t : List ℕ) (v w : ℕ) → v < 256 ^ 8 → w < 256 ^ 8 → made_identifier s v ≡ made_identifier t w → v ≡ w
+values_same s t v w few also e =
+    let a : List ℕ = bytes_of Big 8 v in
+    let b : List ℕ = bytes_of Big 8 w in
+    let long_a : length a ≡ 8 = refl in
+    let long_b : length b ≡ 8 = refl in
+    let all : length s + length a ≡ length t + length b =
+    sym (length-append s a) ∙ (ap (length {A = ℕ}) e ∙ length-append t b) in
+    let stems : s ≡ t = same_front s t a b (omega arith) e in
+    made_apart s v w few also (e ∙ ap (λ (x : List ℕ). made_identifier x w) (sym stems))
+
+-- of two values two identifiers are made
+made_differ : (i j : List ℕ) (k l : ℕ) → IsMadeOf i k → IsMadeOf j l → k < l → i ≢ j
+made_differ i j k l a b less same =
+    let e : made_identifier a.stem k ≡ made_identifier b.stem l = sym a.is ∙ (same ∙ b.is) in
+    let values = values_same a.stem b.stem k l a.below b.below e in
+    absurd (omega (arith, values))
+
 module _ {B : Type 0} where
   -- where nothing is held that was not held, the facts stay
   pub marking_of : (views after : List (View B)) (m : Marks)
@@ -29,6 +62,7 @@ module _ {B : Type 0} where
     within = λ i a h. let p = back i a h in k.within p.0 a p.1;
     kept = λ i a h. let p = back i a h in k.kept p.0 a p.1;
     below = λ i a h. let p = back i a h in k.below p.0 a p.1;
+    made = λ i a h. let p = back i a h in k.made p.0 a p.1;
     apart = λ i j a b h g. let p = back i a h in let q = back j b g in k.apart p.0 q.0 a b p.1 q.1;
   }
 
@@ -49,9 +83,9 @@ module _ {B : Type 0} where
 
     module _ (b c : Marks) (late : Later b c) (k : Marking_kept b views) where
       -- one more
-      marking_new : (new : NewMark b c) → b.count < c.count → w.own_marks ≡ v.own_marks ++ mark_between b c ∷ []
+      marking_new : (new : NewMark b c) (makes : LastIsMade b c) → b.count < c.count → w.own_marks ≡ v.own_marks ++ mark_between b c ∷ []
           → Marking_kept c (slice_set views id w)
-      marking_new new less more = record {
+      marking_new new makes less more = record {
         within =
             λ i a h. elim (class i a h) as (λ _. a.number ≤ c.count) [
               | inl p ↦ let z = k.within p.0 a p.1 in omega arith
@@ -70,6 +104,11 @@ module _ {B : Type 0} where
           | inl p ↦ let z = k.below p.0 a p.1 x made in let y = late.counter in omega arith
           | inr e ↦ (value (nat_lt b.counter c.counter) refl x (sym (ap (λ (y : Mark). y.made) e) ∙ made)).1
         ];
+        made = λ i a h x made. elim (class i a h) as (λ _. IsMadeOf a.identifier x) [
+          | inl p ↦ k.made p.0 a p.1 x made
+          | inr e ↦ subst (λ (y : Mark). IsMadeOf y.identifier x) (sym e)
+              (made_now (nat_lt b.counter c.counter) refl x (sym (ap (λ (y : Mark). y.made) e) ∙ made))
+        ];
         apart = λ i j a d h g less2. elim (class i a h) as (λ _. Gap c.ring a d) [
           | inl p ↦ elim (class j d g) as (λ _. Gap c.ring a d) [
             | inl q ↦ subst (λ r. Gap r a d) (sym late.ring) (k.apart p.0 q.0 a d p.1 q.1 less2)
@@ -79,6 +118,11 @@ module _ {B : Type 0} where
                   λ x y one two. let z = k.below p.0 a p.1 x one in
                   let o = (value (nat_lt b.counter c.counter) refl y two).0 in
                   omega arith;
+              identifiers =
+                  λ x y one two. let z = k.below p.0 a p.1 x one in
+                  let o = (value (nat_lt b.counter c.counter) refl y two).0 in
+                  made_differ a.identifier (last_identifier c.kept) x y (k.made p.0 a p.1 x one)
+                  (made_now (nat_lt b.counter c.counter) refl y two) (omega arith);
             })
           ]
           | inr e ↦ elim (class j d g) as (λ _. Gap c.ring a d) [
@@ -111,6 +155,13 @@ module _ {B : Type 0} where
               (omega arith, omega arith)
           value false is x e = absurd (cc)
 
+          made_now : (o : Bool) → nat_lt b.counter c.counter ≡ o → (x : ℕ)
+              → cond o (Some (c.counter - 1)) None ≡ Some x → IsMadeOf (last_identifier c.kept) x
+          made_now true is x e =
+              subst (IsMadeOf (last_identifier c.kept)) (just (c.counter - 1) x e)
+              (makes (ltb-true b.counter c.counter is))
+          made_now false is x e = absurd (cc)
+
           dite_gap : (a : Mark) → ((j : ℕ) × Holds marks_of views j a) → a.identifier ≡ last_identifier c.kept
               → a.number + c.ring < c.count
           dite_gap a p same = elim (lt_or b.count (a.number + b.ring)) as (λ _. a.number + c.ring < c.count) [
@@ -119,7 +170,7 @@ module _ {B : Type 0} where
             | inr h ↦ let r = late.ring in omega arith
           ]
 
-      not_new : b.count < c.count → MarksOnce b c → NewMark b c
+      not_new : b.count < c.count → MarksOnce b c → NewMark b c × LastIsMade b c
       not_new less (inl e) = let z : c.count ≡ b.count = ap (λ (x : Marks). x.count) e in absurd (omega arith)
       not_new less (inr n) = n
 
@@ -131,7 +182,7 @@ module _ {B : Type 0} where
           let less = ltb-true b.count c.count is in (
             owned_more marks_of views id v w here live live2 number_of o (mark_between b c) more
                 (λ i a h. let z = k.within i a h in omega arith),
-            marking_new (not_new less law) less more,
+            marking_new (not_new less law).0 (not_new less law).1 less more,
           )
       marks_step o law false is more =
           let most = ltb-false b.count c.count is in

@@ -230,6 +230,7 @@ begins {B} later size kept alone b = record {
     within = λ i a h. absurd (none_own i a h);
     kept = λ i a h n. absurd (none_own i a h);
     below = λ i a h k e. absurd (none_own i a h);
+    made = λ i a h k e. absurd (none_own i a h);
     apart = λ i j a d h g less. absurd (none_own i a h);
   };
 }

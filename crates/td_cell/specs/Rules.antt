@@ -8,7 +8,7 @@ use Rattle.td_cdr.specs.Marks.{In, Marks}
 use Rattle.td_cell.specs.declared.pass.View.{View}
 use Rattle.td_cell.specs.declared.pass.Mark.{Mark}
 use Rattle.td_cell.specs.Lists.{Rises, merge, grown, itself}
-use Rattle.td_cell.specs.OwnMarks.{marks_between, number_of, Gap, Spaced}
+use Rattle.td_cell.specs.OwnMarks.{marks_between, number_of, Gap, IsMadeOf, Spaced}
 
 -- each has been met
 abbrev pub all_met : List Bool → Bool
@@ -157,6 +157,7 @@ module _ {B : Type 0} where
     pub kept : (i : ℕ) (a : Mark) → Holds marks_of views i a → m.count < a.number + m.ring
         → In (record { identifier = a.identifier; number = a.number }) m.kept
     pub below : (i : ℕ) (a : Mark) → Holds marks_of views i a → (k : ℕ) → a.made ≡ Some k → k < m.counter
+    pub made : (i : ℕ) (a : Mark) → Holds marks_of views i a → (k : ℕ) → a.made ≡ Some k → IsMadeOf a.identifier k
     pub apart : (i j : ℕ) (a b : Mark) → Holds marks_of views i a → Holds marks_of views j b → a.number < b.number
         → Gap m.ring a b
 

@@ -1,5 +1,6 @@
 pub mod Calls
 pub mod Closed
+pub mod MadeMarks
 pub mod Passing
 pub mod RowLaws
 pub mod Seen

@@ -1,4 +1,5 @@
 pub mod Grouping
+pub mod MadeMarks
 pub mod Rows
 pub mod Seeing
 pub mod Soundness

@@ -7,6 +7,7 @@ ghost use Rattle.std.specs.Str.{bytes_eq};
 ghost use Rattle.td_cdr.specs.Marks.{Later};
 ghost use Rattle.td_group.specs.Soundness.{IsSound, all_sound_prop};
 ghost use Rattle.td_group.specs.Grouping.{MakesOneTurn, MakesOneTurnAtMost, SamePasses};
+ghost use Rattle.td_group.specs.MadeMarks.{MarksAt};
 ghost use Rattle.td_group.specs.Seeing.{TurnAt, anything, seen_by, trader_of};
 ghost use Rattle.td_trader.specs.Worlds.{Begun, Changes, Looks, Watches};
 
@@ -73,6 +74,7 @@ impl<'a, R: Wait> GroupPass<'a, R> {
         ensures turned { TurnAt (map seen_by self.old.passes.items) trader a result
             (map seen_by self.new.passes.items) }
         ensures once { MakesOneTurn self.old.passes.items trader self.new.passes.items }
+        ensures marks { MarksAt self.old.passes.items trader self.new.passes.items }
     {
         self.cells[trader].turn(self.rt, &mut self.passes[trader], a)
     }
@@ -103,6 +105,7 @@ impl<'a, R: Wait> GroupPass<'a, R> {
         ensures err { OnErr result (Watches anything Later (map seen_by self.old.passes.items) trader
             (map seen_by self.new.passes.items)) }
         ensures once { MakesOneTurn self.old.passes.items trader self.new.passes.items }
+        ensures marks { MarksAt self.old.passes.items trader self.new.passes.items }
     {
         match self.turn(trader, Act::Query(q)) {
             Reply::Changed(_) => unreachable!(),
@@ -172,6 +175,7 @@ impl<'a, R: Wait> Traders for GroupPass<'a, R> {
         ensures err { OnErr result (Watches anything Later (map seen_by self.old.passes.items) trader
             (map seen_by self.new.passes.items)) }
         ensures once { OnOk result (MakesOneTurn self.old.passes.items trader self.new.passes.items) }
+        ensures marks { OnOk result (MarksAt self.old.passes.items trader self.new.passes.items) }
         ensures most { OnErr result (MakesOneTurnAtMost self.old.passes.items trader self.new.passes.items) }
     {
         match q.copy(self.alloc) {

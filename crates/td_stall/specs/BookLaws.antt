@@ -2,15 +2,17 @@
 use Rattle.std.proofs.Common.{◌≡◌, ◌+◌, ◌≤◌, inl, inr, List, length, length-append, sym, subst, arith}
 use Rattle.td_cdr.specs.Marks.{Marks, Later}
 use Rattle.td_register.specs.declared.history.Accepted.{Accepted}
-use Rattle.td_cell.specs.OwnMarks.{MarksOnce}
+use Rattle.td_cell.specs.OwnMarks.{LastIsMade, MarksOnce}
 use Rattle.td_trader.specs.Following.{Follows, MarksOnce as MarksAtMostOnce}
-use Rattle.td_trader.specs.PlainTraders.{PlainTrader}
+use Rattle.td_trader.specs.PlainTraders.{PlainTrader, store_of}
 use Rattle.td_trader.proofs.Growing.{begin-once, change-once, follows-itself, follows-on, look-once}
 use Rattle.td_stall.specs.Acting.{Acts}
+use Rattle.td_stall.specs.Made.{MakesAt}
 use Rattle.td_stall.specs.declared.stall.Act.{Act}
 use Rattle.td_stall.specs.declared.stall.Act.TheVariants as act
 use Rattle.td_stall.specs.declared.stall.Reply.{Reply}
 use Rattle.td_stall.specs.declared.stall.Reply.TheVariants as reply
+use Rattle.td_stall.specs.MadeLaws.{act_makes}
 
 -- ---- what a trader may become
 
@@ -57,9 +59,13 @@ acts_within t (act.Query q) (reply.Looked r) u h = absurd h
 acts_within t (act.Query q) (reply.Begun r) u h =
     within u.history t.history (begin-once t u q r h.bounds h.marks h.begins).history
 
-new_mark : (m n : Marks) → MarksAtMostOnce m n → MarksOnce m n
-new_mark m n (inl e) = inl e
-new_mark m n (inr f) = inr f.new
+last_made : (t u : PlainTrader) → MakesAt t u → LastIsMade t.marks u.marks
+last_made t u h = λ less. let m = h less in
+    record { stem = (store_of u).attributes.request_id_stem; is = m.is; below = m.below }
+
+new_mark : (m n : Marks) → MarksAtMostOnce m n → LastIsMade m n → MarksOnce m n
+new_mark m n (inl e) makes = inl e
+new_mark m n (inr f) makes = inr (f.new, makes)
 
 pub makes_one_mark : (t : PlainTrader) (a : Act) (r : Reply) (u : PlainTrader) → Acts t a r u
     → MarksOnce t.marks u.marks
@@ -73,3 +79,4 @@ makes_one_mark t (act.Query q) (reply.Changed r) u h = absurd h
 makes_one_mark t (act.Query q) (reply.Looked r) u h = absurd h
 makes_one_mark t (act.Query q) (reply.Begun r) u h =
     new_mark t.marks u.marks (begin-once t u q r h.bounds h.marks h.begins).once
+    (last_made t u (act_makes t (act.Query q) (reply.Begun r) u h))

@@ -15,3 +15,6 @@ returns-clause-err g c = begins_err _ _ _ c.args.q c.in-Begun.answer c.in-Begun.
 
 pub returns-clause-once : goal.returns-clause-once
 returns-clause-once g c = c.in-Begun.ensures.once
+
+pub returns-clause-marks : goal.returns-clause-marks
+returns-clause-marks g c = c.in-Begun.ensures.marks

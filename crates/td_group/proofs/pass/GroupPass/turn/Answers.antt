@@ -1,4 +1,5 @@
 use Rattle.std.proofs.Common.{arith, sym, ◌∙◌}
+use Rattle.td_group.proofs.MadeMarks.{marks_at}
 use Rattle.td_group.proofs.Taken.{belongs_at, cell_inside, kept_cells, kept_names, kept_numbers, pass_follows}
 use Rattle.td_group.proofs.Taken.{one_turn, stay_sound, turn_seen}
 use Rattle.td_group.proofs.pass.GroupPass.turn.Goals as goal
@@ -48,3 +49,9 @@ returns-clause-once g c =
     let s = c.args.self.now in
     one_turn s.passes.items c.args.trader c.index_mut.result.now c.turn.new.pass c.index_mut.ensures.value
     c.turn.ensures.once c.requires
+
+pub returns-clause-marks : goal.returns-clause-marks
+returns-clause-marks g c =
+    let s = c.args.self.now in
+    marks_at s.passes.items c.args.trader c.index_mut.result.now c.turn.new.pass c.index_mut.ensures.value c.args.a
+    c.turn.result c.turn.ensures.turned c.requires

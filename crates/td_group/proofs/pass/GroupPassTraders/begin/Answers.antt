@@ -22,3 +22,6 @@ returns-in-Ok-clause-most g c = on_err c.begin_at.result (inr c.begin_at.ensures
 
 pub returns-in-Err-clause-most : goal.returns-in-Err-clause-most
 returns-in-Err-clause-most g c = inl refl
+
+pub returns-in-Ok-clause-marks : goal.returns-in-Ok-clause-marks
+returns-in-Ok-clause-marks g c = on_ok c.begin_at.result c.begin_at.ensures.marks
