@@ -28,10 +28,11 @@ use Rattle.td_register.specs.Stores.{Store}
 use Rattle.td_register.specs.declared.refusal.Refusal.{Refusal}
 use Rattle.td_trader.specs.BeginLaws.{AreKept, IsSearched}
 use Rattle.td_trader.specs.Beginning.{Begins, IsSearch, after_begin, begin_of, begin_unless, identified, searched_under}
-use Rattle.td_trader.specs.PlainTraders.{PlainTrader, after_begin as trader_after}
+use Rattle.td_trader.specs.Following.{Follows}
+use Rattle.td_trader.specs.PlainTraders.{AreBounds, PlainTrader, after_begin as trader_after}
 use Rattle.td_trader.specs.PlainTraders.{after_outcome, begin_at, outcome_of, store_of}
 use Rattle.td_trader.specs.Queries.{parts_of, refusal}
-use Rattle.td_trader_laws.specs.Reaching.{IsInOrder, IsReached, ReachedMarksGrowLater, ReachedTradersBegin}
+use Rattle.td_trader_laws.specs.Reaching.{IsInOrder, IsReached, IsSearchAt, ReachedMarksGrowLater, ReachedTradersBegin}
 use Rattle.td_trader_laws.specs.Reaching.{ReachedTradersSearch, SearchesAreMadeApart, SearchesOfOneIdentifierAreFar}
 use Rattle.td_trader_laws.specs.Reaching.{just_opened, by_change, by_reserving, by_query}
 use Rattle.td_trader.specs.declared.begin.Begin.{Begin}
@@ -212,26 +213,31 @@ reached-later t q r =
     later-once t.marks (trader_after t q (begin_at t q)).marks
     (marked-once t.bounds (store_of t) (length t.history) t.marks q k.bounds.begins k.marks)
 
-is-search : (t : PlainTrader) (q : Query) (l : Local) → IsReached t → begin_at t q ≡ Search l
-    → IsSearch t.bounds (store_of t) (length t.history) t.marks q l
-is-search t q l r e =
-    subst (Begins t.bounds (store_of t) (length t.history) t.marks q) e (reached-begin t q r)
+module _ (t : PlainTrader) (q : Query) (l : Local) (b : AreBounds t.bounds) (m : IsKept t.marks)
+    (e : begin_at t q ≡ Search l) where
+  is-search : IsSearch t.bounds (store_of t) (length t.history) t.marks q l
+  is-search =
+      subst (Begins t.bounds (store_of t) (length t.history) t.marks q) e
+      (begins t.bounds (store_of t) (length t.history) t.marks q b.begins m)
+
+  search-at : IsSearchAt t q l
+  search-at =
+      let h = is-search in
+      let i = (searched_under (store_of t) t.marks q).identifier in
+      let served : IsSearched (store_of t) (length t.history) (t.marks.count + 1) i q l =
+      subst (IsSearched (store_of t) (length t.history) (t.marks.count + 1) i q) (sym h.served)
+      (are_served (store_of t) (length t.history) (t.marks.count + 1) i q) in
+      record {
+        identifier = i;
+        fresh = h.fresh;
+        searched = served;
+        held =
+            subst (Holds (trader_after t q (Search l)).marks i) (sym served.mark_is)
+            (newest-begun (store_of t) t.marks q l);
+      }
 
 pub reached-search : ReachedTradersSearch
-reached-search t q l r e =
-    let h = is-search t q l r e in
-    let i = (searched_under (store_of t) t.marks q).identifier in
-    let served : IsSearched (store_of t) (length t.history) (t.marks.count + 1) i q l =
-    subst (IsSearched (store_of t) (length t.history) (t.marks.count + 1) i q) (sym h.served)
-    (are_served (store_of t) (length t.history) (t.marks.count + 1) i q) in
-    record {
-      identifier = i;
-      fresh = h.fresh;
-      searched = served;
-      held =
-          subst (Holds (trader_after t q (Search l)).marks i) (sym served.mark_is)
-          (newest-begun (store_of t) t.marks q l);
-    }
+reached-search t q l r e = let k = in-order r in search-at t q l k.bounds k.marks e
 
 -- ---- two searches
 
@@ -246,16 +252,21 @@ apart-by a u i n ring held later fresh is =
       | inr most ↦ let same = later.ring in omega arith
     ]
 
+-- no query changes the bounds
+bounds-then : (t u : PlainTrader) (p : Query) (k : Local) → AreBounds t.bounds
+    → Follows (trader_after t p (Search k)) u → AreBounds u.bounds
+bounds-then t u p k b after = subst AreBounds (sym after.bounds) b
+
 pub far-apart : SearchesOfOneIdentifierAreFar
-far-apart t u p q k l i r v e after f named also =
-    let a = reached-search t p k r e in
-    let b = reached-search u q l v f in
+far-apart t u p q k l i bounds kept kept_then e after f named also =
+    let a = search-at t p k bounds kept e in
+    let b = search-at u q l (bounds-then t u p k bounds after) kept_then f in
     let one : a.identifier ≡ i = same_some a.identifier i (sym a.searched.identified ∙ named) in
     let two : i ≡ b.identifier = same_some i b.identifier (sym also ∙ b.searched.identified) in
     let m : Marks = (trader_after t p (Search k)).marks in
-    let ring : u.marks.ring ≡ t.bounds.ring = (in-order v).ring ∙ ap (λ (z : Bounds). z.ring) after.bounds in
-    subst (λ (n : ℕ). k.mark + t.bounds.ring < n) (sym b.searched.mark_is)
-    (apart-by m u.marks i k.mark t.bounds.ring (subst (λ (j : List ℕ). Holds m j k.mark) one a.held) after.marks
+    let ring : u.marks.ring ≡ t.marks.ring = after.marks.ring ∙ ring-begun (store_of t) t.marks p (Search k) in
+    subst (λ (n : ℕ). k.mark + t.marks.ring < n) (sym b.searched.mark_is)
+    (apart-by m u.marks i k.mark t.marks.ring (subst (λ (j : List ℕ). Holds m j k.mark) one a.held) after.marks
     (λ n h. b.fresh n (subst (λ (j : List ℕ). Holds u.marks j n) two h)) ring)
 
 -- the identifier is made of a value from the counter on, which is one above it afterwards
@@ -267,12 +278,11 @@ record IsMadeOf (t : PlainTrader) (q : Query) (l : Local) : Type 0 where
   below : value < 256 ^ 8
   counter : (trader_after t q (Search l)).marks.counter ≡ value + 1
 
-made-of : (t : PlainTrader) (q : Query) (l : Local) → IsReached t → begin_at t q ≡ Search l
+made-of : (t : PlainTrader) (q : Query) (l : Local) → AreBounds t.bounds → IsKept t.marks → begin_at t q ≡ Search l
     → (parts_of q).stated.request_id ≡ None → IsMadeOf t q l
-made-of t q l r e none =
-    let h = is-search t q l r e in
-    let k = in-order r in
-    let kept = left-over t.marks k.marks (has-room t.bounds t.marks.count (store_of t) q h.taken k.bounds.begins) in
+made-of t q l b m e none =
+    let h = is-search t q l b m e in
+    let kept = left-over t.marks m (has-room t.bounds t.marks.count (store_of t) q h.taken b.begins) in
     let stem = (store_of t).attributes.request_id_stem in
     let i = (searched_under (store_of t) t.marks q).identifier in
     let next = is_next t.marks stem kept.orderly kept.left in
@@ -293,9 +303,9 @@ made-of t q l r e none =
     }
 
 pub made-apart : SearchesAreMadeApart
-made-apart t u p q k l r v e after f none nil same =
-    let a = made-of t p k r e none in
-    let b = made-of u q l v f nil in
+made-apart t u p q k l bounds kept kept_then e after f none nil same =
+    let a = made-of t p k bounds kept e none in
+    let b = made-of u q l (bounds-then t u p k bounds after) kept_then f nil in
     let alike : made_identifier a.stem a.value ≡ made_identifier b.stem b.value =
     same_some (made_identifier a.stem a.value) (made_identifier b.stem b.value) (sym a.is ∙ (same ∙ b.is)) in
     let one = values_differ a.stem b.stem a.value b.value a.below b.below alike in

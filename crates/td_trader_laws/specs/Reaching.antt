@@ -60,16 +60,19 @@ ReachedMarksGrowLater =
 
 -- ---- two searches of one trader, the one before the other
 
+-- As each act of a session finds a trader that others act on too, however it was reached: it has such bounds as a
+-- trader may have, and marks as its ring keeps them.
+
 -- under one identifier: the numbers of their marks differ by more than the trader remembers
 abbrev pub SearchesOfOneIdentifierAreFar : Type 0
 SearchesOfOneIdentifierAreFar =
-    (t u : PlainTrader) (p q : Query) (k l : Local) (identifier : List ℕ) → IsReached t → IsReached u
-    → begin_at t p ≡ Search k → Follows (after_begin t p (Search k)) u → begin_at u q ≡ Search l
-    → k.identifier ≡ Some identifier → l.identifier ≡ Some identifier → k.mark + t.bounds.ring < l.mark
+    (t u : PlainTrader) (p q : Query) (k l : Local) (identifier : List ℕ) → AreBounds t.bounds → AreMarks t.marks
+    → AreMarks u.marks → begin_at t p ≡ Search k → Follows (after_begin t p (Search k)) u → begin_at u q ≡ Search l
+    → k.identifier ≡ Some identifier → l.identifier ≡ Some identifier → k.mark + t.marks.ring < l.mark
 
 -- of queries that state no identifier: those that are made differ, also where the stem was set to another between
 abbrev pub SearchesAreMadeApart : Type 0
 SearchesAreMadeApart =
-    (t u : PlainTrader) (p q : Query) (k l : Local) → IsReached t → IsReached u → begin_at t p ≡ Search k
-    → Follows (after_begin t p (Search k)) u → begin_at u q ≡ Search l → (parts_of p).stated.request_id ≡ None
-    → (parts_of q).stated.request_id ≡ None → k.identifier ≡ l.identifier → ⊥
+    (t u : PlainTrader) (p q : Query) (k l : Local) → AreBounds t.bounds → AreMarks t.marks → AreMarks u.marks
+    → begin_at t p ≡ Search k → Follows (after_begin t p (Search k)) u → begin_at u q ≡ Search l
+    → (parts_of p).stated.request_id ≡ None → (parts_of q).stated.request_id ≡ None → k.identifier ≡ l.identifier → ⊥

@@ -29,7 +29,8 @@ pub fn reached_traders_begin()
 {}
 
 /// The marks of two searches of one trader under one identifier have numbers that differ by more than it remembers. Two
-/// identifiers that it makes are never the same.
+/// identifiers that it makes are never the same. Of the trader nothing is asked but its bounds and what holds of the
+/// marks of every ring, so that this is said of searches of several sessions too.
 pub fn searches_are_apart()
     ensures stated { SearchesOfOneIdentifierAreFar }
     ensures made { SearchesAreMadeApart }
