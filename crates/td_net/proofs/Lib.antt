@@ -1,0 +1,9 @@
+pub mod Becoming
+pub mod Counting
+pub mod Delivering
+pub mod Halting
+pub mod Members
+pub mod Scheduling
+pub mod Snapshots
+pub mod Taking
+pub mod Trimming

@@ -1,0 +1,4 @@
+pub mod Schedules
+pub mod Storing
+pub mod Supplies
+pub mod Worlds
