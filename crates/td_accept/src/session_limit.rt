@@ -3,8 +3,8 @@
 use std::rt::Clock;
 use std::time::{Duration, Instant};
 
-/// How long such a session lasts from its beginning on, in seconds.
-const SESSION_LIMIT: u64 = 5;
+/// How long such a session lasts from its beginning on, in milliseconds.
+const SESSION_LIMIT: u64 = 1_500;
 
 /// When such a session is over. None where the clock told no time at its beginning: it is over at once then.
 #[derive(Clone, Copy)]
@@ -14,7 +14,7 @@ impl SessionLimit {
     /// The limit of a session that begins now.
     pub(crate) fn new<C: Clock>(clock: &C) -> SessionLimit {
         match Instant::now(clock) {
-            Ok(now) => SessionLimit(now.checked_add(Duration::from_secs(SESSION_LIMIT))),
+            Ok(now) => SessionLimit(now.checked_add(Duration::from_millis(SESSION_LIMIT))),
             Err(_) => SessionLimit(None),
         }
     }

@@ -16,7 +16,7 @@ use td_out::{Failed, Sink, read_some, write_some};
 /// For how long a connection is read on that is closed, in milliseconds.
 const LINGER_LIMIT: u64 = 1_000;
 
-/// The same of a sink that was limited.
+/// The same of a sink that was limited, which reads away what has come.
 const SHORT_LINGER_LIMIT: u64 = 200;
 
 /// How many bytes are read of a connection that is closed, at most: 16 MiB, and less than `READ_SIZE` more.
@@ -32,8 +32,9 @@ const READ_SIZE: usize = 16_384;
 /// stream ends for reading as well. (A TCP connection that is closed while bytes of it are unread is reset, and the
 /// client may lose what it hasn't read.) The sink lets go of the stream then; a write behind that is a fault.
 ///
-/// Once it is limited, a write that isn't done five seconds after is a fault, and a close reads away for a fifth of a
-/// second at most.
+/// Once it is limited, a write that isn't done a second and a half after is a fault. Behind each write no read of the
+/// connection waits, over any of its handles, until one has taken bytes: so a session ends where its client has sent no
+/// more before it had the reply. A close reads away only what has come, for a fifth of a second at most.
 #[derive(Drop)]
 pub struct TcpSink<'a, R, S> {
     rt: &'a R,
@@ -108,11 +109,14 @@ impl<'a, R: Clock, S: Read + Write + OpenStream + Drop> ClientSink for TcpSink<'
     ghost limited = { λ s. s.limited ≡ true };
 
     fn close(&mut self) {
-        let linger = match self.limit {
-            Some(_) => SHORT_LINGER_LIMIT,
-            None => LINGER_LIMIT,
-        };
         if let Some(stream) = self.stream.take() {
+            let linger = match self.limit {
+                Some(_) => {
+                    let _ = stream.set_nonblocking(true);
+                    SHORT_LINGER_LIMIT
+                }
+                None => LINGER_LIMIT,
+            };
             end(self.rt, stream, Duration::from_millis(linger));
         }
     }
@@ -139,7 +143,8 @@ fn write_to<R: Clock, S: Write + OpenStream>(
     }
 }
 
-/// One write to the stream. Where there is a limit it takes no longer than what is left of the session.
+/// One write to the stream. Where there is a limit it takes no longer than what is left of the session, and reads behind
+/// it don't wait.
 fn write_within<R: Clock, S: Write + OpenStream>(
     rt: &R,
     stream: &mut S,
@@ -148,15 +153,19 @@ fn write_within<R: Clock, S: Write + OpenStream>(
 ) -> Result<usize, Failed>
     ensures some { Takes result piece.now }
 {
-    if let Some(limit) = limit {
-        let Some(rest) = limit.rest(rt) else {
-            return Err(Failed);
-        };
-        if stream.set_write_timeout(Some(rest)).is_err() {
-            return Err(Failed);
-        }
+    let Some(limit) = limit else {
+        return write_some(stream, piece);
+    };
+    let Some(rest) = limit.rest(rt) else {
+        return Err(Failed);
+    };
+    if stream.set_write_timeout(Some(rest)).is_err() {
+        return Err(Failed);
     }
-    write_some(stream, piece)
+    let _ = stream.set_nonblocking(false);
+    let size = write_some(stream, piece);
+    let _ = stream.set_nonblocking(true);
+    size
 }
 
 /// Ends a stream for writing, reads its rest away, and ends it for reading. Other handles of the stream may stand.

@@ -17,14 +17,15 @@ use td_out::{Failed, Source, read_some};
 /// How long the first read of a limited source waits for bytes, in milliseconds.
 const FIRST_WAIT: u64 = 1_000;
 
-/// How long each further one waits, in milliseconds.
+/// How long each further one waits where no reply was written since the one before, in milliseconds.
 const NEXT_WAIT: u64 = 200;
 
 /// A client's source over a TCP stream. It tells nothing of its content.
 ///
 /// It waits for bytes as long as the client likes, until it is limited: from then on its first read waits for a second
-/// at most and each further one for a fifth of a second, and none begins after five seconds in all. What would wait
-/// longer is a fault.
+/// at most and each further one for a fifth of a second, and none begins after a second and a half in all. Behind a
+/// write of the limited sink of the same connection a read waits for nothing (`TcpSink`). What would wait longer is a
+/// fault.
 #[derive(Drop)]
 pub struct TcpSource<'a, R, S> {
     rt: &'a R,
@@ -123,5 +124,10 @@ fn read_within<R: Clock, S: Read + OpenStream>(
             return Err(Failed);
         }
     }
-    read_some(stream, into)
+    let size = read_some(stream, into);
+    if limit.is_some() {
+        // A message may have begun behind a reply: its rest is waited for.
+        let _ = stream.set_nonblocking(false);
+    }
+    size
 }

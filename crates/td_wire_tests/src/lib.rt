@@ -1,11 +1,6 @@
-//! Tests of td_out, td_wire, td_giop, td_marks, td_cell, td_accept and td_workers: what is outside, connections,
-//! messages, marks, turns on what threads share, visitors, and jobs on threads.
+//! Tests of td_out, td_wire, td_giop and td_marks: what is outside, connections, messages, and marks.
 #![tactic(auto)]
 
-#[cfg(test)]
-mod accept;
-#[cfg(test)]
-mod cell;
 #[cfg(test)]
 mod endless_net;
 #[cfg(test)]
@@ -34,5 +29,3 @@ mod pool;
 mod ring;
 #[cfg(test)]
 mod support;
-#[cfg(test)]
-mod workers;

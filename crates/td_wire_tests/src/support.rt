@@ -1,4 +1,4 @@
-//! What the tests of wires, of the outside and of visitors all ask.
+//! What the tests of wires and of the outside all ask.
 
 use std::net::{Ipv4Addr, Net, SocketAddr, TcpListener, TcpStream};
 use std::test::Fail;

@@ -16,7 +16,7 @@ impl Book for Tally {
 
     type Reply = u64;
 
-    ghost use Rattle.td_wire_tests.specs.Tallies.{no_marks};
+    ghost use Rattle.td_accept_tests.specs.Tallies.{no_marks};
 
     ghost size = { λ t. t.count };
 
@@ -42,7 +42,7 @@ impl Book for Tally {
     }
 
     ghost use Rattle.std.proofs.Common.{arith, inl, refl};
-    ghost use Rattle.td_wire_tests.specs.Tallies.{marks_stay};
+    ghost use Rattle.td_accept_tests.specs.Tallies.{marks_stay};
 
     ghost later_itself = { λ t. Prim.omega arith };
 

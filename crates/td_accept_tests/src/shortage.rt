@@ -1,6 +1,6 @@
 //! Connections that aren't taken at once: the network failed over them, or the system is short of something.
 
-use crate::accept::fake_net::{FakeNet, PLAIN, Plan};
+use crate::fake_net::{FakeNet, PLAIN, Plan};
 use td_accept::{Accept, TcpAccept};
 
 /// Whether a connection is taken.

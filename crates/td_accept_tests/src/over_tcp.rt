@@ -2,8 +2,8 @@
 
 ghost use Rattle.std.specs.Prelude.{◌≡◌, true};
 
-use crate::support::goes_along;
-use std::net::{Ipv4Addr, Net, SocketAddr, TcpListener, TcpStream};
+use crate::support::{free_port, goes_along};
+use std::net::{Ipv4Addr, SocketAddr, TcpListener};
 use std::test::Fail;
 use td_accept::{Accept, TcpAccept, Visitor};
 use td_out::{ChaChaWords, Sink, Source, Words};
@@ -48,12 +48,6 @@ fn two_come<A: Accept, C: Wire>(accept: &mut A, wire: &mut C, port: u16) -> bool
         return false;
     }
     comes(accept, wire, port) && comes(accept, wire, port)
-}
-
-/// A port of loopback that was free just now.
-fn free_port<R: Net<Listener = TcpListener, Stream = TcpStream>>(rt: &R) -> Result<u16, Fail> {
-    let listener = TcpListener::bind(rt, SocketAddr::from((Ipv4Addr::LOCALHOST, 0)))?;
-    Ok(listener.local_addr()?.port())
 }
 
 #[test]

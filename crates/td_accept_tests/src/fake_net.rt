@@ -21,17 +21,20 @@ pub struct Plan {
     pub clone_error: i32,
     /// How many bytes each read gives at most.
     pub read_size: usize,
+    /// How many reads give bytes. Behind them nothing comes, and the stream doesn't end.
+    pub most_reads: u64,
     /// How many milliseconds the clock goes on with each reading of it.
     pub tick: u64,
 }
 
-/// A network where all goes well at once: each read gives a byte, and the clock stands still.
+/// A network where all goes well at once: each read gives a byte, without end, and the clock stands still.
 pub const PLAIN: Plan = Plan {
     accepts: &[],
     last: 0,
     clones_failing: 0,
     clone_error: 0,
     read_size: 1,
+    most_reads: u64::MAX,
     tick: 0,
 };
 
@@ -42,6 +45,10 @@ pub struct FakeNet {
     accepts: AtomicU64,
     clones: AtomicU64,
     reads: AtomicU64,
+    /// Whether a read or a write waits: 1 where it doesn't.
+    nonblocking: AtomicU64,
+    /// How many writes there were that wait for no client.
+    hasty_writes: AtomicU64,
     /// How often a stream was ended for writing, and for both.
     shuts: AtomicU64,
     closes: AtomicU64,
@@ -75,6 +82,8 @@ impl FakeNet {
             accepts: AtomicU64::new(0),
             clones: AtomicU64::new(0),
             reads: AtomicU64::new(0),
+            nonblocking: AtomicU64::new(0),
+            hasty_writes: AtomicU64::new(0),
             shuts: AtomicU64::new(0),
             closes: AtomicU64::new(0),
             read_limit: AtomicU64::new(0),
@@ -93,6 +102,16 @@ impl FakeNet {
     /// How many reads there were.
     pub fn reads(&self) -> u64 {
         self.reads.load(Ordering::SeqCst)
+    }
+
+    /// Whether a read waits where nothing has come.
+    pub fn read_waits(&self) -> bool {
+        self.nonblocking.load(Ordering::SeqCst) == 0
+    }
+
+    /// How many writes there were that wait for no client.
+    pub fn hasty_writes(&self) -> u64 {
+        self.hasty_writes.load(Ordering::SeqCst)
     }
 
     /// How often a stream was ended for writing, and for both.
@@ -123,6 +142,11 @@ impl FakeNet {
         self.time.fetch_add(time, Ordering::SeqCst);
     }
 
+    /// The time, in milliseconds.
+    pub fn time(&self) -> u64 {
+        self.time.load(Ordering::SeqCst)
+    }
+
     /// How long was slept, in milliseconds.
     pub fn slept(&self) -> u64 {
         self.slept.load(Ordering::SeqCst)
@@ -144,7 +168,7 @@ impl<'n> Clock for &'n FakeNet {
     }
 }
 
-/// A stream over which bytes come without end.
+/// A stream over which bytes come by the plan. A read that waits in vain puts the clock forward by its limit of time.
 #[derive(Drop)]
 pub struct FakeStream<'n> {
     net: &'n FakeNet,
@@ -158,13 +182,21 @@ impl<'n> FakeStream<'n> {
 
 impl<'n> io::Read for FakeStream<'n> {
     fn read(&mut self, buf: &mut [u8]) -> io::Result<usize> {
-        count(&self.net.reads);
-        Ok(buf.len().min(self.net.plan.read_size))
+        if count(&self.net.reads) < self.net.plan.most_reads {
+            return Ok(buf.len().min(self.net.plan.read_size));
+        }
+        if self.net.read_waits() {
+            self.net.put_forward(self.net.read_limit());
+        }
+        Err(io::Error::from(ErrorKind::WouldBlock))
     }
 }
 
 impl<'n> io::Write for FakeStream<'n> {
     fn write(&mut self, buf: &[u8]) -> io::Result<usize> {
+        if !self.net.read_waits() {
+            count(&self.net.hasty_writes);
+        }
         Ok(buf.len())
     }
 
@@ -186,6 +218,12 @@ impl<'n> OpenStream for FakeStream<'n> {
             Shutdown::Both => count(&self.net.closes),
             Shutdown::Read => 0,
         };
+        Ok(())
+    }
+
+    fn set_nonblocking(&self, nonblocking: bool) -> io::Result<()> {
+        let held = u64::from(nonblocking);
+        self.net.nonblocking.store(held, Ordering::SeqCst);
         Ok(())
     }
 

@@ -1,6 +1,6 @@
 //! Visitors that were limited: how long is waited for what they send and take, and that nobody is called for them.
 
-use crate::accept::fake_net::{FakeNet, FakeStream, PLAIN, Plan};
+use crate::fake_net::{FakeNet, FakeStream, PLAIN, Plan};
 use std::alloc::Global;
 use std::test::Fail;
 use td_accept::{
@@ -20,14 +20,14 @@ fn reads<S: Source>(source: &mut S) -> bool {
 }
 
 /// Whether a source waits as long as it likes before it is limited, and then for a second, a fifth of one, and what is
-/// left of five seconds.
+/// left of a second and a half.
 fn waits_less(net: &FakeNet) -> bool {
     let mut source = TcpSource::new(&net, FakeStream::new(net));
     let mut good = reads(&mut source) && reads(&mut source) && net.read_limit() == 0;
     source.limit();
     good &= reads(&mut source) && net.read_limit() == 1_000;
     good &= reads(&mut source) && net.read_limit() == 200;
-    net.put_forward(4_900);
+    net.put_forward(1_400);
     good &= reads(&mut source) && net.read_limit() == 100;
     net.put_forward(100);
     good && !reads(&mut source) && net.reads() == 5
@@ -40,14 +40,14 @@ fn limited_sources_wait_less_and_end(rt: HostRuntime) {
     assert!(rt; good);
 }
 
-/// A server that has done other things for four and a half seconds waits half a second for the first bytes.
+/// A server that has done other things for a second waits half a second for the first bytes.
 #[test]
 fn limited_sources_wait_no_longer_than_their_session(rt: HostRuntime) {
     let net = FakeNet::new(PLAIN);
     let fake = &net;
     let mut source = TcpSource::new(&fake, FakeStream::new(fake));
     source.limit();
-    net.put_forward(4_500);
+    net.put_forward(1_000);
     let good = reads(&mut source) && net.read_limit() == 500;
     drop(source);
     assert!(rt; good);
@@ -58,26 +58,96 @@ fn writes<K: Sink>(sink: &mut K) -> bool {
     sink.write(ANSWER) == Ok(ANSWER.len())
 }
 
-/// Whether a sink is limited by what is left of five seconds.
+/// Whether a sink is limited by what is left of a second and a half.
 fn writes_in_time(net: &FakeNet) -> bool {
     let mut sink = TcpSink::new(&net, FakeStream::new(net));
     let mut good = writes(&mut sink) && net.write_limit() == 0;
     sink.limit();
-    good &= writes(&mut sink) && net.write_limit() == 5_000;
-    net.put_forward(4_990);
+    good &= writes(&mut sink) && net.write_limit() == 1_500;
+    net.put_forward(1_490);
     good &= writes(&mut sink) && net.write_limit() == 10;
     net.put_forward(10);
     good && sink.write(ANSWER) == Err(Failed)
 }
 
 #[test]
-fn limited_sinks_write_for_five_seconds(rt: HostRuntime) {
+fn limited_sinks_write_for_a_second_and_a_half(rt: HostRuntime) {
     let net = FakeNet::new(PLAIN);
     let good = writes_in_time(&net);
     assert!(rt; good);
 }
 
-/// The clock goes on by ten milliseconds a read.
+/// Whether nothing is waited for behind a reply, and nothing when the connection is closed.
+fn ends_behind_its_reply(net: &FakeNet) -> bool {
+    let mut source = TcpSource::new(&net, FakeStream::new(net));
+    let mut sink = TcpSink::new(&net, FakeStream::new(net));
+    source.limit();
+    sink.limit();
+    let mut good = reads(&mut source) && net.read_waits();
+    good &= writes(&mut sink) && !reads(&mut source);
+    sink.close();
+    good && net.reads() == 3 && net.ends() == (1, 1) && net.time() == 0
+}
+
+#[test]
+fn limited_visitors_are_sent_away_behind_their_reply(rt: HostRuntime) {
+    let net = FakeNet::new(Plan {
+        most_reads: 1,
+        ..PLAIN
+    });
+    let good = ends_behind_its_reply(&net);
+    assert!(rt; good);
+}
+
+/// Whether bytes that had come before a reply are taken behind it, and the rest of their message is waited for.
+fn takes_what_has_come(net: &FakeNet) -> bool {
+    let mut source = TcpSource::new(&net, FakeStream::new(net));
+    let mut sink = TcpSink::new(&net, FakeStream::new(net));
+    source.limit();
+    sink.limit();
+    let mut good = reads(&mut source) && writes(&mut sink);
+    good &= reads(&mut source) && net.time() == 0;
+    good && !reads(&mut source) && net.time() == 200
+}
+
+#[test]
+fn limited_visitors_have_what_they_sent_before_taken(rt: HostRuntime) {
+    let net = FakeNet::new(Plan {
+        most_reads: 2,
+        ..PLAIN
+    });
+    let good = takes_what_has_come(&net);
+    assert!(rt; good);
+}
+
+/// A reply may take several writes, each of which waits for the client.
+#[test]
+fn limited_sinks_wait_for_their_client(rt: HostRuntime) {
+    let net = FakeNet::new(PLAIN);
+    let fake = &net;
+    let mut sink = TcpSink::new(&fake, FakeStream::new(fake));
+    sink.limit();
+    let good = writes(&mut sink) && writes(&mut sink) && net.hasty_writes() == 0;
+    drop(sink);
+    assert!(rt; good);
+}
+
+/// Without a reply before.
+#[test]
+fn limited_sinks_read_away_what_has_come(rt: HostRuntime) {
+    let net = FakeNet::new(Plan {
+        most_reads: 3,
+        ..PLAIN
+    });
+    let fake = &net;
+    let mut sink = TcpSink::new(&fake, FakeStream::new(fake));
+    sink.limit();
+    sink.close();
+    drop(sink);
+    assert!(rt; net.reads() == 4 && net.time() == 0);
+}
+
+/// The clock goes on by ten milliseconds a read, and bytes come without end.
 #[test]
 fn limited_sinks_read_away_for_a_fifth_of_a_second(rt: HostRuntime) {
     let net = FakeNet::new(Plan { tick: 10, ..PLAIN });
@@ -159,7 +229,7 @@ fn limits(alloc: Global, net: &FakeNet) -> Result<bool, Memory> {
     let pool = ConnectionPool::new(alloc)?;
     let mut accept = TcpAccept::new(&net, Some(&pool));
     let mut good = is_limited(&mut accept);
-    good &= net.connects() == 1 && net.read_limit() == 1_000 && net.write_limit() == 5_000;
+    good &= net.connects() == 1 && net.read_limit() == 1_000 && net.write_limit() == 1_500;
     good &= tries_again(&mut accept) && net.connects() == 2;
     drop(accept);
     drop(pool);

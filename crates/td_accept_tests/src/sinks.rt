@@ -1,13 +1,14 @@
 //! Sinks of clients over TCP: what a close does, and how long it takes.
 
-use crate::accept::fake_net::{FakeNet, FakeStream, PLAIN, Plan};
-use std::io::{Read, Write};
-use std::net::{Ipv4Addr, Net, SocketAddr, TcpListener, TcpStream};
+use crate::fake_net::{FakeNet, FakeStream, PLAIN, Plan};
+use crate::support::{client, free_port, hears};
+use std::io::Write;
+use std::net::{Net, TcpListener, TcpStream};
 use std::rt::Clock;
 use std::sync::Wait;
 use std::test::Fail;
 use std::thread::{self, Threads};
-use std::time::{Duration, Instant};
+use std::time::Instant;
 use td_accept::{Accept, ClientSink, TcpAccept, TcpSink, Visitor};
 use td_cdr::List;
 use td_out::{Failed, MemSink, Sink, Source};
@@ -95,37 +96,6 @@ fn time_to_tell<S: Source, K: ClientSink, L, W, R: Clock>(
         Ok(passed) => Some(passed.as_millis()),
         Err(_) => None,
     }
-}
-
-/// Whether the client can send so many bytes, and reads then what was told and the end.
-fn hears(mut stream: TcpStream, size: usize) -> bool {
-    let piece = [0u8; 4096];
-    for _ in 0..size / 4096 {
-        if stream.write_all(&piece).is_err() {
-            return false;
-        }
-    }
-    let mut told = [0; 4];
-    if stream.read_exact(&mut told).is_err() || told != *b"told" {
-        return false;
-    }
-    matches!(stream.read(&mut told), Ok(0))
-}
-
-/// A client of an acceptor that is bound to this port of loopback, with a limit of time of its own.
-fn client<R: Net<Listener = TcpListener, Stream = TcpStream>>(
-    rt: &R,
-    port: u16,
-) -> Result<TcpStream, Fail> {
-    let stream = TcpStream::connect(rt, SocketAddr::from((Ipv4Addr::LOCALHOST, port)))?;
-    stream.set_read_timeout(Some(Duration::from_secs(10)))?;
-    Ok(stream)
-}
-
-/// A port of loopback that was free just now.
-fn free_port<R: Net<Listener = TcpListener, Stream = TcpStream>>(rt: &R) -> Result<u16, Fail> {
-    let listener = TcpListener::bind(rt, SocketAddr::from((Ipv4Addr::LOCALHOST, 0)))?;
-    Ok(listener.local_addr()?.port())
 }
 
 /// Whether a client on a thread of its own hears what it is told, although it has sent so many bytes before it reads.
