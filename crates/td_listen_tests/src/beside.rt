@@ -39,6 +39,30 @@ fn visitors_find_what_others_exported(rt: HostRuntime) -> Result<(), Fail> {
     Ok(())
 }
 
+/// The export and the description are two turns of one session.
+#[test]
+fn a_visitor_describes_what_it_exported(rt: HostRuntime) -> Result<(), Fail> {
+    let good = goes(
+        &rt,
+        rt.alloc(),
+        &serving(&LISTEN, Story::Describe, 1),
+        &NoGate,
+    );
+    assert!(rt; good);
+    Ok(())
+}
+
+/// Traders in a ring give their offers in order. The same query is a repeat in session 2, which begins only once session
+/// 1 has left.
+#[test]
+fn a_ring_is_walked_once_by_two_visitors(rt: HostRuntime) -> Result<(), Fail> {
+    let gate = Held::new(2, 2, 1, LOOKS);
+    let case = serving(&["listen", "ring"], Story::Ring, 2);
+    let good = goes(&rt, rt.alloc(), &case, &gate);
+    assert!(rt; good && gate.came_through());
+    Ok(())
+}
+
 #[test]
 fn iterators_are_a_visitors_own(rt: HostRuntime) -> Result<(), Fail> {
     let alloc = rt.alloc();

@@ -10,6 +10,10 @@ mod gates;
 #[cfg(test)]
 mod messages;
 #[cfg(test)]
+mod overlap;
+#[cfg(test)]
+mod overlapping;
+#[cfg(test)]
 mod statuses;
 #[cfg(test)]
 mod visitors;

@@ -1,8 +1,8 @@
 //! A server in memory: its words, its file, its visitors, and what it is to do.
 
 use crate::messages::{
-    ABSENT, BATCHES, BROKEN, EXPORT, EXPORTED, FOUND, FOUND_THREE, IN_BATCHES, NEXT, PRINTERS,
-    QUERY,
+    ABSENT, BATCHES, BROKEN, DESCRIBED, EXPORT, EXPORT_AND_DESCRIBE, EXPORTED, FOUND, FOUND_NONE,
+    FOUND_THREE, IN_BATCHES, NEXT, PRINTERS, QUERY, RING, RING_OFFERS, RING_QUERY,
 };
 use std::alloc::Global;
 use std::sync::Wait;
@@ -35,6 +35,10 @@ pub enum Story {
     Export,
     /// The first one takes the printers in two batches, and the others ask for the second one alone.
     Batches,
+    /// Each exports a printer, and then has it described.
+    Describe,
+    /// Each asks the first one of three traders in a ring, under one identifier.
+    Ring,
 }
 
 /// What one visitor sends, and what it is answered.
@@ -55,6 +59,9 @@ impl Story {
             Story::Export => (QUERY, FOUND_THREE, 1),
             Story::Batches if number == 1 => (IN_BATCHES, BATCHES, 2),
             Story::Batches => (NEXT, ABSENT, 1),
+            Story::Describe => (EXPORT_AND_DESCRIBE, DESCRIBED, 2),
+            Story::Ring if number == 1 => (RING_QUERY, RING_OFFERS, 1),
+            Story::Ring => (RING_QUERY, FOUND_NONE, 1),
         };
         Visit {
             sends,
@@ -63,9 +70,17 @@ impl Story {
         }
     }
 
-    /// How many changes the traders have seen in the end.
+    /// How many changes the first trader has seen in the end.
     fn changes(self) -> u64 {
-        if self == Story::Export { 1 } else { 0 }
+        match self {
+            Story::Export | Story::Describe => 1,
+            _ => 0,
+        }
+    }
+
+    /// How many traders there are.
+    fn traders(self) -> usize {
+        if self == Story::Ring { 3 } else { 1 }
     }
 }
 
@@ -102,7 +117,7 @@ pub const fn serving<'a>(words: &'a [&'a str], story: Story, visitors: u64) -> C
 
 fn texts(alloc: Global) -> Result<MemTexts, Memory> {
     let mut files = List::new(alloc);
-    for (name, text) in [("printers", PRINTERS), ("broken", BROKEN)] {
+    for (name, text) in [("printers", PRINTERS), ("ring", RING), ("broken", BROKEN)] {
         let name = Text::from_slice(alloc, name.as_bytes())?;
         files.push((name, Octets::from_slice(alloc, text)?))?;
     }
@@ -303,10 +318,13 @@ fn was_served(session: &Session, case: &Case) -> bool {
         && journal.entries().len() == visit.requests
 }
 
-/// Whether one trader was handed on, with the changes of the story.
+/// Whether the traders of the story were handed on, with its changes.
 fn have_come_to(closed: Option<&Solo>, story: Story) -> bool {
     match closed {
-        Some(solo) => solo.count() == 1 && solo.point(0) == story.changes(),
+        Some(solo) => {
+            let count = solo.count();
+            count > 0 && count == story.traders() && solo.point(0) == story.changes()
+        }
         None => false,
     }
 }
