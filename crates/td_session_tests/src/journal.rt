@@ -23,16 +23,51 @@ fn shown(item: &TraceItem) -> u8 {
     }
 }
 
-fn are_items(items: &[TraceItem], letters: &[u8]) -> bool {
-    if items.len() != letters.len() {
-        return false;
+/// The mark of a search or of a repeat.
+fn mark_of(item: &TraceItem) -> Option<u64> {
+    match item {
+        TraceItem::Search { mark, .. } => Some(*mark),
+        TraceItem::Repeat { mark, .. } => Some(*mark),
+        _ => None,
     }
-    for (item, letter) in items.iter().zip(letters) {
-        if shown(item) != *letter {
-            return false;
+}
+
+/// What is left behind the letter of an item, and behind the digit of its mark where one stands there; nothing where
+/// another item or another mark is said.
+fn behind<'a>(item: &TraceItem, letters: &'a [u8]) -> Option<&'a [u8]> {
+    let (letter, rest) = letters.split_first()?;
+    if *letter != shown(item) {
+        return None;
+    }
+    match mark_of(item) {
+        Some(mark) => behind_mark(mark, rest),
+        None => Some(rest),
+    }
+}
+
+fn behind_mark<'a>(mark: u64, letters: &'a [u8]) -> Option<&'a [u8]> {
+    let Some((digit, rest)) = letters.split_first() else {
+        return Some(letters);
+    };
+    if !digit.is_ascii_digit() {
+        return Some(letters);
+    }
+    if u64::from(digit.wrapping_sub(b'0')) == mark {
+        Some(rest)
+    } else {
+        None
+    }
+}
+
+fn are_items(items: &[TraceItem], letters: &[u8]) -> bool {
+    let mut left = letters;
+    for item in items {
+        match behind(item, left) {
+            Some(rest) => left = rest,
+            None => return false,
         }
     }
-    true
+    left.is_empty()
 }
 
 fn is_point(point: u64, word: &str) -> bool {

@@ -16,6 +16,8 @@ mod cities_file;
 #[cfg(test)]
 mod cut_tests;
 #[cfg(test)]
+mod joined;
+#[cfg(test)]
 mod journal;
 #[cfg(test)]
 mod journals;

@@ -22,7 +22,7 @@ pub struct Story {
     /// A word for each Request: `-` where no trader was called; the point of a change, a look or a name, behind `?`
     /// where a peer was asked; for a query a letter for each item of its visits: `A` a search, `a` a repeat, `0` a step
     /// of a path, each of the first trader, `!` a refusal, `e` an evaluation, `o` an answer from outside, `f` a call
-    /// that failed, `.` the end of a visit.
+    /// that failed, `.` the end of a visit. Behind a search or a repeat may stand its mark, as one digit.
     pub journal: &'static str,
     pub end: End,
 }
