@@ -16,3 +16,4 @@ mod supply;
 pub use event::{CallState, Event, NetFault};
 pub use net::Net;
 pub use schedule::check_schedule;
+pub use settling::Pending;

@@ -21,7 +21,7 @@ use td_walk::{Next, StepAnswer};
 
 /// What a visit waits for.
 #[derive(Drop)]
-pub(crate) enum Pending {
+pub enum Pending {
     /// Nothing: it has no question left.
     Nothing,
     /// The value of a dynamic property.

@@ -1,0 +1,16 @@
+pub mod Apart
+pub mod Below
+pub mod Going
+pub mod Marking
+pub mod Moving
+pub mod Names
+pub mod Naming
+pub mod Oneness
+pub mod Places
+pub mod Points
+pub mod Rights
+pub mod Theorems
+pub mod Turns
+pub mod Unrolling
+pub mod Visiting
+pub mod Waits
