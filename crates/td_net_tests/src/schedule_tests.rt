@@ -104,3 +104,31 @@ A!a -> aX d0 => T0";
 fn whole_schedules(rt: HostRuntime) -> Result<(), Fail> {
     check_schedules(&rt, rt.alloc(), CHECKED)
 }
+
+/// A diamond: A has links to B and C, which both have one to D. Which of the two has D's offers depends on the schedule,
+/// and the answer is one walk's: B's question comes to D first; B's call is lost, and C's comes first; or it is lost, and
+/// B's still comes first. Then a change of D between two visits.
+const WALKS: &str =
+    "A!a B!b C!c D!d A>B A>C B>D C>D -> aA/i71/h5 d1 d2 r2 r1 d3 d4 r4 r3 => ......... 0=abdc 4= D#1
+A!a B!b C!c D!d A>B A>C B>D C>D -> aA/i71/h5 d1 l1 d3 d4 d2 r4 r3 => ........ 0=acd 2= 4=d D#1
+A!a B!b C!c D!d A>B A>C B>D C>D -> aA/i71/h5 d1 l1 d3 d2 d4 r4 r3 => ........ 0=ac 2=d 4= D#1
+A!a B!b C!c D!d A>B A>C B>D C>D -> aA/i71/h5 d1 d2 r2 r1 cDy d3 d4 r4 r3 => .......... 0=abdc 4= D#1,1
+A!a B!b C!c D!d A>B A>C B>D C>D -> aA/i71/h5 d1 cDy d2 r2 r1 d3 d4 r4 r3 => .......... 0=abdyc 4= D#1,1";
+
+/// One walk.
+#[test]
+fn one_walk(rt: HostRuntime) -> Result<(), Fail> {
+    check(&rt, rt.alloc(), WALKS)
+}
+
+/// Where D remembers the identifier as A is asked, its offers are left out: one walk would have them. So they are where
+/// another Ask comes to D under the same identifier meanwhile.
+const NOT_ONE: &str =
+    "A!a B!b C!c D!d A>B A>C B>D C>D -> aD/i71/h5 aA/i71/h5 d2 d3 r3 r2 d4 d5 r5 r4 => .......... 0=d 1=abc D#1
+A!a B!b C!c D!d A>B A>C B>D C>D -> aA/i71/h5 d1 aD/i71/h5 d2 r2 r1 d4 d5 r5 r4 => .......... 0=abc 3=d D#1";
+
+/// What isn't one walk.
+#[test]
+fn not_one_walk(rt: HostRuntime) -> Result<(), Fail> {
+    check(&rt, rt.alloc(), NOT_ONE)
+}
