@@ -52,7 +52,7 @@ const ONE: Result<Told, PeerFault> = Ok(Told::Offers {
     limits: 0,
 });
 
-const ROWS: [Row; 40] = [
+const ROWS: [Row; 44] = [
     Row {
         what: "it is gone",
         asked: Asked::Call,
@@ -347,6 +347,38 @@ const ROWS: [Row; 40] = [
         given: &[REFUSED],
         failing: &[],
         told: EXCEPTION,
+        wrote: &[QUERY],
+    },
+    Row {
+        what: "a visit is told another reference",
+        asked: Asked::VisitAsk,
+        given: &[FORWARD],
+        failing: &[],
+        told: GRAMMAR,
+        wrote: &[QUERY],
+    },
+    Row {
+        what: "a visit's answer has another id",
+        asked: Asked::VisitAsk,
+        given: &[OTHER_ID],
+        failing: &[],
+        told: GRAMMAR,
+        wrote: &[QUERY],
+    },
+    Row {
+        what: "an empty batch with TRUE for a visit",
+        asked: Asked::VisitAsk,
+        given: &[FOUND_ONE, MORE_NONE],
+        failing: &[],
+        told: GRAMMAR,
+        wrote: &[QUERY, NEXT_2],
+    },
+    Row {
+        what: "a visit's connection is closed",
+        asked: Asked::VisitAsk,
+        given: &[],
+        failing: &[],
+        told: WIRE,
         wrote: &[QUERY],
     },
     Row {
