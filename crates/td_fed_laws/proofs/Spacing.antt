@@ -351,7 +351,8 @@ module _ (others : List Accepted → Type 0) (later : Marks → Marks → Type 0
     searches = searched;
   }
 
-pub far-apart : (others : List Accepted → Type 0) (later : Marks → Marks → Type 0) → WalksSearchFarApart others later
+pub far-apart : (others : List Accepted → Type 0) (later : Marks → Marks → Type 0)
+    → ((a b : Marks) → later a b → Later a b) → WalksSearchFarApart others later
 far-apart others later grows home s u k q t v id walk states before middle rest trader point mark p m split =
     let rings = ring_at s.world in
     let start : InStep id rings (λ j. None) s.world =

@@ -1,7 +1,7 @@
 -- What holds of a walk through a group on which no others act (OMG's Trading Object Service, "Link Follow Behavior",
 -- request_id and hop_count).
 use Rattle.std.specs.Prelude.{◌≡◌, ◌≤◌, ◌<◌, ◌+◌, ◌↔◌, ℕ, Option, None, true, List, [], ◌∷◌, ◌++◌, Some, slice_get}
-use Rattle.td_cdr.specs.Marks.{Later, Marks}
+use Rattle.td_cdr.specs.Marks.{Marks}
 use Rattle.td_changes.specs.Histories.{at}
 use Rattle.td_fed_laws.specs.Fresh.{IsFresh}
 use Rattle.td_fed_laws.specs.Traces.{HasSearch, IsSearched, first_point, first_searched, hops_behind, is_repeat}
@@ -97,11 +97,10 @@ FarApart rings t =
     → t ≡ before ++ item.Search trader point mark ∷ middle ++ item.Search trader p m ∷ rest
     → mark + rings trader < m
 
--- whatever others mark meanwhile, where marks only grow later and the query states its identifier
+-- whatever others mark meanwhile, where the query states its identifier
 abbrev pub WalksSearchFarApart : (others : List Accepted → Type 0) → (later : Marks → Marks → Type 0) → Type 0
 WalksSearchFarApart others later =
-    ((a b : Marks) → later a b → Later a b)
-    → (home : Address) (s u : Course (List View)) (trader : ℕ) (q : Query) (t : List TraceItem) (v : Visit)
+    (home : Address) (s u : Course (List View)) (trader : ℕ) (q : Query) (t : List TraceItem) (v : Visit)
     (id : List ℕ) → Walks others later home s trader q t v u → (parts_of q).stated.request_id ≡ Some id
     → FarApart (ring_at s.world) t
 

@@ -193,4 +193,6 @@ impl<'a, R: Wait> Traders for GroupPass<'a, R> {
     ghost same_itself = { λ a. (refl, refl) };
 
     ghost same_on = { λ a b c p q. (p.0 ∙ q.0, p.1 ∙ q.1) };
+
+    ghost later_marks = { λ a b later. later };
 }

@@ -1,8 +1,10 @@
 -- A group of traders that one session has alone.
+use Rattle.std.proofs.Common.{subst, sym}
 use Rattle.std.specs.Prelude.{◌≡◌, ℕ, zero, suc, ◌+◌, List, [], ◌∷◌, ◌++◌, map}
 use Rattle.std.specs.List.{IsDistinct}
 use Rattle.std.specs.Str.{bytes_eq}
-use Rattle.td_cdr.specs.Marks.{Marks}
+use Rattle.td_cdr.specs.Marks.{Later, Marks}
+use Rattle.td_cdr.proofs.Marking.{later_itself}
 use Rattle.td_trader.specs.PlainTraders.{PlainTrader}
 use Rattle.td_trader.specs.Worlds.{View, view_of}
 use Rattle.td_register.specs.declared.history.Accepted.{Accepted}
@@ -27,6 +29,10 @@ nothing between = between ≡ []
 
 abbrev pub unchanged : Marks → Marks → Type 0
 unchanged before after = after ≡ before
+
+-- marks that stay as they are are later ones
+pub unchanged_later : (a b : Marks) → unchanged a b → Later a b
+unchanged_later a b e = subst (Later a) (sym e) (later_itself a)
 
 -- no two traders have one name
 abbrev pub AreDistinct : List PlainTrader → Type 0

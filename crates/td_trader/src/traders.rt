@@ -3,7 +3,7 @@
 ghost use Rattle.std.specs.Prelude.{◌≡◌, ◌<◌, List, length, map, IfOk, OnErr};
 ghost use Rattle.std.specs.List.{IsDistinct};
 ghost use Rattle.std.specs.Str.{bytes_eq};
-ghost use Rattle.td_cdr.specs.Marks.{Marks};
+ghost use Rattle.td_cdr.specs.Marks.{Later, Marks};
 ghost use Rattle.td_trader.specs.Worlds.{AdmittedAt, Begun, Changes, LegalAt, Looks, View, Watches};
 ghost use Rattle.td_trader.specs.Worlds.{history_at, name_at};
 ghost use Rattle.td_register.specs.declared.history.Accepted.{Accepted};
@@ -21,7 +21,7 @@ pub trait Traders {
     /// What changes others may make between two calls.
     ghost others: { List Accepted → Type 0 };
 
-    /// What others may make of the marks between two calls.
+    /// What others may make of the marks between two calls: later marks, as `later_marks` says.
     ghost later: { Marks → Marks → Type 0 };
 
     /// It is the same value still, of the same traders.
@@ -80,4 +80,6 @@ pub trait Traders {
     ghost same_itself: { (a : Self) → same a a };
 
     ghost same_on: { (a b c : Self) → same a b → same b c → same a c };
+
+    ghost later_marks: { (a b : Marks) → later a b → Later a b };
 }
