@@ -1,5 +1,6 @@
 pub mod Answering
 pub mod Carrying
+pub mod Counting
 pub mod Fields
 pub mod Named
 pub mod Ordering

@@ -1,5 +1,7 @@
 pub mod Answering
 pub mod Examples
+pub mod FaultExamples
+pub mod Faults
 pub mod OrderExamples
 pub mod Reach
 pub mod SearchOrder
