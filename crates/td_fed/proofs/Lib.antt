@@ -1,4 +1,5 @@
 pub mod Called
+pub mod Counted
 pub mod Entered
 pub mod Going
 pub mod Measures

@@ -16,6 +16,7 @@ use Rattle.td_ops.specs.declared.outcome.Outcome.TheVariants.{Done, User}
 use Rattle.td_ops.specs.declared.outcome.Reply.{Reply}
 use Rattle.td_ops.specs.declared.outcome.Reply.TheVariants as reply
 use Rattle.td_ops.specs.declared.outcome.SystemKind.TheVariants.{NoMemory}
+use Rattle.td_out.specs.Causes.{Rose}
 use Rattle.td_register.specs.Causes.{system}
 use Rattle.td_register.specs.declared.history.Accepted.{Accepted}
 use Rattle.td_store.specs.LinkLists.{link_of}
@@ -150,3 +151,9 @@ unfound point f whole = record { point = point; asked = Some (Err f); outcome = 
 abbrev pub IsUngiven : (point : ℕ) → PeerFault → (whole : List (List ℕ)) → Result NameAnswer Wanting → Type 0
 IsUngiven point f whole (Ok a) = (is_memory f ≡ false) × (a ≡ unfound point f whole)
 IsUngiven point f whole (Err e) = is_memory f ≡ true
+
+-- a register outside that gave none had failed: the count of faults rose
+abbrev pub RoseIfUngiven : Option (Result Ior PeerFault) → (faults now : ℕ) → Type 0
+RoseIfUngiven None faults now = Unit {0}
+RoseIfUngiven (Some (Ok r)) faults now = Unit {0}
+RoseIfUngiven (Some (Err f)) faults now = Rose faults now

@@ -1,11 +1,12 @@
 //! The questions of a visit: to evaluators, to traders of the group, and to traders outside.
 
-ghost use Rattle.std.specs.Prelude.{◌≡◌, ◌<◌, ◌≤◌, ℕ, List, [], ◌∷◌, ◌++◌, vec_len, vec_capacity, is_some, IfOk};
+ghost use Rattle.std.specs.Prelude.{◌≡◌, ◌<◌, ℕ, List, [], ◌∷◌, ◌++◌, vec_len, vec_capacity, is_some, IfOk};
 ghost use Rattle.td_fed.specs.Calling.{IsPeered};
 ghost use Rattle.td_fed.specs.Entering.{IsAsked, NotesFault, asking_of};
 ghost use Rattle.td_places.specs.Targets.{inside_group};
 ghost use Rattle.td_fed.specs.Trails.{Goes, IsShown};
 ghost use Rattle.td_fed.specs.Visiting.{Begins, course};
+ghost use Rattle.td_walk_laws.specs.Faults.{CountsFaults};
 ghost use Rattle.td_walk_laws.specs.Walks.{answer_in};
 ghost use Rattle.td_walk.specs.declared.answer.Next.TheVariants.{Done, Evaluate, Forward};
 ghost use Rattle.td_walk.specs.declared.answer.StepAnswer.TheVariants as answer;
@@ -55,7 +56,8 @@ pub(crate) fn ask<T: Traders, P: Peers>(
     ensures shown { IsShown (T.world traders.old) (P.calls peers.old) notes.old.items notes.new.items
         (T.world traders.new) (P.calls peers.new) }
     ensures goes { Goes T.others T.later (T.world traders.old) (T.world traders.new) }
-    ensures faults { P.faults peers.old ≤ P.faults peers.new }
+    ensures faults { CountsFaults (P.calls peers.old) (P.calls peers.new) (P.faults peers.old)
+        (P.faults peers.new) }
 {
     match question {
         Next::Evaluate {
@@ -93,6 +95,7 @@ fn is_reachable(alloc: Global, evaluator: &Ior) -> bool
 }
 
 /// Evaluates a dynamic property.
+#[tactic(auto, using(crate::proofs::Counted::nothing_counted))]
 fn evaluate<P: Peers>(
     alloc: Global,
     peers: &mut P,
@@ -108,7 +111,8 @@ fn evaluate<P: Peers>(
         (P.calls peers.new)) }
     ensures shown { (w : List View) →
         IsShown w (P.calls peers.old) notes.old.items notes.new.items w (P.calls peers.new) }
-    ensures faults { P.faults peers.old ≤ P.faults peers.new }
+    ensures faults { CountsFaults (P.calls peers.old) (P.calls peers.new) (P.faults peers.old)
+        (P.faults peers.new) }
 {
     notes.reserve(1)?;
     if !is_reachable(alloc, evaluator) {
@@ -149,6 +153,7 @@ fn note_fault(notes: &mut Vec<TraceItem>, fault: PeerFault) -> Result<StepAnswer
 }
 
 /// Asks another trader: one of the group is visited, any other is called.
+#[tactic(auto, using(crate::proofs::Counted::nothing_counted))]
 fn forward<T: Traders, P: Peers>(
     alloc: Global,
     traders: &mut T,
@@ -166,7 +171,8 @@ fn forward<T: Traders, P: Peers>(
     ensures shown { IsShown (T.world traders.old) (P.calls peers.old) notes.old.items notes.new.items
         (T.world traders.new) (P.calls peers.new) }
     ensures goes { Goes T.others T.later (T.world traders.old) (T.world traders.new) }
-    ensures faults { P.faults peers.old ≤ P.faults peers.new }
+    ensures faults { CountsFaults (P.calls peers.old) (P.calls peers.new) (P.faults peers.old)
+        (P.faults peers.new) }
 {
     match inside_group(alloc, traders, home, target)? {
         Some(trader) => {
@@ -201,6 +207,7 @@ pub(crate) fn answer_in(alloc: Global, visit: Visit) -> SubAnswer
 }
 
 /// Asks a trader outside.
+#[tactic(auto, using(crate::proofs::Counted::nothing_counted))]
 fn call<P: Peers>(
     alloc: Global,
     peers: &mut P,
@@ -213,7 +220,8 @@ fn call<P: Peers>(
         notes.new.items (P.calls peers.new)) }
     ensures shown { (w : List View) →
         IsShown w (P.calls peers.old) notes.old.items notes.new.items w (P.calls peers.new) }
-    ensures faults { P.faults peers.old ≤ P.faults peers.new }
+    ensures faults { CountsFaults (P.calls peers.old) (P.calls peers.new) (P.faults peers.old)
+        (P.faults peers.new) }
 {
     notes.reserve(1)?;
     match peers.query(alloc, target, query) {

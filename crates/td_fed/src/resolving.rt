@@ -1,10 +1,10 @@
 //! What the names of links lead to, one after the other (OMG's Trading Object Service, interface Register, resolve).
 
-ghost use Rattle.std.specs.Prelude.{◌≡◌, ◌<◌, ◌≤◌, ℕ, List as Row, ◌∷◌, true, length, None, Some, IfOk, OnErr};
+ghost use Rattle.std.specs.Prelude.{◌≡◌, ◌<◌, ℕ, List as Row, ◌∷◌, true, length, None, Some, IfOk, OnErr};
 ghost use Rattle.std.specs.List.{list_all};
 ghost use Rattle.td_cdr.specs.Names.{word_name};
 ghost use Rattle.td_fed.specs.Resolving.{Follows, IsAskedFor, IsGiven, IsUngiven, Leads, LooksUp, Resolves};
-ghost use Rattle.td_fed.specs.Resolving.{is_path, link_register, told_register, with_outcome};
+ghost use Rattle.td_fed.specs.Resolving.{RoseIfUngiven, is_path, link_register, told_register, with_outcome};
 ghost use Rattle.td_fed.specs.Trails.{Goes, IsQuiet};
 ghost use Rattle.td_exceptions.specs.declared.exception.UserException.TheVariants as user;
 ghost use Rattle.td_ops.specs.declared.outcome.Outcome.TheVariants as outcome;
@@ -12,6 +12,7 @@ ghost use Rattle.td_ops.specs.declared.outcome.Reply.TheVariants as reply;
 ghost use Rattle.td_ops.specs.declared.outcome.SystemKind.TheVariants.{NoMemory};
 ghost use Rattle.td_register.specs.Causes.{system};
 ghost use Rattle.td_trader.specs.Worlds.{View, history_at};
+ghost use Rattle.td_walk_laws.specs.Faults.{CountsFaults};
 
 use std::alloc::Global;
 use td_cdr::{List, Memory, Text, Twin, is_word_name};
@@ -52,6 +53,7 @@ pub(crate) enum Lead {
 ///
 /// `Memory` for want of memory alone. No peer has given an answer then: where memory is refused after one has, the
 /// outcome is NO_MEMORY.
+#[tactic(auto, using(crate::proofs::Counted::nothing_counted))]
 pub fn resolve<T: Traders, P: Peers>(
     alloc: Global,
     traders: &mut T,
@@ -68,7 +70,9 @@ pub fn resolve<T: Traders, P: Peers>(
     ensures unasked { OnErr result (P.calls peers.new ≡ P.calls peers.old) }
     ensures quiet { IsQuiet (T.world traders.old) (T.world traders.new) }
     ensures goes { Goes T.others T.later (T.world traders.old) (T.world traders.new) }
-    ensures faults { P.faults peers.old ≤ P.faults peers.new }
+    ensures faults { CountsFaults (P.calls peers.old) (P.calls peers.new) (P.faults peers.old)
+        (P.faults peers.new) }
+    ensures failed { IfOk result (λ a. RoseIfUngiven a.asked (P.faults peers.old) (P.faults peers.new)) }
 {
     if !is_path(name.as_slice()) {
         return illegal(alloc, traders.point(trader), name);
@@ -147,7 +151,8 @@ fn follow<T: Traders, P: Peers>(
     ensures unasked { OnErr result (P.calls peers.new ≡ P.calls peers.old) }
     ensures quiet { IsQuiet (T.world traders.old) (T.world traders.new) }
     ensures goes { Goes T.others T.later (T.world traders.old) (T.world traders.new) }
-    ensures faults { P.faults peers.old ≤ P.faults peers.new }
+    ensures faults { CountsFaults (P.calls peers.old) (P.calls peers.new) (P.faults peers.old)
+        (P.faults peers.new) }
 {
     match names.split_first() {
         None => unreachable!(),
@@ -165,6 +170,7 @@ fn follow<T: Traders, P: Peers>(
 }
 
 /// Where a name leads, with those that are left.
+#[tactic(auto, using(crate::proofs::Counted::nothing_counted))]
 fn lead_from<T: Traders, P: Peers>(
     alloc: Global,
     traders: &mut T,
@@ -184,7 +190,8 @@ fn lead_from<T: Traders, P: Peers>(
     ensures unasked { OnErr result (P.calls peers.new ≡ P.calls peers.old) }
     ensures quiet { IsQuiet (T.world traders.old) (T.world traders.new) }
     ensures goes { Goes T.others T.later (T.world traders.old) (T.world traders.new) }
-    ensures faults { P.faults peers.old ≤ P.faults peers.new }
+    ensures faults { CountsFaults (P.calls peers.old) (P.calls peers.new) (P.faults peers.old)
+        (P.faults peers.new) }
 {
     let register = look_up(alloc, traders, trader, name)?;
     let point = traders.point(trader);
@@ -198,6 +205,7 @@ fn lead_from<T: Traders, P: Peers>(
 }
 
 /// Where a link's register leads.
+#[tactic(auto, using(crate::proofs::Counted::nothing_counted))]
 fn lead_over<T: Traders, P: Peers>(
     alloc: Global,
     traders: &T,
@@ -215,7 +223,8 @@ fn lead_over<T: Traders, P: Peers>(
         IfOk result (λ r. Leads T.others T.later home.now whole.now (P.calls peers.old) w k name rest.now r
         (T.world traders.now) (P.calls peers.new)) }
     ensures unasked { OnErr result (P.calls peers.new ≡ P.calls peers.old) }
-    ensures faults { P.faults peers.old ≤ P.faults peers.new }
+    ensures faults { CountsFaults (P.calls peers.old) (P.calls peers.new) (P.faults peers.old)
+        (P.faults peers.new) }
 {
     if rest.is_empty() {
         return Ok(Lead::Ended(NameAnswer {
@@ -281,6 +290,7 @@ fn link_register(told: Reply) -> Option<Ior>
 }
 
 /// Asks a register outside for the names that are left. All that an answer without a reference takes is taken before.
+#[tactic(auto, using(crate::proofs::Counted::nothing_counted))]
 fn ask_register<P: Peers>(
     alloc: Global,
     peers: &mut P,
@@ -293,7 +303,8 @@ fn ask_register<P: Peers>(
     ensures asks { IfOk result (λ a. IsAskedFor point whole.now rest.now register.now (P.calls peers.old) a
         (P.calls peers.new)) }
     ensures unasked { OnErr result (P.calls peers.new ≡ P.calls peers.old) }
-    ensures faults { P.faults peers.old ≤ P.faults peers.new }
+    ensures faults { CountsFaults (P.calls peers.old) (P.calls peers.new) (P.faults peers.old)
+        (P.faults peers.new) }
 {
     let rest = copies(alloc, rest)?;
     let name = whole.copy(alloc)?;

@@ -1,6 +1,6 @@
 //! A query's visit of a trader, with all that it goes on to.
 
-ghost use Rattle.std.specs.Prelude.{◌≡◌, ◌<◌, ◌≤◌, ℕ, List, [], ◌∷◌, ◌++◌, length, None, IfOk, OnOk};
+ghost use Rattle.std.specs.Prelude.{◌≡◌, ◌<◌, ℕ, List, [], ◌∷◌, ◌++◌, length, None, IfOk, OnOk};
 ghost use Rattle.td_fed.specs.Entering.{IsEntered};
 ghost use Rattle.td_places.specs.Targets.{inside_group};
 ghost use Rattle.td_fed.specs.Trails.{DrawsOn, Goes, IsShown};
@@ -11,6 +11,7 @@ ghost use Rattle.td_ops.specs.declared.call.Query.{Query as Asked};
 ghost use Rattle.td_trader.specs.Worlds.{View};
 ghost use Rattle.td_walk.specs.declared.answer.Next.TheVariants.{Done};
 ghost use Rattle.td_walk.specs.declared.trace.TraceItem.{TraceItem as Item};
+ghost use Rattle.td_walk_laws.specs.Faults.{CountsFaults};
 ghost use Rattle.td_walk_laws.specs.Reach.{IsRead};
 
 use crate::asking::{Asking, ask};
@@ -53,7 +54,8 @@ pub fn visit<T: Traders, P: Peers, W: Words>(
         (T.world traders.new) (P.calls peers.new) }
     ensures goes { Goes T.others T.later (T.world traders.old) (T.world traders.new) }
     ensures draws { DrawsOn (W.word words.old) (W.word words.new) }
-    ensures faults { P.faults peers.old ≤ P.faults peers.new }
+    ensures faults { CountsFaults (P.calls peers.old) (P.calls peers.new) (P.faults peers.old)
+        (P.faults peers.new) }
 {
     let items = mem::replace(&mut trace.items, List::new(alloc));
     let mut notes = items.into_vec();
@@ -63,6 +65,7 @@ pub fn visit<T: Traders, P: Peers, W: Words>(
 }
 
 /// Visits a trader and all that its query goes on to.
+#[tactic(auto, using(crate::proofs::Counted::nothing_counted))]
 fn walk<T: Traders, P: Peers, W: Words>(
     alloc: Global,
     traders: &mut T,
@@ -84,7 +87,8 @@ fn walk<T: Traders, P: Peers, W: Words>(
         (T.world traders.new) (P.calls peers.new) }
     ensures goes { Goes T.others T.later (T.world traders.old) (T.world traders.new) }
     ensures draws { DrawsOn (W.word words.old) (W.word words.new) }
-    ensures faults { P.faults peers.old ≤ P.faults peers.new }
+    ensures faults { CountsFaults (P.calls peers.old) (P.calls peers.new) (P.faults peers.old)
+        (P.faults peers.new) }
 {
     match enter(alloc, traders, trader, q, notes)? {
         Entry::Ended(visit) => Ok(visit),
@@ -93,6 +97,7 @@ fn walk<T: Traders, P: Peers, W: Words>(
 }
 
 /// Asks all questions of an open visit, and of those that it waits for.
+#[tactic(auto, using(crate::proofs::Counted::nothing_counted))]
 fn walk_on<T: Traders, P: Peers, W: Words>(
     alloc: Global,
     traders: &mut T,
@@ -114,7 +119,8 @@ fn walk_on<T: Traders, P: Peers, W: Words>(
         (T.world traders.new) (P.calls peers.new) }
     ensures goes { Goes T.others T.later (T.world traders.old) (T.world traders.new) }
     ensures draws { DrawsOn (W.word words.old) (W.word words.new) }
-    ensures faults { P.faults peers.old ≤ P.faults peers.new }
+    ensures faults { CountsFaults (P.calls peers.old) (P.calls peers.new) (P.faults peers.old)
+        (P.faults peers.new) }
 {
     let mut stack: Vec<Frame> = Vec::new(alloc);
     stack.push(first)?;
@@ -127,6 +133,7 @@ fn walk_on<T: Traders, P: Peers, W: Words>(
 }
 
 /// Asks the question of the innermost visit, or ends it. The outermost one's end is the walk's.
+#[tactic(auto, using(crate::proofs::Counted::nothing_counted))]
 fn turn<T: Traders, P: Peers, W: Words>(
     alloc: Global,
     traders: &mut T,
@@ -147,7 +154,8 @@ fn turn<T: Traders, P: Peers, W: Words>(
         (T.world traders.new) (P.calls peers.new) }
     ensures goes { Goes T.others T.later (T.world traders.old) (T.world traders.new) }
     ensures draws { DrawsOn (W.word words.old) (W.word words.new) }
-    ensures faults { P.faults peers.old ≤ P.faults peers.new }
+    ensures faults { CountsFaults (P.calls peers.old) (P.calls peers.new) (P.faults peers.old)
+        (P.faults peers.new) }
 {
     match next_of_innermost(alloc, stack)? {
         Next::Done => end_innermost(alloc, words, notes, stack),
@@ -178,7 +186,8 @@ fn ask_innermost<T: Traders, P: Peers>(
     ensures shown { IsShown (T.world traders.old) (P.calls peers.old) notes.old.items notes.new.items
         (T.world traders.new) (P.calls peers.new) }
     ensures goes { Goes T.others T.later (T.world traders.old) (T.world traders.new) }
-    ensures faults { P.faults peers.old ≤ P.faults peers.new }
+    ensures faults { CountsFaults (P.calls peers.old) (P.calls peers.new) (P.faults peers.old)
+        (P.faults peers.new) }
 {
     match ask(alloc, traders, home, peers, notes, question)? {
         Asking::Answered(answer) => answer_innermost(stack, answer),

@@ -1,8 +1,9 @@
-use Rattle.std.proofs.Common.{refl}
+use Rattle.std.proofs.Common.{Err, Ok, refl}
 use Rattle.td_fed.proofs.Called.{is-replied, is-unreplied, shown-fault}
 use Rattle.td_fed.proofs.Showing.{shown-same}
 use Rattle.td_fed.proofs.asking.call.Goals as goal
 use Rattle.td_walk.specs.Peering.{Answered, Querying}
+use Rattle.td_walk_laws.proofs.Counting.{query-counted}
 
 pub returns-in_err-reserve-clause-shown : goal.returns-in_err-reserve-clause-shown
 returns-in_err-reserve-clause-shown g c = λ w.
@@ -32,3 +33,15 @@ returns-in-Err-clause-shown g c = λ w.
     (g.P.Peers.faults c.query.new.self) c.args.notes.now.items c.reserve.new.self.items
     c.note_fault.new.notes.items c.note_fault.result c.in-Err.ensures.noted c.reserve.ensures.items
     c.note_fault.ensures
+
+pub returns-in-Ok-clause-faults : goal.returns-in-Ok-clause-faults
+returns-in-Ok-clause-faults g c =
+    query-counted (Querying c.args.target.now c.args.query.now) (g.P.Peers.calls c.args.peers.now)
+    (g.P.Peers.calls c.query.new.self) (g.P.Peers.faults c.args.peers.now) (g.P.Peers.faults c.query.new.self)
+    (Ok c.in-Ok.answer) c.in-Ok.ensures.noted
+
+pub returns-in-Err-clause-faults : goal.returns-in-Err-clause-faults
+returns-in-Err-clause-faults g c =
+    query-counted (Querying c.args.target.now c.args.query.now) (g.P.Peers.calls c.args.peers.now)
+    (g.P.Peers.calls c.query.new.self) (g.P.Peers.faults c.args.peers.now) (g.P.Peers.faults c.query.new.self)
+    (Err c.in-Err.fault) c.in-Err.ensures.noted

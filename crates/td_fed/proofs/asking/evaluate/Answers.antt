@@ -1,8 +1,9 @@
-use Rattle.std.proofs.Common.{refl, rules}
+use Rattle.std.proofs.Common.{Err, Ok, refl, rules}
 use Rattle.td_fed.proofs.Called.{is-unreached, is-unvalued, is-valued, shown-fault}
 use Rattle.td_fed.proofs.Showing.{shown-same}
 use Rattle.td_fed.proofs.asking.evaluate.Goals as goal
 use Rattle.td_walk.specs.Peering.{Evaluating, Evaluated}
+use Rattle.td_walk_laws.proofs.Counting.{value-counted}
 
 pub returns-in_err-reserve-clause-shown : goal.returns-in_err-reserve-clause-shown
 returns-in_err-reserve-clause-shown g c = λ w.
@@ -40,3 +41,17 @@ returns-in-Err-clause-shown g c = λ w.
     (g.P.Peers.faults c.eval_dp.new.self) c.args.notes.now.items c.reserve.new.self.items
     c.note_fault.new.notes.items c.note_fault.result c.in-Err.ensures.noted c.reserve.ensures.items
     c.note_fault.ensures
+
+pub returns-in-Ok-clause-faults : goal.returns-in-Ok-clause-faults
+returns-in-Ok-clause-faults g c =
+    value-counted
+    (Evaluating c.args.evaluator.now c.args.name.now c.args.returned.now c.args.extra.now)
+    (g.P.Peers.calls c.args.peers.now) (g.P.Peers.calls c.eval_dp.new.self) (g.P.Peers.faults c.args.peers.now)
+    (g.P.Peers.faults c.eval_dp.new.self) (Ok c.in-Ok.value) c.in-Ok.ensures.noted
+
+pub returns-in-Err-clause-faults : goal.returns-in-Err-clause-faults
+returns-in-Err-clause-faults g c =
+    value-counted
+    (Evaluating c.args.evaluator.now c.args.name.now c.args.returned.now c.args.extra.now)
+    (g.P.Peers.calls c.args.peers.now) (g.P.Peers.calls c.eval_dp.new.self) (g.P.Peers.faults c.args.peers.now)
+    (g.P.Peers.faults c.eval_dp.new.self) (Err c.in-Err.fault) c.in-Err.ensures.noted

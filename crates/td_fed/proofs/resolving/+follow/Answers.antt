@@ -3,6 +3,7 @@ use Rattle.td_fed.proofs.Moving.{goes-after}
 use Rattle.td_fed.proofs.Resolved.{follows-so, is-inside, other-words}
 use Rattle.td_places.proofs.Within.{register-inside-within}
 use Rattle.td_fed.proofs.resolving.+follow.Goals as goal
+use Rattle.td_walk_laws.proofs.Counting.{counted-on}
 
 pub returns-in_ok-answer-in-Inside-clause-follows : goal.returns-in_ok-answer-in-Inside-clause-follows
 returns-in_ok-answer-in-Inside-clause-follows g t c =
@@ -40,3 +41,11 @@ returns-in_ok-answer-in-Inside-clause-goes g t c =
     goes-after g.T.Traders.others g.T.Traders.later (g.T.Traders.world c.args.traders.now)
     (g.T.Traders.world c.lead_from.new.traders) (g.T.Traders.world c.follow.new.traders) c.lead_from.ensures.goes
     c.follow.ensures.goes
+
+pub returns-in_err-answer-in-Inside-clause-faults : goal.returns-in_err-answer-in-Inside-clause-faults
+returns-in_err-answer-in-Inside-clause-faults g t c =
+    counted-on _ _ _ _ _ _ c.lead_from.ensures.faults c.follow.ensures.faults
+
+pub returns-in_ok-answer-in-Inside-clause-faults : goal.returns-in_ok-answer-in-Inside-clause-faults
+returns-in_ok-answer-in-Inside-clause-faults g t c =
+    counted-on _ _ _ _ _ _ c.lead_from.ensures.faults c.follow.ensures.faults

@@ -1,8 +1,10 @@
-use Rattle.std.proofs.Common.{◌≡◌, true, false, rules}
+use Rattle.std.proofs.Common.{◌≡◌, ap, true, false, rules}
 use Rattle.td_fed.proofs.Moving.{goes-none}
 use Rattle.td_fed.proofs.Resolved.{followed-if, illegal-if}
 use Rattle.td_fed.proofs.resolving.resolve.Goals as goal
 use Rattle.td_fed.specs.Resolving.{is_path}
+use Rattle.td_fed.specs.declared.resolving.NameAnswer.{NameAnswer}
+use Rattle.td_fed.proofs.Counted.{failed-if, unasked-if}
 
 pub returns-then-not-is_path-clause-resolves : goal.returns-then-not-is_path-clause-resolves
 returns-then-not-is_path-clause-resolves g c =
@@ -21,3 +23,16 @@ returns-clause-resolves g c =
 pub returns-then-not-is_path-clause-goes : goal.returns-then-not-is_path-clause-goes
 returns-then-not-is_path-clause-goes g c =
     goes-none g.T.Traders.others g.T.Traders.later (g.T.Traders.world c.args.traders.now)
+
+pub returns-then-not-is_path-clause-failed : goal.returns-then-not-is_path-clause-failed
+returns-then-not-is_path-clause-failed g c =
+    unasked-if (g.P.Peers.faults c.args.peers.now) (g.P.Peers.faults c.args.peers.now) c.illegal.result _
+    c.illegal.ensures (λ a is. ap (λ (x : NameAnswer). x.asked) is)
+
+pub returns-clause-failed : goal.returns-clause-failed
+returns-clause-failed g c =
+    failed-if g.T.Traders.others g.T.Traders.later c.args.home.now c.args.name.now
+    (g.P.Peers.calls c.args.peers.now) (g.P.Peers.calls c.follow.new.peers) (g.T.Traders.world c.args.traders.now)
+    (g.T.Traders.world c.follow.new.traders) c.args.trader c.as_slice-2.result.now
+    (g.P.Peers.faults c.args.peers.now) (g.P.Peers.faults c.follow.new.peers) c.follow.result
+    c.follow.ensures.follows c.follow.ensures.faults

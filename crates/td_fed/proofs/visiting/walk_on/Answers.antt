@@ -1,8 +1,9 @@
-use Rattle.std.proofs.Common.{◌≡◌, [], ◌∷◌, rules, arith}
+use Rattle.std.proofs.Common.{◌≡◌, [], ◌∷◌, rules}
 use Rattle.td_fed.proofs.Going.{goes-further, going-first, is-less, is-visited}
 use Rattle.td_fed.proofs.Moving.{draws-after, draws-none, goes-after, goes-none}
 use Rattle.td_fed.proofs.Showing.{shown-none, shown-on}
 use Rattle.td_fed.proofs.visiting.walk_on.Goals as goal
+use Rattle.td_walk_laws.proofs.Counting.{counted-none, counted-on}
 
 pub returns-in_err-push-clause-shown : goal.returns-in_err-push-clause-shown
 returns-in_err-push-clause-shown g c =
@@ -15,7 +16,7 @@ turns-init g c =
       g.met.P.Peers.same_self _,
       g.met.W.Words.same_self _,
       going-first g.T.Traders.others g.T.Traders.later c.args.home.now _ _ _ _ _ c.args.first one c.requires,
-      omega arith,
+      counted-none _ _,
     )
 
 pub turn-requires : goal.turn-requires
@@ -30,7 +31,7 @@ turns-preserved g c =
       g.met.W.Words.same_on _ _ _ i.2 c.turn.ensures.same_words,
       goes-further _ _ _ _ _ _ _ _ _ _ _ _ _ i.3 _ _ _ _ _ t c.turn.ensures.shown c.turn.ensures.goes
           c.turn.ensures.draws,
-      omega (arith, i.4, c.turn.ensures.faults),
+      counted-on _ _ _ _ _ _ i.4 c.turn.ensures.faults,
     )
 
 pub turns-smaller : goal.turns-smaller
@@ -84,7 +85,7 @@ pub returns-in-Some-clause-draws : goal.returns-in-Some-clause-draws
 returns-in-Some-clause-draws g c = draws-after _ _ _ c.turns.invariant.3.draws c.turn.ensures.draws
 
 pub returns-in-Some-clause-faults : goal.returns-in-Some-clause-faults
-returns-in-Some-clause-faults g c = omega (arith, c.turns.invariant.4, c.turn.ensures.faults)
+returns-in-Some-clause-faults g c = counted-on _ _ _ _ _ _ c.turns.invariant.4 c.turn.ensures.faults
 
 pub returns-in_err-visit-clause-goes : goal.returns-in_err-visit-clause-goes
 returns-in_err-visit-clause-goes g c = goes-after _ _ _ _ _ c.turns.invariant.3.goes c.turn.ensures.goes
@@ -93,4 +94,4 @@ pub returns-in_err-visit-clause-draws : goal.returns-in_err-visit-clause-draws
 returns-in_err-visit-clause-draws g c = draws-after _ _ _ c.turns.invariant.3.draws c.turn.ensures.draws
 
 pub returns-in_err-visit-clause-faults : goal.returns-in_err-visit-clause-faults
-returns-in_err-visit-clause-faults g c = omega (arith, c.turns.invariant.4, c.turn.ensures.faults)
+returns-in_err-visit-clause-faults g c = counted-on _ _ _ _ _ _ c.turns.invariant.4 c.turn.ensures.faults

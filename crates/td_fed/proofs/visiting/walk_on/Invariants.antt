@@ -1,7 +1,7 @@
-use Rattle.std.proofs.Common.{◌≤◌}
 use Rattle.td_fed.proofs.Going.{Going}
 use Rattle.td_fed.proofs.Measures.{measure_all, most}
 use Rattle.td_fed.proofs.visiting.walk_on.Given as goal
+use Rattle.td_walk_laws.specs.Faults.{CountsFaults}
 
 -- the traders, peers and words are the same still, and so far the walk has come
 abbrev pub invariant-turns : goal.invariant-turns
@@ -13,7 +13,8 @@ invariant-turns g l =
     (g.T.Traders.world l.initial.traders) (g.W.Words.word l.initial.words) (g.P.Peers.calls l.initial.peers)
     l.initial.notes.items l.initial.stack.items
     (g.T.Traders.world l.traders) (g.W.Words.word l.words) (g.P.Peers.calls l.peers) l.notes.items l.stack.items
-    × (g.P.Peers.faults l.initial.peers ≤ g.P.Peers.faults l.peers)
+    × CountsFaults (g.P.Peers.calls l.initial.peers) (g.P.Peers.calls l.peers) (g.P.Peers.faults l.initial.peers)
+    (g.P.Peers.faults l.peers)
 
 abbrev pub decreases-turns : goal.decreases-turns
 decreases-turns g l = measure_all most l.stack.items
