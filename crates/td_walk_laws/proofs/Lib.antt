@@ -1,4 +1,5 @@
 pub mod Answering
+pub mod Beginning
 pub mod Carrying
 pub mod Counting
 pub mod Fields

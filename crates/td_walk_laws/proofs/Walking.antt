@@ -73,7 +73,7 @@ one-question g inside word start l head question t r gathered a begun calls b o 
 
 -- ---- what the visits ask, and what they gather
 
-next-along : next_of along [] ≡ Forward elsewhere (path_query along)
+pub next-along : next_of along [] ≡ Forward elsewhere (path_query along)
 unfolding next_of visit_of steps link_step proxy_step with_names resolved
 next-along = refl
 
@@ -82,7 +82,7 @@ visit-along : visit_of along (answer.Offers given_there ∷ [])
 unfolding visit_of steps link_step proxy_step with_names resolved
 visit-along = refl
 
-next-over-none : next_of (over Always []) [] ≡ Forward elsewhere (link_query (over Always []) (link Always))
+pub next-over-none : next_of (over Always []) [] ≡ Forward elsewhere (link_query (over Always []) (link Always))
 unfolding next_of visit_of steps link_step proxy_step with_names resolved
 next-over-none = refl
 

@@ -1,4 +1,6 @@
 pub mod Answering
+pub mod BeginningExamples
+pub mod Beginnings
 pub mod Examples
 pub mod FaultExamples
 pub mod Faults

@@ -1,6 +1,7 @@
 //! Worked examples of visits.
 
 ghost use Rattle.std.specs.Prelude.{ℕ};
+ghost use Rattle.td_walk_laws.specs.BeginningExamples.{WorkedBeginnings};
 ghost use Rattle.td_walk_laws.specs.Examples.{WorkedVisits, WorkedProxies, WorkedEvaluations};
 ghost use Rattle.td_walk_laws.specs.Examples.{WorkedResolving, WorkedAnswers};
 ghost use Rattle.td_walk_laws.specs.OrderExamples.{WorkedOrder};
@@ -39,4 +40,9 @@ pub fn worked_answers()
 /// Walks from query to answer.
 pub fn worked_walks()
     ensures { (word : ℕ → ℕ) → WorkedWalks word }
+{}
+
+/// How far walks came that wanted memory.
+pub fn worked_beginnings()
+    ensures { (word : ℕ → ℕ) → WorkedBeginnings word }
 {}

@@ -11,8 +11,8 @@ mod walks;
 
 pub use answers::{answers_are_one, failed_steps_give_nothing};
 pub use examples::{
-    worked_answers, worked_evaluations, worked_orders, worked_proxies, worked_resolving,
-    worked_visits, worked_walks,
+    worked_answers, worked_beginnings, worked_evaluations, worked_orders, worked_proxies,
+    worked_resolving, worked_visits, worked_walks,
 };
 pub use faults::{failures_are_faults, faults_are_counted, worked_faults};
 pub use orders::{paths_ask_once, searches_ask_in_order, walks_step_in_order};
