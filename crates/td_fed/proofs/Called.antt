@@ -1,14 +1,15 @@
 -- What is noted of a call of a peer, and what comes of it.
 use Rattle.std.proofs.Common.{◌≡◌, ℕ, true, false, List, [], ◌∷◌, ◌++◌, Option, None, Some, refl, sym, ap}
-use Rattle.std.proofs.Common.{subst, ◌∙◌, append-nil, Result, Ok, Err, IfOk, is_some}
+use Rattle.std.proofs.Common.{subst, ◌∙◌, append-nil, Result, Ok, Err, IfOk, OnErr, is_some}
 use Rattle.td_cdr.specs.declared.memory.Memory.{Memory as Wanting}
 use Rattle.td_codes.specs.declared.code.Any.{Any}
 use Rattle.td_codes.specs.declared.code.TypeCode.{TypeCode}
 use Rattle.td_codes.specs.declared.reference.Ior.{Ior}
 use Rattle.td_fed.proofs.Showing.{shown-call, shown-same}
-use Rattle.td_fed.specs.Calling.{IsPeered, Peered, replied, unreached, unreplied, unvalued, valued}
-use Rattle.td_fed.specs.Entering.{IsAsked, NotesFault}
-use Rattle.td_fed.specs.Entering.{answered as has-answer}
+use Rattle.td_fed.specs.Calling.{IsPeered, IsPeeredSoFar, Peered, called, not_called}
+use Rattle.td_fed.specs.Calling.{replied, unreached, unreplied, unvalued, valued}
+use Rattle.td_fed.specs.Entering.{IsAsked, IsAskedSoFar, NotesFault}
+use Rattle.td_fed.specs.Entering.{answered as has-answer, had_answer, not_asked}
 use Rattle.td_fed.specs.Trails.{IsShown}
 use Rattle.td_fed.specs.declared.asking.Asking.TheVariants as asking
 use Rattle.td_ior.specs.Profiles.{iiop_of}
@@ -27,6 +28,21 @@ use Rattle.td_walk.specs.declared.fault.PeerFault.TheVariants as fault
 use Rattle.td_walk.specs.declared.trace.TraceItem.{TraceItem}
 use Rattle.td_walk.specs.declared.trace.TraceItem.TheVariants as item
 use Rattle.td_walk_laws.specs.Walks.{Course, Start, Step, evaluated, outside, unanswered, unevaluated, unreachable}
+
+-- ---- where memory was wanted
+
+pub on-err : {X : Type 0} {P : Type 0} (r : Result X Wanting) → P → OnErr r P
+on-err (Ok x) p = tt
+on-err (Err m) p = p
+
+no-err : {X : Type 0} (P : Type 0) (r : Result X Wanting) (x : X) → r ≡ Ok x → OnErr r P
+no-err {X = X} P r x is = subst (λ (s : Result X Wanting). OnErr s P) (sym is) tt
+
+pub nothing-called : (calls now : List Exchange) (question : Next) (before after : List TraceItem) → now ≡ calls
+    → after ≡ before → IsPeeredSoFar calls question before after now
+nothing-called calls now question before after same kept =
+    subst (λ (n : List Exchange). IsPeeredSoFar calls question before after n) (sym same)
+    (subst (λ (t : List TraceItem). IsPeeredSoFar calls question before t calls) (sym kept) not_called)
 
 -- ---- a call that failed
 
@@ -48,6 +64,20 @@ on-fault P fault.Grammar before after r n h =
     subst (λ (x : Result StepAnswer Wanting). IfOk x P) (sym n.0) (h refl n.1)
 on-fault P fault.Exception before after r n h =
     subst (λ (x : Result StepAnswer Wanting). IfOk x P) (sym n.0) (h refl n.1)
+
+-- where a call wanted memory, nothing was done; where it failed otherwise, there is an answer
+pub fault-so-far : {X : Type 0} (given : X → Given) (call : PeerCall) (question : Next) (f : PeerFault)
+    (calls now : List Exchange) (faults later : ℕ) (before middle after : List TraceItem)
+    (r : Result StepAnswer Wanting) → IsNoted given call calls now faults later (Err f) → middle ≡ before
+    → NotesFault f middle after r → OnErr r (IsPeeredSoFar calls question before after now)
+fault-so-far given call question fault.Memory calls now faults later before middle after r noted kept n =
+    on-err r (nothing-called calls now question before after (noted.calls ∙ append-nil calls) (n.1 ∙ kept))
+fault-so-far given call question fault.Wire calls now faults later before middle after r noted kept n =
+    no-err (IsPeeredSoFar calls question before after now) r answer.Failed n.0
+fault-so-far given call question fault.Grammar calls now faults later before middle after r noted kept n =
+    no-err (IsPeeredSoFar calls question before after now) r answer.Failed n.0
+fault-so-far given call question fault.Exception calls now faults later before middle after r noted kept n =
+    no-err (IsPeeredSoFar calls question before after now) r answer.Failed n.0
 
 pub shown-fault : {X : Type 0} (given : X → Given) (w : List View) (call : PeerCall) (f : PeerFault)
     (calls now : List Exchange) (faults later : ℕ) (before middle after : List TraceItem)
@@ -110,6 +140,13 @@ module _ (e : Ior) (name : List ℕ) (returned : TypeCode) (extra : Any) (calls 
       (is-valued-so value faults later there noted kept n)
   is-valued value faults later (Err m) there noted kept n is = tt
 
+  pub valued-so-far : (value : Any) (faults later : ℕ) (r : Result StepAnswer Wanting) → is_some (iiop_of e) ≡ true
+      → IsNoted (λ v. Valued v) (Evaluating e name returned extra) calls now faults later (Ok value) → middle ≡ before
+      → after ≡ middle ++ item.Evaluated value ∷ []
+      → OnErr r (IsPeeredSoFar calls (Evaluate e name returned extra) before after now)
+  valued-so-far value faults later r there noted kept n =
+      on-err r (called (answer.Evaluated value) (is-valued-so value faults later there noted kept n))
+
   pub is-unvalued : (f : PeerFault) (faults later : ℕ) (r : Result StepAnswer Wanting) → is_some (iiop_of e) ≡ true
       → IsNoted {X = Any} (λ v. Valued v) (Evaluating e name returned extra) calls now faults later (Err f)
       → middle ≡ before → NotesFault f middle after r
@@ -149,6 +186,12 @@ module _ (target : Ior) (q : Query) (calls now : List Exchange) (before middle a
       (is-replied-so a faults later noted kept n)
   is-replied a faults later (Err m) noted kept n is = tt
 
+  pub replied-so-far : (a : SubAnswer) (faults later : ℕ) (r : Result StepAnswer Wanting)
+      → IsNoted (λ x. Replied x) (Querying target q) calls now faults later (Ok a) → middle ≡ before
+      → after ≡ middle ++ item.Outside a ∷ [] → OnErr r (IsPeeredSoFar calls (Forward target q) before after now)
+  replied-so-far a faults later r noted kept n =
+      on-err r (called (answer.Offers a) (is-replied-so a faults later noted kept n))
+
   pub is-unreplied : (f : PeerFault) (faults later : ℕ) (r : Result StepAnswer Wanting)
       → IsNoted {X = SubAnswer} (λ x. Replied x) (Querying target q) calls now faults later (Err f) → middle ≡ before
       → NotesFault f middle after r → IfOk r (λ x. IsPeered calls (Forward target q) x before after now)
@@ -186,6 +229,22 @@ module _ {World : Type 0} (Begins : World → (trader : ℕ) → Query → Start
     items = p.head ∷ [];
     notes = p.notes;
     asks = has-answer (step-of question r p.head now others p.peered);
+  }
+
+  -- where it wanted memory
+  pub peered-so-far : (Watches : World → (trader : ℕ) → World → Type 0) (question : Next)
+      (before after : List TraceItem) (now : List Exchange) → IsForOthers question
+      → IsPeeredSoFar s.calls question before after now
+      → IsAskedSoFar Begins Watches inside s question before after (record s { calls = now })
+  peered-so-far Watches question before after now others not_called = record {
+    items = [];
+    notes = sym (append-nil before);
+    asks = not_asked;
+  }
+  peered-so-far Watches question before after now others (called r p) = record {
+    items = p.head ∷ [];
+    notes = p.notes;
+    asks = had_answer (step-of question r p.head now others p.peered);
   }
 
   -- an evaluation is

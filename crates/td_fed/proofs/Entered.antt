@@ -1,13 +1,14 @@
 -- What is noted of a visit that begins: its mark, if one is made, and how it began.
 use Rattle.std.proofs.Common.{◌≡◌, ℕ, zero, suc, ◌+◌, Bool, true, false, cond, nat_eq, nat_lt, List, [], ◌∷◌, ◌++◌}
 use Rattle.std.proofs.Common.{Some, length, slice_get, slice_set, refl, sym, ap, subst, ◌∙◌, arith}
-use Rattle.std.proofs.Common.{append-nil, ltb-true, ltb-false, Result, Ok, Err, IfOk}
+use Rattle.std.proofs.Common.{append-nil, ltb-true, ltb-false, Result, Ok, Err, IfOk, OnErr}
 use Rattle.std.proofs.lemmas.Bool.{eqb-true, eq-eqb}
 use Rattle.td_cdr.specs.Marks.{Marks}
 use Rattle.td_cdr.specs.declared.memory.Memory.{Memory as Wanting}
 use Rattle.td_codes.specs.declared.reference.Ior.{Ior}
 use Rattle.td_fed.proofs.Points.{begun-rise, watched-length}
-use Rattle.td_fed.specs.Entering.{Asks, Enters, IsAsked, IsEntered, asking_of, begin_item, entry_of}
+use Rattle.td_fed.specs.Entering.{Asks, Enters, IsAsked, IsEntered, IsEnteredSoFar, asking_of, begin_item, entry_of}
+use Rattle.td_fed.specs.Entering.{entered, not_entered, only_watched}
 use Rattle.td_fed.specs.Entering.{answered as has-answer, begun as has-begun, opens, refused, repeated}
 use Rattle.td_places.specs.Targets.{inside_group}
 use Rattle.td_fed.specs.Trails.{IsShown, marks_of, own_marks_at}
@@ -192,6 +193,32 @@ module _ (others : List Accepted → Type 0) (later : Marks → Marks → Type 0
   entered-if w u k point q b (Ok e) x z y h seen_at is kept noted =
       is-entered w u k point q b e x z y h seen_at is kept noted
   entered-if w u k point q b (Err m) x z y h seen_at is kept noted = tt
+
+  -- ---- where memory was wanted
+
+  -- nothing was noted
+  pub entered-nothing : (w : List View) (k : ℕ) (q : Query) (x y : List TraceItem) → y ≡ x
+      → IsEnteredSoFar (Begins others later) (Watches others later) w k q x y w
+  entered-nothing w k q x y kept = record { items = []; notes = kept ∙ sym (append-nil x); enters = not_entered }
+
+  pub entered-watched : (w u : List View) (k : ℕ) (q : Query) (x y : List TraceItem) → Watches others later w k u
+      → y ≡ x → IsEnteredSoFar (Begins others later) (Watches others later) w k q x y u
+  entered-watched w u k q x y h kept = record {
+    items = [];
+    notes = kept ∙ sym (append-nil x);
+    enters = only_watched h;
+  }
+
+  pub entered-unless : (w u : List View) (k point : ℕ) (q : Query) (b : Begin) (r : Result Entry Wanting)
+      (x z y : List TraceItem) → Begun others later w k q b u → point ≡ length (history_at u k) → z ≡ x
+      → y ≡ z ++ begin_item k point b ∷ []
+      → OnErr r (IsEnteredSoFar (Begins others later) (Watches others later) w k q x y u)
+  entered-unless w u k point q b (Ok e) x z y h seen_at kept noted = tt
+  entered-unless w u k point q b (Err m) x z y h seen_at kept noted = record {
+    items = begin_item k point b ∷ [];
+    notes = noted ∙ ap (λ t. t ++ begin_item k point b ∷ []) kept;
+    enters = entered (enters w u k point q b h seen_at);
+  }
 
   -- ---- as the answer to a question
 

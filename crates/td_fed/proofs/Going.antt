@@ -1,21 +1,23 @@
 -- The loop of a walk through a group: what was done since it began.
 use Rattle.std.proofs.Common.{◌≡◌, ℕ, ◌<◌, List, [], ◌∷◌, length, None, Some, sym, ap, subst, arith}
 use Rattle.td_cdr.specs.Marks.{Marks}
+use Rattle.td_fed.proofs.Beginnings.{entered-begins, entered-so-far, turned-so-far}
 use Rattle.td_fed.proofs.Measures.{measure_all, most}
 use Rattle.td_fed.proofs.Moving.{draws-after, draws-none, goes-after, goes-none}
 use Rattle.td_fed.proofs.Opening.{entered-read, is-begun}
 use Rattle.td_fed.proofs.Showing.{shown-none, shown-on}
 use Rattle.td_fed.proofs.Turned.{AllRead, Walking, ended-at-once, first-open, last, less-left, none-left}
 use Rattle.td_fed.proofs.Turned.{still-read, turned}
-use Rattle.td_fed.specs.Entering.{IsEntered}
+use Rattle.td_fed.specs.Entering.{IsEntered, IsEnteredSoFar}
 use Rattle.td_places.specs.Targets.{inside_group}
 use Rattle.td_fed.specs.Trails.{DrawsOn, Goes, IsShown}
-use Rattle.td_fed.specs.Turning.{IsTurn}
-use Rattle.td_fed.specs.Visiting.{Begins, Visited, course}
+use Rattle.td_fed.specs.Turning.{IsTurn, IsTurnSoFar}
+use Rattle.td_fed.specs.Visiting.{Begins, Visited, VisitedSoFar, course}
+use Rattle.td_fed.specs.declared.entering.Entry.{Entry}
 use Rattle.td_fed.specs.declared.entering.Entry.TheVariants as entry
 use Rattle.td_ops.specs.declared.call.Query.{Query}
 use Rattle.td_register.specs.declared.history.Accepted.{Accepted}
-use Rattle.td_trader.specs.Worlds.{View}
+use Rattle.td_trader.specs.Worlds.{View, Watches}
 use Rattle.td_visit.specs.Standing.{Standing as Frame}
 use Rattle.td_walk.specs.Peering.{Exchange}
 use Rattle.td_walk.specs.declared.trace.Address.{Address}
@@ -89,6 +91,35 @@ module _ (others : List Accepted → Type 0) (later : Marks → Marks → Type 0
         let x = last (Begins others later) (inside_group home) (course v words0 calls0) (course w words calls)
         (course u words1 calls1) k q stack after before notes notes1 visit (going.walking v k q first before one h) t in
         record { items = x.items; notes = x.notes; walk = x.walk }
+
+    pub visited-so-far : (v : List View) (k : ℕ) (q : Query) (first : Frame) (before : List TraceItem)
+        → IsTurnSoFar (Begins others later) (Watches others later) (inside_group home) (course w words calls) stack
+        notes notes1 (course u words1 calls1) → stack0 ≡ first ∷ []
+        → IsEntered (Begins others later) v k q (entry.Open first) before notes0 w0
+        → VisitedSoFar others later home (course v words0 calls0) k q before notes1 (course u words1 calls1)
+    visited-so-far v k q first before t one h =
+        let x = turned-so-far (Begins others later) (Watches others later) (inside_group home) (course v words0 calls0)
+        (course w words calls) (course u words1 calls1) k q stack before notes notes1
+        (going.walking v k q first before one h) t in
+        record { items = x.items; notes = x.notes; walk = x.walk }
+
+  -- an entry was made, whatever it is
+  pub begun-so-far : (w u : List View) (words : ℕ → ℕ) (calls : List Exchange) (k : ℕ) (q : Query) (e : Entry)
+      (before now : List TraceItem) → IsEntered (Begins others later) w k q e before now u
+      → VisitedSoFar others later home (course w words calls) k q before now (course u words calls)
+  begun-so-far w u words calls k q e before now h =
+      let x = entered-begins (Begins others later) (Watches others later) (inside_group home) (course w words calls) u
+      k q e before now h in
+      record { items = x.items; notes = x.notes; walk = x.walk }
+
+  -- none was
+  pub unbegun-so-far : (w u : List View) (words : ℕ → ℕ) (calls : List Exchange) (k : ℕ) (q : Query)
+      (before now : List TraceItem) → IsEnteredSoFar (Begins others later) (Watches others later) w k q before now u
+      → VisitedSoFar others later home (course w words calls) k q before now (course u words calls)
+  unbegun-so-far w u words calls k q before now h =
+      let x = entered-so-far (Begins others later) (Watches others later) (inside_group home) (course w words calls) u
+      k q before now h in
+      record { items = x.items; notes = x.notes; walk = x.walk }
 
   -- a visit that asked nothing
   pub at-once : (w u : List View) (words : ℕ → ℕ) (calls : List Exchange) (k : ℕ) (q : Query) (v : Visit)

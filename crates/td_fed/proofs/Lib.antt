@@ -1,3 +1,4 @@
+pub mod Beginnings
 pub mod Called
 pub mod Counted
 pub mod Entered

@@ -18,7 +18,25 @@ use Rattle.td_walk.specs.declared.trace.Visit.{Visit}
 
 module _ {World : Type 0} (Begins : World → (trader : ℕ) → Query → Start → World → Type 0)
     (inside : World → (target : Ior) → Option ℕ) where
-  -- The visit began so and has taken its answers: whatever is asked from here on, the whole is what was asked and that.
+  -- from the first answers on, each next question was answered, up to these
+  pub data StepsTo (l : Local) (s : Course World) (first : List StepAnswer) : List TraceItem → List StepAnswer
+      → Course World → Type 0 where
+    no_step : StepsTo l s first [] first s
+    one_step : {t : List TraceItem} {answers : List StepAnswer} {m : Course World} {ts : List TraceItem}
+        {r : StepAnswer} {u : Course World} → StepsTo l s first t answers m
+        → Step Begins inside m (next_of l answers) ts r u → StepsTo l s first (t ++ ts) (answers ++ r ∷ []) u
+
+  -- whatever is asked from there on, the whole is what was asked and that
+  steps-on : (l : Local) (s : Course World) (first : List StepAnswer) (t : List TraceItem) (answers : List StepAnswer)
+      (m : Course World) (ts : List TraceItem) (all : List StepAnswer) (u : Course World)
+      → StepsTo l s first t answers m → Steps Begins inside m l answers ts all u
+      → Steps Begins inside s l first (t ++ ts) all u
+  steps-on l s first t answers m ts all u no_step more = more
+  steps-on l s first t answers m ts all u (one_step {t = a} {answers = rs} {m = n} {ts = b} so step) more =
+      subst (λ x. Steps Begins inside s l first x all u) (sym (append_assoc a b ts))
+      (steps-on l s first a rs n (b ++ ts) all u so (asked step more))
+
+  -- the visit began so and has taken its answers
   pub record Sofar (s : Course World) (k : ℕ) (q : Query) (f : Frame) (items : List TraceItem)
       (m : Course World) : Type 0 where
     pub start : Start
@@ -28,9 +46,7 @@ module _ {World : Type 0} (Begins : World → (trader : ℕ) → Query → Start
     pub opens : Opens k f.local start head
     pub rest : List TraceItem
     pub items_are : items ≡ head ∷ rest
-    pub goes : (ts : List TraceItem) (all : List StepAnswer) (u : Course World)
-        → Steps Begins inside m f.local f.answers ts all u
-        → Steps Begins inside (with_world s world) f.local [] (rest ++ ts) all u
+    pub steps : StepsTo f.local (with_world s world) [] rest f.answers m
 
   -- the visit waits for the answer of another one, of which this holds
   pub record Waits (s : Course World) (k : ℕ) (q : Query) (f : Frame) (items : List TraceItem)
@@ -66,8 +82,7 @@ module _ {World : Type 0} (Begins : World → (trader : ℕ) → Query → Start
     opens = h.opens;
     rest = h.rest ++ t;
     items_are = ap (λ x. x ++ t) h.items_are;
-    goes = λ ts all v more. subst (λ x. Steps Begins inside (with_world s h.world) l [] x all v)
-        (sym (append_assoc h.rest t ts)) (h.goes (t ++ ts) all v (asked step more));
+    steps = one_step h.steps step;
   }
 
   pub answered : (fs : List Frame) (s m u : Course World) (k : ℕ) (q : Query) (l : Local) (rs : List StepAnswer)
@@ -103,7 +118,7 @@ module _ {World : Type 0} (Begins : World → (trader : ℕ) → Query → Start
     opens = o;
     rest = [];
     items_are = refl;
-    goes = λ ts all u more. more;
+    steps = no_step;
   }
 
   -- the open visit waits for one that begins
@@ -146,7 +161,8 @@ module _ {World : Type 0} (Begins : World → (trader : ℕ) → Query → Start
   pub whole : (s m u : Course World) (k : ℕ) (q : Query) (f : Frame) (items : List TraceItem) (v : Visit)
       → Sofar s k q f items m → IsEnd m f v u → Walk Begins inside s k q (items ++ item.Leave ∷ []) v u
   whole s m u k q f items v h e =
-      let steps = h.goes [] f.answers m (done e.ends.done) in
+      let steps =
+      steps-on f.local (with_world s h.world) [] h.rest f.answers m [] f.answers m h.steps (done e.ends.done) in
       let walk = asking h.begins h.opens steps e.ends in
       subst (λ x. Walk Begins inside s k q x v u) (
       ap (λ x. h.head ∷ (x ++ item.Leave ∷ [])) (append-nil h.rest) ∙ ap (λ x. x ++ item.Leave ∷ []) (sym h.items_are)

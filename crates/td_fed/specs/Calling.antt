@@ -43,3 +43,10 @@ pub record IsPeered (calls : List Exchange) (question : Next) (r : StepAnswer) (
   pub head : TraceItem
   pub notes : after ≡ before ++ head ∷ []
   pub peered : Peered calls question r head now
+
+-- how far a question came that wanted memory: nothing was done, or it came to this, and its answer was lost
+pub data IsPeeredSoFar (calls : List Exchange) (question : Next) (before : List TraceItem) : (after : List TraceItem)
+    → (now : List Exchange) → Type 0 where
+  not_called : IsPeeredSoFar calls question before before calls
+  called : (r : StepAnswer) {after : List TraceItem} {now : List Exchange}
+      → IsPeered calls question r before after now → IsPeeredSoFar calls question before after now

@@ -11,6 +11,7 @@ use Rattle.td_ops.specs.declared.outcome.Outcome.{Outcome}
 use Rattle.td_store.specs.declared.local.Local.{Local}
 use Rattle.td_trader.specs.declared.begin.Begin.{Begin}
 use Rattle.td_trader.specs.declared.begin.Begin.TheVariants as begin
+use Rattle.td_walk_laws.specs.Beginnings.{WalkBegins}
 use Rattle.td_walk_laws.specs.Walks.{Course, Ends, Opens, Start, Refused, Repeat, Step, answer_in, nothing}
 use Rattle.td_walk_laws.specs.Walks.{with_world}
 use Rattle.td_walk.specs.declared.answer.Next.{Next}
@@ -65,6 +66,22 @@ pub record IsEntered {World : Type 0} (Begins : World → (trader : ℕ) → Que
   pub notes : after ≡ before ++ head ∷ []
   pub enters : Enters Begins w trader q e head u
 
+-- How far a visit came to begin that wanted memory: nothing was done, but by others, and nothing noted; or it began.
+pub data EntersSoFar {World : Type 0} (Begins : World → (trader : ℕ) → Query → Start → World → Type 0)
+    (Watches : World → (trader : ℕ) → World → Type 0) (w : World) (trader : ℕ) (q : Query) : List TraceItem → World
+    → Type 0 where
+  not_entered : EntersSoFar Begins Watches w trader q [] w
+  only_watched : {u : World} → Watches w trader u → EntersSoFar Begins Watches w trader q [] u
+  entered : {e : Entry} {head : TraceItem} {u : World} → Enters Begins w trader q e head u
+      → EntersSoFar Begins Watches w trader q (head ∷ []) u
+
+pub record IsEnteredSoFar {World : Type 0} (Begins : World → (trader : ℕ) → Query → Start → World → Type 0)
+    (Watches : World → (trader : ℕ) → World → Type 0) (w : World) (trader : ℕ) (q : Query)
+    (before after : List TraceItem) (u : World) : Type 0 where
+  pub items : List TraceItem
+  pub notes : after ≡ before ++ items
+  pub enters : EntersSoFar Begins Watches w trader q items u
+
 -- a question was answered, or a visit began that answers it
 pub data Asks {World : Type 0} (Begins : World → (trader : ℕ) → Query → Start → World → Type 0)
     (inside : World → (target : Ior) → Option ℕ) (s : Course World) (question : Next) : Asking → List TraceItem
@@ -81,6 +98,25 @@ pub record IsAsked {World : Type 0} (Begins : World → (trader : ℕ) → Query
   pub items : List TraceItem
   pub notes : after ≡ before ++ items
   pub asks : Asks Begins inside s question a items u
+
+-- How far a question came that wanted memory: nothing was done; or it was answered; or the walk from a trader of the
+-- group has begun that answers it.
+pub data AsksSoFar {World : Type 0} (Begins : World → (trader : ℕ) → Query → Start → World → Type 0)
+    (Watches : World → (trader : ℕ) → World → Type 0) (inside : World → (target : Ior) → Option ℕ) (s : Course World)
+    (question : Next) : List TraceItem → Course World → Type 0 where
+  not_asked : AsksSoFar Begins Watches inside s question [] s
+  had_answer : {t : List TraceItem} {r : StepAnswer} {u : Course World} → Step Begins inside s question t r u
+      → AsksSoFar Begins Watches inside s question t u
+  had_begun : {target : Ior} {q : Query} {k : ℕ} {t : List TraceItem} {u : Course World}
+      → question ≡ Forward target q → inside s.world target ≡ Some k → WalkBegins Begins Watches inside s k q t u
+      → AsksSoFar Begins Watches inside s question t u
+
+pub record IsAskedSoFar {World : Type 0} (Begins : World → (trader : ℕ) → Query → Start → World → Type 0)
+    (Watches : World → (trader : ℕ) → World → Type 0) (inside : World → (target : Ior) → Option ℕ) (s : Course World)
+    (question : Next) (before after : List TraceItem) (u : Course World) : Type 0 where
+  pub items : List TraceItem
+  pub notes : after ≡ before ++ items
+  pub asks : AsksSoFar Begins Watches inside s question items u
 
 -- ---- the end of a visit
 

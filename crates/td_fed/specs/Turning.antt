@@ -1,7 +1,7 @@
 -- The open visits of a walk, the innermost last, and what one turn of the walk makes of them.
 use Rattle.std.specs.Prelude.{◌≡◌, ℕ, ◌^◌, ◌<◌, List, [], ◌∷◌, ◌++◌, length, Option, None, Some}
 use Rattle.td_codes.specs.declared.reference.Ior.{Ior}
-use Rattle.td_fed.specs.Entering.{IsEnd, opened}
+use Rattle.td_fed.specs.Entering.{AsksSoFar, IsEnd, opened}
 use Rattle.td_ops.specs.declared.call.Query.{Query}
 use Rattle.td_store.specs.declared.local.Local.{Local}
 use Rattle.td_visit.specs.Standing.{Standing as Frame}
@@ -72,6 +72,24 @@ pub record IsTurn {World : Type 0} (Begins : World → (trader : ℕ) → Query 
   pub notes : now ≡ before ++ items
   pub turns : TurnsTo Begins inside s stack v after items u
 
+-- How far a turn came that wanted memory: nothing was done; or the innermost visit's question came so far; or that
+-- visit has ended.
+pub data TurnsSoFar {World : Type 0} (Begins : World → (trader : ℕ) → Query → Start → World → Type 0)
+    (Watches : World → (trader : ℕ) → World → Type 0) (inside : World → (target : Ior) → Option ℕ) (s : Course World)
+    (stack : List Frame) : List TraceItem → Course World → Type 0 where
+  not_turned : TurnsSoFar Begins Watches inside s stack [] s
+  was_asked : {t : List TraceItem} {u : Course World} (question : Next) → Asks stack question
+      → AsksSoFar Begins Watches inside s question t u → TurnsSoFar Begins Watches inside s stack t u
+  had_ended : {u : Course World} (waiting : List Frame) (top : Frame) (v : Visit) → stack ≡ waiting ++ top ∷ []
+      → IsEnd s top v u → TurnsSoFar Begins Watches inside s stack (item.Leave ∷ []) u
+
+pub record IsTurnSoFar {World : Type 0} (Begins : World → (trader : ℕ) → Query → Start → World → Type 0)
+    (Watches : World → (trader : ℕ) → World → Type 0) (inside : World → (target : Ior) → Option ℕ) (s : Course World)
+    (stack : List Frame) (before now : List TraceItem) (u : Course World) : Type 0 where
+  pub items : List TraceItem
+  pub notes : now ≡ before ++ items
+  pub turns : TurnsSoFar Begins Watches inside s stack items u
+
 -- ---- the end of a visit
 
 -- what a visit gives goes to the one that waits for it, if one does
@@ -88,3 +106,10 @@ pub record Closes {World : Type 0} (s : Course World) (stack : List Frame) (v : 
   pub is : stack ≡ waiting ++ top ∷ []
   pub end : IsEnd s top visit u
   pub returns : Returns visit waiting v after
+
+-- How far the end of the innermost visit came that wanted memory: nothing was done, or it has ended.
+pub data ClosesSoFar {World : Type 0} (s : Course World) (stack : List Frame) (before : List TraceItem)
+    : (now : List TraceItem) → Course World → Type 0 where
+  not_closed : ClosesSoFar s stack before before s
+  had_closed : {u : Course World} (waiting : List Frame) (top : Frame) (v : Visit) → stack ≡ waiting ++ top ∷ []
+      → IsEnd s top v u → ClosesSoFar s stack before (before ++ item.Leave ∷ []) u

@@ -4,10 +4,11 @@ use Rattle.td_cdr.specs.Marks.{Marks}
 use Rattle.td_places.specs.Targets.{inside_group}
 use Rattle.td_ops.specs.declared.call.Query.{Query}
 use Rattle.td_register.specs.declared.history.Accepted.{Accepted}
-use Rattle.td_trader.specs.Worlds.{Begun, View, history_at}
+use Rattle.td_trader.specs.Worlds.{Begun, View, Watches, history_at}
 use Rattle.td_trader.specs.declared.begin.Begin.{Begin}
 use Rattle.td_trader.specs.declared.begin.Begin.TheVariants as begin
 use Rattle.td_walk.specs.Peering.{Exchange}
+use Rattle.td_walk_laws.specs.Beginnings.{WalkBegins}
 use Rattle.td_walk_laws.specs.Walks.{Course, Start, Refused, Repeat, Search, Path, Walk}
 use Rattle.td_walk.specs.declared.trace.Address.{Address}
 use Rattle.td_walk.specs.declared.trace.TraceItem.{TraceItem}
@@ -43,3 +44,16 @@ pub record Visited (others : List Accepted → Type 0) (later : Marks → Marks 
   pub items : List TraceItem
   pub notes : after ≡ before ++ items
   pub walk : Walks others later home s trader q items v u
+
+-- the beginning of a walk through the group, where memory was wanted
+abbrev pub WalksSoFar : (others : List Accepted → Type 0) → (later : Marks → Marks → Type 0) → (home : Address)
+    → Course (List View) → (trader : ℕ) → Query → List TraceItem → Course (List View) → Type 0
+WalksSoFar others later home = WalkBegins (Begins others later) (Watches others later) (inside_group home)
+
+-- The items that came are the beginning of a walk.
+pub record VisitedSoFar (others : List Accepted → Type 0) (later : Marks → Marks → Type 0) (home : Address)
+    (s : Course (List View)) (trader : ℕ) (q : Query) (before after : List TraceItem)
+    (u : Course (List View)) : Type 0 where
+  pub items : List TraceItem
+  pub notes : after ≡ before ++ items
+  pub walk : WalksSoFar others later home s trader q items u

@@ -1,8 +1,9 @@
 //! The questions of a visit: to evaluators, to traders of the group, and to traders outside.
 
 ghost use Rattle.std.specs.Prelude.{◌≡◌, ◌<◌, ℕ, List, [], ◌∷◌, ◌++◌, vec_len, vec_capacity, is_some, IfOk};
-ghost use Rattle.td_fed.specs.Calling.{IsPeered};
-ghost use Rattle.td_fed.specs.Entering.{IsAsked, NotesFault, asking_of};
+ghost use Rattle.std.specs.Prelude.{OnErr};
+ghost use Rattle.td_fed.specs.Calling.{IsPeered, IsPeeredSoFar};
+ghost use Rattle.td_fed.specs.Entering.{IsAsked, IsAskedSoFar, NotesFault, asking_of};
 ghost use Rattle.td_places.specs.Targets.{inside_group};
 ghost use Rattle.td_fed.specs.Trails.{Goes, IsShown};
 ghost use Rattle.td_fed.specs.Visiting.{Begins, course};
@@ -12,7 +13,7 @@ ghost use Rattle.td_walk.specs.declared.answer.Next.TheVariants.{Done, Evaluate,
 ghost use Rattle.td_walk.specs.declared.answer.StepAnswer.TheVariants as answer;
 ghost use Rattle.td_walk.specs.declared.trace.TraceItem.TheVariants as item;
 ghost use Rattle.td_ior.specs.Profiles.{iiop_of};
-ghost use Rattle.td_trader.specs.Worlds.{View};
+ghost use Rattle.td_trader.specs.Worlds.{View, Watches};
 
 use crate::entering::{Entry, enter, nothing};
 use std::alloc::Global;
@@ -53,6 +54,9 @@ pub(crate) fn ask<T: Traders, P: Peers>(
     ensures asked { (words : ℕ → ℕ) → IfOk result (λ a. IsAsked (Begins T.others T.later) (inside_group home.now)
         (course (T.world traders.old) words (P.calls peers.old)) question a notes.old.items notes.new.items
         (course (T.world traders.new) words (P.calls peers.new))) }
+    ensures so_far { (words : ℕ → ℕ) → OnErr result (IsAskedSoFar (Begins T.others T.later) (Watches T.others T.later)
+        (inside_group home.now) (course (T.world traders.old) words (P.calls peers.old)) question notes.old.items
+        notes.new.items (course (T.world traders.new) words (P.calls peers.new))) }
     ensures shown { IsShown (T.world traders.old) (P.calls peers.old) notes.old.items notes.new.items
         (T.world traders.new) (P.calls peers.new) }
     ensures goes { Goes T.others T.later (T.world traders.old) (T.world traders.new) }
@@ -108,6 +112,9 @@ fn evaluate<P: Peers>(
     ensures same { P.same peers.old peers.new }
     ensures peered { IfOk result (λ r. IsPeered (P.calls peers.old)
         (Evaluate evaluator.now name.now returned.now extra.now) r notes.old.items notes.new.items
+        (P.calls peers.new)) }
+    ensures so_far { OnErr result (IsPeeredSoFar (P.calls peers.old)
+        (Evaluate evaluator.now name.now returned.now extra.now) notes.old.items notes.new.items
         (P.calls peers.new)) }
     ensures shown { (w : List View) →
         IsShown w (P.calls peers.old) notes.old.items notes.new.items w (P.calls peers.new) }
@@ -168,6 +175,10 @@ fn forward<T: Traders, P: Peers>(
     ensures asked { (words : ℕ → ℕ) → IfOk result (λ a. IsAsked (Begins T.others T.later) (inside_group home.now)
         (course (T.world traders.old) words (P.calls peers.old)) (Forward target.now query.now) a notes.old.items
         notes.new.items (course (T.world traders.new) words (P.calls peers.new))) }
+    ensures so_far { (words : ℕ → ℕ) → OnErr result (IsAskedSoFar (Begins T.others T.later) (Watches T.others T.later)
+        (inside_group home.now) (course (T.world traders.old) words (P.calls peers.old))
+        (Forward target.now query.now) notes.old.items notes.new.items
+        (course (T.world traders.new) words (P.calls peers.new))) }
     ensures shown { IsShown (T.world traders.old) (P.calls peers.old) notes.old.items notes.new.items
         (T.world traders.new) (P.calls peers.new) }
     ensures goes { Goes T.others T.later (T.world traders.old) (T.world traders.new) }
@@ -217,6 +228,8 @@ fn call<P: Peers>(
 ) -> Result<StepAnswer, Memory>
     ensures same { P.same peers.old peers.new }
     ensures peered { IfOk result (λ r. IsPeered (P.calls peers.old) (Forward target.now query.now) r notes.old.items
+        notes.new.items (P.calls peers.new)) }
+    ensures so_far { OnErr result (IsPeeredSoFar (P.calls peers.old) (Forward target.now query.now) notes.old.items
         notes.new.items (P.calls peers.new)) }
     ensures shown { (w : List View) →
         IsShown w (P.calls peers.old) notes.old.items notes.new.items w (P.calls peers.new) }

@@ -1,13 +1,14 @@
 //! How a visit of a trader begins.
 
-ghost use Rattle.std.specs.Prelude.{◌≡◌, ◌<◌, [], ◌∷◌, ◌++◌, length, vec_len, vec_capacity, IfOk};
-ghost use Rattle.td_fed.specs.Entering.{IsEntered, begin_item, entry_of};
+ghost use Rattle.std.specs.Prelude.{◌≡◌, ◌<◌, [], ◌∷◌, ◌++◌, length, vec_len, vec_capacity, IfOk, OnErr};
+ghost use Rattle.td_fed.specs.Entering.{IsEntered, IsEnteredSoFar, begin_item, entry_of};
 ghost use Rattle.td_fed.specs.Trails.{Goes, IsShown};
 ghost use Rattle.td_fed.specs.Visiting.{Begins};
 ghost use Rattle.td_walk_laws.specs.Walks.{nothing};
 ghost use Rattle.td_walk.specs.declared.trace.TraceItem.TheVariants as item;
 ghost use Rattle.td_fed.specs.declared.entering.Entry.TheVariants as entry;
 ghost use Rattle.td_fed.specs.Entering.{opened};
+ghost use Rattle.td_trader.specs.Worlds.{Watches};
 ghost use Rattle.td_walk.specs.declared.trace.Visit.TheVariants as visit;
 
 use std::alloc::Global;
@@ -54,6 +55,8 @@ pub(crate) fn enter<T: Traders>(
     ensures same { T.same traders.old traders.new }
     ensures entered { IfOk result (λ e. IsEntered (Begins T.others T.later) (T.world traders.old) trader q.now e
         notes.old.items notes.new.items (T.world traders.new)) }
+    ensures so_far { OnErr result (IsEnteredSoFar (Begins T.others T.later) (Watches T.others T.later)
+        (T.world traders.old) trader q.now notes.old.items notes.new.items (T.world traders.new)) }
     ensures shown { IsShown (T.world traders.old) [] notes.old.items notes.new.items (T.world traders.new) [] }
     ensures goes { Goes T.others T.later (T.world traders.old) (T.world traders.new) }
 {

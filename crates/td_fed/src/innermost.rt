@@ -4,7 +4,7 @@ ghost use Rattle.std.specs.Prelude.{◌≡◌, ◌^◌, ◌<◌, ℕ, List, [], 
 ghost use Rattle.std.specs.Prelude.{IfOk, OnOk, OnErr};
 ghost use Rattle.td_fed.specs.Entering.{IsEnd};
 ghost use Rattle.td_fed.specs.Trails.{DrawsOn, IsShown};
-ghost use Rattle.td_fed.specs.Turning.{Asks, Closes, Returns, Takes};
+ghost use Rattle.td_fed.specs.Turning.{Asks, Closes, ClosesSoFar, Returns, Takes};
 ghost use Rattle.td_fed.specs.Visiting.{course};
 ghost use Rattle.td_trader.specs.Worlds.{View};
 ghost use Rattle.td_walk.specs.Peering.{Exchange};
@@ -87,6 +87,9 @@ pub(crate) fn end_innermost<W: Words>(
     ensures closes { (w : List View) (calls : List Exchange) → IfOk result (λ v.
         Closes (course w (W.word words.old) calls) stack.old.items v stack.new.items
         (course w (W.word words.new) calls)) }
+    ensures so_far { (w : List View) (calls : List Exchange) → OnErr result
+        (ClosesSoFar (course w (W.word words.old) calls) stack.old.items notes.old.items notes.new.items
+        (course w (W.word words.new) calls)) }
     ensures noted { OnOk result (notes.new.items ≡ notes.old.items ++ item.Leave ∷ []) }
     ensures shown { (w : List View) (calls : List Exchange) →
         IsShown w calls notes.old.items notes.new.items w calls }
@@ -114,6 +117,7 @@ fn end<W: Words>(
     ensures same { W.same words.old words.new }
     ensures notes { OnOk result (notes.new.items ≡ notes.old.items ++ item.Leave ∷ []) }
     ensures unchanged { OnErr result (notes.new.items ≡ notes.old.items) }
+    ensures kept { OnErr result ((k : ℕ) → W.word words.new k ≡ W.word words.old k) }
     ensures ends { IfOk result (λ v. (w : List View) (calls : List Exchange) →
         IsEnd (course w (W.word words.old) calls) visit v (course w (W.word words.new) calls)) }
     ensures draws { DrawsOn (W.word words.old) (W.word words.new) }

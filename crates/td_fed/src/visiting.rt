@@ -1,14 +1,15 @@
 //! A query's visit of a trader, with all that it goes on to.
 
 ghost use Rattle.std.specs.Prelude.{◌≡◌, ◌<◌, ℕ, List, [], ◌∷◌, ◌++◌, length, None, IfOk, OnOk};
+ghost use Rattle.std.specs.Prelude.{OnErr};
 ghost use Rattle.td_fed.specs.Entering.{IsEntered};
 ghost use Rattle.td_places.specs.Targets.{inside_group};
 ghost use Rattle.td_fed.specs.Trails.{DrawsOn, Goes, IsShown};
-ghost use Rattle.td_fed.specs.Turning.{Asks, IsTurn};
-ghost use Rattle.td_fed.specs.Visiting.{Begins, Visited, course};
+ghost use Rattle.td_fed.specs.Turning.{Asks, IsTurn, IsTurnSoFar};
+ghost use Rattle.td_fed.specs.Visiting.{Begins, Visited, VisitedSoFar, course};
 ghost use Rattle.td_fed.specs.declared.entering.Entry.TheVariants as entry;
 ghost use Rattle.td_ops.specs.declared.call.Query.{Query as Asked};
-ghost use Rattle.td_trader.specs.Worlds.{View};
+ghost use Rattle.td_trader.specs.Worlds.{View, Watches};
 ghost use Rattle.td_walk.specs.declared.answer.Next.TheVariants.{Done};
 ghost use Rattle.td_walk.specs.declared.trace.TraceItem.{TraceItem as Item};
 ghost use Rattle.td_walk_laws.specs.Faults.{CountsFaults};
@@ -32,7 +33,8 @@ use td_walk::{Address, Next, Peers, Trace, TraceItem, Visit};
 ///
 /// # Errors
 ///
-/// `Memory` for want of memory alone. The trace then shows each mark that was made, and what each peer gave.
+/// `Memory` for want of memory alone. What came behind the trace is then the beginning of a walk: it shows how far the
+/// query came, with each mark that was made and what each peer gave.
 pub fn visit<T: Traders, P: Peers, W: Words>(
     alloc: Global,
     traders: &mut T,
@@ -50,6 +52,9 @@ pub fn visit<T: Traders, P: Peers, W: Words>(
     ensures visited { IfOk result (λ v. Visited T.others T.later home.now
         (course (T.world traders.old) (W.word words.old) (P.calls peers.old)) trader q.now trace.old.items
         trace.new.items v (course (T.world traders.new) (W.word words.new) (P.calls peers.new))) }
+    ensures so_far { OnErr result (VisitedSoFar T.others T.later home.now
+        (course (T.world traders.old) (W.word words.old) (P.calls peers.old)) trader q.now trace.old.items
+        trace.new.items (course (T.world traders.new) (W.word words.new) (P.calls peers.new))) }
     ensures shown { IsShown (T.world traders.old) (P.calls peers.old) trace.old.items trace.new.items
         (T.world traders.new) (P.calls peers.new) }
     ensures goes { Goes T.others T.later (T.world traders.old) (T.world traders.new) }
@@ -83,6 +88,9 @@ fn walk<T: Traders, P: Peers, W: Words>(
     ensures visited { IfOk result (λ v. Visited T.others T.later home.now
         (course (T.world traders.old) (W.word words.old) (P.calls peers.old)) trader q.now notes.old.items
         notes.new.items v (course (T.world traders.new) (W.word words.new) (P.calls peers.new))) }
+    ensures so_far { OnErr result (VisitedSoFar T.others T.later home.now
+        (course (T.world traders.old) (W.word words.old) (P.calls peers.old)) trader q.now notes.old.items
+        notes.new.items (course (T.world traders.new) (W.word words.new) (P.calls peers.new))) }
     ensures shown { IsShown (T.world traders.old) (P.calls peers.old) notes.old.items notes.new.items
         (T.world traders.new) (P.calls peers.new) }
     ensures goes { Goes T.others T.later (T.world traders.old) (T.world traders.new) }
@@ -115,6 +123,10 @@ fn walk_on<T: Traders, P: Peers, W: Words>(
         IsEntered (Begins T.others T.later) w k q (entry.Open first) before notes.old.items (T.world traders.old) →
         IfOk result (λ v. Visited T.others T.later home.now (course w (W.word words.old) (P.calls peers.old)) k q
         before notes.new.items v (course (T.world traders.new) (W.word words.new) (P.calls peers.new))) }
+    ensures so_far { (w : List View) (k : ℕ) (q : Asked) (before : List Item) →
+        IsEntered (Begins T.others T.later) w k q (entry.Open first) before notes.old.items (T.world traders.old) →
+        OnErr result (VisitedSoFar T.others T.later home.now (course w (W.word words.old) (P.calls peers.old)) k q
+        before notes.new.items (course (T.world traders.new) (W.word words.new) (P.calls peers.new))) }
     ensures shown { IsShown (T.world traders.old) (P.calls peers.old) notes.old.items notes.new.items
         (T.world traders.new) (P.calls peers.new) }
     ensures goes { Goes T.others T.later (T.world traders.old) (T.world traders.new) }
@@ -150,6 +162,9 @@ fn turn<T: Traders, P: Peers, W: Words>(
     ensures turns { IfOk result (λ v. IsTurn (Begins T.others T.later) (inside_group home.now)
         (course (T.world traders.old) (W.word words.old) (P.calls peers.old)) stack.old.items v stack.new.items
         notes.old.items notes.new.items (course (T.world traders.new) (W.word words.new) (P.calls peers.new))) }
+    ensures so_far { OnErr result (IsTurnSoFar (Begins T.others T.later) (Watches T.others T.later)
+        (inside_group home.now) (course (T.world traders.old) (W.word words.old) (P.calls peers.old)) stack.old.items
+        notes.old.items notes.new.items (course (T.world traders.new) (W.word words.new) (P.calls peers.new))) }
     ensures shown { IsShown (T.world traders.old) (P.calls peers.old) notes.old.items notes.new.items
         (T.world traders.new) (P.calls peers.new) }
     ensures goes { Goes T.others T.later (T.world traders.old) (T.world traders.new) }
@@ -182,6 +197,9 @@ fn ask_innermost<T: Traders, P: Peers>(
     ensures same_peers { P.same peers.old peers.new }
     ensures turns { (words : ℕ → ℕ) → OnOk result (IsTurn (Begins T.others T.later) (inside_group home.now)
         (course (T.world traders.old) words (P.calls peers.old)) stack.old.items None stack.new.items
+        notes.old.items notes.new.items (course (T.world traders.new) words (P.calls peers.new))) }
+    ensures so_far { (words : ℕ → ℕ) → OnErr result (IsTurnSoFar (Begins T.others T.later) (Watches T.others T.later)
+        (inside_group home.now) (course (T.world traders.old) words (P.calls peers.old)) stack.old.items
         notes.old.items notes.new.items (course (T.world traders.new) words (P.calls peers.new))) }
     ensures shown { IsShown (T.world traders.old) (P.calls peers.old) notes.old.items notes.new.items
         (T.world traders.new) (P.calls peers.new) }

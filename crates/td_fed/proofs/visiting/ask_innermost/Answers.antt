@@ -1,7 +1,11 @@
+use Rattle.td_fed.proofs.Called.{on-err}
+use Rattle.td_fed.proofs.Beginnings.{asked-so-far, turn-so-far}
 use Rattle.td_fed.proofs.Stacked.{one-asks, turn-answered, turn-opened}
 use Rattle.td_fed.proofs.visiting.ask_innermost.Goals as goal
 use Rattle.td_places.specs.Targets.{inside_group}
 use Rattle.td_fed.specs.Visiting.{Begins, course}
+use Rattle.td_fed.specs.declared.asking.Asking.TheVariants.{Answered, Open}
+use Rattle.td_trader.specs.Worlds.{Watches}
 
 pub answer_innermost-requires : goal.answer_innermost-requires
 answer_innermost-requires g c = one-asks c.args.stack.now.items c.args.question c.requires.asks
@@ -24,3 +28,31 @@ returns-in-Open-clause-turns g c = λ words.
     c.args.notes.now.items c.ask.new.notes.items c.open_innermost.new.stack.items c.open_innermost.result
     (rw c.in-Open.is at (c.in_ok-answer.ensures.asked words)) c.open_innermost.ensures.few
     c.open_innermost.ensures.opened
+
+pub returns-in_err-answer-clause-so_far : goal.returns-in_err-answer-clause-so_far
+returns-in_err-answer-clause-so_far g c = λ words.
+    on-err _ (turn-so-far (Begins g.T.Traders.others g.T.Traders.later) (Watches g.T.Traders.others g.T.Traders.later)
+    (inside_group c.args.home.now)
+    (course (g.T.Traders.world c.args.traders.now) words (g.P.Peers.calls c.args.peers.now))
+    (course (g.T.Traders.world c.ask.new.traders) words (g.P.Peers.calls c.ask.new.peers))
+    c.args.stack.now.items c.args.question c.args.notes.now.items c.ask.new.notes.items c.requires.asks
+    (c.in_err-answer.ensures.so_far words))
+
+pub returns-in-Answered-clause-so_far : goal.returns-in-Answered-clause-so_far
+returns-in-Answered-clause-so_far g c = λ words.
+    asked-so-far (Begins g.T.Traders.others g.T.Traders.later) (Watches g.T.Traders.others g.T.Traders.later)
+    (inside_group c.args.home.now)
+    (course (g.T.Traders.world c.args.traders.now) words (g.P.Peers.calls c.args.peers.now))
+    (course (g.T.Traders.world c.ask.new.traders) words (g.P.Peers.calls c.ask.new.peers))
+    c.args.stack.now.items c.args.question (Answered c.in-Answered.answer) c.args.notes.now.items
+    c.ask.new.notes.items c.answer_innermost.result c.requires.asks
+    (rw c.in-Answered.is at (c.in_ok-answer.ensures.asked words))
+
+pub returns-in-Open-clause-so_far : goal.returns-in-Open-clause-so_far
+returns-in-Open-clause-so_far g c = λ words.
+    asked-so-far (Begins g.T.Traders.others g.T.Traders.later) (Watches g.T.Traders.others g.T.Traders.later)
+    (inside_group c.args.home.now)
+    (course (g.T.Traders.world c.args.traders.now) words (g.P.Peers.calls c.args.peers.now))
+    (course (g.T.Traders.world c.ask.new.traders) words (g.P.Peers.calls c.ask.new.peers))
+    c.args.stack.now.items c.args.question (Open c.in-Open.visit) c.args.notes.now.items c.ask.new.notes.items
+    c.open_innermost.result c.requires.asks (rw c.in-Open.is at (c.in_ok-answer.ensures.asked words))

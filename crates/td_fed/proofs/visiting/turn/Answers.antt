@@ -1,11 +1,14 @@
-use Rattle.std.proofs.Common.{List, IfOk, subst}
+use Rattle.std.proofs.Common.{List, IfOk, OnErr, subst}
+use Rattle.td_fed.proofs.Called.{on-err}
+use Rattle.td_fed.proofs.Beginnings.{turn-closes-so-far, turned-nothing}
 use Rattle.td_fed.proofs.Moving.{draws-none, goes-none}
 use Rattle.td_fed.proofs.Showing.{shown-none}
 use Rattle.td_fed.proofs.Stacked.{turn-closes}
 use Rattle.td_fed.proofs.visiting.turn.Goals as goal
 use Rattle.td_places.specs.Targets.{inside_group}
-use Rattle.td_fed.specs.Turning.{IsTurn}
+use Rattle.td_fed.specs.Turning.{IsTurn, IsTurnSoFar}
 use Rattle.td_fed.specs.Visiting.{Begins, course}
+use Rattle.td_trader.specs.Worlds.{Watches}
 use Rattle.td_visit.specs.Standing.{Standing as Frame}
 
 pub returns-in_err-question-clause-shown : goal.returns-in_err-question-clause-shown
@@ -39,3 +42,24 @@ returns-in-Done-clause-goes g c =
 
 pub returns-in_ok-ask_innermost-in_default-clause-draws : goal.returns-in_ok-ask_innermost-in_default-clause-draws
 returns-in_ok-ask_innermost-in_default-clause-draws g c = draws-none (g.W.Words.word c.args.words.now)
+
+pub returns-in_err-question-clause-so_far : goal.returns-in_err-question-clause-so_far
+returns-in_err-question-clause-so_far g c =
+    on-err _
+    (turned-nothing (Begins g.T.Traders.others g.T.Traders.later) (Watches g.T.Traders.others g.T.Traders.later)
+    (inside_group c.args.home.now)
+    (course (g.T.Traders.world c.args.traders.now) (g.W.Words.word c.args.words.now)
+    (g.P.Peers.calls c.args.peers.now)) c.args.stack.now.items c.args.notes.now.items)
+
+pub returns-in-Done-clause-so_far : goal.returns-in-Done-clause-so_far
+returns-in-Done-clause-so_far g c =
+    let w = g.T.Traders.world c.args.traders.now in
+    let calls = g.P.Peers.calls c.args.peers.now in
+    let s = course w (g.W.Words.word c.args.words.now) calls in
+    let u = course w (g.W.Words.word c.end_innermost.new.words) calls in
+    subst (λ (fs : List Frame). OnErr c.end_innermost.result (IsTurnSoFar (Begins g.T.Traders.others
+    g.T.Traders.later) (Watches g.T.Traders.others g.T.Traders.later) (inside_group c.args.home.now) s fs
+    c.args.notes.now.items c.end_innermost.new.notes.items u)) c.next_of_innermost.ensures.kept
+    (turn-closes-so-far (Begins g.T.Traders.others g.T.Traders.later) (Watches g.T.Traders.others g.T.Traders.later)
+    (inside_group c.args.home.now) s u c.next_of_innermost.new.stack.items c.args.notes.now.items
+    c.end_innermost.new.notes.items c.end_innermost.result (c.end_innermost.ensures.so_far w calls))

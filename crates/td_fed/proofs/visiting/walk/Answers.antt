@@ -1,4 +1,5 @@
-use Rattle.td_fed.proofs.Going.{at-once, first-read}
+use Rattle.td_fed.proofs.Called.{on-err}
+use Rattle.td_fed.proofs.Going.{at-once, first-read, unbegun-so-far}
 use Rattle.td_fed.proofs.Moving.{draws-none, goes-after}
 use Rattle.td_fed.proofs.Showing.{shown-beside, shown-on}
 use Rattle.td_fed.proofs.visiting.walk.Goals as goal
@@ -41,3 +42,9 @@ returns-in-Open-clause-goes g c =
     goes-after g.T.Traders.others g.T.Traders.later (g.T.Traders.world c.args.traders.now)
     (g.T.Traders.world c.enter.new.traders) (g.T.Traders.world c.walk_on.new.traders) c.enter.ensures.goes
     c.walk_on.ensures.goes
+
+pub returns-in_err-visit-clause-so_far : goal.returns-in_err-visit-clause-so_far
+returns-in_err-visit-clause-so_far g c =
+    on-err _ (unbegun-so-far g.T.Traders.others g.T.Traders.later c.args.home.now (g.T.Traders.world c.args.traders.now)
+    (g.T.Traders.world c.enter.new.traders) (g.W.Words.word c.args.words.now) (g.P.Peers.calls c.args.peers.now)
+    c.args.trader c.args.q.now c.args.notes.now.items c.enter.new.notes.items c.in_err-visit.ensures.so_far)

@@ -1,8 +1,10 @@
 use Rattle.std.proofs.Common.{◌≡◌, [], ◌∷◌, rules}
-use Rattle.td_fed.proofs.Going.{goes-further, going-first, is-less, is-visited}
+use Rattle.td_fed.proofs.Called.{on-err}
+use Rattle.td_fed.proofs.Going.{begun-so-far, goes-further, going-first, is-less, is-visited, visited-so-far}
 use Rattle.td_fed.proofs.Moving.{draws-after, draws-none, goes-after, goes-none}
 use Rattle.td_fed.proofs.Showing.{shown-none, shown-on}
 use Rattle.td_fed.proofs.visiting.walk_on.Goals as goal
+use Rattle.td_fed.specs.declared.entering.Entry.TheVariants.{Open}
 use Rattle.td_walk_laws.proofs.Counting.{counted-none, counted-on}
 
 pub returns-in_err-push-clause-shown : goal.returns-in_err-push-clause-shown
@@ -95,3 +97,16 @@ returns-in_err-visit-clause-draws g c = draws-after _ _ _ c.turns.invariant.3.dr
 
 pub returns-in_err-visit-clause-faults : goal.returns-in_err-visit-clause-faults
 returns-in_err-visit-clause-faults g c = counted-on _ _ _ _ _ _ c.turns.invariant.4 c.turn.ensures.faults
+
+pub returns-in_err-push-clause-so_far : goal.returns-in_err-push-clause-so_far
+returns-in_err-push-clause-so_far g c = λ w k q before h.
+    on-err _ (begun-so-far g.T.Traders.others g.T.Traders.later c.args.home.now w (g.T.Traders.world c.args.traders.now)
+    (g.W.Words.word c.args.words.now) (g.P.Peers.calls c.args.peers.now) k q (Open c.args.first) before
+    c.args.notes.now.items h)
+
+pub returns-in_err-visit-clause-so_far : goal.returns-in_err-visit-clause-so_far
+returns-in_err-visit-clause-so_far g c = λ w k q before h.
+    let one : c.push.new.self.items ≡ c.args.first ∷ [] = search rules in
+    on-err _
+    (visited-so-far _ _ _ _ _ _ _ _ _ _ _ _ _ c.turns.invariant.3 _ _ _ _ c.turn.new.stack.items w k q c.args.first
+    before c.in_err-visit.ensures.so_far one h)
