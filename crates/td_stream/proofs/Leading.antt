@@ -1,0 +1,120 @@
+-- From one state of a servant to the next.
+use Rattle.std.proofs.Common.{◌≡◌, ℕ, ◌+◌, ◌≤◌, cond, List, [], ◌∷◌, ◌++◌, Option, Some, None, refl, sym, ap, subst}
+use Rattle.std.proofs.Common.{arith}
+use Rattle.std.proofs.lemmas.List.Sums.{sum_by-cons}
+use Rattle.td_stream.specs.declared.end.End.{End}
+use Rattle.td_stream.specs.Exchanges.{Exchange, IsExchange, Run, requests}
+use Rattle.td_stream.specs.Messages.{is_request}
+use Rattle.td_stream.specs.Outside.{Outside}
+use Rattle.td_stream.specs.Progress.{Stand, Advances, Leaves, Proceeds}
+use Rattle.td_stream.specs.Streams.{Finishes, Streams}
+use Rattle.td_stream.proofs.Runs.{Sofar, goes_on, ends}
+
+module _ {V : Type 0} (serves : V → List ℕ → List ℕ → V → Type 0) (stays : V → V → Type 0) where
+  run-then : (s m u : V) (xs ys : List Exchange) → Run serves s xs m → Run serves m ys u → Run serves s (xs ++ ys) u
+  run-then s m u [] ys p q = subst (λ x. Run serves x ys u) p q
+  run-then s m u (x ∷ xs) ys p q = (p.0, p.1, run-then p.0 m u xs ys p.2 q)
+
+  -- ---- turns of a stream
+
+  leaves_kept : (result : Option End) (s u : V) → ((a : V) → stays a a) → u ≡ s → Leaves serves stays result s u
+  leaves_kept None s u itself e = e
+  leaves_kept (Some end) s u itself e = subst (stays s) (sym e) (itself s)
+
+  -- the servant wasn't asked
+  pub passes : (s u : V) (o p : Outside) (old new : Stand) (result : Option End) → ((a : V) → stays a a) → u ≡ s
+      → Advances [] o p old new result → Proceeds serves stays s u o p old new result
+  passes s u o p old new result itself e a = record {
+    exchanges = [];
+    last = s;
+    run = refl;
+    leaves = leaves_kept result s u itself e;
+    advances = a;
+  }
+
+  -- it was asked, and did nothing
+  pub keeps : (s u : V) (end : End) (o p : Outside) (old new : Stand) → stays s u
+      → Finishes [] end o p old.stream.rest old.taken old.requests → Proceeds serves stays s u o p old new (Some end)
+  keeps s u end o p old new kept a = record {
+    exchanges = [];
+    last = s;
+    run = refl;
+    leaves = kept;
+    advances = a;
+  }
+
+  leaves_same : (result : Option End) (u : V) → ((a : V) → stays a a) → Leaves serves stays result u u
+  leaves_same None u itself = refl
+  leaves_same (Some end) u itself = itself u
+
+  -- it answered
+  pub proceeds : (x : Exchange) (s u : V) (o p : Outside) (old new : Stand) (result : Option End)
+      → ((a : V) → stays a a) → IsExchange serves s x u → Advances (x ∷ []) o p old new result
+      → Proceeds serves stays s u o p old new result
+  proceeds x s u o p old new result itself done a = record {
+    exchanges = x ∷ [];
+    last = u;
+    run = (u, done, refl);
+    leaves = leaves_same result u itself;
+    advances = a;
+  }
+
+  -- what was done since the beginning
+  pub record Came (s u : V) (before now : Outside) (at : Stand) : Type 0 where
+    pub exchanges : List Exchange
+    pub run : Run serves s exchanges u
+    pub sofar : Sofar exchanges before now at
+
+  pub came-first : (s : V) (before : Outside) (at : Stand) → Sofar [] before before at → Came s s before before at
+  came-first s before at f = record { exchanges = []; run = refl; sofar = f }
+
+  pub came-on : (s m u : V) (before now next : Outside) (old new : Stand) → Came s m before now old
+      → Proceeds serves stays m u now next old new None → Came s u before next new
+  came-on s m u before now next old new c p =
+      let run : Run serves m p.exchanges u = subst (Run serves m p.exchanges) (sym p.leaves) p.run in
+      record {
+        exchanges = c.exchanges ++ p.exchanges;
+        run = run-then s m u c.exchanges p.exchanges c.run run;
+        sofar = goes_on c.exchanges p.exchanges before now next old new c.sofar p.advances;
+      }
+
+  pub streams-last : (s m u : V) (end : End) (before now next : Outside) (old new : Stand) → Came s m before now old
+      → Proceeds serves stays m u now next old new (Some end) → Streams serves stays s u end before next
+  streams-last s m u end before now next old new c p = record {
+    exchanges = c.exchanges ++ p.exchanges;
+    last = p.last;
+    run = run-then s m p.last c.exchanges p.exchanges c.run p.run;
+    stayed = p.leaves;
+    stream = ends c.exchanges p.exchanges end before now next old c.sofar p.advances;
+  }
+
+  pub streams-none : (s : V) (end : End) (before after : Outside) → stays s s → Finishes [] end before after [] 0 0
+      → Streams serves stays s s end before after
+  streams-none s end before after kept f = record {
+    exchanges = [];
+    last = s;
+    run = refl;
+    stayed = kept;
+    stream = f;
+  }
+
+  -- ---- budgets
+
+  module _ (budget : V → ℕ)
+      (each : (s : V) (message reply : List ℕ) (t : V) → serves s message reply t
+      → budget t ≤ budget s + cond (is_request message) 1 0) where
+    -- each Request takes one of a budget at most
+    spends_run : (s u : V) (xs : List Exchange) → Run serves s xs u → budget u ≤ budget s + requests xs
+    spends_run s u [] r = omega (arith, ap budget r)
+    spends_run s u (x ∷ xs) r =
+        omega (
+          arith,
+          each s x.message x.reply r.0 r.1.served,
+          spends_run r.0 u xs r.2,
+          sum_by-cons (λ (y : Exchange). cond (is_request y.message) 1 0) x xs,
+        )
+
+    pub spends : (s u : V) (before now : Outside) (at : Stand) (from : ℕ) → budget s ≤ from → Came s u before now at
+        → budget u ≤ from + at.requests
+    spends s u before now at from within c =
+        omega (arith, within, spends_run s u c.exchanges c.run, c.sofar.asked)

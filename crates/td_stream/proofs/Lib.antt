@@ -1,0 +1,6 @@
+pub mod ByType
+pub mod Complete
+pub mod Ends
+pub mod Fronts
+pub mod Leading
+pub mod Runs

@@ -1,0 +1,42 @@
+use Rattle.std.proofs.Common.{◌∙◌, ◌^◌, refl}
+use Rattle.td_stream.proofs.Leading.{came-first, came-on, streams-last, streams-none, spends}
+use Rattle.td_stream.proofs.Runs.{begins, no_stream}
+use Rattle.td_stream.proofs.transport.serve_all.Goals as goal
+
+pub returns-in_default-clause-streams : goal.returns-in_default-clause-streams
+returns-in_default-clause-streams g c =
+    streams-none g.V.Servant.serves g.V.Servant.stays _ _ _ _ (g.met.V.Servant.stays_itself _) (no_stream _ _ _ _)
+
+pub loop-end-init : goal.loop-end-init
+loop-end-init g c = (
+  g.met.V.Servant.same_itself _,
+  refl,
+  record { held = c.requires.held; works = c.requires.works },
+  came-first g.V.Servant.serves g.V.Servant.stays _ _ _
+      (begins _ _ _ _ _ c.in-Ok.ensures.0 c.in-Ok.ensures.1 c.in-Ok.ensures.2),
+)
+
+pub turn-requires-clause-room : goal.turn-requires-clause-room
+turn-requires-clause-room g c =
+    spends g.V.Servant.serves g.V.Servant.stays g.V.Servant.budget g.met.V.Servant.spends _ _ _ _ _ (2 ^ 62)
+    c.requires.budget c.loop-end.invariant.3
+
+pub loop-end-preserved : goal.loop-end-preserved
+loop-end-preserved g c =
+    let i = c.loop-end.invariant in (
+      g.met.V.Servant.same_on _ _ _ i.0 c.turn.ensures.same,
+      c.turn.ensures.same_sink ∙ i.1,
+      c.in-None.ensures.sent,
+      came-on g.V.Servant.serves g.V.Servant.stays _ _ _ _ _ _ _ _ i.3 c.in-None.ensures.proceeds,
+    )
+
+pub returns-in-Some-clause-same : goal.returns-in-Some-clause-same
+returns-in-Some-clause-same g c = g.met.V.Servant.same_on _ _ _ c.loop-end.invariant.0 c.turn.ensures.same
+
+pub returns-in-Some-clause-same_sink : goal.returns-in-Some-clause-same_sink
+returns-in-Some-clause-same_sink g c = c.turn.ensures.same_sink ∙ c.loop-end.invariant.1
+
+pub returns-in-Some-clause-streams : goal.returns-in-Some-clause-streams
+returns-in-Some-clause-streams g c =
+    streams-last g.V.Servant.serves g.V.Servant.stays _ _ _ _ _ _ _ _ _ c.loop-end.invariant.3
+    c.in-Some.ensures.proceeds

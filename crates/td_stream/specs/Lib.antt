@@ -1,0 +1,13 @@
+pub mod Completeness
+pub mod Ends
+pub mod Exchanges
+pub mod Heads
+pub mod Messages
+pub mod Outbound
+pub mod OutboundLaws
+pub mod Outside
+pub mod Pieces
+pub mod Progress
+pub mod Responses
+pub mod Steps
+pub mod Streams

@@ -1,0 +1,127 @@
+//! The message in front of the stream, and what becomes of it.
+
+ghost use Rattle.std.specs.Prelude.{◌≡◌, ◌<◌, ◌^◌, [], false};
+ghost use Rattle.td_stream.specs.Heads.{HasHead, IsMessage};
+ghost use Rattle.td_stream.specs.Messages.{message_limit};
+ghost use Rattle.td_stream.specs.Outbound.{outbound};
+ghost use Rattle.td_stream.specs.Responses.{Finds, Responds};
+ghost use Rattle.td_stream.specs.Steps.{answers, step_of};
+
+use crate::end::Cause;
+use crate::head::{Asked, Head, judge};
+use crate::outbox::Outbox;
+use crate::servant::Servant;
+use std::alloc::Global;
+use td_giop::message_type::REQUEST;
+use td_giop::{FrameFault, Framer, Raw};
+use td_out::Sink;
+
+/// What stood in front of the stream, and what became of it.
+#[derive(Clone, Copy, Debug, PartialEq, Eq)]
+pub(crate) enum Front {
+    /// No whole message.
+    Nothing,
+    /// A bad header.
+    Bad(FrameFault),
+    /// A message that closes the stream.
+    Closes,
+    /// A message that can't be answered.
+    Breaks(Cause),
+    /// A message that was answered, and whether it is a Request.
+    Answered { request: bool },
+    /// A message whose reply the sink didn't take whole.
+    Unsent,
+    /// A message for which the servant found no memory.
+    Full,
+}
+
+/// Answers the message in front of the stream, which stays there.
+pub(crate) fn serve_front<'k, V: Servant, K: Sink>(
+    alloc: Global,
+    servant: &mut V,
+    framer: &mut Framer,
+    outbox: &mut Outbox<'k, K>,
+) -> Front
+    requires limited { framer.old.limit ≡ message_limit }
+    requires room { V.budget servant.old < 2 ^ 63 }
+    requires held { outbox.old.held.items ≡ [] }
+    requires works { outbox.old.failed ≡ false }
+    ensures same { V.same servant.old servant.new }
+    ensures same_sink { outbox.new.sink.ghost_name ≡ outbox.old.sink.ghost_name }
+    ensures finds { Finds V.serves V.stays result framer.old.rest servant.old servant.new
+        (outbound (K.written outbox.old.sink.now) (K.faults outbox.old.sink.now) outbox.old.held.items
+        outbox.old.failed)
+        (outbound (K.written outbox.new.sink.now) (K.faults outbox.new.sink.now) outbox.new.held.items
+        outbox.new.failed) }
+    ensures framer { framer.new ≡ framer.old }
+{
+    match framer.next_message() {
+        Err(fault) => Front::Bad(fault),
+        Ok(None) => Front::Nothing,
+        Ok(Some(message)) => respond(alloc, servant, &message, outbox),
+    }
+}
+
+/// Does what a message asks.
+fn respond<'k, V: Servant, K: Sink>(
+    alloc: Global,
+    servant: &mut V,
+    message: &Raw<'_>,
+    outbox: &mut Outbox<'k, K>,
+) -> Front
+    requires whole { IsMessage message.now }
+    requires room { V.budget servant.old < 2 ^ 63 }
+    requires held { outbox.old.held.items ≡ [] }
+    requires works { outbox.old.failed ≡ false }
+    ensures same { V.same servant.old servant.new }
+    ensures same_sink { outbox.new.sink.ghost_name ≡ outbox.old.sink.ghost_name }
+    ensures responds { Responds V.serves V.stays result message.now.bytes.now servant.old servant.new
+        (outbound (K.written outbox.old.sink.now) (K.faults outbox.old.sink.now) outbox.old.held.items
+        outbox.old.failed)
+        (outbound (K.written outbox.new.sink.now) (K.faults outbox.new.sink.now) outbox.new.held.items
+        outbox.new.failed) }
+{
+    match judge(message) {
+        Asked::Close => Front::Closes,
+        Asked::Break(cause) => Front::Breaks(cause),
+        Asked::Answer(head) => answer(alloc, servant, message, &head, outbox),
+    }
+}
+
+/// Answers a message, and sends the reply.
+fn answer<'k, V: Servant, K: Sink>(
+    alloc: Global,
+    servant: &mut V,
+    message: &Raw<'_>,
+    head: &Head<'_>,
+    outbox: &mut Outbox<'k, K>,
+) -> Front
+    requires whole { IsMessage message.now }
+    requires head { HasHead message.now head.now }
+    requires step { step_of message.now.bytes.now ≡ answers }
+    requires room { V.budget servant.old < 2 ^ 63 }
+    requires held { outbox.old.held.items ≡ [] }
+    requires works { outbox.old.failed ≡ false }
+    ensures same { V.same servant.old servant.new }
+    ensures same_sink { outbox.new.sink.ghost_name ≡ outbox.old.sink.ghost_name }
+    ensures responds { Responds V.serves V.stays result message.now.bytes.now servant.old servant.new
+        (outbound (K.written outbox.old.sink.now) (K.faults outbox.old.sink.now) outbox.old.held.items
+        outbox.old.failed)
+        (outbound (K.written outbox.new.sink.now) (K.faults outbox.new.sink.now) outbox.new.held.items
+        outbox.new.failed) }
+{
+    match servant.answer(alloc, message, head, outbox) {
+        Err(_) => Front::Full,
+        Ok(()) => {
+            outbox.put(servant.reply());
+            outbox.send();
+            if outbox.has_failed() {
+                Front::Unsent
+            } else {
+                Front::Answered {
+                    request: message.kind == REQUEST,
+                }
+            }
+        }
+    }
+}
