@@ -1,0 +1,57 @@
+-- A servant that sends each Request's body back (CORBA, chapter on General Inter-ORB Protocol, "GIOP Messages").
+use Rattle.std.specs.Prelude.{◌≡◌, ℕ, if◌then◌else◌, List, [], ◌++◌, All, Ok}
+use Rattle.td_cdr.specs.Place.{At}
+use Rattle.td_cdr.specs.declared.order.Order.{Order}
+use Rattle.td_giop.specs.Heads.{Request, request_at, locate_at, cancel_at}
+use Rattle.td_giop.specs.Written.{locate_reply_written, reply_start, sealed}
+use Rattle.td_giop.specs.declared.message_type.TheConstants.{REQUEST, CANCEL_REQUEST, LOCATE_REQUEST}
+use Rattle.td_stream.specs.Exchanges.{Exchange}
+use Rattle.td_stream.specs.Messages.{behind, kind_of, order_of}
+use Rattle.td_stream.specs.Outside.{Outside}
+use Rattle.td_stream.specs.Streams.{Finishes}
+use Rattle.td_stream.specs.declared.end.End.{End}
+
+-- a Reply with status NO_EXCEPTION (0), with the Request's parameters behind it
+abbrev pub echo_of : Order → Request → At → List ℕ
+echo_of order head body = sealed order (reply_start order head.id 0 ++ body.rest)
+
+-- a Request that expects a reply is answered with its parameters, any other with nothing
+pub record EchoesRequest (message reply : List ℕ) : Type 0 where
+  pub head : Request
+  pub body : At
+  pub kind : kind_of message ≡ REQUEST
+  pub read : request_at (behind message) ≡ Ok (head, body)
+  pub told : reply ≡ (if head.answered then echo_of (order_of message) head body else [])
+
+-- each key is that of an object: OBJECT_HERE (1)
+pub record EchoesLocate (message reply : List ℕ) : Type 0 where
+  pub id : ℕ
+  pub key : List ℕ
+  pub kind : kind_of message ≡ LOCATE_REQUEST
+  pub read : locate_at (behind message) ≡ Ok (id, key)
+  pub told : reply ≡ sealed (order_of message) (locate_reply_written (order_of message) id 1)
+
+pub record EchoesCancel (message reply : List ℕ) : Type 0 where
+  pub id : ℕ
+  pub kind : kind_of message ≡ CANCEL_REQUEST
+  pub read : cancel_at (behind message) ≡ Ok id
+  pub told : reply ≡ []
+
+-- what a message is answered with
+pub data Echoes (message reply : List ℕ) : Type 0 where
+  request : EchoesRequest message reply → Echoes message reply
+  locate : EchoesLocate message reply → Echoes message reply
+  cancel : EchoesCancel message reply → Echoes message reply
+
+-- wherever the servant stands, since it keeps nothing but the room of its reply
+abbrev pub EchoesSo : Unit {0} → List ℕ → List ℕ → Unit {0} → Type 0
+EchoesSo s message reply t = Echoes message reply
+
+abbrev pub Any : Unit {0} → Unit {0} → Type 0
+Any s t = Unit {0}
+
+-- a stream, whole: each message is echoed, and it ends so
+pub record EchoesAll (end : End) (before after : Outside) : Type 0 where
+  pub exchanges : List Exchange
+  pub each : All (λ x. Echoes x.message x.reply) exchanges
+  pub stream : Finishes exchanges end before after [] 0 0
