@@ -2,6 +2,7 @@ use Rattle.std.proofs.Common.{refl}
 use Rattle.td_lookup.proofs.Followed.{name_answered, name_back, nothing_answered, nothing_back}
 use Rattle.td_lookup.proofs.Moved.{still_within}
 use Rattle.td_lookup.proofs.naming.answer_resolve.Goals as goal
+use Rattle.td_walk_laws.proofs.Counting.{counted-up}
 
 pub tell_name-requires : goal.tell_name-requires
 tell_name-requires g c =
@@ -29,3 +30,9 @@ pub returns-in-Err-clause-taken_back : goal.returns-in-Err-clause-taken_back
 returns-in-Err-clause-taken_back g c = λ x d words at.
     nothing_back g.T.Traders.others g.T.Traders.later c.args.home.now x c.args.trader c.args.names.now _ _ at refl refl
     c.resolve.ensures.goes c.resolve.ensures.quiet c.unanswered.result c.unanswered.ensures c.in-Err.ensures.unasked
+
+pub returns-in-Ok-clause-faults : goal.returns-in-Ok-clause-faults
+returns-in-Ok-clause-faults g c = counted-up _ _ _ _ c.resolve.ensures.faults
+
+pub returns-in-Err-clause-faults : goal.returns-in-Err-clause-faults
+returns-in-Err-clause-faults g c = counted-up _ _ _ _ c.resolve.ensures.faults

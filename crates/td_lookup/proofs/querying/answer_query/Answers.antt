@@ -6,6 +6,7 @@ use Rattle.td_lookup.proofs.Queried.{query_back, query_told}
 use Rattle.td_lookup.proofs.querying.answer_query.Goals as goal
 use Rattle.td_lookup.specs.Scenes.{scene}
 use Rattle.td_reply.specs.Linking.{peers_seen}
+use Rattle.td_walk_laws.proofs.Counting.{counted-up}
 
 pub name-requires : goal.name-requires
 name-requires g c =
@@ -61,3 +62,6 @@ returns-clause-taken_back g c = λ x.
       goes = c.visit-visited.ensures.goes;
       draws = c.visit-visited.ensures.draws;
     }) c.new.ensures c.tell_visited-told.ensures.unwritten c.tell_visited-told.ensures.err c.walked.ensures
+
+pub returns-clause-faults : goal.returns-clause-faults
+returns-clause-faults g c = counted-up _ _ _ _ c.visit-visited.ensures.faults
