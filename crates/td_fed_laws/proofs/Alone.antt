@@ -270,6 +270,15 @@ search-here others later w k q l u h =
     (search-is (length (history_at u k)) l h.begin h.is)
     (known-begin v.bounds (store_seen v) (length v.history) v.marks q h.begin h.begun.begin)
 
+pub repeat-here : (others : List Accepted → Type 0) (later : Marks → Marks → Type 0) (w : List View) (k : ℕ)
+    (q : Query) (p n : ℕ) (u : List View) → (h : Begins others later w k q (Repeat p n) u)
+    → IsRepeatHere h.begun.seen.marks q n
+repeat-here others later w k q p n u h =
+    let v = h.begun.seen in
+    subst (Known v.bounds (store_seen v) (length v.history) v.marks q)
+    (repeat-is (length (history_at u k)) p n h.begin h.is)
+    (known-begin v.bounds (store_seen v) (length v.history) v.marks q h.begin h.begun.begin)
+
 pub known : (others : List Accepted → Type 0) (later : Marks → Marks → Type 0) → AreKnown (Begins others later)
 known others later = record {
   searches = λ w k q l u h. record { seen = h.begun.seen; here = search-here others later w k q l u h };

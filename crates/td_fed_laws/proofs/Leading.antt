@@ -122,7 +122,7 @@ by-opening inside s m k q l x t answers passing b steps leads =
     by-steps inside s.world k q l x (path-begun s.world k q l x b) l.point leads
 
 -- what is remembered is stated
-stated-there : (f : List ℕ → Option ℕ) (o : Option (List ℕ)) (n : ℕ) → option_and_then f o ≡ Some n
+pub stated-there : (f : List ℕ → Option ℕ) (o : Option (List ℕ)) (n : ℕ) → option_and_then f o ≡ Some n
     → (id : List ℕ) × (o ≡ Some id)
 stated-there f None n e = absurd (let bad : ⊥ = cc in bad)
 stated-there f (Some id) n e = (id, refl)

@@ -1,11 +1,15 @@
 pub mod Alone
+pub mod Apart
+pub mod Arriving
 pub mod Carried
 pub mod Determined
 pub mod Growing
 pub mod Heading
 pub mod Hopping
 pub mod Leading
+pub mod Marking
+pub mod Naming
 pub mod Noting
 pub mod Recalling
 pub mod Searching
-pub mod Spacing
+pub mod Worked

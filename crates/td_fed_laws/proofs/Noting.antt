@@ -157,16 +157,18 @@ named-search t h before rest trader point mark is =
     by-origin (inl e) = absurd (none-some mark (sym (h.none trader) ∙ e))
     by-origin (inr s) = s
 
-pub repeats-exactly : (t : List TraceItem) → IsRightFromNone t → RepeatsExactly t
-repeats-exactly t h before rest (item.Search k point mark) trader is at =
+pub repeats-exactly-by : (t : List TraceItem) → SearchesOnce t → NamesSearches t → RepeatsExactly t
+repeats-exactly-by t once names before rest (item.Search k point mark) trader is at =
     let same : trader ≡ k = cc in (
       λ e. absurd (true≢false (sym e)),
-      λ s. absurd (searched-once t h before rest k point mark is (subst (IsSearched before) same s)),
+      λ s. absurd (once before rest k point mark is (subst (IsSearched before) same s)),
     )
-repeats-exactly t h before rest (item.Repeat k point mark) trader is at =
+repeats-exactly-by t once names before rest (item.Repeat k point mark) trader is at =
     let same : k ≡ trader = cc in (
-      λ e. subst (IsSearched before) same
-          (record { mark = mark; search = named-search t h before rest k point mark is }),
+      λ e. subst (IsSearched before) same (record { mark = mark; search = names before rest k point mark is }),
       λ s. refl,
     )
-repeats-exactly t h before rest other trader is at = absurd (none-some trader at)
+repeats-exactly-by t once names before rest other trader is at = absurd (none-some trader at)
+
+pub repeats-exactly : (t : List TraceItem) → IsRightFromNone t → RepeatsExactly t
+repeats-exactly t h = repeats-exactly-by t (searched-once t h) (named-search t h)

@@ -97,12 +97,11 @@ FarApart rings t =
     → t ≡ before ++ item.Search trader point mark ∷ middle ++ item.Search trader p m ∷ rest
     → mark + rings trader < m
 
--- whatever others mark meanwhile, where the query states its identifier
+-- whatever others mark meanwhile, and whether the query states its identifier or the first trader makes it
 abbrev pub WalksSearchFarApart : (others : List Accepted → Type 0) → (later : Marks → Marks → Type 0) → Type 0
 WalksSearchFarApart others later =
     (home : Address) (s u : Course (List View)) (trader : ℕ) (q : Query) (t : List TraceItem) (v : Visit)
-    (id : List ℕ) → Walks others later home s trader q t v u → (parts_of q).stated.request_id ≡ Some id
-    → FarApart (ring_at s.world) t
+    → Walks others later home s trader q t v u → FarApart (ring_at s.world) t
 
 -- each visit that begins in a walk, and asks, ends in it
 abbrev pub VisitsEnd : (others : List Accepted → Type 0) → (later : Marks → Marks → Type 0) → Type 0

@@ -37,8 +37,8 @@ pub fn searches_stay_within_their_hops<T: Traders>()
     ensures { WalksStayWithinTheirHops T.others T.later }
 {}
 
-/// Whatever others do to a group meanwhile, where a query states its identifier: the marks of two searches of one trader
-/// in its walk have numbers that differ by more than the trader remembers.
+/// Whatever others do to a group meanwhile, and whether the query states its identifier or the first trader makes it:
+/// the marks of two searches of one trader in a walk have numbers that differ by more than the trader remembers.
 pub fn searches_of_a_trader_are_far<T: Traders>()
     ensures { WalksSearchFarApart T.others T.later }
 {}
