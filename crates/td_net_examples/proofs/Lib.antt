@@ -1,0 +1,9 @@
+mod AloneLeft
+mod ChangedTrees
+mod DiamondTrees
+mod FreshLeft
+mod RememberedLeft
+mod ReturnedTrees
+mod RingTrees
+mod Running
+mod Serving

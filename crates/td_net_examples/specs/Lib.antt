@@ -1,0 +1,3 @@
+pub mod Fixtures
+pub mod Trees
+pub mod Without
