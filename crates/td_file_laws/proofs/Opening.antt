@@ -9,10 +9,10 @@ use Rattle.td_lines.specs.declared.entry.Home.{Home}
 use Rattle.td_lines.specs.declared.entry.Refused.{Refused}
 use Rattle.td_lines.specs.declared.entry.Script.{Script}
 use Rattle.td_lines.specs.declared.entry.TraderScript.{TraderScript}
-use Rattle.td_file_laws.specs.Files.{AreReached, FilesOpenReachedTraders}
+use Rattle.td_file_laws.specs.Files.{FilesOpenReachedTraders}
 use Rattle.td_register.specs.Stores.{Store}
 use Rattle.td_trader.specs.PlainTraders.{AreBounds, PlainTrader, opened}
-use Rattle.td_trader_laws.specs.Reaching.{IsReached, just_opened}
+use Rattle.td_trader_laws.specs.Reaching.{AreReached, IsReached, just_opened}
 
 may-be : AreBounds bounds
 may-be = record { remembers = omega arith; ring = omega arith; begins = omega arith }

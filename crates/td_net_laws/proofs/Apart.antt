@@ -13,7 +13,7 @@ use Rattle.td_net_laws.proofs.Marking.{Marking}
 use Rattle.td_net_laws.proofs.Moving.{Marked, head-get, marks_of, run-kept}
 use Rattle.td_net_laws.proofs.Points.{past-is}
 use Rattle.td_net_laws.proofs.Places.{from_map}
-use Rattle.td_net_laws.specs.Always.{Always, AreApart, AreFar, AreReached, AreRead, IsSearched}
+use Rattle.td_net_laws.specs.Always.{Always, AreApart, AreFar, AreRead, IsSearched}
 use Rattle.td_net_laws.specs.Arrivals.{Arrival, At, Head, arrival_of, arrived, head_of, identifier_at, search_at}
 use Rattle.td_ops.specs.declared.call.Query.{Query}
 use Rattle.td_store.specs.declared.local.Local.{Local}
@@ -21,7 +21,7 @@ use Rattle.td_trader.specs.Beginning.{is_search}
 use Rattle.td_trader.specs.PlainTraders.{PlainTrader, begin_at}
 use Rattle.td_trader.specs.declared.begin.Begin.{Begin}
 use Rattle.td_trader.specs.declared.begin.Begin.TheVariants.{Search}
-use Rattle.td_trader_laws.specs.Reaching.{IsReached}
+use Rattle.td_trader_laws.specs.Reaching.{AreReached, IsReached}
 use Rattle.td_walk.specs.declared.trace.Address.{Address}
 
 pub marked-start : (ts : List PlainTrader) (home : Address) (words : List ℕ) (r : ℕ) → AreReached ts

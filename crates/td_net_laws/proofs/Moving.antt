@@ -29,7 +29,6 @@ use Rattle.td_net_laws.proofs.Marking.{marking-unmarked}
 use Rattle.td_net_laws.proofs.Places.{get-set_same, get-set, get-append, get-last, set-get}
 use Rattle.td_net_laws.proofs.Points.{Points, change-marks, past-begin, past-change}
 use Rattle.td_net_laws.proofs.Points.{points-deliver, points-open, points-set, reached-set}
-use Rattle.td_net_laws.specs.Always.{AreReached}
 use Rattle.td_net_laws.specs.Arrivals.{Arrival, At, Head, arrival_at, head_of}
 use Rattle.td_ops.specs.declared.call.Change.{Change}
 use Rattle.td_ops.specs.declared.call.Query.{Query}
@@ -37,7 +36,7 @@ use Rattle.td_store.specs.declared.local.Local.{Local}
 use Rattle.td_trader.specs.PlainTraders.{PlainTrader, after_begin, after_change, begin_at}
 use Rattle.td_trader.specs.declared.begin.Begin.{Begin}
 use Rattle.td_trader.specs.declared.begin.Begin.TheVariants as begin
-use Rattle.td_trader_laws.specs.Reaching.{IsReached, by_change, by_query}
+use Rattle.td_trader_laws.specs.Reaching.{AreReached, IsReached, by_change, by_query}
 use Rattle.td_visit.specs.Standing.{Standing}
 use Rattle.td_walk.specs.declared.answer.StepAnswer.{StepAnswer}
 use Rattle.td_walk.specs.declared.answer.StepAnswer.TheVariants as given

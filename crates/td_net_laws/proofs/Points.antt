@@ -5,7 +5,7 @@ use Rattle.std.proofs.Common.{ap, subst, inl, inr, append-nil, append_assoc}
 use Rattle.td_changes.specs.Histories.{after_all, at}
 use Rattle.td_net_laws.proofs.Marking.{at-append, at-old}
 use Rattle.td_net_laws.proofs.Places.{get-set}
-use Rattle.td_net_laws.specs.Always.{AreReached, IsPast}
+use Rattle.td_net_laws.specs.Always.{IsPast}
 use Rattle.td_net_laws.specs.Arrivals.{Arrival, At, Head}
 use Rattle.td_ops.specs.declared.call.Change.{Change}
 use Rattle.td_ops.specs.declared.call.Query.{Query}
@@ -16,7 +16,7 @@ use Rattle.td_register.specs.Stores.{Store}
 use Rattle.td_register.specs.declared.history.Accepted.{Accepted}
 use Rattle.td_trader.specs.PlainTraders.{PlainTrader, after_begin, after_change, after_outcome, outcome_of, store_of}
 use Rattle.td_trader.specs.declared.begin.Begin.{Begin}
-use Rattle.td_trader_laws.specs.Reaching.{IsReached}
+use Rattle.td_trader_laws.specs.Reaching.{AreReached, IsReached}
 
 -- changes were accepted since, and marks may be others
 pub record Past (s t : PlainTrader) : Type 0 where

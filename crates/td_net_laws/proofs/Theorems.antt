@@ -22,13 +22,14 @@ use Rattle.td_net_laws.proofs.Rights.{Over, Rights, StageRight, visits_by}
 use Rattle.td_net_laws.proofs.Turns.{Kept, Sound, kept-event}
 use Rattle.td_net_laws.proofs.Unrolling.{unroll}
 use Rattle.td_net_laws.proofs.Visiting.{Given, search-exactly}
-use Rattle.td_net_laws.specs.Always.{Always, AreReached}
+use Rattle.td_net_laws.specs.Always.{Always}
 use Rattle.td_net_laws.specs.Arrivals.{Arrival, At, Head, arrival_of, arrived, head_of, identifier_at}
 use Rattle.td_net_laws.specs.Arrivals.{stated_identifier}
 use Rattle.td_net_laws.specs.Premises.{AllAnswered, AllTrees, AreNamed, AreUnderOne, OneTree, Premises, Visits}
 use Rattle.td_net_laws.specs.Trees.{IsTree}
 use Rattle.td_ops.specs.declared.call.Query.{Query}
 use Rattle.td_trader.specs.PlainTraders.{PlainTrader}
+use Rattle.td_trader_laws.specs.Reaching.{AreReached}
 use Rattle.td_walk.specs.declared.trace.Address.{Address}
 use Rattle.td_walk.specs.declared.trace.Visit.{Visit}
 use Rattle.td_walk_laws.specs.Walks.{answer_in}

@@ -31,7 +31,6 @@ use Rattle.td_net_laws.proofs.Marking.{same_or_not}
 use Rattle.td_net_laws.proofs.Waits.{IsWaiting, Kids, NobodyFor, NoKids, Waits, WaitsAt, kids-open, kids-set}
 use Rattle.td_net_laws.proofs.Waits.{none-yet}
 use Rattle.td_net_laws.proofs.Waits.{waits-open, waits-set}
-use Rattle.td_net_laws.specs.Always.{AreReached}
 use Rattle.td_net_laws.specs.Arrivals.{Way, Nowhere, Along, Here, IsRead, path_at, search_at, stated_identifier}
 use Rattle.td_net_laws.specs.Arrivals.{way_of}
 use Rattle.td_net_laws.specs.Steps.{Answered, Asked, EndedAs, Led, Opened, given as gave, lost, nothing_yet}
@@ -43,6 +42,7 @@ use Rattle.td_trader.specs.Beginning.{is_search}
 use Rattle.td_trader.specs.PlainTraders.{PlainTrader, after_begin, after_change, begin_at}
 use Rattle.td_trader.specs.declared.begin.Begin.{Begin}
 use Rattle.td_trader.specs.declared.begin.Begin.TheVariants as begin
+use Rattle.td_trader_laws.specs.Reaching.{AreReached}
 use Rattle.td_visit.specs.Standing.{Standing}
 use Rattle.td_walk.specs.Visits.{next_of}
 use Rattle.td_walk.specs.declared.answer.Next.TheVariants.{Forward}

@@ -10,12 +10,8 @@ use Rattle.td_register.specs.declared.history.Accepted.{Accepted}
 use Rattle.td_store.specs.declared.local.Local.{Local}
 use Rattle.td_trader.specs.PlainTraders.{PlainTrader, begin_at, store_of}
 use Rattle.td_trader.specs.declared.begin.Begin.TheVariants.{Search}
-use Rattle.td_trader_laws.specs.Reaching.{IsReached}
+use Rattle.td_trader_laws.specs.Reaching.{AreReached}
 use Rattle.td_walk.specs.declared.trace.Address.{Address}
-
--- each trader is one that calls reach from its opening on
-abbrev pub AreReached : List PlainTrader → Type 0
-AreReached ts = (n : ℕ) (t : PlainTrader) → slice_get ts n ≡ Some t → IsReached t
 
 -- It holds of every world to which events lead, in whatever order they come.
 abbrev pub Always : (World → Type 0) → Type 0

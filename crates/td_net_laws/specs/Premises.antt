@@ -8,13 +8,13 @@ use Rattle.td_net.specs.declared.call.Delivery.{Delivery}
 use Rattle.td_net.specs.declared.call.Stage.TheVariants.{Ended}
 use Rattle.td_net.specs.declared.event.Event.{Event}
 use Rattle.td_net.specs.declared.event.Event.TheVariants.{Ask}
-use Rattle.td_net_laws.specs.Always.{AreReached}
 use Rattle.td_net_laws.specs.Arrivals.{Arrival, At, Head, head_of, stated_identifier, way_of}
 use Rattle.td_net_laws.specs.Steps.{Answered, EndedAs}
 use Rattle.td_net_laws.specs.Trees.{IsTree}
 use Rattle.td_ops.specs.declared.call.Query.{Query}
 use Rattle.td_trader.specs.Beginning.{is_search}
 use Rattle.td_trader.specs.PlainTraders.{PlainTrader, begin_at}
+use Rattle.td_trader_laws.specs.Reaching.{AreReached}
 use Rattle.td_walk.specs.declared.answer.SubAnswer.{SubAnswer}
 use Rattle.td_walk.specs.declared.trace.Address.{Address}
 use Rattle.td_walk.specs.declared.trace.Visit.{Visit}

@@ -1,6 +1,6 @@
 -- Traders as they are reached: opened, and then by changes, by room that is reserved, and by queries that begin. A look
 -- leaves a trader as it was, and so does a call that wants memory.
-use Rattle.std.specs.Prelude.{◌≡◌, ℕ, ◌+◌, ◌<◌, true, List, length, Some, None}
+use Rattle.std.specs.Prelude.{◌≡◌, ℕ, ◌+◌, ◌<◌, true, List, length, slice_get, Some, None}
 use Rattle.td_cdr.specs.Marks.{Holds, Later}
 use Rattle.td_marks.specs.Keeping.{IsKept as AreMarks}
 use Rattle.td_ops.specs.declared.call.Change.{Change}
@@ -22,6 +22,10 @@ pub data IsReached : PlainTrader → Type 0 where
   by_change : (t : PlainTrader) (c : Change) → IsReached t → IsReached (after_change t c)
   by_reserving : (t : PlainTrader) → IsReached t → IsReached (record t { reserved = true })
   by_query : (t : PlainTrader) (q : Query) → IsReached t → IsReached (after_begin t q (begin_at t q))
+
+-- each trader of a list is
+abbrev pub AreReached : List PlainTrader → Type 0
+AreReached ts = (n : ℕ) (t : PlainTrader) → slice_get ts n ≡ Some t → IsReached t
 
 -- ---- what holds of each
 
