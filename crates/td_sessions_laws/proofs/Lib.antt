@@ -1,0 +1,5 @@
+mod AllSessions
+mod OneSession
+mod Places
+mod Views
+mod Worked
