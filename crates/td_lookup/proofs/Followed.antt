@@ -28,6 +28,8 @@ use Rattle.td_walk.specs.Peering.{Exchange, Failed, Given, Referred}
 use Rattle.td_walk.specs.declared.fault.PeerFault.{PeerFault}
 use Rattle.td_walk.specs.declared.trace.Address.{Address}
 use Rattle.td_walk.specs.declared.trace.TraceItem.{TraceItem}
+use Rattle.td_walk_laws.proofs.Counting.{counts-made}
+use Rattle.td_walk_laws.specs.Faults.{CountsFaults}
 use Rattle.td_walk_laws.specs.Walks.{given_in}
 
 -- ---- what a register outside gave
@@ -100,7 +102,8 @@ none_drawn words = record { count = 0; rest = λ k. ap words (let e : k ≡ 0 + 
 
 module _ (others : List Accepted → Type 0) (later : Marks → Marks → Type 0) (home : Address) (x : Object) (k : ℕ)
     (names : List (List ℕ)) (s t : Scene) (at : x.trader ≡ k) (desk : t.desk ≡ s.desk) (words : t.words ≡ s.words)
-    (goes : Goes others later s.world t.world) (quiet : IsQuiet s.world t.world) where
+    (goes : Goes others later s.world t.world) (quiet : IsQuiet s.world t.world)
+    (faults : CountsFaults s.peers.calls t.peers.calls s.peers.faults t.peers.faults) where
   unserved_name : (point : ℕ) (asked : Option (Result Ior PeerFault)) → Gave asked s.peers.calls t.peers.calls
       → TakenBack others later (Call x (call.Resolve names)) s (in_vain t.world k (name_entry k point asked)) t
   unserved_name point asked g = record {
@@ -118,6 +121,7 @@ module _ (others : List Accepted → Type 0) (later : Marks → Marks → Type 0
       made = g.made;
       calls = g.is;
       given = g.given ∙ sym (gave_noted t.world k point asked);
+      count = counts-made s.peers.calls t.peers.calls s.peers.faults t.peers.faults faults g.made g.is;
     };
     draws = subst (λ (v : ℕ → ℕ). DrawsOn s.words v) (sym words) (none_drawn s.words);
     words = λ h. words;
@@ -138,7 +142,15 @@ module _ (others : List Accepted → Type 0) (later : Marks → Marks → Type 0
   told_by a false is r = inl (record {
     outcome = a.outcome;
     comes = (
-      record { answer = a; resolves = r; outcome = refl; noted = refl; desk = desk; words = words },
+      record {
+        answer = a;
+        resolves = r;
+        faults = faults;
+        outcome = refl;
+        noted = refl;
+        desk = desk;
+        words = words;
+      },
       is,
     );
     told = refl;

@@ -31,6 +31,8 @@ use Rattle.td_walk.specs.declared.trace.Trace.{Trace}
 use Rattle.td_walk.specs.declared.trace.TraceItem.{TraceItem}
 use Rattle.td_walk.specs.declared.trace.Visit.{Visit}
 use Rattle.td_walk.specs.declared.trace.Visit.TheVariants as visit
+use Rattle.td_walk_laws.proofs.Counting.{counts-made}
+use Rattle.td_walk_laws.specs.Faults.{CountsFaults}
 use Rattle.td_walk_laws.specs.Walks.{shown}
 
 -- ---- the offers of a visit
@@ -71,6 +73,7 @@ module _ (others : List Accepted → Type 0) (later : Marks → Marks → Type 0
     pub seen : IsShown s.world s.peers.calls before trace.items t.world t.peers.calls
     pub goes : Goes others later s.world t.world
     pub draws : DrawsOn s.words t.words
+    pub faults : CountsFaults s.peers.calls t.peers.calls s.peers.faults t.peers.faults
 
   -- NO_MEMORY may stand in place of any answer that leaves the desk as it was
   retracted : (visited : Result Visit Wanting) → Ran [] visited → t.desk ≡ s.desk
@@ -90,6 +93,9 @@ module _ (others : List Accepted → Type 0) (later : Marks → Marks → Type 0
       made = r.seen.made;
       calls = r.seen.calls_are;
       given = r.seen.asked ∙ ap (λ (is : List TraceItem). shown is) (sym r.seen.notes);
+      count =
+          counts-made s.peers.calls t.peers.calls s.peers.faults t.peers.faults r.faults r.seen.made
+          r.seen.calls_are;
     };
     draws = r.draws;
     words = λ (h : true ≡ false). absurd (let bad : ⊥ = cc in bad);
@@ -105,6 +111,7 @@ module _ (others : List Accepted → Type 0) (later : Marks → Marks → Type 0
         items = r.came.items;
         visit = v;
         walk = r.came.walk;
+        faults = r.faults;
         answer = h.told;
         noted = ap (λ (is : List TraceItem). Walk (record { items = is })) r.came.notes;
       };

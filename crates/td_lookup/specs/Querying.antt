@@ -26,6 +26,7 @@ use Rattle.td_walk.specs.declared.trace.Address.{Address}
 use Rattle.td_walk.specs.declared.trace.TraceItem.{TraceItem}
 use Rattle.td_walk.specs.declared.trace.Visit.{Visit}
 use Rattle.td_walk.specs.declared.trace.Visit.TheVariants as visit
+use Rattle.td_walk_laws.specs.Faults.{CountsFaults}
 
 -- the result that has the first count of the offers; the iterator's reference is nil where nothing is left behind them
 abbrev pub first_offers : Address → (name : List ℕ) → (number : ℕ) → (limits : List (List ℕ)) → List Offer → (count : ℕ)
@@ -54,12 +55,14 @@ VisitTold home name q (visit.Answered a max_list) draft d o e =
     IsFirst home name (min q.how_many max_list) a.limits (map (chosen q.desired) a.offers) draft d o e
 
 module _ (others : List Accepted → Type 0) (later : Marks → Marks → Type 0) (home : Address) where
-  -- The trace is a walk from the trader on, and the answer is what the walk comes to.
+  -- The trace is a walk from the trader on, and the answer is what the walk comes to. At each call of a peer that
+  -- failed the count of faults rose.
   pub record QueryComes (s : Scene) (k : ℕ) (q : Query) (draft : Draft) (o : Outcome) (e : Entry) (t : Scene) : Type 0
     where
       pub items : List TraceItem
       pub visit : Visit
       pub walk : Walks others later home (course s.world s.words s.peers.calls) k q items visit
           (course t.world t.words t.peers.calls)
+      pub faults : CountsFaults s.peers.calls t.peers.calls s.peers.faults t.peers.faults
       pub answer : VisitTold home (name_at t.world k) q visit draft s.desk o t.desk
       pub noted : e ≡ Walk (record { items = items })

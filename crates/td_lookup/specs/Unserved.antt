@@ -24,6 +24,7 @@ use Rattle.td_walk.specs.declared.fault.PeerFault.{PeerFault}
 use Rattle.td_walk.specs.declared.trace.Trace.{Trace}
 use Rattle.td_walk.specs.declared.trace.TraceItem.{TraceItem}
 use Rattle.td_walk.specs.declared.trace.TraceItem.TheVariants as item
+use Rattle.td_walk_laws.specs.Faults.{CountsOver}
 use Rattle.td_walk_laws.specs.Walks.{given_in, shown}
 
 -- ---- what an entry shows
@@ -50,11 +51,12 @@ completion_of e = if list_any is_search (items_of e) then 2 else 1
 abbrev pub wanting : Entry → Outcome
 wanting e = System NoMemory 0 (completion_of e)
 
--- these calls of peers were made meanwhile, and gave this
+-- these calls of peers were made meanwhile, and gave this; at each that failed the count of faults rose
 pub record Gives (before : PeersSeen) (gave : List Given) (after : PeersSeen) : Type 0 where
   pub made : List Exchange
   pub calls : after.calls ≡ before.calls ++ made
   pub given : given_in made ≡ gave
+  pub count : CountsOver made before.faults after.faults
 
 -- What is noted then: a query's trace so far; what a peer gave for add_link or resolve, at how many changes are seen;
 -- and nothing for any other Request, and where memory was wanted before anything was done.

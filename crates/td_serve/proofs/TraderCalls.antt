@@ -1,6 +1,6 @@
 -- Changes, looks and add_link.
-use Rattle.std.proofs.Common.{◌≡◌, ◌⊎◌, inl, inr, ℕ, ◌<◌, List, length, Result, Ok, Err, IfOk, OnErr, refl, sym, ap}
-use Rattle.std.proofs.Common.{subst, arith}
+use Rattle.std.proofs.Common.{◌≡◌, ◌⊎◌, inl, inr, ℕ, ◌<◌, List, length, Result, Ok, Err, IfOk, OnErr, refl, sym}
+use Rattle.std.proofs.Common.{◌≤◌, subst, arith}
 use Rattle.td_cdr.specs.Marks.{Marks}
 use Rattle.td_cdr.specs.Writing.{Draft}
 use Rattle.td_cdr.specs.declared.memory.Memory.{Memory as Wanting}
@@ -30,7 +30,7 @@ use Rattle.td_reply.specs.declared.objects.Object.{Object}
 use Rattle.td_reply.specs.declared.target.Target.{Target}
 use Rattle.td_reply.specs.declared.target.Target.TheVariants.{Inside, Outside, Unreachable}
 use Rattle.td_serve.proofs.Performing.{long_from, plain_performs, told_performs, wanting_performs}
-use Rattle.td_serve.proofs.Wanting.{asked_in_vain, nothing_done}
+use Rattle.td_serve.proofs.Wanting.{asked_in_vain, none_answered, nothing_done}
 use Rattle.td_serve.specs.Requests.{Answers}
 use Rattle.td_serve.specs.Serving.{MayBeRefused, OrNoMemory, Performs}
 use Rattle.td_trader.specs.Worlds.{View, Watches, history_at}
@@ -42,7 +42,7 @@ module _ (others : List Accepted → Type 0) (later : Marks → Marks → Type 0
 
   -- a call that noted a point, and did nothing
   point_refused : (j : Judged) (k point : ℕ) (e : Entry) (d a : Live) (before after : PeersSeen) (words : ℕ → ℕ)
-      → k < length w → e ≡ Point k point → a ≡ d → after.calls ≡ before.calls → Watches others later w k u
+      → k < length w → e ≡ Point k point → a ≡ d → after ≡ before → Watches others later w k u
       → MayBeRefused others later j k (scene w d before words) e (scene u a after words)
   point_refused j k point e d a before after words within noted same unasked seen = record {
     within = watched_within k within seen;
@@ -134,10 +134,10 @@ module _ (others : List Accepted → Type 0) (later : Marks → Marks → Type 0
         → Watches others later w x.trader u → MayBeRefused others later (Call x (call.AddLink l)) x.trader s e t
     link_refused (Inside i) o e h within seen =
         point_refused (Call x (call.AddLink l)) x.trader (length h.0.changes.seen.history) e d d before after words
-        within h.0.noted refl (ap (λ (p : PeersSeen). p.calls) h.1) seen
+        within h.0.noted refl h.1 seen
     link_refused Unreachable o e h within seen =
         point_refused (Call x (call.AddLink l)) x.trader (length h.0.changes.seen.history) e d d before after words
-        within h.0.noted refl (ap (λ (p : PeersSeen). p.calls) h.1) seen
+        within h.0.noted refl h.1 seen
     link_refused Outside o e h within seen = record {
       within = watched_within x.trader within seen;
       unserved = asked_refused (length h.linked.changes.seen.history) h.gave e h.linked.noted
@@ -181,9 +181,9 @@ module _ (others : List Accepted → Type 0) (later : Marks → Marks → Type 0
         → IfOk r (λ y. IsToldPlainly (λ o e. AddLinkComes others later home w x.trader l before after o e u
         ⊎ AskedInVain others later home w x.trader l before after o e u) y)
         → IfOk r (λ y. IfLong y.body (Watches others later w x.trader u)) → OnErr r (Rests others later w x.trader u)
-        → OnErr r (after.calls ≡ before.calls) → OrNoMemory r a
+        → OnErr r (after.calls ≡ before.calls) → before.faults ≤ after.faults → OrNoMemory r a
         → Performs others later home (Call x (call.AddLink l)) x.trader draft s a.body a.entry written t
-    link_performs draft written (Ok b) a within ok back err unasked is =
+    link_performs draft written (Ok b) a within ok back err unasked counted is =
         let j = Call x (call.AddLink l) in
         subst (λ (y : Answer). Performs others later home j x.trader draft s y.body y.entry written t) (sym is)
         (plain_performs others later home j x.trader s t
@@ -192,8 +192,8 @@ module _ (others : List Accepted → Type 0) (later : Marks → Marks → Type 0
         b draft written ok (link_answers draft ok.outcome b.entry ok.comes)
         (long_from b.body (Watches others later w x.trader u) (MayBeRefused others later j x.trader s b.entry t)
         (any_refused ok.outcome b.entry ok.comes within) back))
-    link_performs draft written (Err m) a within ok back err unasked is =
+    link_performs draft written (Err m) a within ok back err unasked counted is =
         let j = Call x (call.AddLink l) in
         subst (λ (y : Answer). Performs others later home j x.trader draft s y.body y.entry written t) (sym is)
         (wanting_performs others later home j x.trader s t draft written
-        (nothing_done others later j w u x.trader d d before after words err refl unasked))
+        (none_answered others later j w u x.trader d d before after words err refl unasked counted))

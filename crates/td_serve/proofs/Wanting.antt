@@ -1,6 +1,6 @@
 -- What stands in place of an answer where memory is wanted.
 use Rattle.std.proofs.Common.{◌≡◌, inl, inr, ℕ, false, true, List, [], ◌∷◌, ◌++◌, length, Ok, Err, IfErr}
-use Rattle.std.proofs.Common.{append-nil, refl, sym, ap, subst, ◌∙◌}
+use Rattle.std.proofs.Common.{◌≤◌, append-nil, arith, refl, sym, ap, subst, ◌∙◌}
 use Rattle.td_cdr.specs.Marks.{Marks}
 use Rattle.td_fed.proofs.Moving.{draws-none}
 use Rattle.td_fed.proofs.Points.{goes-length}
@@ -27,29 +27,42 @@ use Rattle.td_walk.specs.declared.fault.PeerFault.TheVariants as fault
 
 -- ---- peers
 
-none_given : (before after : PeersSeen) → after.calls ≡ before.calls → Gives before [] after
-none_given before after same = record { made = []; calls = same ∙ sym (append-nil before.calls); given = refl }
+none_given : (before after : PeersSeen) → after.calls ≡ before.calls → before.faults ≤ after.faults
+    → Gives before [] after
+none_given before after same later = record {
+  made = [];
+  calls = same ∙ sym (append-nil before.calls);
+  given = refl;
+  count = later;
+}
 
 -- a peer that was asked gave what is noted
 pub one_given : (k point : ℕ) (c : PeerCall) (before after : PeersSeen) (gave : Gave)
     → IsNoted (λ r. Referred r) c before.calls after.calls before.faults after.faults gave
     → IfErr gave (λ f. is_memory f ≡ false) → Gives before (gave_in (Asked k point gave)) after
-one_given k point c before after (Ok r) asked answered =
-    record { made = record { call = c; gave = Referred r } ∷ []; calls = asked.calls; given = refl }
+one_given k point c before after (Ok r) asked answered = record {
+  made = record { call = c; gave = Referred r } ∷ [];
+  calls = asked.calls;
+  given = refl;
+  count = (after.faults, asked.later, tt, omega arith);
+}
 one_given k point c before after (Err fault.Wire) asked answered = record {
   made = record { call = c; gave = Failed fault.Wire } ∷ [];
   calls = asked.calls;
   given = refl;
+  count = (after.faults, asked.later, asked.cause, omega arith);
 }
 one_given k point c before after (Err fault.Grammar) asked answered = record {
   made = record { call = c; gave = Failed fault.Grammar } ∷ [];
   calls = asked.calls;
   given = refl;
+  count = (after.faults, asked.later, asked.cause, omega arith);
 }
 one_given k point c before after (Err fault.Exception) asked answered = record {
   made = record { call = c; gave = Failed fault.Exception } ∷ [];
   calls = asked.calls;
   given = refl;
+  count = (after.faults, asked.later, asked.cause, omega arith);
 }
 one_given k point c before after (Err fault.Memory) asked answered = absurd cc
 
@@ -68,21 +81,29 @@ module _ (others : List Accepted → Type 0) (later : Marks → Marks → Type 0
 
   -- ---- what is noted
 
-  -- nothing was done but by others, and nothing is noted
-  pub nothing_done : (j : Judged) (w u : List View) (k : ℕ) (d e : Live) (before after : PeersSeen) (words : ℕ → ℕ)
-      → Rests others later w k u → e ≡ d → after.calls ≡ before.calls
+  -- nothing was done but by others, and nothing is noted; memory may have been wanted in a call of a peer
+  pub none_answered : (j : Judged) (w u : List View) (k : ℕ) (d e : Live) (before after : PeersSeen) (words : ℕ → ℕ)
+      → Rests others later w k u → e ≡ d → after.calls ≡ before.calls → before.faults ≤ after.faults
       → Unserved others later j (scene w d before words) (wanting Plain) Plain (scene u e after words)
-  nothing_done j w u k d e before after words rests same unasked = record {
+  none_answered j w u k d e before after words rests same unasked counted = record {
     entry = nothing;
     outcome = refl;
     desk = same;
     goes = rests_goes w u k rests;
     marks = rests_marks w u k rests;
     points = goes-length others later (rests_goes w u k rests);
-    peers = none_given before after unasked;
+    peers = none_given before after unasked counted;
     draws = draws-none words;
     words = λ q. refl;
   }
+
+  -- nor was a peer called
+  pub nothing_done : (j : Judged) (w u : List View) (k : ℕ) (d e : Live) (before after : PeersSeen) (words : ℕ → ℕ)
+      → Rests others later w k u → e ≡ d → after ≡ before
+      → Unserved others later j (scene w d before words) (wanting Plain) Plain (scene u e after words)
+  nothing_done j w u k d e before after words rests same unasked =
+      none_answered j w u k d e before after words rests same (ap (λ (p : PeersSeen). p.calls) unasked)
+      (subst (λ (p : PeersSeen). before.faults ≤ p.faults) (sym unasked) (omega arith))
 
   -- nothing was done but by others and that a peer was asked for a register
   pub asked_in_vain : (x : Object) (l : AddLink) (w u : List View) (c : PeerCall) (d : Live) (before after : PeersSeen)

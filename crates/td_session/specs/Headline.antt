@@ -6,7 +6,7 @@ use Rattle.td_fed.specs.Trails.{DrawsOn, Rises, own_at, own_marks_at}
 use Rattle.td_lookup.specs.Querying.{QueryComes}
 use Rattle.td_lookup.specs.Scenes.{Scene}
 use Rattle.td_lookup.specs.Telling.{wants_memory}
-use Rattle.td_lookup.specs.Unserved.{Gives}
+use Rattle.td_lookup.specs.Unserved.{Gives, gave_in}
 use Rattle.td_ops.specs.declared.call.Call.TheVariants as call
 use Rattle.td_ops.specs.declared.call.Query.{Query}
 use Rattle.td_register.specs.declared.history.Accepted.{Accepted}
@@ -27,6 +27,8 @@ EachTurn P s (t ∷ ts) = P s t × EachTurn P t.after ts
 module _ (others : List Accepted → Type 0) (later : Marks → Marks → Type 0) (home : Address) where
   -- what holds of the Request of one turn
   pub record OfRequest (s : Scene) (t : Turn) : Type 0 where
+    -- no answer of a peer is invented, and each that its entry shows as failed is a fault: the count rose
+    pub peers : (n : Noted) → t.request ≡ Some n → Gives s.peers (gave_in n.entry) t.after.peers
     -- a refusal with another exception than NO_MEMORY changes nothing
     pub refusal : (n : Noted) → t.request ≡ Some n → is_refusal n.outcome ≡ true → KeepsAll others later s t.after
     -- NO_MEMORY changes nothing, but that a query may have made the marks that its trace shows
@@ -52,7 +54,7 @@ module _ (others : List Accepted → Type 0) (later : Marks → Marks → Type 0
     pub marks : (k : ℕ) → own_marks_at u.world k ≡ own_marks_at s.world k ++ all_marks_in k (noted_of turns)
     -- what is seen of the traders grows, and stays legal
     pub legal : StaysLegal s.world u.world
-    -- no answer of a peer is invented
+    -- no answer of a peer is invented, and each that is shown as failed is a fault: the count rose
     pub peers : Gives s.peers (all_gave (noted_of turns)) u.peers
     -- the random words that are drawn are the next ones
     pub words : DrawsOn s.words u.words

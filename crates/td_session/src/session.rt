@@ -205,6 +205,7 @@ pub fn serve_connection<T: Traders, S: Source, K: Sink, P: Peers, W: Words, J: J
         room.new.journal result
         (outside (S.left source.old) (S.faults source.old) (K.written sink.old) (K.faults sink.old))
         (outside (S.left source.new) (S.faults source.new) (K.written sink.new) (K.faults sink.new)) }
+    ensures faults { P.faults peers.old ≤ P.faults peers.new }
     ensures complete { Completes T.others T.later room.old.home
         (scene_in (T.world traders.old) room.old (peers_seen (P.calls peers.old) (P.faults peers.old))
         (W.word words.old))

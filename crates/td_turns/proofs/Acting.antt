@@ -39,7 +39,7 @@ use Rattle.td_trader.specs.Worlds.{View, history_at}
 use Rattle.td_turns.proofs.Moving.{Moves, changes-move, moves-as, moves-none, no-more, none}
 use Rattle.td_turns.proofs.Moving.{seen-length, seen-moves}
 use Rattle.td_turns.proofs.Resting.{answered_by, end-rise, goes-rests, resolves-leads}
-use Rattle.td_turns.proofs.Travelling.{Adds, walks-travel}
+use Rattle.td_turns.proofs.Travelling.{Adds, adds-none, adds-on, walks-travel}
 use Rattle.td_turns.specs.Journals.{marks_in, places_in, served_at}
 use Rattle.td_turns.specs.Seen.{AllGrow}
 use Rattle.td_turns.specs.Turns.{Noted}
@@ -48,6 +48,8 @@ use Rattle.td_walk.specs.Peering.{Given, IsNoted, Referred, RegisterOf, is_memor
 use Rattle.td_walk.specs.declared.fault.PeerFault.TheVariants as fault
 use Rattle.td_walk.specs.declared.fault.PeerFault.{PeerFault}
 use Rattle.td_walk.specs.declared.trace.Address.{Address}
+use Rattle.td_walk_laws.proofs.Counting.{counted-none, counted-on, counts-made, register-counted}
+use Rattle.td_walk_laws.specs.Faults.{CountsFaults}
 
 abbrev pub note : Judged → Outcome → Entry → Noted
 note j o e = record { judged = j; outcome = o; entry = e }
@@ -59,15 +61,30 @@ pub record Does (j : Judged) (o : Outcome) (e : Entry) (s t : Scene) : Type 0 wh
 
 -- ---- peers and words
 
-gives-as : (a b : PeersSeen) (g : List Given) → Adds a.calls g b.calls → Gives a g b
-gives-as a b g h = record { made = h.made; calls = h.calls; given = h.given }
+abbrev Counts : (a b : PeersSeen) → Type 0
+Counts a b = CountsFaults a.calls b.calls a.faults b.faults
 
-gives-none : (a b : PeersSeen) → b ≡ a → Gives a [] b
-gives-none a b same = record {
-  made = [];
-  calls = ap (λ (p : PeersSeen). p.calls) same ∙ sym (append-nil a.calls);
-  given = refl;
+gives-as : (a b : PeersSeen) (g : List Given) → Adds a.calls g b.calls → Counts a b → Gives a g b
+gives-as a b g h c = record {
+  made = h.made;
+  calls = h.calls;
+  given = h.given;
+  count = counts-made a.calls b.calls a.faults b.faults c h.made h.calls;
 }
+
+pub gives-none : (a b : PeersSeen) → b ≡ a → Gives a [] b
+gives-none a b same =
+    subst (λ (p : PeersSeen). Gives a [] p) (sym same)
+    (gives-as a a [] (adds-none a.calls) (counted-none a.calls a.faults))
+
+pub gives-on : (a b c : PeersSeen) (g h : List Given) → Gives a g b → Gives b h c → Gives a (g ++ h) c
+gives-on a b c g h p q =
+    gives-as a c (g ++ h)
+    (adds-on a.calls b.calls c.calls g h (record { made = p.made; calls = p.calls; given = p.given })
+    (record { made = q.made; calls = q.calls; given = q.given }))
+    (counted-on a.calls b.calls c.calls a.faults b.faults c.faults
+    (record { made = p.made; calls = p.calls; count = p.count })
+    (record { made = q.made; calls = q.calls; count = q.count }))
 
 draws-same : (a b : ℕ → ℕ) → b ≡ a → DrawsOn a b
 draws-same a b same = subst (λ (x : ℕ → ℕ). DrawsOn a x) (sym same) (draws-none a)
@@ -144,7 +161,7 @@ gave-asked trader point (Err f) = refl
 
 noted-adds : (target : Ior) (before after : PeersSeen) (gave : Gave)
     → IsNoted (λ r. Referred r) (RegisterOf target) before.calls after.calls before.faults after.faults gave
-    → IfErr gave (λ f. is_memory f ≡ false) → Gives before (shown_gave gave) after
+    → IfErr gave (λ f. is_memory f ≡ false) → Adds before.calls (shown_gave gave) after.calls
 noted-adds target before after (Ok r) h answered = record {
   made = record { call = RegisterOf target; gave = Referred r } ∷ [];
   calls = h.calls;
@@ -209,7 +226,10 @@ module _ (others : List Accepted → Type 0) (later : Marks → Marks → Type 0
             h.gave;
         gives =
             subst (λ (g : List Given). Gives s.peers g t.peers) (sym (gave-asked x.trader point h.gave))
-            (noted-adds l.target s.peers t.peers h.gave h.asked h.answered);
+            (gives-as s.peers t.peers (shown_gave h.gave)
+            (noted-adds l.target s.peers t.peers h.gave h.asked h.answered)
+            (register-counted (RegisterOf l.target) s.peers.calls t.peers.calls s.peers.faults t.peers.faults h.gave
+            h.asked));
         draws = draws-same s.words t.words words;
       })
 
@@ -273,7 +293,7 @@ module _ (others : List Accepted → Type 0) (later : Marks → Marks → Type 0
         gives =
             gives-as s.peers t.peers (gave_in y)
             (subst (λ (g : List Given). Adds s.peers.calls g t.peers.calls) (name-gave x.trader a.point a.asked)
-            leads.adds);
+            leads.adds) h.faults;
         draws = draws-same s.words t.words h.words;
       })
 
@@ -288,7 +308,7 @@ module _ (others : List Accepted → Type 0) (later : Marks → Marks → Type 0
       subst (λ (y : Entry). Does (Call x (call.Query q)) o y s t) (sym h.noted)
       (record {
         moves = travels.moves;
-        gives = gives-as s.peers t.peers _ travels.adds;
+        gives = gives-as s.peers t.peers _ travels.adds h.faults;
         draws = travels.draws;
       })
 

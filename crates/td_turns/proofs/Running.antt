@@ -1,6 +1,6 @@
 -- What a run of turns leaves, turn by turn.
-use Rattle.std.proofs.Common.{◌≡◌, ℕ, zero, suc, ◌<◌, true, List, [], ◌∷◌, ◌++◌, length, Option, None, Some}
-use Rattle.std.proofs.Common.{append-nil, slice_get, sym, ap, subst, ◌∙◌, arith}
+use Rattle.std.proofs.Common.{◌≡◌, ℕ, zero, suc, ◌<◌, ◌≤◌, true, List, [], ◌∷◌, ◌++◌, length, Option, None, Some}
+use Rattle.std.proofs.Common.{append-nil, slice_get, refl, sym, ap, subst, ◌∙◌, arith}
 use Rattle.std.proofs.Common.{false, inl, inr, true≢false}
 use Rattle.td_cdr.specs.Marks.{Marks}
 use Rattle.td_cdr.specs.Writing.{Draft}
@@ -10,7 +10,7 @@ use Rattle.td_fed.specs.Trails.{DrawsOn}
 use Rattle.td_lookup.specs.Querying.{QueryComes}
 use Rattle.td_lookup.specs.Scenes.{Scene}
 use Rattle.td_lookup.specs.Telling.{wants_memory}
-use Rattle.td_lookup.specs.Unserved.{gave_in}
+use Rattle.td_lookup.specs.Unserved.{Gives, gave_in}
 use Rattle.td_ops.specs.declared.call.Call.TheVariants as call
 use Rattle.td_ops.specs.declared.call.Query.{Query}
 use Rattle.td_ops.specs.declared.outcome.Outcome.{Outcome}
@@ -22,21 +22,21 @@ use Rattle.td_reply.specs.declared.judging.Judged.{Judged}
 use Rattle.td_reply.specs.declared.objects.Object.{Object}
 use Rattle.td_serve.specs.Requests.{Answers}
 use Rattle.td_trader.specs.Worlds.{history_at}
-use Rattle.td_turns.proofs.Acting.{Does, answers-do}
+use Rattle.td_turns.proofs.Acting.{Does, answers-do, gives-none, gives-on}
 use Rattle.td_turns.proofs.Growing.{grow-legal, grow-stands}
 use Rattle.td_turns.proofs.Moving.{Moves, moves-as, moves-none, moves-on}
 use Rattle.td_turns.proofs.Refusing.{refused-keeps, wanting-keeps}
 use Rattle.td_turns.proofs.Rising.{rises-above}
 use Rattle.td_turns.proofs.Standing.{StandsHere, answer-stands}
-use Rattle.td_turns.proofs.Travelling.{Adds, adds-none, adds-on}
 use Rattle.td_turns.specs.Journals.{all_gave, all_marks_in, all_places_in, all_served_at, is_accepted, is_refusal}
 use Rattle.td_turns.specs.Journals.{marks_in, places_in, served_at}
 use Rattle.td_turns.specs.Laws.{AcceptedStand, Keeps, KeepsAll, NoneIsInvented, OwnMarksAreSearches}
 use Rattle.td_turns.specs.Laws.{OwnPlacesAreAccepted, PointsRise, RefusedChangeNothing, SeenStaysLegal, Stands}
-use Rattle.td_turns.specs.Laws.{QueriesAreWalks, WantingChangeNothing, WordsAreDrawn}
+use Rattle.td_turns.specs.Laws.{QueriesAreWalks, RequestsShowPeers, WantingChangeNothing, WordsAreDrawn}
 use Rattle.td_turns.specs.Turns.{IsTurn, Noted, Run, ServesRequest, Turn, cancel, locate, noted_in, noted_of, request}
 use Rattle.td_walk.specs.Peering.{Given}
 use Rattle.td_walk.specs.declared.trace.Address.{Address}
+use Rattle.td_walk_laws.proofs.Counting.{counts-up}
 
 -- what stands at a place lies within the list
 stands-within : (h : List Accepted) (p : ℕ) (e : Accepted) → slice_get h p ≡ Some e → p < length h
@@ -46,13 +46,13 @@ stands-within (x ∷ h) (suc p) e is = let rest = stands-within h p e is in omeg
 
 pub record Effect (s : Scene) (ns : List Noted) (t : Scene) : Type 0 where
   pub moves : Moves s.world t.world (λ k. all_places_in k ns) (λ k. all_marks_in k ns) (λ k. all_served_at k ns)
-  pub adds : Adds s.peers.calls (all_gave ns) t.peers.calls
+  pub gives : Gives s.peers (all_gave ns) t.peers
   pub draws : DrawsOn s.words t.words
 
 effect-none : (s : Scene) → Effect s [] s
 effect-none s = record {
   moves = moves-none s.world;
-  adds = adds-none s.peers.calls;
+  gives = gives-none s.peers s.peers refl;
   draws = draws-none s.words;
 }
 
@@ -70,10 +70,10 @@ effect-on s m u ns ms p q = record {
       q.moves) (λ k. sym (flat-append (places_in k) ns ms))
       (λ k. sym (flat-append (λ (n : Noted). marks_in k n.entry) ns ms))
       (λ k. sym (flat-append (served_at k) ns ms));
-  adds =
-      subst (λ (g : List Given). Adds s.peers.calls g u.peers.calls)
+  gives =
+      subst (λ (g : List Given). Gives s.peers g u.peers)
       (sym (flat-append (λ (n : Noted). gave_in n.entry) ns ms))
-      (adds-on s.peers.calls m.peers.calls u.peers.calls (all_gave ns) (all_gave ms) p.adds q.adds);
+      (gives-on s.peers m.peers u.peers (all_gave ns) (all_gave ms) p.gives q.gives);
   draws = draws-after s.words m.words u.words p.draws q.draws;
 }
 
@@ -85,11 +85,7 @@ does-effect s t n d = record {
       (λ k. all_places_in k (n ∷ [])) (λ k. all_marks_in k (n ∷ [])) (λ k. all_served_at k (n ∷ [])) d.moves
       (λ k. sym (append-nil (places_in k n))) (λ k. sym (append-nil (marks_in k n.entry)))
       (λ k. sym (append-nil (served_at k n)));
-  adds = record {
-    made = d.gives.made;
-    calls = d.gives.calls;
-    given = d.gives.given ∙ sym (append-nil (gave_in n.entry));
-  };
+  gives = subst (λ (g : List Given). Gives s.peers g t.peers) (sym (append-nil (gave_in n.entry))) d.gives;
   draws = d.draws;
 }
 
@@ -255,9 +251,17 @@ module _ (others : List Accepted → Type 0) (later : Marks → Marks → Type 0
       record { grow = grow; legal = λ k legal. grow-legal s.world u.world grow k legal }
 
   pub none-invented : NoneIsInvented others later
-  none-invented home s u ts h =
-      let adds = (run-effect others later home s ts u h).adds in
-      record { made = adds.made; calls = adds.calls; given = adds.given }
+  none-invented home s u ts h = (run-effect others later home s ts u h).gives
+
+  -- and the count of faults never falls
+  pub faults-rise : (home : Address) (s u : Scene) (ts : List Turn) → Run others later home s ts u
+      → s.peers.faults ≤ u.peers.faults
+  faults-rise home s u ts h =
+      let gives = (run-effect others later home s ts u h).gives in
+      counts-up gives.made s.peers.faults u.peers.faults gives.count
+
+  pub peers-shown : RequestsShowPeers others later
+  peers-shown home s t n h is = (turn-served others later home s t n h is).served.gives
 
   pub words-drawn : WordsAreDrawn others later
   words-drawn home s u ts h = (run-effect others later home s ts u h).draws

@@ -8,7 +8,7 @@ use Rattle.td_fed.specs.Trails.{DrawsOn, Goes, Rises, own_at, own_marks_at}
 use Rattle.td_lookup.specs.Querying.{QueryComes}
 use Rattle.td_lookup.specs.Scenes.{Scene}
 use Rattle.td_lookup.specs.Telling.{wants_memory}
-use Rattle.td_lookup.specs.Unserved.{Gives}
+use Rattle.td_lookup.specs.Unserved.{Gives, gave_in}
 use Rattle.td_ops.specs.declared.call.Call.TheVariants as call
 use Rattle.td_ops.specs.declared.call.Change.{Change}
 use Rattle.td_ops.specs.declared.call.Query.{Query}
@@ -90,7 +90,8 @@ module _ (others : List Accepted → Type 0) (later : Marks → Marks → Type 0
   SeenStaysLegal =
       (home : Address) (s u : Scene) (ts : List Turn) → Run others later home s ts u → StaysLegal s.world u.world
 
-  -- what the entries show of peers is, in order, what the calls gave that were made of them
+  -- what the entries show of peers is, in order, what the calls gave that were made of them; at each that failed the
+  -- count of faults rose
   abbrev pub NoneIsInvented : Type 0
   NoneIsInvented =
       (home : Address) (s u : Scene) (ts : List Turn) → Run others later home s ts u
@@ -102,6 +103,12 @@ module _ (others : List Accepted → Type 0) (later : Marks → Marks → Type 0
       (home : Address) (s u : Scene) (ts : List Turn) → Run others later home s ts u → DrawsOn s.words u.words
 
   -- ---- of a Request
+
+  -- what its entry shows of peers is what the calls gave that were made of them in it, with the count of faults
+  abbrev pub RequestsShowPeers : Type 0
+  RequestsShowPeers =
+      (home : Address) (s : Scene) (t : Turn) (n : Noted) → IsTurn others later home s t → t.request ≡ Some n
+      → Gives s.peers (gave_in n.entry) t.after.peers
 
   -- one that is refused with another exception than NO_MEMORY changes nothing
   abbrev pub RefusedChangeNothing : Type 0

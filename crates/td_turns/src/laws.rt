@@ -2,8 +2,8 @@
 
 ghost use Rattle.td_turns.specs.Laws.{AcceptedStand, AloneGrowsByOwn, NoneIsInvented, OwnMarksAreSearches};
 ghost use Rattle.td_turns.specs.Laws.{OwnPlacesAreAccepted};
-ghost use Rattle.td_turns.specs.Laws.{PointsRise, QueriesAreWalks, RefusedChangeNothing, SeenStaysLegal};
-ghost use Rattle.td_turns.specs.Laws.{WantingChangeNothing, WordsAreDrawn};
+ghost use Rattle.td_turns.specs.Laws.{PointsRise, QueriesAreWalks, RefusedChangeNothing, RequestsShowPeers};
+ghost use Rattle.td_turns.specs.Laws.{SeenStaysLegal, WantingChangeNothing, WordsAreDrawn};
 
 use td_trader::Traders;
 
@@ -33,9 +33,10 @@ pub fn what_is_seen_is_legal<T: Traders>()
 {}
 
 /// No answer of a peer is invented: what the journal shows of peers is, in order, what the calls gave that were made of
-/// them.
+/// them; and each that is shown as failed is a fault of a peer, at which the count rose. So it is of each Request.
 pub fn no_answer_is_invented<T: Traders>()
-    ensures { NoneIsInvented T.others T.later }
+    ensures run { NoneIsInvented T.others T.later }
+    ensures request { RequestsShowPeers T.others T.later }
 {}
 
 /// A Request that is refused with another exception than NO_MEMORY changes no store, makes no mark and leaves the kept

@@ -11,25 +11,26 @@ tell_name-requires g c =
 pub returns-in-Ok-clause-told : goal.returns-in-Ok-clause-told
 returns-in-Ok-clause-told g c = λ x d words at.
     name_answered g.T.Traders.others g.T.Traders.later c.args.home.now x c.args.trader c.args.names.now _ _ at refl refl
-    c.resolve.ensures.goes c.resolve.ensures.quiet c.in-Ok.answer c.tell_name.result c.tell_name.ensures
-    c.in-Ok.ensures.resolves
+    c.resolve.ensures.goes c.resolve.ensures.quiet c.resolve.ensures.faults c.in-Ok.answer c.tell_name.result
+    c.tell_name.ensures c.in-Ok.ensures.resolves
 
 pub returns-in-Ok-clause-taken_back : goal.returns-in-Ok-clause-taken_back
 returns-in-Ok-clause-taken_back g c = λ x d words at.
     name_back g.T.Traders.others g.T.Traders.later c.args.home.now x c.args.trader c.args.names.now _ _ at refl refl
-    c.resolve.ensures.goes c.resolve.ensures.quiet c.in-Ok.answer c.tell_name.result c.tell_name.ensures
-    c.in-Ok.ensures.resolves
+    c.resolve.ensures.goes c.resolve.ensures.quiet c.resolve.ensures.faults c.in-Ok.answer c.tell_name.result
+    c.tell_name.ensures c.in-Ok.ensures.resolves
 
 pub returns-in-Err-clause-told : goal.returns-in-Err-clause-told
 returns-in-Err-clause-told g c = λ x d words at.
     nothing_answered g.T.Traders.others g.T.Traders.later c.args.home.now x c.args.trader c.args.names.now _ _ at refl
-    refl c.resolve.ensures.goes c.resolve.ensures.quiet c.unanswered.result c.unanswered.ensures
-    c.in-Err.ensures.unasked
+    refl c.resolve.ensures.goes c.resolve.ensures.quiet c.resolve.ensures.faults c.unanswered.result
+    c.unanswered.ensures c.in-Err.ensures.unasked
 
 pub returns-in-Err-clause-taken_back : goal.returns-in-Err-clause-taken_back
 returns-in-Err-clause-taken_back g c = λ x d words at.
     nothing_back g.T.Traders.others g.T.Traders.later c.args.home.now x c.args.trader c.args.names.now _ _ at refl refl
-    c.resolve.ensures.goes c.resolve.ensures.quiet c.unanswered.result c.unanswered.ensures c.in-Err.ensures.unasked
+    c.resolve.ensures.goes c.resolve.ensures.quiet c.resolve.ensures.faults c.unanswered.result c.unanswered.ensures
+    c.in-Err.ensures.unasked
 
 pub returns-in-Ok-clause-faults : goal.returns-in-Ok-clause-faults
 returns-in-Ok-clause-faults g c = counted-up _ _ _ _ c.resolve.ensures.faults

@@ -41,6 +41,7 @@ returns-clause-told g c = λ x.
       seen = c.visit-visited.ensures.shown;
       goes = c.visit-visited.ensures.goes;
       draws = c.visit-visited.ensures.draws;
+      faults = c.visit-visited.ensures.faults;
     }) c.new.ensures c.name.ensures c.tell_visited-told.ensures.told c.tell_visited-told.ensures.err c.walked.ensures
 
 pub returns-clause-taken_back : goal.returns-clause-taken_back
@@ -61,6 +62,7 @@ returns-clause-taken_back g c = λ x.
       seen = c.visit-visited.ensures.shown;
       goes = c.visit-visited.ensures.goes;
       draws = c.visit-visited.ensures.draws;
+      faults = c.visit-visited.ensures.faults;
     }) c.new.ensures c.tell_visited-told.ensures.unwritten c.tell_visited-told.ensures.err c.walked.ensures
 
 pub returns-clause-faults : goal.returns-clause-faults

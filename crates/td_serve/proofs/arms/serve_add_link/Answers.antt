@@ -10,4 +10,4 @@ returns-clause-performs g c = λ draft written d words.
     (peers_seen (g.P.Peers.calls c.answer_add_link.new.peers) (g.P.Peers.faults c.answer_add_link.new.peers)) d words
     draft written c.answer_add_link.result c.or_no_memory.result c.requires.inside c.answer_add_link.ensures.ok
     c.answer_add_link.ensures.taken_back c.answer_add_link.ensures.err c.answer_add_link.ensures.unasked
-    c.or_no_memory.ensures
+    c.answer_add_link.ensures.faults c.or_no_memory.ensures
