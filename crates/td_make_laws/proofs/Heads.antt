@@ -4,7 +4,7 @@ use Rattle.std.specs.Fmt.{digits}
 use Rattle.td_forms.specs.Values.{item_value}
 use Rattle.td_ior.specs.Texts.{cut_last, parts_of}
 use Rattle.td_lines.proofs.OnLiterals.{types_on_literals}
-use Rattle.td_lines.specs.Drafts.{nothing_yet}
+use Rattle.td_lines.specs.Drafts.{closed, nothing_yet}
 use Rattle.td_lines.specs.Offered.{with_new_offer, with_offer, with_value}
 use Rattle.td_lines.specs.Words.{two_and_text}
 use Rattle.td_lines.specs.declared.entry.Numbered.{Numbered}
@@ -14,7 +14,7 @@ use Rattle.td_make.specs.Generated.{first_offers, heading}
 use Rattle.td_make_laws.proofs.Passing.{passed}
 use Rattle.td_make_laws.proofs.Tables.{Upto}
 use Rattle.td_make_laws.proofs.Types.{Draft, OpenOffer}
-use Rattle.td_make_laws.specs.Said.{first_names, local_host, name_of}
+use Rattle.td_make_laws.specs.Said.{entries_in, first_names, head_entries, local_host, name_of}
 
 -- a trader, its types and its offers
 abbrev pub head : (trader : ℕ) → List ℕ
@@ -63,6 +63,8 @@ pub record HeadIsRead (done n : ℕ) (before : List TraderScript) (last : Trader
   pub offer : OpenOffer
   pub is : passed n (between (first_names done) before (last_of done last) typed) (lines (head (suc done)))
       ≡ Some (within done (all_said done before last) entries offer)
+  pub says : entries_in (closed (within done (all_said done before last) entries offer)).entries
+      ≡ head_entries (suc done)
 
 abbrev pub IsHeadRead : (done : ℕ) → Type 0
 IsHeadRead done =
@@ -70,259 +72,259 @@ IsHeadRead done =
 
 pub head-1 : IsHeadRead 0
 unfolding digits types_on_literals with_offer with_value two_and_text cut_last parts_of item_value
-head-1 n before last typed = record { entries = _; offer = _; is = refl }
+head-1 n before last typed = record { entries = _; offer = _; is = refl; says = refl }
 
 pub head-2 : IsHeadRead 1
 unfolding digits types_on_literals with_offer with_value two_and_text cut_last parts_of item_value
-head-2 n before last typed = record { entries = _; offer = _; is = refl }
+head-2 n before last typed = record { entries = _; offer = _; is = refl; says = refl }
 
 pub head-3 : IsHeadRead 2
 unfolding digits types_on_literals with_offer with_value two_and_text cut_last parts_of item_value
-head-3 n before last typed = record { entries = _; offer = _; is = refl }
+head-3 n before last typed = record { entries = _; offer = _; is = refl; says = refl }
 
 pub head-4 : IsHeadRead 3
 unfolding digits types_on_literals with_offer with_value two_and_text cut_last parts_of item_value
-head-4 n before last typed = record { entries = _; offer = _; is = refl }
+head-4 n before last typed = record { entries = _; offer = _; is = refl; says = refl }
 
 pub head-5 : IsHeadRead 4
 unfolding digits types_on_literals with_offer with_value two_and_text cut_last parts_of item_value
-head-5 n before last typed = record { entries = _; offer = _; is = refl }
+head-5 n before last typed = record { entries = _; offer = _; is = refl; says = refl }
 
 pub head-6 : IsHeadRead 5
 unfolding digits types_on_literals with_offer with_value two_and_text cut_last parts_of item_value
-head-6 n before last typed = record { entries = _; offer = _; is = refl }
+head-6 n before last typed = record { entries = _; offer = _; is = refl; says = refl }
 
 pub head-7 : IsHeadRead 6
 unfolding digits types_on_literals with_offer with_value two_and_text cut_last parts_of item_value
-head-7 n before last typed = record { entries = _; offer = _; is = refl }
+head-7 n before last typed = record { entries = _; offer = _; is = refl; says = refl }
 
 pub head-8 : IsHeadRead 7
 unfolding digits types_on_literals with_offer with_value two_and_text cut_last parts_of item_value
-head-8 n before last typed = record { entries = _; offer = _; is = refl }
+head-8 n before last typed = record { entries = _; offer = _; is = refl; says = refl }
 
 pub head-9 : IsHeadRead 8
 unfolding digits types_on_literals with_offer with_value two_and_text cut_last parts_of item_value
-head-9 n before last typed = record { entries = _; offer = _; is = refl }
+head-9 n before last typed = record { entries = _; offer = _; is = refl; says = refl }
 
 pub head-10 : IsHeadRead 9
 unfolding digits types_on_literals with_offer with_value two_and_text cut_last parts_of item_value
-head-10 n before last typed = record { entries = _; offer = _; is = refl }
+head-10 n before last typed = record { entries = _; offer = _; is = refl; says = refl }
 
 pub head-11 : IsHeadRead 10
 unfolding digits types_on_literals with_offer with_value two_and_text cut_last parts_of item_value
-head-11 n before last typed = record { entries = _; offer = _; is = refl }
+head-11 n before last typed = record { entries = _; offer = _; is = refl; says = refl }
 
 pub head-12 : IsHeadRead 11
 unfolding digits types_on_literals with_offer with_value two_and_text cut_last parts_of item_value
-head-12 n before last typed = record { entries = _; offer = _; is = refl }
+head-12 n before last typed = record { entries = _; offer = _; is = refl; says = refl }
 
 pub head-13 : IsHeadRead 12
 unfolding digits types_on_literals with_offer with_value two_and_text cut_last parts_of item_value
-head-13 n before last typed = record { entries = _; offer = _; is = refl }
+head-13 n before last typed = record { entries = _; offer = _; is = refl; says = refl }
 
 pub head-14 : IsHeadRead 13
 unfolding digits types_on_literals with_offer with_value two_and_text cut_last parts_of item_value
-head-14 n before last typed = record { entries = _; offer = _; is = refl }
+head-14 n before last typed = record { entries = _; offer = _; is = refl; says = refl }
 
 pub head-15 : IsHeadRead 14
 unfolding digits types_on_literals with_offer with_value two_and_text cut_last parts_of item_value
-head-15 n before last typed = record { entries = _; offer = _; is = refl }
+head-15 n before last typed = record { entries = _; offer = _; is = refl; says = refl }
 
 pub head-16 : IsHeadRead 15
 unfolding digits types_on_literals with_offer with_value two_and_text cut_last parts_of item_value
-head-16 n before last typed = record { entries = _; offer = _; is = refl }
+head-16 n before last typed = record { entries = _; offer = _; is = refl; says = refl }
 
 pub head-17 : IsHeadRead 16
 unfolding digits types_on_literals with_offer with_value two_and_text cut_last parts_of item_value
-head-17 n before last typed = record { entries = _; offer = _; is = refl }
+head-17 n before last typed = record { entries = _; offer = _; is = refl; says = refl }
 
 pub head-18 : IsHeadRead 17
 unfolding digits types_on_literals with_offer with_value two_and_text cut_last parts_of item_value
-head-18 n before last typed = record { entries = _; offer = _; is = refl }
+head-18 n before last typed = record { entries = _; offer = _; is = refl; says = refl }
 
 pub head-19 : IsHeadRead 18
 unfolding digits types_on_literals with_offer with_value two_and_text cut_last parts_of item_value
-head-19 n before last typed = record { entries = _; offer = _; is = refl }
+head-19 n before last typed = record { entries = _; offer = _; is = refl; says = refl }
 
 pub head-20 : IsHeadRead 19
 unfolding digits types_on_literals with_offer with_value two_and_text cut_last parts_of item_value
-head-20 n before last typed = record { entries = _; offer = _; is = refl }
+head-20 n before last typed = record { entries = _; offer = _; is = refl; says = refl }
 
 pub head-21 : IsHeadRead 20
 unfolding digits types_on_literals with_offer with_value two_and_text cut_last parts_of item_value
-head-21 n before last typed = record { entries = _; offer = _; is = refl }
+head-21 n before last typed = record { entries = _; offer = _; is = refl; says = refl }
 
 pub head-22 : IsHeadRead 21
 unfolding digits types_on_literals with_offer with_value two_and_text cut_last parts_of item_value
-head-22 n before last typed = record { entries = _; offer = _; is = refl }
+head-22 n before last typed = record { entries = _; offer = _; is = refl; says = refl }
 
 pub head-23 : IsHeadRead 22
 unfolding digits types_on_literals with_offer with_value two_and_text cut_last parts_of item_value
-head-23 n before last typed = record { entries = _; offer = _; is = refl }
+head-23 n before last typed = record { entries = _; offer = _; is = refl; says = refl }
 
 pub head-24 : IsHeadRead 23
 unfolding digits types_on_literals with_offer with_value two_and_text cut_last parts_of item_value
-head-24 n before last typed = record { entries = _; offer = _; is = refl }
+head-24 n before last typed = record { entries = _; offer = _; is = refl; says = refl }
 
 pub head-25 : IsHeadRead 24
 unfolding digits types_on_literals with_offer with_value two_and_text cut_last parts_of item_value
-head-25 n before last typed = record { entries = _; offer = _; is = refl }
+head-25 n before last typed = record { entries = _; offer = _; is = refl; says = refl }
 
 pub head-26 : IsHeadRead 25
 unfolding digits types_on_literals with_offer with_value two_and_text cut_last parts_of item_value
-head-26 n before last typed = record { entries = _; offer = _; is = refl }
+head-26 n before last typed = record { entries = _; offer = _; is = refl; says = refl }
 
 pub head-27 : IsHeadRead 26
 unfolding digits types_on_literals with_offer with_value two_and_text cut_last parts_of item_value
-head-27 n before last typed = record { entries = _; offer = _; is = refl }
+head-27 n before last typed = record { entries = _; offer = _; is = refl; says = refl }
 
 pub head-28 : IsHeadRead 27
 unfolding digits types_on_literals with_offer with_value two_and_text cut_last parts_of item_value
-head-28 n before last typed = record { entries = _; offer = _; is = refl }
+head-28 n before last typed = record { entries = _; offer = _; is = refl; says = refl }
 
 pub head-29 : IsHeadRead 28
 unfolding digits types_on_literals with_offer with_value two_and_text cut_last parts_of item_value
-head-29 n before last typed = record { entries = _; offer = _; is = refl }
+head-29 n before last typed = record { entries = _; offer = _; is = refl; says = refl }
 
 pub head-30 : IsHeadRead 29
 unfolding digits types_on_literals with_offer with_value two_and_text cut_last parts_of item_value
-head-30 n before last typed = record { entries = _; offer = _; is = refl }
+head-30 n before last typed = record { entries = _; offer = _; is = refl; says = refl }
 
 pub head-31 : IsHeadRead 30
 unfolding digits types_on_literals with_offer with_value two_and_text cut_last parts_of item_value
-head-31 n before last typed = record { entries = _; offer = _; is = refl }
+head-31 n before last typed = record { entries = _; offer = _; is = refl; says = refl }
 
 pub head-32 : IsHeadRead 31
 unfolding digits types_on_literals with_offer with_value two_and_text cut_last parts_of item_value
-head-32 n before last typed = record { entries = _; offer = _; is = refl }
+head-32 n before last typed = record { entries = _; offer = _; is = refl; says = refl }
 
 pub head-33 : IsHeadRead 32
 unfolding digits types_on_literals with_offer with_value two_and_text cut_last parts_of item_value
-head-33 n before last typed = record { entries = _; offer = _; is = refl }
+head-33 n before last typed = record { entries = _; offer = _; is = refl; says = refl }
 
 pub head-34 : IsHeadRead 33
 unfolding digits types_on_literals with_offer with_value two_and_text cut_last parts_of item_value
-head-34 n before last typed = record { entries = _; offer = _; is = refl }
+head-34 n before last typed = record { entries = _; offer = _; is = refl; says = refl }
 
 pub head-35 : IsHeadRead 34
 unfolding digits types_on_literals with_offer with_value two_and_text cut_last parts_of item_value
-head-35 n before last typed = record { entries = _; offer = _; is = refl }
+head-35 n before last typed = record { entries = _; offer = _; is = refl; says = refl }
 
 pub head-36 : IsHeadRead 35
 unfolding digits types_on_literals with_offer with_value two_and_text cut_last parts_of item_value
-head-36 n before last typed = record { entries = _; offer = _; is = refl }
+head-36 n before last typed = record { entries = _; offer = _; is = refl; says = refl }
 
 pub head-37 : IsHeadRead 36
 unfolding digits types_on_literals with_offer with_value two_and_text cut_last parts_of item_value
-head-37 n before last typed = record { entries = _; offer = _; is = refl }
+head-37 n before last typed = record { entries = _; offer = _; is = refl; says = refl }
 
 pub head-38 : IsHeadRead 37
 unfolding digits types_on_literals with_offer with_value two_and_text cut_last parts_of item_value
-head-38 n before last typed = record { entries = _; offer = _; is = refl }
+head-38 n before last typed = record { entries = _; offer = _; is = refl; says = refl }
 
 pub head-39 : IsHeadRead 38
 unfolding digits types_on_literals with_offer with_value two_and_text cut_last parts_of item_value
-head-39 n before last typed = record { entries = _; offer = _; is = refl }
+head-39 n before last typed = record { entries = _; offer = _; is = refl; says = refl }
 
 pub head-40 : IsHeadRead 39
 unfolding digits types_on_literals with_offer with_value two_and_text cut_last parts_of item_value
-head-40 n before last typed = record { entries = _; offer = _; is = refl }
+head-40 n before last typed = record { entries = _; offer = _; is = refl; says = refl }
 
 pub head-41 : IsHeadRead 40
 unfolding digits types_on_literals with_offer with_value two_and_text cut_last parts_of item_value
-head-41 n before last typed = record { entries = _; offer = _; is = refl }
+head-41 n before last typed = record { entries = _; offer = _; is = refl; says = refl }
 
 pub head-42 : IsHeadRead 41
 unfolding digits types_on_literals with_offer with_value two_and_text cut_last parts_of item_value
-head-42 n before last typed = record { entries = _; offer = _; is = refl }
+head-42 n before last typed = record { entries = _; offer = _; is = refl; says = refl }
 
 pub head-43 : IsHeadRead 42
 unfolding digits types_on_literals with_offer with_value two_and_text cut_last parts_of item_value
-head-43 n before last typed = record { entries = _; offer = _; is = refl }
+head-43 n before last typed = record { entries = _; offer = _; is = refl; says = refl }
 
 pub head-44 : IsHeadRead 43
 unfolding digits types_on_literals with_offer with_value two_and_text cut_last parts_of item_value
-head-44 n before last typed = record { entries = _; offer = _; is = refl }
+head-44 n before last typed = record { entries = _; offer = _; is = refl; says = refl }
 
 pub head-45 : IsHeadRead 44
 unfolding digits types_on_literals with_offer with_value two_and_text cut_last parts_of item_value
-head-45 n before last typed = record { entries = _; offer = _; is = refl }
+head-45 n before last typed = record { entries = _; offer = _; is = refl; says = refl }
 
 pub head-46 : IsHeadRead 45
 unfolding digits types_on_literals with_offer with_value two_and_text cut_last parts_of item_value
-head-46 n before last typed = record { entries = _; offer = _; is = refl }
+head-46 n before last typed = record { entries = _; offer = _; is = refl; says = refl }
 
 pub head-47 : IsHeadRead 46
 unfolding digits types_on_literals with_offer with_value two_and_text cut_last parts_of item_value
-head-47 n before last typed = record { entries = _; offer = _; is = refl }
+head-47 n before last typed = record { entries = _; offer = _; is = refl; says = refl }
 
 pub head-48 : IsHeadRead 47
 unfolding digits types_on_literals with_offer with_value two_and_text cut_last parts_of item_value
-head-48 n before last typed = record { entries = _; offer = _; is = refl }
+head-48 n before last typed = record { entries = _; offer = _; is = refl; says = refl }
 
 pub head-49 : IsHeadRead 48
 unfolding digits types_on_literals with_offer with_value two_and_text cut_last parts_of item_value
-head-49 n before last typed = record { entries = _; offer = _; is = refl }
+head-49 n before last typed = record { entries = _; offer = _; is = refl; says = refl }
 
 pub head-50 : IsHeadRead 49
 unfolding digits types_on_literals with_offer with_value two_and_text cut_last parts_of item_value
-head-50 n before last typed = record { entries = _; offer = _; is = refl }
+head-50 n before last typed = record { entries = _; offer = _; is = refl; says = refl }
 
 pub head-51 : IsHeadRead 50
 unfolding digits types_on_literals with_offer with_value two_and_text cut_last parts_of item_value
-head-51 n before last typed = record { entries = _; offer = _; is = refl }
+head-51 n before last typed = record { entries = _; offer = _; is = refl; says = refl }
 
 pub head-52 : IsHeadRead 51
 unfolding digits types_on_literals with_offer with_value two_and_text cut_last parts_of item_value
-head-52 n before last typed = record { entries = _; offer = _; is = refl }
+head-52 n before last typed = record { entries = _; offer = _; is = refl; says = refl }
 
 pub head-53 : IsHeadRead 52
 unfolding digits types_on_literals with_offer with_value two_and_text cut_last parts_of item_value
-head-53 n before last typed = record { entries = _; offer = _; is = refl }
+head-53 n before last typed = record { entries = _; offer = _; is = refl; says = refl }
 
 pub head-54 : IsHeadRead 53
 unfolding digits types_on_literals with_offer with_value two_and_text cut_last parts_of item_value
-head-54 n before last typed = record { entries = _; offer = _; is = refl }
+head-54 n before last typed = record { entries = _; offer = _; is = refl; says = refl }
 
 pub head-55 : IsHeadRead 54
 unfolding digits types_on_literals with_offer with_value two_and_text cut_last parts_of item_value
-head-55 n before last typed = record { entries = _; offer = _; is = refl }
+head-55 n before last typed = record { entries = _; offer = _; is = refl; says = refl }
 
 pub head-56 : IsHeadRead 55
 unfolding digits types_on_literals with_offer with_value two_and_text cut_last parts_of item_value
-head-56 n before last typed = record { entries = _; offer = _; is = refl }
+head-56 n before last typed = record { entries = _; offer = _; is = refl; says = refl }
 
 pub head-57 : IsHeadRead 56
 unfolding digits types_on_literals with_offer with_value two_and_text cut_last parts_of item_value
-head-57 n before last typed = record { entries = _; offer = _; is = refl }
+head-57 n before last typed = record { entries = _; offer = _; is = refl; says = refl }
 
 pub head-58 : IsHeadRead 57
 unfolding digits types_on_literals with_offer with_value two_and_text cut_last parts_of item_value
-head-58 n before last typed = record { entries = _; offer = _; is = refl }
+head-58 n before last typed = record { entries = _; offer = _; is = refl; says = refl }
 
 pub head-59 : IsHeadRead 58
 unfolding digits types_on_literals with_offer with_value two_and_text cut_last parts_of item_value
-head-59 n before last typed = record { entries = _; offer = _; is = refl }
+head-59 n before last typed = record { entries = _; offer = _; is = refl; says = refl }
 
 pub head-60 : IsHeadRead 59
 unfolding digits types_on_literals with_offer with_value two_and_text cut_last parts_of item_value
-head-60 n before last typed = record { entries = _; offer = _; is = refl }
+head-60 n before last typed = record { entries = _; offer = _; is = refl; says = refl }
 
 pub head-61 : IsHeadRead 60
 unfolding digits types_on_literals with_offer with_value two_and_text cut_last parts_of item_value
-head-61 n before last typed = record { entries = _; offer = _; is = refl }
+head-61 n before last typed = record { entries = _; offer = _; is = refl; says = refl }
 
 pub head-62 : IsHeadRead 61
 unfolding digits types_on_literals with_offer with_value two_and_text cut_last parts_of item_value
-head-62 n before last typed = record { entries = _; offer = _; is = refl }
+head-62 n before last typed = record { entries = _; offer = _; is = refl; says = refl }
 
 pub head-63 : IsHeadRead 62
 unfolding digits types_on_literals with_offer with_value two_and_text cut_last parts_of item_value
-head-63 n before last typed = record { entries = _; offer = _; is = refl }
+head-63 n before last typed = record { entries = _; offer = _; is = refl; says = refl }
 
 pub head-64 : IsHeadRead 63
 unfolding digits types_on_literals with_offer with_value two_and_text cut_last parts_of item_value
-head-64 n before last typed = record { entries = _; offer = _; is = refl }
+head-64 n before last typed = record { entries = _; offer = _; is = refl; says = refl }
 
 heads-8 : Upto 8 IsHeadRead
 heads-8 = ((((((((tt, head-1), head-2), head-3), head-4), head-5), head-6), head-7), head-8)

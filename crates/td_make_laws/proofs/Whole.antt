@@ -7,9 +7,11 @@ use Rattle.std.proofs.lemmas.Bool.{ne_eqb}
 use Rattle.std.proofs.lemmas.List.{length-append}
 use Rattle.std.specs.Str.Lines.{lines}
 use Rattle.td_lines.proofs.OnLiterals.{address_on_literals}
-use Rattle.td_lines.specs.Drafts.{has_trader, nothing_yet}
+use Rattle.td_lines.specs.Drafts.{closed, has_trader, nothing_yet}
 use Rattle.td_lines.specs.Heads.{last_trader}
 use Rattle.td_lines.specs.Scripts.{rest_of_file, script_of}
+use Rattle.td_lines.specs.declared.entry.Entry.{Entry}
+use Rattle.td_lines.specs.declared.entry.Numbered.{Numbered}
 use Rattle.td_lines.specs.declared.entry.Script.{Script}
 use Rattle.td_lines.specs.declared.entry.TraderScript.{TraderScript}
 use Rattle.td_make.specs.Generated.{chord_after, first_offers, first_traders, generated, heading, link_line, next_after}
@@ -21,7 +23,8 @@ use Rattle.td_make_laws.proofs.Passing.{passed, text-passes}
 use Rattle.td_make_laws.proofs.Tables.{Upto, at}
 use Rattle.td_make_laws.proofs.Types.{Draft}
 use Rattle.td_put.specs.Pieces.{counted}
-use Rattle.td_make_laws.specs.Said.{SaysRing, first_names, name_of}
+use Rattle.td_make_laws.specs.Said.{Asked, SaysRing, asked, entries_in, first_names, head_entries, link_entries}
+use Rattle.td_make_laws.specs.Said.{link_entry, name_of, ring_traders}
 
 -- ---- ends of texts
 
@@ -48,10 +51,9 @@ named xs x =
     let count : length (xs ++ x ∷ []) ≡ length xs + 1 = length-append xs (x ∷ []) in
     rw (ne_eqb (length (xs ++ x ∷ [])) 0 (λ e. absurd (omega (arith, e, count)))) refl
 
-map-names : (ts : List TraderScript) (t : TraderScript)
-    → map (λ (u : TraderScript). u.name) (ts ++ t ∷ []) ≡ map (λ (u : TraderScript). u.name) ts ++ t.name ∷ []
-map-names [] t = refl
-map-names (u ∷ ts) t = ap (λ (names : List (List ℕ)). u.name ∷ names) (map-names ts t)
+map-last : {A B : Type 0} (f : A → B) (xs : List A) (x : A) → map f (xs ++ x ∷ []) ≡ map f xs ++ f x ∷ []
+map-last f [] x = refl
+map-last {B = B} f (y ∷ xs) x = ap (λ (ys : List B). f y ∷ ys) (map-last f xs x)
 
 -- ---- so many traders are read
 
@@ -65,6 +67,7 @@ record Reaches (count done : ℕ) : Type 0 where
   last : TraderScript
   typed : Bool
   names : map (λ (t : TraderScript). t.name) (all_said done before last) ≡ first_names done
+  traders : map asked (all_said done before last) ≡ ring_traders count done
   reads : (rest : List ℕ) → rest_of_file 0 nothing_yet (lines (so_far count done ++ rest))
       ≡ rest_of_file n (between (first_names done) before (last_of done last) typed) (lines rest)
 
@@ -80,6 +83,7 @@ at-first count = record {
   last = record { name = []; interfaces = []; entries = [] };
   typed = false;
   names = refl;
+  traders = refl;
   reads = λ rest.
       text-passes (codes "address 127.0.0.1 2809\n") rest 0 nothing_yet
       (between [] [] (record { name = []; interfaces = []; entries = [] }) false)
@@ -134,15 +138,39 @@ module _ (count done : ℕ) (r : Reaches count done)
       ∙ ap (λ (x : List ℕ). (a ++ f) ++ x) (append_assoc (head trader) (first_link ++ second_link) rest
       ∙ ap (λ (x : List ℕ). head trader ++ x) (append_assoc first_link second_link rest)))
 
+  abbrev last_said : TraderScript
+  last_said = record { name = name_of trader; interfaces = []; entries = twice_linked.entries }
+
+  abbrev asked_so : List Entry → Asked
+  asked_so es = record { name = name_of trader; interfaces = []; entries = es }
+
+  abbrev first_entry : Entry
+  first_entry = link_entry (codes "next") (next_after count trader)
+
+  abbrev second_entry : Entry
+  second_entry = link_entry (codes "chord") (chord_after count trader)
+
+  said : entries_in twice_linked.entries ≡ head_entries trader ++ link_entries count trader
+  said =
+      map-last (λ (one : Numbered). one.entry) once_linked.entries _
+      ∙ ap (λ (es : List Entry). es ++ second_entry ∷ [])
+      (map-last (λ (one : Numbered). one.entry) (closed headed).entries _
+      ∙ ap (λ (es : List Entry). es ++ first_entry ∷ []) h.says)
+      ∙ append_assoc (head_entries trader) (first_entry ∷ []) (second_entry ∷ [])
+
   one-more : Reaches count trader
   one-more = record {
     n = n3;
     before = others;
-    last = record { name = name_of trader; interfaces = []; entries = twice_linked.entries };
+    last = last_said;
     typed = true;
     names =
-        map-names others (record { name = name_of trader; interfaces = []; entries = twice_linked.entries })
+        map-last (λ (t : TraderScript). t.name) others last_said
         ∙ ap (λ (names : List (List ℕ)). names ++ name_of trader ∷ []) r.names;
+    traders =
+        map-last asked others last_said
+        ∙ ap (λ (ts : List Asked). ts ++ asked last_said ∷ []) r.traders
+        ∙ ap (λ (es : List Entry). ring_traders count done ++ asked_so es ∷ []) said;
     reads = λ rest.
         ap (λ (x : List ℕ). rest_of_file 0 nothing_yet (lines x)) (apart rest)
         ∙ (r.reads (head trader ++ (first_link ++ (second_link ++ rest)))
@@ -173,6 +201,12 @@ all-read (suc done) least r =
         interfaces = [];
         entries = [];
       } else d).finished) ≡ first_names (suc done)) (sym there) r.names;
+      traders = subst (λ (b : Bool). map asked ((if b then record d {
+        finished = d.finished ++ last_trader d ∷ [];
+        name = [];
+        interfaces = [];
+        entries = [];
+      } else d).finished) ≡ ring_traders (suc done) (suc done)) (sym there) r.traders;
     })
 
 -- ---- the whole file
