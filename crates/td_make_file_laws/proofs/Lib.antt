@@ -1,0 +1,9 @@
+pub mod Adding
+pub mod AtMost
+pub mod Exporting
+pub mod Going
+pub mod Knowing
+pub mod Measured
+pub mod Meeting
+pub mod Opening
+pub mod Whole
