@@ -9,6 +9,7 @@ use Rattle.td_reply.specs.declared.entry.Entry.{Entry}
 use Rattle.td_session.specs.declared.end.End.{End}
 use Rattle.td_session.specs.Outside.{Outside}
 use Rattle.td_session.specs.Sessions.{Serves}
+use Rattle.td_trader.specs.PlainTraders.{PlainTrader}
 use Rattle.td_trader.specs.Solos.{nothing, solo_view, unchanged}
 use Rattle.td_trader.specs.Worlds.{View}
 use Rattle.td_walk.specs.declared.trace.Address.{Address}
@@ -36,12 +37,12 @@ same-scene w d0 d1 p0 p1 f0 f1 d p f =
 
 -- a session in a new room, whose words are those that come after the seeding
 pub begun : (o : Opening) (seeded : Seeded) (home : Address) (desk : Live) (peers : PeersSeen) (words : ℕ → ℕ)
-    (later : Scene) (journal : List Entry) (end : End) (before after : Outside)
-    → home ≡ o.home → desk ≡ ([], 1) → peers ≡ peers_seen [] 0
+    (later : Scene) (journal : List Entry) (end : End) (before after : Outside) (traders : List PlainTrader)
+    → later.world ≡ map solo_view traders → home ≡ o.home → desk ≡ ([], 1) → peers ≡ peers_seen [] 0
     → ((k : ℕ) → words k ≡ seeded (seeding_of o) k)
     → Serves nothing unchanged home (scene (map solo_view o.traders) desk peers words) later journal end before after
     → ServesOpening o seeded end before after
-begun o seeded home desk peers words later journal end before after h d p f serves =
+begun o seeded home desk peers words later journal end before after traders alone h d p f serves =
     let same : scene (map solo_view o.traders) desk peers words ≡ beginning o seeded =
     same-scene (map solo_view o.traders) desk ([], 1) peers (peers_seen [] 0) words (seeded (seeding_of o)) d p f in
     let here : Serves nothing unchanged home (beginning o seeded) later journal end before after =
@@ -52,4 +53,6 @@ begun o seeded home desk peers words later journal end before after h d p f serv
       serves =
           subst (λ (x : Address). Serves nothing unchanged x (beginning o seeded) later journal end before after) h
           here;
+      traders = traders;
+      alone = alone;
     }

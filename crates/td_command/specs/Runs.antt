@@ -13,6 +13,7 @@ use Rattle.td_reply.specs.declared.entry.Entry.{Entry}
 use Rattle.td_session.specs.declared.end.End.{End}
 use Rattle.td_session.specs.Outside.{Outside}
 use Rattle.td_session.specs.Sessions.{Serves}
+use Rattle.td_trader.specs.PlainTraders.{PlainTrader}
 use Rattle.td_trader.specs.Solos.{nothing, solo_view, unchanged}
 use Rattle.td_command.specs.declared.ended.Ended.{Ended}
 use Rattle.td_command.specs.declared.ended.Ended.TheVariants.{Usage, Missing, TooLong, Refused, Memory, Printed}
@@ -28,11 +29,14 @@ use Rattle.td_command.specs.Status.{status_of}
 abbrev pub beginning : Opening → Seeded → Scene
 beginning o seeded = scene (map solo_view o.traders) ([], 1) (peers_seen [] 0) (seeded (seeding_of o))
 
--- a session over the traders that a file opens, which no other session changes
+-- A session over the traders that a file opens, which no other session changes. It leaves traders of which each place
+-- and each mark is its own.
 pub record ServesOpening (o : Opening) (seeded : Seeded) (end : End) (before after : Outside) : Type 0 where
   pub later : Scene
   pub journal : List Entry
   pub serves : Serves nothing unchanged o.home (beginning o seeded) later journal end before after
+  pub traders : List PlainTrader
+  pub alone : later.world ≡ map solo_view traders
 
 -- with what a file opens a session is served, or none for want of memory
 abbrev pub ServesOpened : Opening → Seeded → Ended → Outside → Outside → Type 0

@@ -1,4 +1,4 @@
-use Rattle.std.proofs.Common.{ℕ, List, [], map, ap, ◌∙◌}
+use Rattle.std.proofs.Common.{ℕ, List, [], map, refl, ap, ◌∙◌}
 use Rattle.td_client.specs.declared.note.Note.{Note}
 use Rattle.td_client.specs.Noted.{exchange_of}
 use Rattle.td_file.specs.Files.{seen}
@@ -9,7 +9,8 @@ use Rattle.td_command.proofs.serve.serve_opened.Goals as goal
 pub returns : goal.returns
 returns g c =
     let seeded = g.W.Words.word_after c.args.words.now in
-    begun (seen c.args.opened) seeded c.in-Ok.room.home c.in-Ok.room.desk _ _ _ _ _ _ _ c.in-Ok.ensures.home
+    begun (seen c.args.opened) seeded c.in-Ok.room.home c.in-Ok.room.desk _ _ _ _ _ _ _
+    c.serve_connection-end.new.traders.traders.items refl c.in-Ok.ensures.home
     c.in-Ok.ensures.new.desk
     (ap (λ (n : List Note). peers_seen (map exchange_of n) c.new-peers.result.faults) c.new-peers.ensures.notes
     ∙ ap (λ (k : ℕ). peers_seen [] k) c.new-peers.ensures.faults)

@@ -1,0 +1,6 @@
+//! What holds of every run of the server's program, as functions that do nothing: their contracts are the laws.
+#![tactic(auto)]
+
+mod laws;
+
+pub use laws::{drills_are_not_refused, histories_grow_by_own_changes};
