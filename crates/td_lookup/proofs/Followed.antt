@@ -105,9 +105,10 @@ module _ (others : List Accepted → Type 0) (later : Marks → Marks → Type 0
     (goes : Goes others later s.world t.world) (quiet : IsQuiet s.world t.world)
     (faults : CountsFaults s.peers.calls t.peers.calls s.peers.faults t.peers.faults) where
   unserved_name : (point : ℕ) (asked : Option (Result Ior PeerFault)) → Gave asked s.peers.calls t.peers.calls
-      → TakenBack others later (Call x (call.Resolve names)) s (in_vain t.world k (name_entry k point asked)) t
+      → TakenBack others later home (Call x (call.Resolve names)) s (in_vain t.world k (name_entry k point asked)) t
   unserved_name point asked g = record {
     entry = entry_wanting t.world x names k point asked at;
+    walk = tt;
     outcome = refl;
     desk = desk;
     goes = goes;
@@ -164,19 +165,19 @@ module _ (others : List Accepted → Type 0) (later : Marks → Marks → Type 0
       (told_by a (wants_memory a.outcome) refl r)
 
   back_by : (a : NameAnswer) (b : Bool) → Gave a.asked s.peers.calls t.peers.calls
-      → TakenBack others later (Call x (call.Resolve names)) s (in_vain t.world k
+      → TakenBack others later home (Call x (call.Resolve names)) s (in_vain t.world k
       (if b then unanswered (in_vain t.world k (name_entry k a.point a.asked))
       else record { body = reply_body.Outcome a.outcome; entry = name_entry k a.point a.asked }).entry) t
   back_by a true g =
-      subst (λ (e : Entry). TakenBack others later (Call x (call.Resolve names)) s e t)
+      subst (λ (e : Entry). TakenBack others later home (Call x (call.Resolve names)) s e t)
       (sym (twice t.world k a.point a.asked)) (unserved_name a.point a.asked g)
   back_by a false g = unserved_name a.point a.asked g
 
   pub name_back : (a : NameAnswer) (y : Answer) → y ≡ name_told t.world k a
       → Resolves others later home s.world s.peers.calls k names a t.world t.peers.calls
-      → TakenBack others later (Call x (call.Resolve names)) s (in_vain t.world k y.entry) t
+      → TakenBack others later home (Call x (call.Resolve names)) s (in_vain t.world k y.entry) t
   name_back a y is r =
-      subst (λ (z : Answer). TakenBack others later (Call x (call.Resolve names)) s (in_vain t.world k z.entry) t)
+      subst (λ (z : Answer). TakenBack others later home (Call x (call.Resolve names)) s (in_vain t.world k z.entry) t)
       (sym is)
       (back_by a (wants_memory a.outcome)
       (resolves_gave others later home s.world s.peers.calls k names a t.world t.peers.calls r))
@@ -193,7 +194,7 @@ module _ (others : List Accepted → Type 0) (later : Marks → Marks → Type 0
       }))
 
   pub nothing_back : (y : Answer) → y ≡ unanswered Plain → t.peers.calls ≡ s.peers.calls
-      → TakenBack others later (Call x (call.Resolve names)) s (in_vain t.world k y.entry) t
+      → TakenBack others later home (Call x (call.Resolve names)) s (in_vain t.world k y.entry) t
   nothing_back y is same =
-      subst (λ (z : Answer). TakenBack others later (Call x (call.Resolve names)) s (in_vain t.world k z.entry) t)
+      subst (λ (z : Answer). TakenBack others later home (Call x (call.Resolve names)) s (in_vain t.world k z.entry) t)
       (sym is) (unserved_name 0 None (none_gave s.peers.calls t.peers.calls same))

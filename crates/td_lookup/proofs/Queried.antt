@@ -5,7 +5,7 @@ use Rattle.td_cdr.specs.Marks.{Marks}
 use Rattle.td_cdr.specs.Writing.{Draft}
 use Rattle.td_cdr.specs.declared.memory.Memory.{Memory as Wanting}
 use Rattle.td_fed.specs.Trails.{DrawsOn, Goes, IsShown, Rises, marks_of, own_marks_at, points_of}
-use Rattle.td_fed.specs.Visiting.{Visited, course}
+use Rattle.td_fed.specs.Visiting.{Visited, VisitedSoFar, WalksSoFar, course}
 use Rattle.td_iter.specs.Desks.{Live}
 use Rattle.td_lookup.specs.Choosing.{chosen}
 use Rattle.td_lookup.specs.Querying.{QueryComes, first_offers}
@@ -32,6 +32,7 @@ use Rattle.td_walk.specs.declared.trace.TraceItem.{TraceItem}
 use Rattle.td_walk.specs.declared.trace.Visit.{Visit}
 use Rattle.td_walk.specs.declared.trace.Visit.TheVariants as visit
 use Rattle.td_walk_laws.proofs.Counting.{counts-made}
+use Rattle.td_walk_laws.specs.Beginnings.{whole}
 use Rattle.td_walk_laws.specs.Faults.{CountsFaults}
 use Rattle.td_walk_laws.specs.Walks.{shown}
 
@@ -65,21 +66,36 @@ written_whole X (Err m) is = tt
 -- ---- a query
 
 module _ (others : List Accepted → Type 0) (later : Marks → Marks → Type 0) (home : Address) (x : Object) (k : ℕ)
-    (q : Query) (s t : Scene) (trace : Trace) where
+    (q : Query) (s t : Scene) (trace : Trace) (at : x.trader ≡ k) where
   -- what a visit has done
   pub record Ran (before : List TraceItem) (visited : Result Visit Wanting) : Type 0 where
     pub came : IfOk visited (λ v. Visited others later home (course s.world s.words s.peers.calls) k q before
         trace.items v (course t.world t.words t.peers.calls))
+    pub so_far : OnErr visited (VisitedSoFar others later home (course s.world s.words s.peers.calls) k q before
+        trace.items (course t.world t.words t.peers.calls))
     pub seen : IsShown s.world s.peers.calls before trace.items t.world t.peers.calls
     pub goes : Goes others later s.world t.world
     pub draws : DrawsOn s.words t.words
     pub faults : CountsFaults s.peers.calls t.peers.calls s.peers.faults t.peers.faults
 
+  -- whatever the visit came to, its trace is the beginning of a walk
+  so_far_of : (visited : Result Visit Wanting) → Ran [] visited
+      → WalksSoFar others later home (course s.world s.words s.peers.calls) k q trace.items
+      (course t.world t.words t.peers.calls)
+  so_far_of (Ok v) r =
+      subst (λ (is : List TraceItem). WalksSoFar others later home (course s.world s.words s.peers.calls) k q is
+      (course t.world t.words t.peers.calls)) (sym r.came.notes) (whole r.came.walk)
+  so_far_of (Err m) r =
+      subst (λ (is : List TraceItem). WalksSoFar others later home (course s.world s.words s.peers.calls) k q is
+      (course t.world t.words t.peers.calls)) (sym r.so_far.notes) r.so_far.walk
+
   -- NO_MEMORY may stand in place of any answer that leaves the desk as it was
   retracted : (visited : Result Visit Wanting) → Ran [] visited → t.desk ≡ s.desk
-      → Unserved others later (Call x (call.Query q)) s (wanting (Walk trace)) (Walk trace) t
+      → Unserved others later home (Call x (call.Query q)) s (wanting (Walk trace)) (Walk trace) t
   retracted visited r same = record {
     entry = of_trace trace;
+    walk = subst (λ (n : ℕ). WalksSoFar others later home (course s.world s.words s.peers.calls) n q trace.items
+        (course t.world t.words t.peers.calls)) (sym at) (so_far_of visited r);
     outcome = refl;
     desk = same;
     goes = r.goes;
@@ -133,7 +149,7 @@ module _ (others : List Accepted → Type 0) (later : Marks → Marks → Type 0
     back : (told : Result ReplyBody Wanting) (visited : Result Visit Wanting) → Ran [] visited
         → IfOk told (λ b. IfOutcome b (t.desk ≡ s.desk)) → OnErr told ((t.desk ≡ s.desk) × (new.bytes ≡ old.bytes))
         → IfOutcome (walked trace told).body
-        (TakenBack others later (Call x (call.Query q)) s (walked trace told).entry t)
+        (TakenBack others later home (Call x (call.Query q)) s (walked trace told).entry t)
     back (Ok (reply_body.Outcome o)) visited r h bad = retracted visited r h
     back (Ok reply_body.Written) visited r h bad = tt
     back (Err m) visited r h bad = retracted visited r bad.0
@@ -153,8 +169,8 @@ module _ (others : List Accepted → Type 0) (later : Marks → Marks → Type 0
     pub query_back : (told : Result ReplyBody Wanting) (visited : Result Visit Wanting) (before : List TraceItem)
         (a : Answer) → Ran before visited → before ≡ [] → IfOk told (λ b. IfOutcome b (t.desk ≡ s.desk))
         → OnErr told ((t.desk ≡ s.desk) × (new.bytes ≡ old.bytes)) → a ≡ walked trace told
-        → IfOutcome a.body (TakenBack others later (Call x (call.Query q)) s a.entry t)
+        → IfOutcome a.body (TakenBack others later home (Call x (call.Query q)) s a.entry t)
     query_back told visited before a r none h bad is =
         let ran : Ran [] visited = subst (λ (is : List TraceItem). Ran is visited) none r in
-        subst (λ (y : Answer). IfOutcome y.body (TakenBack others later (Call x (call.Query q)) s y.entry t)) (sym is)
-        (back told visited ran h bad)
+        subst (λ (y : Answer). IfOutcome y.body (TakenBack others later home (Call x (call.Query q)) s y.entry t))
+        (sym is) (back told visited ran h bad)

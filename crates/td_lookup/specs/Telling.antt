@@ -115,18 +115,18 @@ name_told w k a =
 
 module _ (others : List Accepted → Type 0) (later : Marks → Marks → Type 0) where
   -- NO_MEMORY may stand in place of the answer, with this entry
-  abbrev pub TakenBack : Judged → Scene → Entry → Scene → Type 0
-  TakenBack j s e t = Unserved others later j s (wanting e) e t
+  abbrev pub TakenBack : Address → Judged → Scene → Entry → Scene → Type 0
+  TakenBack home j s e t = Unserved others later home j s (wanting e) e t
 
   -- a query is answered with what it comes to, or memory was wanted
   abbrev pub QueryTold : Address → Object → Scene → (k : ℕ) → Query → (old : Draft) → Answer → (new : Draft) → Scene
       → Type 0
   QueryTold home x s k q old a new t =
       IsTold (λ o e. QueryComes others later home s k q old o e t) a old new
-      ⊎ IsTold (λ o e. Unserved others later (Call x (call.Query q)) s o e t) a old new
+      ⊎ IsTold (λ o e. Unserved others later home (Call x (call.Query q)) s o e t) a old new
 
   -- and so are names; an answer that memory was wanted for isn't what they come to
   abbrev pub NameTold : Address → Object → Scene → (k : ℕ) → (names : List (List ℕ)) → Answer → Scene → Type 0
   NameTold home x s k names a t =
       IsToldPlainly (λ o e. NameComes others later home s k names o e t × (wants_memory o ≡ false)) a
-      ⊎ IsToldPlainly (λ o e. Unserved others later (Call x (call.Resolve names)) s o e t) a
+      ⊎ IsToldPlainly (λ o e. Unserved others later home (Call x (call.Resolve names)) s o e t) a

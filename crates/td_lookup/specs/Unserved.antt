@@ -4,6 +4,7 @@ use Rattle.std.specs.List.{list_any}
 use Rattle.td_cdr.specs.Marks.{Marks}
 use Rattle.td_codes.specs.declared.reference.Ior.{Ior}
 use Rattle.td_fed.specs.Trails.{DrawsOn, Goes, Rises, marks_of, own_marks_at, points_of}
+use Rattle.td_fed.specs.Visiting.{WalksSoFar, course}
 use Rattle.td_lookup.specs.Scenes.{Scene}
 use Rattle.td_ops.specs.declared.call.AddLink.{AddLink}
 use Rattle.td_ops.specs.declared.call.Call.TheVariants as call
@@ -21,6 +22,7 @@ use Rattle.td_reply.specs.declared.objects.Object.{Object}
 use Rattle.td_trader.specs.Worlds.{View, history_at}
 use Rattle.td_walk.specs.Peering.{Exchange, Failed, Given, Referred}
 use Rattle.td_walk.specs.declared.fault.PeerFault.{PeerFault}
+use Rattle.td_walk.specs.declared.trace.Address.{Address}
 use Rattle.td_walk.specs.declared.trace.Trace.{Trace}
 use Rattle.td_walk.specs.declared.trace.TraceItem.{TraceItem}
 use Rattle.td_walk.specs.declared.trace.TraceItem.TheVariants as item
@@ -72,11 +74,19 @@ abbrev pub is_query : Judged → Bool
 is_query (Call x (call.Query q)) = true
 is_query other = false
 
-module _ (others : List Accepted → Type 0) (later : Marks → Marks → Type 0) where
+module _ (others : List Accepted → Type 0) (later : Marks → Marks → Type 0) (home : Address) where
+  -- what is noted of a query is the beginning of a walk from its trader on
+  abbrev pub IsWalkSoFar : Judged → Scene → Entry → Scene → Type 0
+  IsWalkSoFar (Call x (call.Query q)) s e t =
+      WalksSoFar others later home (course s.world s.words s.peers.calls) x.trader q (items_of e)
+      (course t.world t.words t.peers.calls)
+  IsWalkSoFar other s e t = Unit {0}
+
   -- The desk is as it was, and so are the stores but for what others did. The entry shows each mark that was made, the
   -- points at which queries began and what each peer gave. Only a query may have drawn words.
   pub record Unserved (j : Judged) (s : Scene) (o : Outcome) (e : Entry) (t : Scene) : Type 0 where
     pub entry : WantingEntry t.world j e
+    pub walk : IsWalkSoFar j s e t
     pub outcome : o ≡ wanting e
     pub desk : t.desk ≡ s.desk
     pub goes : Goes others later s.world t.world

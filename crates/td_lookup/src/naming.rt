@@ -38,7 +38,7 @@ pub fn answer_resolve<T: Traders, P: Peers>(
         (scene (T.world traders.old) d (peers_seen (P.calls peers.old) (P.faults peers.old)) words) trader names.now
         result (scene (T.world traders.new) d (peers_seen (P.calls peers.new) (P.faults peers.new)) words) }
     ensures taken_back { (x : Object) (d : Live) (words : ℕ → ℕ) → x.trader ≡ trader →
-        TakenBack T.others T.later (Call x (call.Resolve names.now))
+        TakenBack T.others T.later home.now (Call x (call.Resolve names.now))
         (scene (T.world traders.old) d (peers_seen (P.calls peers.old) (P.faults peers.old)) words)
         (in_vain (T.world traders.new) trader result.entry)
         (scene (T.world traders.new) d (peers_seen (P.calls peers.new) (P.faults peers.new)) words) }

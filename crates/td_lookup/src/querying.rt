@@ -51,12 +51,13 @@ pub fn answer_query<T: Traders, P: Peers, W: Words>(
     ensures same_peers { P.same peers.old peers.new }
     ensures same_words { W.same words.old words.new }
     ensures faults { P.faults peers.old ≤ P.faults peers.new }
-    ensures told { (x : Object) → QueryTold T.others T.later home.now x
+    ensures told { (x : Object) → x.trader ≡ trader → QueryTold T.others T.later home.now x
         (scene (T.world traders.old) desk.old (peers_seen (P.calls peers.old) (P.faults peers.old)) (W.word words.old))
         trader q.now w.old result w.new
         (scene (T.world traders.new) desk.new (peers_seen (P.calls peers.new) (P.faults peers.new))
         (W.word words.new)) }
-    ensures taken_back { (x : Object) → IfOutcome result.body (TakenBack T.others T.later (Call x (call.Query q.now))
+    ensures taken_back { (x : Object) → x.trader ≡ trader → IfOutcome result.body (TakenBack T.others T.later
+        home.now (Call x (call.Query q.now))
         (scene (T.world traders.old) desk.old (peers_seen (P.calls peers.old) (P.faults peers.old)) (W.word words.old))
         result.entry
         (scene (T.world traders.new) desk.new (peers_seen (P.calls peers.new) (P.faults peers.new))

@@ -33,14 +33,14 @@ module _ (others : List Accepted → Type 0) (later : Marks → Marks → Type 0
 
   module _ (w : List View) (i : IterCall) (draft new : Draft) (d e : Live) (p : PeersSeen) (words : ℕ → ℕ) where
     plain_refused : (n : Entry) → x.trader < length w → n ≡ Plain → e ≡ d
-        → MayBeRefused others later (Call x (call.Iter i)) x.trader (scene w d p words) n (scene w e p words)
+        → MayBeRefused others later home (Call x (call.Iter i)) x.trader (scene w d p words) n (scene w e p words)
     plain_refused n within noted same = record {
       within = within;
       unserved = subst
-          (λ (y : Entry). Unserved others later (Call x (call.Iter i)) (scene w d p words)
+          (λ (y : Entry). Unserved others later home (Call x (call.Iter i)) (scene w d p words)
           (wanting (in_vain w x.trader y)) (in_vain w x.trader y) (scene w e p words))
           (sym noted)
-          (nothing_done others later (Call x (call.Iter i)) w w x.trader d e p p words (inl refl) same refl);
+          (nothing_done others later home (Call x (call.Iter i)) w w x.trader d e p p words (inl refl) same refl tt);
     }
 
     pub iterator_performs : (name : List ℕ) (number : ℕ) (r : Result Answer Wanting) (a : Answer)
@@ -61,7 +61,7 @@ module _ (others : List Accepted → Type 0) (later : Marks → Marks → Type 0
         (told_performs others later home j x.trader (scene w d p words) (scene w e p words)
         (λ o n. IteratorComes name number i d draft o n e) b draft new ok order (inl (comes, refl))
         (long_from b.body (e ≡ d)
-        (MayBeRefused others later j x.trader (scene w d p words) b.entry (scene w e p words))
+        (MayBeRefused others later home j x.trader (scene w d p words) b.entry (scene w e p words))
         (plain_refused b.entry within ok.comes.noted) back))
     iterator_performs name number (Err m) a within named numbered ok back err order is =
         let j = Call x (call.Iter i) in
@@ -69,7 +69,7 @@ module _ (others : List Accepted → Type 0) (later : Marks → Marks → Type 0
         (λ (y : Answer). Performs others later home j x.trader draft (scene w d p words) y.body y.entry new
         (scene w e p words)) (sym is)
         (wanting_performs others later home j x.trader (scene w d p words) (scene w e p words) draft new
-        (nothing_done others later j w w x.trader d e p p words (inl refl) err.0 refl))
+        (nothing_done others later home j w w x.trader d e p p words (inl refl) err.0 refl tt))
 
   -- ---- every object
 

@@ -46,7 +46,7 @@ module _ (others : List Accepted → Type 0) (later : Marks → Marks → Type 0
     (s t : Scene) where
   pub told_performs : (P : Outcome → Entry → Type 0) (a : Answer) (old new : Draft) (h : IsTold P a old new)
       → new.order ≡ old.order → Answers others later home j old s h.outcome a.entry t
-      → IfLong a.body (MayBeRefused others later j k s a.entry t)
+      → IfLong a.body (MayBeRefused others later home j k s a.entry t)
       → Performs others later home j k old s a.body a.entry new t
   told_performs P a old new h same answers back = record {
     outcome = h.outcome;
@@ -57,7 +57,7 @@ module _ (others : List Accepted → Type 0) (later : Marks → Marks → Type 0
 
   pub plain_performs : (P : Outcome → Entry → Type 0) (a : Answer) (draft written : Draft) (h : IsToldPlainly P a)
       → Answers others later home j draft s h.outcome a.entry t
-      → IfLong a.body (MayBeRefused others later j k s a.entry t)
+      → IfLong a.body (MayBeRefused others later home j k s a.entry t)
       → Performs others later home j k draft s a.body a.entry written t
   plain_performs P a draft written h answers back = record {
     outcome = h.outcome;
@@ -67,7 +67,7 @@ module _ (others : List Accepted → Type 0) (later : Marks → Marks → Type 0
   }
 
   -- memory was wanted, and nothing is noted
-  pub wanting_performs : (draft written : Draft) → Unserved others later j s (wanting Plain) Plain t
+  pub wanting_performs : (draft written : Draft) → Unserved others later home j s (wanting Plain) Plain t
       → Performs others later home j k draft s (reply_body.Outcome no_memory) Plain written t
   wanting_performs draft written h = record {
     outcome = no_memory;
@@ -88,7 +88,8 @@ module _ (others : List Accepted → Type 0) (later : Marks → Marks → Type 0
   }
 
   -- with one for whose beginning memory was wanted
-  pub unbegun_performed : (order : Order) (id : ℕ) (written : Draft) → Unserved others later j s (wanting Plain) Plain t
+  pub unbegun_performed : (order : Order) (id : ℕ) (written : Draft)
+      → Unserved others later home j s (wanting Plain) Plain t
       → Performed others later home order id j k s (reply_body.Outcome no_memory) Plain written t
   unbegun_performed order id written h = record {
     draft = record { bytes = reply_start order id 0; order = order; room = 0 };

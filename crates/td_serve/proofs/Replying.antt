@@ -19,7 +19,7 @@ use Rattle.td_reply.specs.declared.entry.Entry.{Entry}
 use Rattle.td_reply.specs.declared.entry.Entry.TheVariants.{Plain}
 use Rattle.td_reply.specs.declared.judging.Judged.{Judged}
 use Rattle.td_reply.specs.declared.judging.Judged.TheVariants.{Refused}
-use Rattle.td_serve.proofs.Wanting.{nothing_done}
+use Rattle.td_serve.proofs.Wanting.{no_walk, nothing_done}
 use Rattle.td_serve.specs.ReplyBytes.{BeginsReply, outcome_reply, reply_for}
 use Rattle.td_serve.specs.Requests.{Answers, Served}
 use Rattle.td_serve.specs.Serving.{HasHead, IsBodyOf, MayBeRefused, Performed, Settles}
@@ -71,14 +71,14 @@ module _ (others : List Accepted → Type 0) (later : Marks → Marks → Type 0
 
   -- NO_MEMORY, with what is noted then
   serves_in_vain : (j : Judged) (k : ℕ) (s t : Scene) (e settled : Entry) (draft : Draft) (bytes : List ℕ)
-      → BeginsReply order id draft → MayBeRefused others later j k s e t → settled ≡ in_vain t.world k e
+      → BeginsReply order id draft → MayBeRefused others later home j k s e t → settled ≡ in_vain t.world k e
       → bytes ≡ reply_for answered order id (wanting settled)
       → Served others later home order id answered j s (wanting settled) settled bytes t
   serves_in_vain j k s t e settled draft bytes begun back same is = record {
     draft = draft;
     begun = begun;
     answers = inr
-        (subst (λ (n : Entry). Unserved others later j s (wanting n) n t) (sym same) back.unserved);
+        (subst (λ (n : Entry). Unserved others later home j s (wanting n) n t) (sym same) back.unserved);
     reply = is;
   }
 
@@ -158,8 +158,9 @@ module _ (others : List Accepted → Type 0) (later : Marks → Marks → Type 0
   memory_served j e bytes noted is = record {
     draft = begun_draft;
     begun = record { bytes = refl; is_in = refl };
-    answers = inr (subst (λ (n : Entry). Unserved others later j s no_memory n s) (sym noted)
-        (nothing_done others later j s.world s.world 0 s.desk s.desk s.peers s.peers s.words (inl refl) refl refl));
+    answers = inr (subst (λ (n : Entry). Unserved others later home j s no_memory n s) (sym noted)
+        (nothing_done others later home j s.world s.world 0 s.desk s.desk s.peers s.peers s.words (inl refl) refl refl
+        (no_walk others later home j s)));
     reply = is;
   }
 

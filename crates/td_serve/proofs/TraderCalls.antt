@@ -9,7 +9,7 @@ use Rattle.td_fed.proofs.Staying.{goes-many}
 use Rattle.td_iter.specs.Desks.{Live}
 use Rattle.td_lookup.specs.Scenes.{Scene, scene}
 use Rattle.td_lookup.specs.Telling.{in_vain}
-use Rattle.td_lookup.specs.Unserved.{Unserved, wanting}
+use Rattle.td_lookup.specs.Unserved.{IsWalkSoFar, Unserved, wanting}
 use Rattle.td_ops.specs.declared.call.AddLink.{AddLink}
 use Rattle.td_ops.specs.declared.call.Call.TheVariants as call
 use Rattle.td_ops.specs.declared.call.Change.{Change}
@@ -41,15 +41,16 @@ module _ (others : List Accepted → Type 0) (later : Marks → Marks → Type 0
   watched_within k within seen = omega (arith, goes-many others later w u (goes-watched others later w u k seen))
 
   -- a call that noted a point, and did nothing
-  point_refused : (j : Judged) (k point : ℕ) (e : Entry) (d a : Live) (before after : PeersSeen) (words : ℕ → ℕ)
-      → k < length w → e ≡ Point k point → a ≡ d → after ≡ before → Watches others later w k u
-      → MayBeRefused others later j k (scene w d before words) e (scene u a after words)
-  point_refused j k point e d a before after words within noted same unasked seen = record {
+  point_refused : (home : Address) (j : Judged) (k point : ℕ) (e : Entry) (d a : Live) (before after : PeersSeen)
+      (words : ℕ → ℕ) → k < length w → e ≡ Point k point → a ≡ d → after ≡ before → Watches others later w k u
+      → IsWalkSoFar others later home j (scene w d before words) Plain (scene u a after words)
+      → MayBeRefused others later home j k (scene w d before words) e (scene u a after words)
+  point_refused home j k point e d a before after words within noted same unasked seen walk = record {
     within = watched_within k within seen;
     unserved = subst
-        (λ (x : Entry). Unserved others later j (scene w d before words) (wanting (in_vain u k x)) (in_vain u k x)
+        (λ (x : Entry). Unserved others later home j (scene w d before words) (wanting (in_vain u k x)) (in_vain u k x)
         (scene u a after words))
-        (sym noted) (nothing_done others later j w u k d a before after words (inr seen) same unasked);
+        (sym noted) (nothing_done others later home j w u k d a before after words (inr seen) same unasked walk);
   }
 
   -- ---- a change
@@ -69,16 +70,16 @@ module _ (others : List Accepted → Type 0) (later : Marks → Marks → Type 0
       (plain_performs others later home j x.trader (scene w d p words) (scene u d p words)
       (λ o e. ChangeComes others later w x.trader c o e u) b draft written ok (inl (ok.comes, refl))
       (long_from b.body (Watches others later w x.trader u)
-      (MayBeRefused others later j x.trader (scene w d p words) b.entry (scene u d p words))
-      (point_refused j x.trader (length ok.comes.changes.seen.history) b.entry d d p p words within ok.comes.noted refl
-      refl) back))
+      (MayBeRefused others later home j x.trader (scene w d p words) b.entry (scene u d p words))
+      (λ seen. point_refused home j x.trader (length ok.comes.changes.seen.history) b.entry d d p p words within
+      ok.comes.noted refl refl seen tt) back))
   change_performs home x c draft written d p words (Err m) a within ok back err is =
       let j = Call x (call.Change c) in
       subst
       (λ (y : Answer). Performs others later home j x.trader draft (scene w d p words) y.body y.entry written
       (scene u d p words)) (sym is)
       (wanting_performs others later home j x.trader (scene w d p words) (scene u d p words) draft written
-      (nothing_done others later j w u x.trader d d p p words (inr err) refl refl))
+      (nothing_done others later home j w u x.trader d d p p words (inr err) refl refl tt))
 
   -- ---- a look
 
@@ -99,16 +100,16 @@ module _ (others : List Accepted → Type 0) (later : Marks → Marks → Type 0
       (λ o n. LookComes others later home w d x.trader l draft o n u e) b draft new ok order
       (inl (ok.comes, refl, refl))
       (long_from b.body (e ≡ d)
-      (MayBeRefused others later j x.trader (scene w d p words) b.entry (scene u e p words))
-      (λ same. point_refused j x.trader (length ok.comes.looks.seen.history) b.entry d e p p words within ok.comes.noted
-      same refl seen) back))
+      (MayBeRefused others later home j x.trader (scene w d p words) b.entry (scene u e p words))
+      (λ same. point_refused home j x.trader (length ok.comes.looks.seen.history) b.entry d e p p words within
+      ok.comes.noted same refl seen tt) back))
   look_performs home x l draft new d e p words (Err m) a within seen ok back err order is =
       let j = Call x (call.Look l) in
       subst
       (λ (y : Answer). Performs others later home j x.trader draft (scene w d p words) y.body y.entry new
       (scene u e p words)) (sym is)
       (wanting_performs others later home j x.trader (scene w d p words) (scene u e p words) draft new
-      (nothing_done others later j w u x.trader d e p p words (inr seen) err.0 refl))
+      (nothing_done others later home j w u x.trader d e p p words (inr seen) err.0 refl tt))
 
   -- ---- add_link
 
@@ -120,46 +121,47 @@ module _ (others : List Accepted → Type 0) (later : Marks → Marks → Type 0
     t = scene u d after words
 
     asked_refused : (point : ℕ) (gave : Gave) (e : Entry) → e ≡ Asked x.trader point gave
-        → Unserved others later (Call x (call.AddLink l)) s (wanting (in_vain u x.trader (Asked x.trader point gave)))
-        (in_vain u x.trader (Asked x.trader point gave)) t
-        → Unserved others later (Call x (call.AddLink l)) s (wanting (in_vain u x.trader e)) (in_vain u x.trader e) t
+        → Unserved others later home (Call x (call.AddLink l)) s
+        (wanting (in_vain u x.trader (Asked x.trader point gave))) (in_vain u x.trader (Asked x.trader point gave)) t
+        → Unserved others later home (Call x (call.AddLink l)) s (wanting (in_vain u x.trader e))
+        (in_vain u x.trader e) t
     asked_refused point gave e noted h =
         subst
-        (λ (y : Entry). Unserved others later (Call x (call.AddLink l)) s (wanting (in_vain u x.trader y))
+        (λ (y : Entry). Unserved others later home (Call x (call.AddLink l)) s (wanting (in_vain u x.trader y))
         (in_vain u x.trader y) t) (sym noted) h
 
     -- wherever the target is, a refusal can be taken back
     link_refused : (target : Target) (o : Outcome) (e : Entry)
         → AddLinkBy others later target home w x.trader l before after o e u → x.trader < length w
-        → Watches others later w x.trader u → MayBeRefused others later (Call x (call.AddLink l)) x.trader s e t
+        → Watches others later w x.trader u → MayBeRefused others later home (Call x (call.AddLink l)) x.trader s e t
     link_refused (Inside i) o e h within seen =
-        point_refused (Call x (call.AddLink l)) x.trader (length h.0.changes.seen.history) e d d before after words
-        within h.0.noted refl h.1 seen
+        point_refused home (Call x (call.AddLink l)) x.trader (length h.0.changes.seen.history) e d d before after
+        words within h.0.noted refl h.1 seen tt
     link_refused Unreachable o e h within seen =
-        point_refused (Call x (call.AddLink l)) x.trader (length h.0.changes.seen.history) e d d before after words
-        within h.0.noted refl h.1 seen
+        point_refused home (Call x (call.AddLink l)) x.trader (length h.0.changes.seen.history) e d d before after
+        words within h.0.noted refl h.1 seen tt
     link_refused Outside o e h within seen = record {
       within = watched_within x.trader within seen;
       unserved = asked_refused (length h.linked.changes.seen.history) h.gave e h.linked.noted
-          (asked_in_vain others later x l w u _ d before after words h.gave (inr seen) h.asked h.answered);
+          (asked_in_vain others later home x l w u _ d before after words h.gave (inr seen) h.asked h.answered);
     }
 
     -- and so can NO_MEMORY
     vain_unserved : (o : Outcome) (e : Entry) → AskedInVain others later home w x.trader l before after o e u
-        → Unserved others later (Call x (call.AddLink l)) s o e t
+        → Unserved others later home (Call x (call.AddLink l)) s o e t
     vain_unserved o e h =
         let n = h.noted in
-        subst (λ (y : Outcome). Unserved others later (Call x (call.AddLink l)) s y e t) (sym n.outcome)
-        (subst (λ (y : Entry). Unserved others later (Call x (call.AddLink l)) s (wanting Plain) y t) (sym n.noted)
-        (asked_in_vain others later x l w u _ d before after words h.gave n.rests h.asked h.answered))
+        subst (λ (y : Outcome). Unserved others later home (Call x (call.AddLink l)) s y e t) (sym n.outcome)
+        (subst (λ (y : Entry). Unserved others later home (Call x (call.AddLink l)) s (wanting Plain) y t) (sym n.noted)
+        (asked_in_vain others later home x l w u _ d before after words h.gave n.rests h.asked h.answered))
 
     vain_refused : (o : Outcome) (e : Entry) → AskedInVain others later home w x.trader l before after o e u
         → x.trader < length w → Watches others later w x.trader u
-        → MayBeRefused others later (Call x (call.AddLink l)) x.trader s e t
+        → MayBeRefused others later home (Call x (call.AddLink l)) x.trader s e t
     vain_refused o e h within seen = record {
       within = watched_within x.trader within seen;
       unserved = asked_refused (length (history_at u x.trader)) h.gave e h.noted.noted
-          (asked_in_vain others later x l w u _ d before after words h.gave (inr seen) h.asked h.answered);
+          (asked_in_vain others later home x l w u _ d before after words h.gave (inr seen) h.asked h.answered);
     }
 
     link_answers : (draft : Draft) (o : Outcome) (e : Entry)
@@ -173,7 +175,7 @@ module _ (others : List Accepted → Type 0) (later : Marks → Marks → Type 0
         → AddLinkComes others later home w x.trader l before after o e u
         ⊎ AskedInVain others later home w x.trader l before after o e u
         → x.trader < length w → Watches others later w x.trader u
-        → MayBeRefused others later (Call x (call.AddLink l)) x.trader s e t
+        → MayBeRefused others later home (Call x (call.AddLink l)) x.trader s e t
     any_refused o e (inl comes) within seen = link_refused (target_of home w l.target) o e comes within seen
     any_refused o e (inr vain) within seen = vain_refused o e vain within seen
 
@@ -190,10 +192,10 @@ module _ (others : List Accepted → Type 0) (later : Marks → Marks → Type 0
         (λ o e. AddLinkComes others later home w x.trader l before after o e u
         ⊎ AskedInVain others later home w x.trader l before after o e u)
         b draft written ok (link_answers draft ok.outcome b.entry ok.comes)
-        (long_from b.body (Watches others later w x.trader u) (MayBeRefused others later j x.trader s b.entry t)
+        (long_from b.body (Watches others later w x.trader u) (MayBeRefused others later home j x.trader s b.entry t)
         (any_refused ok.outcome b.entry ok.comes within) back))
     link_performs draft written (Err m) a within ok back err unasked counted is =
         let j = Call x (call.AddLink l) in
         subst (λ (y : Answer). Performs others later home j x.trader draft s y.body y.entry written t) (sym is)
         (wanting_performs others later home j x.trader s t draft written
-        (none_answered others later j w u x.trader d d before after words err refl unasked counted))
+        (none_answered others later home j w u x.trader d d before after words err refl unasked counted tt))

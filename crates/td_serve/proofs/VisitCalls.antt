@@ -33,35 +33,37 @@ module _ (others : List Accepted → Type 0) (later : Marks → Marks → Type 0
   where
     -- what stands for an answer is noted with a trader that is still there
     refused_within : (j : Judged) (e n : Entry) → x.trader < length s.world → in_vain t.world x.trader e ≡ n
-        → Unserved others later j s (wanting n) n t → MayBeRefused others later j x.trader s e t
+        → Unserved others later home j s (wanting n) n t → MayBeRefused others later home j x.trader s e t
     refused_within j e n within same h = record {
       within = omega (arith, goes-many others later s.world t.world h.goes);
-      unserved = subst (λ (y : Entry). Unserved others later j s (wanting y) y t) (sym same) h;
+      unserved = subst (λ (y : Entry). Unserved others later home j s (wanting y) y t) (sym same) h;
     }
 
     -- ---- a query
 
     query_refused : (q : Query) (e : Entry) → x.trader < length s.world
-        → TakenBack others later (Call x (call.Query q)) s e t
-        → MayBeRefused others later (Call x (call.Query q)) x.trader s e t
+        → TakenBack others later home (Call x (call.Query q)) s e t
+        → MayBeRefused others later home (Call x (call.Query q)) x.trader s e t
     query_refused q e within h =
         refused_within (Call x (call.Query q)) e e within
         (query_kept t.world t.world x.trader (Call x (call.Query q)) e h.entry refl) h
 
     pub query_performs : (q : Query) (old new : Draft) (a : Answer) → x.trader < length s.world
         → QueryTold others later home x s x.trader q old a new t
-        → IfOutcome a.body (TakenBack others later (Call x (call.Query q)) s a.entry t) → new.order ≡ old.order
+        → IfOutcome a.body (TakenBack others later home (Call x (call.Query q)) s a.entry t) → new.order ≡ old.order
         → Performs others later home (Call x (call.Query q)) x.trader old s a.body a.entry new t
     query_performs q old new a within (inl h) back order =
         told_performs others later home (Call x (call.Query q)) x.trader s t
         (λ o e. QueryComes others later home s x.trader q old o e t) a old new h order (inl h.comes)
-        (long_of a.body (TakenBack others later (Call x (call.Query q)) s a.entry t)
-        (MayBeRefused others later (Call x (call.Query q)) x.trader s a.entry t) (query_refused q a.entry within) back)
+        (long_of a.body (TakenBack others later home (Call x (call.Query q)) s a.entry t)
+        (MayBeRefused others later home (Call x (call.Query q)) x.trader s a.entry t) (query_refused q a.entry within)
+        back)
     query_performs q old new a within (inr h) back order =
         told_performs others later home (Call x (call.Query q)) x.trader s t
-        (λ o e. Unserved others later (Call x (call.Query q)) s o e t) a old new h order (inr h.comes)
-        (long_of a.body (TakenBack others later (Call x (call.Query q)) s a.entry t)
-        (MayBeRefused others later (Call x (call.Query q)) x.trader s a.entry t) (query_refused q a.entry within) back)
+        (λ o e. Unserved others later home (Call x (call.Query q)) s o e t) a old new h order (inr h.comes)
+        (long_of a.body (TakenBack others later home (Call x (call.Query q)) s a.entry t)
+        (MayBeRefused others later home (Call x (call.Query q)) x.trader s a.entry t) (query_refused q a.entry within)
+        back)
 
     -- ---- names
 
@@ -71,16 +73,16 @@ module _ (others : List Accepted → Type 0) (later : Marks → Marks → Type 0
 
     pub names_perform : (names : List (List ℕ)) (draft written : Draft) (a : Answer) → x.trader < length s.world
         → NameTold others later home x s x.trader names a t
-        → TakenBack others later (Call x (call.Resolve names)) s (in_vain t.world x.trader a.entry) t
+        → TakenBack others later home (Call x (call.Resolve names)) s (in_vain t.world x.trader a.entry) t
         → Performs others later home (Call x (call.Resolve names)) x.trader draft s a.body a.entry written t
     names_perform names draft written a within (inl h) back =
         plain_performs others later home (Call x (call.Resolve names)) x.trader s t
         (λ o e. NameComes others later home s x.trader names o e t × (wants_memory o ≡ false)) a draft written h
         (inl h.comes.0)
-        (long_all a.body (MayBeRefused others later (Call x (call.Resolve names)) x.trader s a.entry t)
+        (long_all a.body (MayBeRefused others later home (Call x (call.Resolve names)) x.trader s a.entry t)
         (refused_within (Call x (call.Resolve names)) a.entry (in_vain t.world x.trader a.entry) within refl back))
     names_perform names draft written a within (inr h) back =
         plain_performs others later home (Call x (call.Resolve names)) x.trader s t
-        (λ o e. Unserved others later (Call x (call.Resolve names)) s o e t) a draft written h (inr h.comes)
-        (long_all a.body (MayBeRefused others later (Call x (call.Resolve names)) x.trader s a.entry t)
+        (λ o e. Unserved others later home (Call x (call.Resolve names)) s o e t) a draft written h (inr h.comes)
+        (long_all a.body (MayBeRefused others later home (Call x (call.Resolve names)) x.trader s a.entry t)
         (refused_within (Call x (call.Resolve names)) a.entry (in_vain t.world x.trader a.entry) within refl back))

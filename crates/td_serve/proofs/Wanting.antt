@@ -7,9 +7,9 @@ use Rattle.td_fed.proofs.Points.{goes-length}
 use Rattle.td_fed.proofs.Quiet.{quiet-watched}
 use Rattle.td_fed.specs.Trails.{Goes, own_marks_at, stays, watched}
 use Rattle.td_iter.specs.Desks.{Live}
-use Rattle.td_lookup.specs.Scenes.{scene}
+use Rattle.td_lookup.specs.Scenes.{Scene, scene}
 use Rattle.td_lookup.specs.Telling.{in_vain}
-use Rattle.td_lookup.specs.Unserved.{Gives, Unserved, WantingEntry, gave_in, is_query, wanting}
+use Rattle.td_lookup.specs.Unserved.{Gives, IsWalkSoFar, Unserved, WantingEntry, gave_in, is_query, wanting}
 use Rattle.td_lookup.specs.Unserved.{link, name, nothing, trace}
 use Rattle.td_ops.specs.declared.call.AddLink.{AddLink}
 use Rattle.td_ops.specs.declared.call.Call.TheVariants as call
@@ -19,11 +19,13 @@ use Rattle.td_reply.specs.Linking.{Gave, PeersSeen}
 use Rattle.td_reply.specs.declared.entry.Entry.{Entry}
 use Rattle.td_reply.specs.declared.entry.Entry.TheVariants.{Asked, Plain}
 use Rattle.td_reply.specs.declared.judging.Judged.{Judged}
-use Rattle.td_reply.specs.declared.judging.Judged.TheVariants.{Call}
+use Rattle.td_reply.specs.declared.judging.Judged.TheVariants.{Call, Refused}
 use Rattle.td_reply.specs.declared.objects.Object.{Object}
 use Rattle.td_trader.specs.Worlds.{View, history_at}
 use Rattle.td_walk.specs.Peering.{Failed, IsNoted, PeerCall, Referred, is_memory}
 use Rattle.td_walk.specs.declared.fault.PeerFault.TheVariants as fault
+use Rattle.td_walk.specs.declared.trace.Address.{Address}
+use Rattle.td_walk_laws.specs.Beginnings.{unbegun}
 
 -- ---- peers
 
@@ -68,7 +70,7 @@ one_given k point c before after (Err fault.Memory) asked answered = absurd cc
 
 -- ---- traders
 
-module _ (others : List Accepted → Type 0) (later : Marks → Marks → Type 0) where
+module _ (others : List Accepted → Type 0) (later : Marks → Marks → Type 0) (home : Address) where
   rests_goes : (w u : List View) (k : ℕ) → Rests others later w k u → Goes others later w u
   rests_goes w u k (inl same) = subst (λ (x : List View). Goes others later w x) (sym same) stays
   rests_goes w u k (inr seen) = watched k seen stays
@@ -81,12 +83,26 @@ module _ (others : List Accepted → Type 0) (later : Marks → Marks → Type 0
 
   -- ---- what is noted
 
+  -- where nothing was done, no walk has begun
+  pub no_walk : (j : Judged) (s : Scene) → IsWalkSoFar others later home j s Plain s
+  no_walk (Call x (call.Change c)) s = tt
+  no_walk (Call x (call.Look l)) s = tt
+  no_walk (Call x (call.AddLink l)) s = tt
+  no_walk (Call x (call.Iter i)) s = tt
+  no_walk (Call x (call.IsA id)) s = tt
+  no_walk (Call x call.NonExistent) s = tt
+  no_walk (Call x (call.Query q)) s = unbegun
+  no_walk (Call x (call.Resolve names)) s = tt
+  no_walk (Refused o) s = tt
+
   -- nothing was done but by others, and nothing is noted; memory may have been wanted in a call of a peer
   pub none_answered : (j : Judged) (w u : List View) (k : ℕ) (d e : Live) (before after : PeersSeen) (words : ℕ → ℕ)
       → Rests others later w k u → e ≡ d → after.calls ≡ before.calls → before.faults ≤ after.faults
-      → Unserved others later j (scene w d before words) (wanting Plain) Plain (scene u e after words)
-  none_answered j w u k d e before after words rests same unasked counted = record {
+      → IsWalkSoFar others later home j (scene w d before words) Plain (scene u e after words)
+      → Unserved others later home j (scene w d before words) (wanting Plain) Plain (scene u e after words)
+  none_answered j w u k d e before after words rests same unasked counted walk = record {
     entry = nothing;
+    walk = walk;
     outcome = refl;
     desk = same;
     goes = rests_goes w u k rests;
@@ -100,21 +116,23 @@ module _ (others : List Accepted → Type 0) (later : Marks → Marks → Type 0
   -- nor was a peer called
   pub nothing_done : (j : Judged) (w u : List View) (k : ℕ) (d e : Live) (before after : PeersSeen) (words : ℕ → ℕ)
       → Rests others later w k u → e ≡ d → after ≡ before
-      → Unserved others later j (scene w d before words) (wanting Plain) Plain (scene u e after words)
-  nothing_done j w u k d e before after words rests same unasked =
+      → IsWalkSoFar others later home j (scene w d before words) Plain (scene u e after words)
+      → Unserved others later home j (scene w d before words) (wanting Plain) Plain (scene u e after words)
+  nothing_done j w u k d e before after words rests same unasked walk =
       none_answered j w u k d e before after words rests same (ap (λ (p : PeersSeen). p.calls) unasked)
-      (subst (λ (p : PeersSeen). before.faults ≤ p.faults) (sym unasked) (omega arith))
+      (subst (λ (p : PeersSeen). before.faults ≤ p.faults) (sym unasked) (omega arith)) walk
 
   -- nothing was done but by others and that a peer was asked for a register
   pub asked_in_vain : (x : Object) (l : AddLink) (w u : List View) (c : PeerCall) (d : Live) (before after : PeersSeen)
       (words : ℕ → ℕ) (gave : Gave) → Rests others later w x.trader u
       → IsNoted (λ r. Referred r) c before.calls after.calls before.faults after.faults gave
       → IfErr gave (λ f. is_memory f ≡ false)
-      → Unserved others later (Call x (call.AddLink l)) (scene w d before words)
+      → Unserved others later home (Call x (call.AddLink l)) (scene w d before words)
       (wanting (Asked x.trader (length (history_at u x.trader)) gave))
       (Asked x.trader (length (history_at u x.trader)) gave) (scene u d after words)
   asked_in_vain x l w u c d before after words gave rests asked answered = record {
     entry = link gave;
+    walk = tt;
     outcome = refl;
     desk = refl;
     goes = rests_goes w u x.trader rests;

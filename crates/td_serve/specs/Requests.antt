@@ -61,7 +61,7 @@ module _ (others : List Accepted → Type 0) (later : Marks → Marks → Type 0
 
   -- that, or memory was wanted
   abbrev pub Answers : Judged → (draft : Draft) → Scene → Outcome → Entry → Scene → Type 0
-  Answers j draft s o e t = Comes j draft s o e t ⊎ Unserved others later j s o e t
+  Answers j draft s o e t = Comes j draft s o e t ⊎ Unserved others later home j s o e t
 
   -- The Request was answered so, and these are the bytes of its Reply: none where it expects none.
   pub record Served (order : Order) (id : ℕ) (answered : Bool) (j : Judged) (s : Scene) (o : Outcome) (e : Entry)

@@ -39,9 +39,9 @@ IsBodyOf o reply_body.Written draft written =
 
 module _ (others : List Accepted → Type 0) (later : Marks → Marks → Type 0) where
   -- NO_MEMORY can be answered in place of an answer with this entry.
-  pub record MayBeRefused (j : Judged) (k : ℕ) (s : Scene) (e : Entry) (t : Scene) : Type 0 where
+  pub record MayBeRefused (home : Address) (j : Judged) (k : ℕ) (s : Scene) (e : Entry) (t : Scene) : Type 0 where
     pub within : k < length t.world
-    pub unserved : Unserved others later j s (wanting (in_vain t.world k e)) (in_vain t.world k e) t
+    pub unserved : Unserved others later home j s (wanting (in_vain t.world k e)) (in_vain t.world k e) t
 
   -- What a call comes to at trader k, with a writer that held the draft. A body for which memory may be wanted can be
   -- taken back.
@@ -50,7 +50,7 @@ module _ (others : List Accepted → Type 0) (later : Marks → Marks → Type 0
     pub outcome : Outcome
     pub answers : Answers others later home j draft s outcome e t
     pub body : IsBodyOf outcome b draft written
-    pub taken_back : IfLong b (MayBeRefused j k s e t)
+    pub taken_back : IfLong b (MayBeRefused home j k s e t)
 
   -- the same, with a writer that was begun for the Reply
   pub record Performed (home : Address) (order : Order) (id : ℕ) (j : Judged) (k : ℕ) (s : Scene) (b : ReplyBody)

@@ -330,9 +330,9 @@ unserved-rise w u j o e (trace t) g k items = items
 unserved-rise w u j o e (link {x = x} gave) g k items = end-rise w u g x.trader k
 unserved-rise w u j o e (name {x = x} gave) g k items = end-rise w u g x.trader k
 
-module _ (others : List Accepted → Type 0) (later : Marks → Marks → Type 0) where
+module _ (others : List Accepted → Type 0) (later : Marks → Marks → Type 0) (home : Address) where
   pub unserved-does : (j : Judged) (s : Scene) (o : Outcome) (e : Entry) (t : Scene)
-      → Unserved others later j s o e t → Does j o e s t
+      → Unserved others later home j s o e t → Does j o e s t
   unserved-does j s o e t h =
       let rests = goes-rests others later h.goes in
       let other : is_done o ≡ false = ap is_done h.outcome in
@@ -377,4 +377,4 @@ module _ (others : List Accepted → Type 0) (later : Marks → Marks → Type 0
   pub answers-do : (j : Judged) (draft : Draft) (s t : Scene) (o : Outcome) (e : Entry)
       → Answers others later home j draft s o e t → Does j o e s t
   answers-do j draft s t o e (inl h) = comes-does j draft s t o e h
-  answers-do j draft s t o e (inr h) = unserved-does others later j s o e t h
+  answers-do j draft s t o e (inr h) = unserved-does others later home j s o e t h

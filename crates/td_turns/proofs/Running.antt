@@ -10,7 +10,7 @@ use Rattle.td_fed.specs.Trails.{DrawsOn}
 use Rattle.td_lookup.specs.Querying.{QueryComes}
 use Rattle.td_lookup.specs.Scenes.{Scene}
 use Rattle.td_lookup.specs.Telling.{wants_memory}
-use Rattle.td_lookup.specs.Unserved.{Gives, gave_in}
+use Rattle.td_lookup.specs.Unserved.{Gives, IsWalkSoFar, gave_in}
 use Rattle.td_ops.specs.declared.call.Call.TheVariants as call
 use Rattle.td_ops.specs.declared.call.Query.{Query}
 use Rattle.td_ops.specs.declared.outcome.Outcome.{Outcome}
@@ -32,11 +32,13 @@ use Rattle.td_turns.specs.Journals.{all_gave, all_marks_in, all_places_in, all_s
 use Rattle.td_turns.specs.Journals.{marks_in, places_in, served_at}
 use Rattle.td_turns.specs.Laws.{AcceptedStand, Keeps, KeepsAll, NoneIsInvented, OwnMarksAreSearches}
 use Rattle.td_turns.specs.Laws.{OwnPlacesAreAccepted, PointsRise, RefusedChangeNothing, SeenStaysLegal, Stands}
-use Rattle.td_turns.specs.Laws.{QueriesAreWalks, RequestsShowPeers, WantingChangeNothing, WordsAreDrawn}
+use Rattle.td_turns.specs.Laws.{QueriesAreWalks, QueriesBeginWalks, RequestsShowPeers, WantingChangeNothing}
+use Rattle.td_turns.specs.Laws.{WordsAreDrawn}
 use Rattle.td_turns.specs.Turns.{IsTurn, Noted, Run, ServesRequest, Turn, cancel, locate, noted_in, noted_of, request}
 use Rattle.td_walk.specs.Peering.{Given}
 use Rattle.td_walk.specs.declared.trace.Address.{Address}
 use Rattle.td_walk_laws.proofs.Counting.{counts-up}
+use Rattle.td_walk_laws.specs.Beginnings.{whole}
 
 -- what stands at a place lies within the list
 stands-within : (h : List Accepted) (p : ℕ) (e : Accepted) → slice_get h p ≡ Some e → p < length h
@@ -176,6 +178,33 @@ module _ (others : List Accepted → Type 0) (later : Marks → Marks → Type 0
   turn-walks s t n x q (cancel h) is asks told =
       absurd (let bad : ◌≡◌ {A = Option Noted} None (Some n) = sym h.request ∙ is in cc)
 
+  -- whatever it was answered with, the beginning of a walk is noted
+  query-begins : (j : Judged) (draft : Draft) (s t : Scene) (o : Outcome) (e : Entry)
+      → Answers others later home j draft s o e t → (x : Object) (q : Query) → j ≡ Call x (call.Query q)
+      → IsWalkSoFar others later home (Call x (call.Query q)) s e t
+  query-begins j draft s t o e h x q is =
+      by-answer (subst (λ (y : Judged). Answers others later home y draft s o e t) is h)
+    where
+      by-answer : Answers others later home (Call x (call.Query q)) draft s o e t
+          → IsWalkSoFar others later home (Call x (call.Query q)) s e t
+      by-answer (inl a) =
+          subst (λ (n : Entry). IsWalkSoFar others later home (Call x (call.Query q)) s n t) (sym a.noted)
+          (whole a.walk)
+      by-answer (inr a) = a.walk
+
+  turn-begins : (s : Scene) (t : Turn) (n : Noted) (x : Object) (q : Query) → IsTurn others later home s t
+      → t.request ≡ Some n → n.judged ≡ Call x (call.Query q)
+      → IsWalkSoFar others later home (Call x (call.Query q)) s n.entry t.after
+  turn-begins s t n x q (request h) is asks =
+      let same : h.noted ≡ n = same-noted t.request h.noted n h.request is in
+      subst (λ (m : Noted). IsWalkSoFar others later home (Call x (call.Query q)) s m.entry t.after) same
+      (query-begins h.noted.judged h.served.draft s t.after h.noted.outcome h.noted.entry h.served.answers x q
+      (ap (λ (m : Noted). m.judged) same ∙ asks))
+  turn-begins s t n x q (locate h) is asks =
+      absurd (let bad : ◌≡◌ {A = Option Noted} None (Some n) = sym h.request ∙ is in cc)
+  turn-begins s t n x q (cancel h) is asks =
+      absurd (let bad : ◌≡◌ {A = Option Noted} None (Some n) = sym h.request ∙ is in cc)
+
   -- ---- an accepted change, and what comes behind it
 
   stands-behind : (m u : Scene) (n : Noted) (rest : List Noted) → StandsHere m.world n.judged n.outcome n.entry
@@ -274,3 +303,6 @@ module _ (others : List Accepted → Type 0) (later : Marks → Marks → Type 0
 
   pub queries-walk : QueriesAreWalks others later
   queries-walk home s t n x q h is asks told = turn-walks others later home s t n x q h is asks told
+
+  pub queries-begin : QueriesBeginWalks others later
+  queries-begin home s t n x q h is asks = turn-begins others later home s t n x q h is asks

@@ -5,10 +5,11 @@ use Rattle.td_cdr.specs.Marks.{Marks}
 use Rattle.td_cdr.specs.Writing.{Draft}
 use Rattle.td_changes.specs.Histories.{StandsAt}
 use Rattle.td_fed.specs.Trails.{DrawsOn, Goes, Rises, own_at, own_marks_at}
+use Rattle.td_fed.specs.Visiting.{WalksSoFar, course}
 use Rattle.td_lookup.specs.Querying.{QueryComes}
 use Rattle.td_lookup.specs.Scenes.{Scene}
 use Rattle.td_lookup.specs.Telling.{wants_memory}
-use Rattle.td_lookup.specs.Unserved.{Gives, gave_in}
+use Rattle.td_lookup.specs.Unserved.{Gives, gave_in, items_of}
 use Rattle.td_ops.specs.declared.call.Call.TheVariants as call
 use Rattle.td_ops.specs.declared.call.Change.{Change}
 use Rattle.td_ops.specs.declared.call.Query.{Query}
@@ -129,6 +130,14 @@ module _ (others : List Accepted → Type 0) (later : Marks → Marks → Type 0
       (home : Address) (s : Scene) (t : Turn) (n : Noted) (x : Object) (q : Query) → IsTurn others later home s t
       → t.request ≡ Some n → n.judged ≡ Call x (call.Query q) → wants_memory n.outcome ≡ false
       → (draft : Draft) × QueryComes others later home s x.trader q draft n.outcome n.entry t.after
+
+  -- a query is noted with the beginning of a walk from its trader on, whatever it is answered with
+  abbrev pub QueriesBeginWalks : Type 0
+  QueriesBeginWalks =
+      (home : Address) (s : Scene) (t : Turn) (n : Noted) (x : Object) (q : Query) → IsTurn others later home s t
+      → t.request ≡ Some n → n.judged ≡ Call x (call.Query q)
+      → WalksSoFar others later home (course s.world s.words s.peers.calls) x.trader q (items_of n.entry)
+      (course t.after.world t.after.words t.after.peers.calls)
 
 -- ---- of a group that a session has alone
 

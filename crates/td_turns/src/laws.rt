@@ -2,8 +2,8 @@
 
 ghost use Rattle.td_turns.specs.Laws.{AcceptedStand, AloneGrowsByOwn, NoneIsInvented, OwnMarksAreSearches};
 ghost use Rattle.td_turns.specs.Laws.{OwnPlacesAreAccepted};
-ghost use Rattle.td_turns.specs.Laws.{PointsRise, QueriesAreWalks, RefusedChangeNothing, RequestsShowPeers};
-ghost use Rattle.td_turns.specs.Laws.{SeenStaysLegal, WantingChangeNothing, WordsAreDrawn};
+ghost use Rattle.td_turns.specs.Laws.{PointsRise, QueriesAreWalks, QueriesBeginWalks, RefusedChangeNothing};
+ghost use Rattle.td_turns.specs.Laws.{RequestsShowPeers, SeenStaysLegal, WantingChangeNothing, WordsAreDrawn};
 
 use td_trader::Traders;
 
@@ -60,6 +60,12 @@ pub fn words_are_drawn_in_order<T: Traders>()
 /// and this walk is noted. So what holds of every walk holds of it: which traders it searches, and within which hops.
 pub fn queries_are_walks<T: Traders>()
     ensures { QueriesAreWalks T.others T.later }
+{}
+
+/// A query is noted with the beginning of a walk from its trader on, whatever it is answered with: with a whole walk
+/// where it is answered otherwise than with NO_MEMORY, and with a walk so far where memory was wanted.
+pub fn queries_begin_walks<T: Traders>()
+    ensures { QueriesBeginWalks T.others T.later }
 {}
 
 /// Over traders that one session has alone, what comes to a trader's history are the session's accepted changes, each

@@ -9,6 +9,7 @@ mod laws;
 pub use examples::worked_turns;
 pub use laws::{
     alone_histories_grow_by_own_changes, no_answer_is_invented, own_changes_are_accepted,
-    own_marks_are_searches, points_rise, queries_are_walks, refusals_change_nothing,
-    want_of_memory_changes_nothing, what_is_seen_is_legal, words_are_drawn_in_order,
+    own_marks_are_searches, points_rise, queries_are_walks, queries_begin_walks,
+    refusals_change_nothing, want_of_memory_changes_nothing, what_is_seen_is_legal,
+    words_are_drawn_in_order,
 };

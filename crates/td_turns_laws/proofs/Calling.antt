@@ -57,10 +57,11 @@ wanting-writes : (j : Judged) (e : Entry) → AdmitsAnswer j (wanting e)
 wanting-writes (Call x c) e = (omega arith, small-completion (list_any is_search (items_of e)))
 wanting-writes (Refused r) e = λ _. (omega arith, small-completion (list_any is_search (items_of e)))
 
-pub unserved-writes : (others : List Accepted → Type 0) (later : Marks → Marks → Type 0) (j : Judged) (s t : Scene)
-    (o : Outcome) (e : Entry) → OthersAreAdmitted others → IsWritableScene s → Unserved others later j s o e t
+pub unserved-writes : (others : List Accepted → Type 0) (later : Marks → Marks → Type 0) (home : Address) (j : Judged)
+    (s t : Scene) (o : Outcome) (e : Entry) → OthersAreAdmitted others → IsWritableScene s
+    → Unserved others later home j s o e t
     → AdmitsAnswer j o × IsWritableScene t
-unserved-writes others later j s t o e admitted w u = (
+unserved-writes others later home j s t o e admitted w u = (
   subst (AdmitsAnswer j) (sym u.outcome) (wanting-writes j e),
   record {
     world = goes-writes others later s.world t.world admitted w.world u.goes;

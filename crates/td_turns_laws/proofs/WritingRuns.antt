@@ -79,7 +79,7 @@ module _ (others : List Accepted → Type 0) (later : Marks → Marks → Type 0
   answers-write key operation body h admitted j draft s t o e asks scene gifts (inl comes) =
       comes-writes key operation body h admitted j draft s t o e asks scene gifts comes
   answers-write key operation body h admitted j draft s t o e asks scene gifts (inr unserved) =
-      unserved-writes others later j s t o e admitted scene unserved
+      unserved-writes others later home j s t o e admitted scene unserved
 
   request-writes : (s : Scene) (t : Turn) → (h : ServesRequest others later home s t) → OthersAreAdmitted others
       → IsWritableScene s → IsSent t → AdmitsGifts (all_gave (noted_in (Some h.noted)))

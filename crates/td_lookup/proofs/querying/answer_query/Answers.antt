@@ -24,7 +24,7 @@ tell_visited-told-requires-clause-limits g c =
     c.visit-visited.result c.visit-visited.ensures.visited
 
 pub returns-clause-told : goal.returns-clause-told
-returns-clause-told g c = λ x.
+returns-clause-told g c = λ x at.
     let s =
     scene (g.T.Traders.world c.args.traders.now) c.args.desk.now
     (peers_seen (g.P.Peers.calls c.args.peers.now) (g.P.Peers.faults c.args.peers.now))
@@ -34,10 +34,11 @@ returns-clause-told g c = λ x.
     (peers_seen (g.P.Peers.calls c.visit-visited.new.peers) (g.P.Peers.faults c.visit-visited.new.peers))
     (g.W.Words.word c.visit-visited.new.words) in
     query_told g.T.Traders.others g.T.Traders.later c.args.home.now x c.args.trader c.args.q.now s t
-    c.visit-visited.new.trace c.args.w.now c.tell_visited-told.new.w c.tell_visited-told.result c.visit-visited.result
-    c.new.result c.name.result.now c.walked.result
+    c.visit-visited.new.trace at c.args.w.now c.tell_visited-told.new.w c.tell_visited-told.result
+    c.visit-visited.result c.new.result c.name.result.now c.walked.result
     (record {
       came = c.visit-visited.ensures.visited;
+      so_far = c.visit-visited.ensures.so_far;
       seen = c.visit-visited.ensures.shown;
       goes = c.visit-visited.ensures.goes;
       draws = c.visit-visited.ensures.draws;
@@ -45,7 +46,7 @@ returns-clause-told g c = λ x.
     }) c.new.ensures c.name.ensures c.tell_visited-told.ensures.told c.tell_visited-told.ensures.err c.walked.ensures
 
 pub returns-clause-taken_back : goal.returns-clause-taken_back
-returns-clause-taken_back g c = λ x.
+returns-clause-taken_back g c = λ x at.
     let s =
     scene (g.T.Traders.world c.args.traders.now) c.args.desk.now
     (peers_seen (g.P.Peers.calls c.args.peers.now) (g.P.Peers.faults c.args.peers.now))
@@ -55,10 +56,11 @@ returns-clause-taken_back g c = λ x.
     (peers_seen (g.P.Peers.calls c.visit-visited.new.peers) (g.P.Peers.faults c.visit-visited.new.peers))
     (g.W.Words.word c.visit-visited.new.words) in
     query_back g.T.Traders.others g.T.Traders.later c.args.home.now x c.args.trader c.args.q.now s t
-    c.visit-visited.new.trace c.args.w.now c.tell_visited-told.new.w c.tell_visited-told.result c.visit-visited.result
-    c.new.result c.walked.result
+    c.visit-visited.new.trace at c.args.w.now c.tell_visited-told.new.w c.tell_visited-told.result
+    c.visit-visited.result c.new.result c.walked.result
     (record {
       came = c.visit-visited.ensures.visited;
+      so_far = c.visit-visited.ensures.so_far;
       seen = c.visit-visited.ensures.shown;
       goes = c.visit-visited.ensures.goes;
       draws = c.visit-visited.ensures.draws;

@@ -1,3 +1,4 @@
+use Rattle.std.proofs.Common.{refl}
 use Rattle.td_lookup.specs.Scenes.{scene}
 use Rattle.td_reply.specs.Linking.{peers_seen}
 use Rattle.td_serve.proofs.VisitCalls.{query_performs}
@@ -13,5 +14,6 @@ returns-clause-performs g c =
     (peers_seen (g.P.Peers.calls c.answer_query-answer.new.peers) (g.P.Peers.faults c.answer_query-answer.new.peers))
     (g.W.Words.word c.answer_query-answer.new.words))
     c.args.query c.args.w.now c.answer_query-answer.new.w c.answer_query-answer.result c.requires.named.within
-    (c.answer_query-answer.ensures.told c.args.object) (c.answer_query-answer.ensures.taken_back c.args.object)
+    (c.answer_query-answer.ensures.told c.args.object refl)
+    (c.answer_query-answer.ensures.taken_back c.args.object refl)
     c.answer_query-answer.ensures.order

@@ -5,7 +5,7 @@ use Rattle.td_reply.specs.Linking.{peers_seen}
 use Rattle.td_reply.specs.declared.answer.Answer.{Answer}
 use Rattle.td_reply.specs.declared.judging.Judged.TheVariants.{Call}
 use Rattle.td_serve.proofs.Performing.{head_length, unbegun_performed}
-use Rattle.td_serve.proofs.Wanting.{nothing_done}
+use Rattle.td_serve.proofs.Wanting.{no_walk, nothing_done}
 use Rattle.td_serve.proofs.serving.perform.Goals as goal
 use Rattle.td_serve.specs.Serving.{Performed}
 
@@ -27,5 +27,5 @@ returns-in-Err-clause-performed g c =
     a.entry c.start_reply.new.w s) (sym c.unserved.ensures)
     (unbegun_performed g.T.Traders.others g.T.Traders.later c.args.home.now j k s s c.args.order c.args.id
     c.start_reply.new.w
-    (nothing_done g.T.Traders.others g.T.Traders.later j w w k c.args.desk.now c.args.desk.now p p words (inl refl) refl
-    refl))
+    (nothing_done g.T.Traders.others g.T.Traders.later c.args.home.now j w w k c.args.desk.now c.args.desk.now p p
+    words (inl refl) refl refl (no_walk g.T.Traders.others g.T.Traders.later c.args.home.now j s)))
