@@ -7,7 +7,7 @@ ghost use Rattle.td_value.specs.Structures.{prop_struct};
 ghost use Rattle.td_value.specs.declared.structures.PropStruct.{PropStruct};
 ghost use Rattle.td_types.specs.Calls.{add_type, remove_type, mask_type, unmask_type, describe_type};
 ghost use Rattle.td_types.specs.Calls.{fully_describe_type, list_types, is_listed, sub_type};
-ghost use Rattle.td_types.specs.Conforming.{conforms};
+ghost use Rattle.td_types.specs.Conforming.{conforms, Conforms};
 ghost use Rattle.td_types.specs.Interfaces.{LeadsTo, InterfaceConforms, interface_conforms};
 ghost use Rattle.td_types.specs.Laws.{Rises, Removes, SetsMask, IsNewest, IsOldestSubType, AreAsStrong};
 ghost use Rattle.td_types.specs.Properties.{full_properties};
@@ -24,8 +24,12 @@ pub fn interfaces_conform()
         LeadsTo declared first middle → LeadsTo declared middle last → LeadsTo declared first last }
 {}
 
-/// A type that is there conforms to itself, and to what those conform to that it conforms to.
+/// The test of conforming types is the relation: declared supertypes lead from the one to the other, in
+/// however many steps. So a type that is there conforms to itself, and to what those conform to that it
+/// conforms to.
 pub fn types_conform()
+    ensures test { (r : Repository) (a b : List ℕ) → IsRepository r →
+        IsTrue (conforms r.types a b) ↔ Conforms r.types a b }
     ensures reflexive { (types : List ServiceType) (name : List ℕ) →
         IsTrue (has_type types name) → IsTrue (conforms types name name) }
     ensures transitive { (r : Repository) (a b c : List ℕ) → IsRepository r →
