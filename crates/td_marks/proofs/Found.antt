@@ -10,8 +10,8 @@ use Rattle.std.proofs.lemmas.Bool.{cases_Bool}
 use Rattle.std.proofs.lemmas.Map.Keys.{IsDistinct-head}
 use Rattle.std.proofs.lemmas.Slice.Eq.{bytes_eq-Decides}
 use Rattle.circular_buffer.specs.Buffer.{buffer}
-use Rattle.td_cdr.specs.Marks.{Remembered, entry_of}
-use Rattle.td_marks.specs.Keeping.{numbered, number_in, Entries, same_key, is_key, Finds, Enters, Forgets}
+use Rattle.td_cdr.specs.Marks.{Marks, Remembered, entry_of, remembered}
+use Rattle.td_marks.specs.Keeping.{numbered, keeping, Entries, same_key, is_key, Finds, Enters, Forgets}
 
 symm : (a b : List ℕ) → bytes_eq a b ≡ bytes_eq b a
 symm = nat_list_eq_equiv.symm
@@ -21,29 +21,30 @@ congr = nat_list_eq_equiv.congr
 
 -- ---- an identifier that isn't kept
 
-pub none_alike : (k : ℕ) (i : List ℕ) (is : List (List ℕ)) → number_in i (numbered k is) ≡ None
-    → list_any (bytes_eq i) is ≡ false
-none_alike k i [] e = refl
-none_alike k i (j ∷ is) e =
+pub none_alike : (m : Marks) (k : ℕ) (i : List ℕ) (is : List (List ℕ))
+    → remembered (keeping m (numbered k is)) i ≡ None → list_any (bytes_eq i) is ≡ false
+none_alike m k i [] e = refl
+none_alike m k i (j ∷ is) e =
     elim (cases_Bool (bytes_eq j i)) [
       | inl same ↦ absurd (true≢false (ap is_some (sym (found same) ∙ e)))
       | inr other ↦
           let apart : bytes_eq i j ≡ false = symm i j ∙ other in
-          rw apart (none_alike (k + 1) i is (sym (past other) ∙ e))
+          rw apart (none_alike m (k + 1) i is (sym (past other) ∙ e))
     ]
   where
-    found : bytes_eq j i ≡ true → number_in i (numbered k (j ∷ is)) ≡ Some (k + 1)
+    found : bytes_eq j i ≡ true → remembered (keeping m (numbered k (j ∷ is))) i ≡ Some (k + 1)
     found same = rw same refl
 
-    past : bytes_eq j i ≡ false → number_in i (numbered k (j ∷ is)) ≡ number_in i (numbered (k + 1) is)
+    past : bytes_eq j i ≡ false
+        → remembered (keeping m (numbered k (j ∷ is))) i ≡ remembered (keeping m (numbered (k + 1) is)) i
     past other = rw other refl
 
-none_named : (k : ℕ) (i : List ℕ) (is : List (List ℕ)) → AllByRecursion (λ j. bytes_eq i j ≡ false) is
-    → number_in i (numbered k is) ≡ None
-none_named k i [] d = refl
-none_named k i (j ∷ is) d =
+none_named : (m : Marks) (k : ℕ) (i : List ℕ) (is : List (List ℕ)) → AllByRecursion (λ j. bytes_eq i j ≡ false) is
+    → remembered (keeping m (numbered k is)) i ≡ None
+none_named m k i [] d = refl
+none_named m k i (j ∷ is) d =
     let other : bytes_eq j i ≡ false = symm j i ∙ d.0 in
-    rw other (none_named (k + 1) i is d.1)
+    rw other (none_named m (k + 1) i is d.1)
 
 -- ---- one more
 
@@ -60,25 +61,26 @@ lookup-push t (e ∷ es) key n =
       | inr other ↦ rw other (lookup-push t es key n)
     ]
 
-number-push : (j : List ℕ) (kept : List Remembered) (i : List ℕ) (n : ℕ)
-    → number_in j (kept ++ entry_of i n ∷ []) ≡ or_else (number_in j kept) (cond (bytes_eq i j) (Some n) None)
-number-push j [] i n =
+number-push : (m : Marks) (j : List ℕ) (kept : List Remembered) (i : List ℕ) (n : ℕ)
+    → remembered (keeping m (kept ++ entry_of i n ∷ [])) j
+    ≡ or_else (remembered (keeping m kept) j) (cond (bytes_eq i j) (Some n) None)
+number-push m j [] i n =
     elim (cases_Bool (bytes_eq i j)) [ inl here ↦ rw here refl | inr other ↦ rw other refl ]
-number-push j (e ∷ kept) i n =
+number-push m j (e ∷ kept) i n =
     elim (cases_Bool (bytes_eq e.identifier j)) [
       | inl here ↦ rw here refl
-      | inr other ↦ rw other (number-push j kept i n)
+      | inr other ↦ rw other (number-push m j kept i n)
     ]
 
 pub is_entered : (entries more : Entries) (key : Vec ℕ Global) (i : List ℕ) (n : ℕ) → more ≡ entries ++ (key, n) ∷ []
     → key.items ≡ i → Enters entries i n more
-is_entered entries more key i n e is kept finds j =
+is_entered entries more key i n e is m finds j =
     let test : is_key j key ≡ bytes_eq i j = ap (bytes_eq j) is ∙ symm j i in
     ap (lookup (is_key j)) e
     ∙ (lookup-push (is_key j) entries key n
     ∙ (ap (λ (b : Bool). or_else (lookup (is_key j) entries) (cond b (Some n) None)) test
     ∙ (ap (λ (o : Option ℕ). or_else o (cond (bytes_eq i j) (Some n) None)) (finds j)
-    ∙ sym (number-push j kept i n))))
+    ∙ sym (number-push m j m.kept i n))))
 
 -- ---- the oldest one less
 
@@ -88,20 +90,21 @@ key_test i x y same = congr i x.items y.items same
 apart : (o i : List ℕ) → bytes_eq o i ≡ false → AreApart (is_key o) (is_key i)
 apart o i other key here = symm i key.items ∙ (sym (congr o key.items i here) ∙ other)
 
-left_over : (entries left : Entries) (o : List ℕ) (is : List (List ℕ)) (k : ℕ) → IsDistinct bytes_eq (o ∷ is)
-    → lookup (is_key o) left ≡ None → KeepsOthers same_key (is_key o) entries left
-    → Finds entries (numbered k (o ∷ is)) → Finds left (numbered (k + 1) is)
+left_over : (entries left : Entries) (m : Marks) (o : List ℕ) (is : List (List ℕ)) (k : ℕ)
+    → IsDistinct bytes_eq (o ∷ is) → lookup (is_key o) left ≡ None → KeepsOthers same_key (is_key o) entries left
+    → Finds entries (keeping m (numbered k (o ∷ is))) → Finds left (keeping m (numbered (k + 1) is))
 unfolding KeepsOthers
-left_over entries left o is k d gone keeps finds j =
+left_over entries left m o is k d gone keeps finds j =
     elim (cases_Bool (bytes_eq o j)) [
       | inl same ↦
-          subst (λ (x : List ℕ). lookup (is_key x) left ≡ number_in x (numbered (k + 1) is))
+          subst (λ (x : List ℕ). lookup (is_key x) left ≡ remembered (keeping m (numbered (k + 1) is)) x)
           ((bytes_eq-Decides o j).0 same)
-          (gone ∙ sym (none_named (k + 1) o is (IsDistinct-head bytes_eq o is d)))
+          (gone ∙ sym (none_named m (k + 1) o is (IsDistinct-head bytes_eq o is d)))
       | inr other ↦ keeps (is_key j) (key_test j) (apart o j other) ∙ (finds j ∙ past other)
     ]
   where
-    past : bytes_eq o j ≡ false → number_in j (numbered k (o ∷ is)) ≡ number_in j (numbered (k + 1) is)
+    past : bytes_eq o j ≡ false
+        → remembered (keeping m (numbered k (o ∷ is))) j ≡ remembered (keeping m (numbered (k + 1) is)) j
     past other = rw other refl
 
 -- ---- what the ring gave up
@@ -128,25 +131,25 @@ given is i room o e = subst (Gives is i room) (sym e) (gives is i room (nat_lt (
 pub forgets_none : (is : List (List ℕ)) (i : List ℕ) (room : ℕ) (entries left : Entries)
     → None ≡ (if nat_lt (length is) room then None else slice_get (is ++ i ∷ []) 0) → left ≡ entries
     → Forgets (buffer (is ++ i ∷ []) room) entries left
-forgets_none is i room entries left e same k fits d finds =
+forgets_none is i room entries left e same m k fits d finds =
     let less = given is i room None e in
     let long = length-append is (i ∷ []) in
     let none : length (is ++ i ∷ []) - room ≡ 0 = omega arith in
     let start : k ≡ k + 0 = omega arith in
-    subst (λ (n : ℕ). Finds left (numbered (k + n) (drop n (is ++ i ∷ [])))) (sym none)
-    (subst (λ (n : ℕ). Finds left (numbered n (is ++ i ∷ []))) start
-    (subst (λ (es : Entries). Finds es (numbered k (is ++ i ∷ []))) (sym same) finds))
+    subst (λ (n : ℕ). Finds left (keeping m (numbered (k + n) (drop n (is ++ i ∷ []))))) (sym none)
+    (subst (λ (n : ℕ). Finds left (keeping m (numbered n (is ++ i ∷ [])))) start
+    (subst (λ (es : Entries). Finds es (keeping m (numbered k (is ++ i ∷ [])))) (sym same) finds))
 
 -- the oldest one is
 pub forgets_one : (is : List (List ℕ)) (i : List ℕ) (room : ℕ) (o : List ℕ) (entries left : Entries)
     → Some o ≡ (if nat_lt (length is) room then None else slice_get (is ++ i ∷ []) 0)
     → lookup (is_key o) left ≡ None → KeepsOthers same_key (is_key o) entries left
     → Forgets (buffer (is ++ i ∷ []) room) entries left
-forgets_one is i room o entries left e gone keeps k fits d finds =
+forgets_one is i room o entries left e gone keeps m k fits d finds =
     let g = given is i room (Some o) e in
     let full = g.0 in
     let long = length-append is (i ∷ []) in
     let one : length (is ++ i ∷ []) - room ≡ 1 = omega arith in
-    subst (λ (n : ℕ). Finds left (numbered (k + n) (drop n (is ++ i ∷ [])))) (sym one)
-    (left_over entries left o (drop 1 (is ++ i ∷ [])) k (subst (IsDistinct bytes_eq) g.1 d) gone keeps
-    (subst (λ (l : List (List ℕ)). Finds entries (numbered k l)) g.1 finds))
+    subst (λ (n : ℕ). Finds left (keeping m (numbered (k + n) (drop n (is ++ i ∷ []))))) (sym one)
+    (left_over entries left m o (drop 1 (is ++ i ∷ [])) k (subst (IsDistinct bytes_eq) g.1 d) gone keeps
+    (subst (λ (l : List (List ℕ)). Finds entries (keeping m (numbered k l))) g.1 finds))

@@ -9,7 +9,7 @@ use Rattle.std.proofs.lemmas.Map.Keys.{IsDistinct-tail, IsDistinct-push}
 use Rattle.circular_buffer.specs.Buffer.{Buffer, buffer, keep_last}
 use Rattle.td_cdr.specs.Marks.{Marks, Remembered, Numbered, Follows, entry_of, without_first, marked}
 use Rattle.td_cdr.specs.Marks.{remembered}
-use Rattle.td_marks.specs.Keeping.{most_kept, numbered, marks_of, identifiers, number_in, Entries, Enters, Forgets}
+use Rattle.td_marks.specs.Keeping.{most_kept, numbered, marks_of, keeping, identifiers, Entries, Enters, Forgets}
 use Rattle.td_marks.specs.Keeping.{Finds, IsTied, IsKept}
 use Rattle.td_marks.specs.Keeping.{is_key}
 use Rattle.td_marks.proofs.Found.{none_alike}
@@ -82,7 +82,7 @@ distinct-drop (suc n) [] d = d
 distinct-drop (suc n) (i ∷ is) d = distinct-drop n is (IsDistinct-tail bytes_eq i is d)
 
 pub stays_tied : (count c d : ℕ) (ring new : Buffer (List ℕ)) (i : List ℕ) (before between after : Entries)
-    → IsTied count c ring before → number_in i (numbered (count - length ring.items) ring.items) ≡ None
+    → IsTied count c ring before → remembered (marks_of count c ring) i ≡ None
     → d ≤ c + most_kept + 1 → Enters before i (count + 1) between
     → Forgets (buffer (ring.items ++ i ∷ []) ring.capacity) between after
     → new ≡ buffer (keep_last ring.capacity (ring.items ++ i ∷ [])) ring.capacity
@@ -97,10 +97,11 @@ stays_tied count c d ring new i before between after t fresh near enters forgets
     let long : length all ≡ length ring.items + 1 = length-append ring.items (i ∷ []) in
     let left : length (keep_last size all) ≡ length all - (length all - size) = length-drop (length all - size) all in
     let distinct : IsDistinct bytes_eq all =
-    IsDistinct-push nat_list_eq_equiv ring.items i t.distinct (none_alike first i ring.items fresh) in
+    IsDistinct-push nat_list_eq_equiv ring.items i t.distinct (none_alike (marks_of count c ring) first i ring.items fresh) in
     let push : numbered first all ≡ numbered first ring.items ++ entry_of i (count + 1) ∷ [] =
     numbered-push first ring.items i (count + 1) (omega arith) in
-    let finds = enters (numbered first ring.items) t.found in
+    let m : Marks = marks_of count c ring in
+    let finds = enters m t.found in
     let start : first + (length all - size) ≡ count + 1 - length (keep_last size all) = omega arith in
     subst (λ (r : Buffer (List ℕ)). IsTied (count + 1) d r after) (sym e) (record {
       room = t.room;
@@ -108,8 +109,9 @@ stays_tied count c d ring new i before between after t fresh near enters forgets
       last = omega arith;
       steps = omega arith;
       distinct = distinct-drop (length all - size) all distinct;
-      found = subst (λ (k : ℕ). Finds after (numbered k (keep_last size all))) start
-          (forgets first (omega arith) distinct (subst (Finds between) (sym push) finds));
+      found = subst (λ (k : ℕ). Finds after (keeping m (numbered k (keep_last size all)))) start
+          (forgets m first (omega arith) distinct
+          (subst (λ (kept : List Remembered). Finds between (keeping m kept)) (sym push) finds));
     })
 
 -- ---- what holds of every ring

@@ -1,13 +1,13 @@
 -- The marks that a ring of identifiers stands for, and the map that finds them.
 use Rattle.std.specs.Prelude.{◌≡◌, ℕ, ◌+◌, ◌-◌, ◌*◌, ◌<◌, ◌≤◌, min, nat_eq, Bool, List, [], ◌∷◌, ◌++◌, length, map}
-use Rattle.std.specs.Prelude.{find, Option, option_map, Vec}
+use Rattle.std.specs.Prelude.{Vec}
 use Rattle.std.specs.Cmp.Lexicographic.{pointwise}
 use Rattle.std.specs.List.{IsDistinct}
 use Rattle.std.specs.Map.{lookup}
 use Rattle.std.specs.Str.{bytes_eq}
 use Rattle.std.specs.declared.alloc.Global.{Global}
 use Rattle.circular_buffer.specs.Buffer.{Buffer, keep_last}
-use Rattle.td_cdr.specs.Marks.{Marks, Remembered, Orderly, entry_of}
+use Rattle.td_cdr.specs.Marks.{Marks, Remembered, Orderly, entry_of, remembered}
 
 -- how many identifiers a ring remembers at most; this trader's choice
 abbrev pub most_kept : ℕ
@@ -35,9 +35,9 @@ marks_of count counter ring = record {
 abbrev pub identifiers : List Remembered → List (List ℕ)
 identifiers kept = map (λ e. e.identifier) kept
 
--- the number under which an identifier is kept
-abbrev pub number_in : List ℕ → List Remembered → Option ℕ
-number_in identifier kept = option_map (λ e. e.number) (find (λ e. bytes_eq e.identifier identifier) kept)
+-- these marks, with others kept
+abbrev pub keeping : Marks → List Remembered → Marks
+keeping m kept = record m { kept = kept }
 
 -- the entries of the map: identifiers, each with its number
 abbrev pub Entries : Type 0
@@ -51,14 +51,14 @@ same_key a b = pointwise nat_eq a.items b.items
 abbrev pub is_key : List ℕ → Vec ℕ Global → Bool
 is_key identifier key = bytes_eq identifier key.items
 
--- in the map each identifier has the number under which it is kept, and no other has one
-abbrev pub Finds : Entries → List Remembered → Type 0
-Finds entries kept = (identifier : List ℕ) → lookup (is_key identifier) entries ≡ number_in identifier kept
+-- in the map each identifier has the number under which it is remembered, and no other has one
+abbrev pub Finds : Entries → Marks → Type 0
+Finds entries m = (identifier : List ℕ) → lookup (is_key identifier) entries ≡ remembered m identifier
 
 -- the map finds this identifier besides
 abbrev pub Enters : Entries → (identifier : List ℕ) → (number : ℕ) → Entries → Type 0
 Enters entries identifier number more =
-    (kept : List Remembered) → Finds entries kept → Finds more (kept ++ entry_of identifier number ∷ [])
+    (m : Marks) → Finds entries m → Finds more (keeping m (m.kept ++ entry_of identifier number ∷ []))
 
 -- how many identifiers there is no room for
 abbrev pub forgotten : Buffer (List ℕ) → ℕ
@@ -67,9 +67,9 @@ forgotten ring = length ring.items - ring.capacity
 -- the map that finds one identifier more than there may be room for is made to find those that stay
 abbrev pub Forgets : Buffer (List ℕ) → Entries → Entries → Type 0
 Forgets ring entries left =
-    (first : ℕ) → length ring.items ≤ ring.capacity + 1 → IsDistinct bytes_eq ring.items
-    → Finds entries (numbered first ring.items)
-    → Finds left (numbered (first + forgotten ring) (keep_last ring.capacity ring.items))
+    (m : Marks) (first : ℕ) → length ring.items ≤ ring.capacity + 1 → IsDistinct bytes_eq ring.items
+    → Finds entries (keeping m (numbered first ring.items))
+    → Finds left (keeping m (numbered (first + forgotten ring) (keep_last ring.capacity ring.items)))
 
 -- the ring holds the last identifiers, as many as were marked or as there is room for, and the map finds these
 pub record IsTied (count counter : ℕ) (ring : Buffer (List ℕ)) (entries : Entries) : Type 0 where
@@ -78,7 +78,7 @@ pub record IsTied (count counter : ℕ) (ring : Buffer (List ℕ)) (entries : En
   pub last : length ring.items ≡ min count ring.capacity
   pub steps : counter ≤ (most_kept + 1) * count
   pub distinct : IsDistinct bytes_eq ring.items
-  pub found : Finds entries (numbered (count - length ring.items) ring.items)
+  pub found : Finds entries (marks_of count counter ring)
 
 -- what holds of the marks of every ring: one mark raises the counter by no more than there may be identifiers, and one
 pub record IsKept (m : Marks) : Type 0 where
