@@ -1,3 +1,4 @@
+mod Answered
 pub mod Decided
 pub mod Items
 pub mod Least

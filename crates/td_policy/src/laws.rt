@@ -1,6 +1,6 @@
 //! What holds of policies, whatever they are (OMG's Trading Object Service, "Policies").
 
-ghost use Rattle.std.specs.Prelude.{◌≡◌, ◌≤◌, ℕ, Bool, List, [], ◌∷◌, ◌++◌, length, map, reverse};
+ghost use Rattle.std.specs.Prelude.{◌≡◌, ◌≤◌, ℕ, Bool, List, [], ◌∷◌, ◌++◌, length, map, reverse, Err};
 ghost use Rattle.td_value.specs.declared.enumerations.FollowOption.{FollowOption};
 ghost use Rattle.td_value.specs.declared.structures.Policy.{Policy};
 ghost use Rattle.td_policy.specs.Effective.{effective_of};
@@ -9,6 +9,7 @@ ghost use Rattle.td_policy.specs.Stated.{next_stated, stated, stated_value};
 ghost use Rattle.td_policy.specs.Values.{truth, number, rule, texts, octets, policy};
 ghost use Rattle.td_policy.specs.declared.attributes.Attributes.{Attributes};
 ghost use Rattle.td_policy.specs.declared.fault.PolicyFault.{PolicyFault};
+ghost use Rattle.td_policy.specs.declared.fault.PolicyFault.TheVariants.{Memory as memory};
 ghost use Rattle.td_policy.specs.declared.stated.Stated.{Stated};
 
 /// What a query is served with is never above the trader's maximum.
@@ -54,4 +55,10 @@ pub fn written_policies_are_read_back()
 /// Each policy states the field of its name, and no other.
 pub fn each_policy_states_its_field()
     ensures { EachStatesItsField }
+{}
+
+/// As it is defined, a list of policies states something, or an exception refuses it: want of memory is
+/// the code's alone.
+pub fn policies_come_to_no_want_of_memory()
+    ensures { (ps : List Policy) → stated ps ≡ Err memory → ⊥ }
 {}

@@ -41,7 +41,8 @@ preferred text (Err f) = raise (user.IllegalPreference text)
 abbrev pub preferred_in : List ℕ → Found Preference
 preferred_in text = preferred text (preference_of text)
 
--- As they are defined, policies come to no want of memory.
+-- As they are defined, policies come to no want of memory (law `policies_come_to_no_want_of_memory` of td_policy), so
+-- the last line is never met.
 abbrev pub policy_refusal : PolicyFault → Refusal
 policy_refusal (fault.DuplicatePolicyName name) = Raised (user.DuplicatePolicyName name)
 policy_refusal (fault.IllegalPolicyName name) = Raised (user.IllegalPolicyName name)
