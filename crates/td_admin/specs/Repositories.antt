@@ -47,7 +47,8 @@ exception_of (fault.HasSubTypes the_type sub_type) = user.HasSubTypes the_type s
 exception_of (fault.AlreadyMasked name) = user.AlreadyMasked name
 exception_of (fault.NotMasked name) = user.NotMasked name
 
--- Past a limit it is IMP_LIMIT. As they are defined, the repository's calls come to no want of memory.
+-- Past a limit it is IMP_LIMIT. As they are defined, the repository's calls come to no want of memory (law
+-- `calls_come_to_no_want_of_memory` of td_types), so the last line is never met.
 abbrev pub refusal_of : TypesFault → Refusal
 refusal_of (Raises f) = Raised (exception_of f)
 refusal_of Full = Limit

@@ -1,6 +1,7 @@
 pub mod Additions
 pub mod Adds
 pub mod Admitted
+mod Answered
 pub mod Below
 pub mod ByName
 pub mod Chained

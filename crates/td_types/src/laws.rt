@@ -1,7 +1,8 @@
 //! What holds of service types and interfaces, as functions that do nothing: each one's contract is
 //! the law.
 
-ghost use Rattle.std.specs.Prelude.{◌≡◌, ℕ, ◌↔◌, List, [], Ok, Some, Option, IsTrue, true, false, map, filter};
+ghost use Rattle.std.specs.Prelude.{◌≡◌, ℕ, ◌↔◌, List, [], Ok, Err, Some, Option, IsTrue, true, false, map};
+ghost use Rattle.std.specs.Prelude.{filter};
 ghost use Rattle.td_cdr.specs.Sound.{text, sequence};
 ghost use Rattle.td_value.specs.Structures.{prop_struct};
 ghost use Rattle.td_value.specs.declared.structures.PropStruct.{PropStruct};
@@ -13,6 +14,7 @@ ghost use Rattle.td_types.specs.Laws.{Rises, Removes, SetsMask, IsNewest, IsOlde
 ghost use Rattle.td_types.specs.Properties.{full_properties};
 ghost use Rattle.td_types.specs.Repository.{Declared, Repository, ServiceType, IsRepository, has_type, is_among};
 ghost use Rattle.td_types.specs.Writable.{IsWritable, AreWritable, StaysWritable};
+ghost use Rattle.td_types.specs.declared.fault.TypesFault.TheVariants.{Memory as memory};
 ghost use Rattle.td_types.specs.declared.reply.TypesReply.{TypesReply};
 
 /// The test of conforming interfaces is the relation: declared bases lead from the one to the other,
@@ -100,4 +102,17 @@ pub fn types_stay_writable()
     ensures list { (r : Repository) (since : Option ℕ) → IsWritable r → StaysWritable (list_types r since) }
     ensures properties { (r : Repository) (name : List ℕ) → IsWritable r →
         (sequence prop_struct).format.admits (full_properties r.types name) }
+{}
+
+/// As they are defined, the calls come to an answer, an exception or the limit: want of memory is the
+/// code's alone.
+pub fn calls_come_to_no_want_of_memory()
+    ensures add { (r : Repository) (name if_name : List ℕ) (props : List PropStruct) (supers : List (List ℕ)) →
+        add_type r name if_name props supers ≡ Err memory → ⊥ }
+    ensures remove { (r : Repository) (name : List ℕ) → remove_type r name ≡ Err memory → ⊥ }
+    ensures mask { (r : Repository) (name : List ℕ) → mask_type r name ≡ Err memory → ⊥ }
+    ensures unmask { (r : Repository) (name : List ℕ) → unmask_type r name ≡ Err memory → ⊥ }
+    ensures describe { (r : Repository) (name : List ℕ) → describe_type r name ≡ Err memory → ⊥ }
+    ensures fully_describe { (r : Repository) (name : List ℕ) → fully_describe_type r name ≡ Err memory → ⊥ }
+    ensures list { (r : Repository) (since : Option ℕ) → list_types r since ≡ Err memory → ⊥ }
 {}

@@ -31,9 +31,9 @@ pub use entry::ServiceType;
 pub use fault::{RepoFault, TypesFault};
 pub use judgement::Judgement;
 pub use laws::{
-    incarnations_are_new, interfaces_conform, listing_rises, masks_change_nothing_else,
-    removing_leaves_the_others, supertypes_modes_hold, the_oldest_sub_type_is_named, types_conform,
-    types_stay_writable,
+    calls_come_to_no_want_of_memory, incarnations_are_new, interfaces_conform, listing_rises,
+    masks_change_nothing_else, removing_leaves_the_others, supertypes_modes_hold,
+    the_oldest_sub_type_is_named, types_conform, types_stay_writable,
 };
 pub use limits::{MOST_BYTES, MOST_PROPERTIES};
 pub use modes::{is_mandatory, is_readonly};
