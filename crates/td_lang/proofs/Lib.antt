@@ -15,6 +15,7 @@ pub mod ReaderTurn
 pub mod RecipeParts
 pub mod RoundTrip
 pub mod Soundness
+pub mod SpelledRecipes
 pub mod TapeSpelling
 pub mod TapeUniqueness
 pub mod TokenReading

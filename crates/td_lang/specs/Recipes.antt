@@ -1,8 +1,9 @@
 -- Trading Object Service, "Proxy": the recipe by which a proxy offer makes the constraint that it
 -- passes on. `$*` is the importer's constraint, `$(name)` the property of that name, `\c` the byte c, and
 -- any other byte itself.
-use Rattle.std.specs.Prelude.{◌≡◌, ◌≢◌, ℕ, ◌+◌, ◌<◌, ◌≤◌, nat_eq, List, [], ◌∷◌, ◌++◌, ◌⊎◌, length, take, if◌then◌else◌}
-use Rattle.std.specs.Prelude.{codes, Option, None, Some, Result, Ok, Err, option_and_then}
+use Rattle.std.specs.Prelude.{◌≡◌, ◌≢◌, ℕ, zero, suc, ◌+◌, ◌<◌, ◌≤◌, nat_eq, nat_le, List, [], ◌∷◌, ◌++◌, ◌⊎◌, length}
+use Rattle.std.specs.Prelude.{take, drop, if◌then◌else◌, codes, Option, None, Some, Result, Ok, Err, option_and_then}
+use Rattle.std.specs.Prelude.{option_map}
 use Rattle.std.specs.List.{position}
 use Rattle.td_cdr.specs.Names.{identifier, IsIdentifier}
 use Rattle.td_lang.specs.declared.expr.Part.{Part}
@@ -73,3 +74,19 @@ abbrev pub part_in_front : List ℕ → Option (Part × ℕ)
 part_in_front [] = None
 part_in_front (b ∷ more) =
     if nat_eq b 92 then escape_part more else if nat_eq b 36 then dollar_part more else Some (part.Byte b, 1)
+
+-- ---- the parts of a text
+
+abbrev pub part_before : (List ℕ → Option (List Part)) → List ℕ → Option (Part × ℕ) → Option (List Part)
+part_before rest text None = None
+part_before rest text (Some found) = option_map (λ parts. found.0 ∷ parts) (rest (drop found.1 text))
+
+-- the parts that stand one behind the other up to the end; there are no more of them than bytes
+abbrev pub parts_of : (most : ℕ) → List ℕ → Option (List Part)
+parts_of most [] = Some []
+parts_of zero (b ∷ text) = None
+parts_of (suc most) (b ∷ text) = part_before (parts_of most) (b ∷ text) (part_in_front (b ∷ text))
+
+-- the parts of a recipe, if the text is one: the parts that it spells, where it has at most 4,096 bytes
+unfoldable pub recipe_of : List ℕ → Option (List Part)
+recipe_of text = if nat_le (length text) 4096 then parts_of (length text) text else None

@@ -1,12 +1,10 @@
 -- Proxy offers (OMG's Trading Object Service, interface Proxy).
-use Rattle.std.specs.Prelude.{ℕ, zero, suc, nat_lt, nat_eq, Bool, false, not, ◌+◌, ◌&&◌, ◌||◌, is_some, if◌then◌else◌}
-use Rattle.std.specs.Prelude.{List, [], ◌∷◌, length, drop, Option, None, Some}
+use Rattle.std.specs.Prelude.{ℕ, Bool, false, not, ◌+◌, is_some, if◌then◌else◌, List, [], ◌∷◌, Option, None, Some}
 use Rattle.td_codes.specs.declared.reference.Ior.{Ior}
 use Rattle.td_exceptions.specs.declared.exception.UserException.TheVariants.{InvalidLookupRef, IllegalRecipe}
 use Rattle.td_exceptions.specs.declared.exception.UserException.TheVariants.{DuplicatePolicyName}
 use Rattle.td_ior.specs.Profiles.{iiop_of}
-use Rattle.td_lang.specs.Recipes.{part_in_front}
-use Rattle.td_lang.specs.declared.expr.Part.{Part}
+use Rattle.td_lang.specs.Recipes.{recipe_of}
 use Rattle.td_types.specs.Repository.{is_among}
 use Rattle.td_value.specs.declared.structures.Policy.{Policy}
 use Rattle.td_value.specs.declared.structures.Property.{Property}
@@ -25,23 +23,8 @@ use Rattle.td_register.specs.Stores.{Store}
 
 -- ---- recipes
 
--- how many bytes the part in front takes
-abbrev pub part_length : Option (Part × ℕ) → Option ℕ
-part_length None = None
-part_length (Some found) = Some found.1
-
-abbrev pub goes_on : (List ℕ → Bool) → List ℕ → Option ℕ → Bool
-goes_on rest text None = false
-goes_on rest text (Some size) = rest (drop size text)
-
--- Parts stand one behind the other up to the end; there are no more of them than bytes.
-abbrev pub are_parts : (most : ℕ) → List ℕ → Bool
-are_parts zero text = nat_eq (length text) 0
-are_parts (suc most) text =
-    nat_eq (length text) 0 || goes_on (are_parts most) text (part_length (part_in_front text))
-
 unfoldable pub is_recipe : List ℕ → Bool
-is_recipe text = not (nat_lt 4096 (length text)) && are_parts (length text) text
+is_recipe text = is_some (recipe_of text)
 
 -- ---- export_proxy
 

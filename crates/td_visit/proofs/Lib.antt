@@ -3,7 +3,6 @@ pub mod Never
 pub mod Forwarding
 pub mod Progressed
 pub mod Readings
-pub mod Recipes
 pub mod Resolved
 pub mod Reversed
 pub mod Turns

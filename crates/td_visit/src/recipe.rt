@@ -1,7 +1,8 @@
 //! What a proxy offer's recipe makes (OMG's Trading Object Service, interface Proxy).
 
 ghost use Rattle.std.specs.Prelude.{◌≡◌, option_map, IfOk};
-ghost use Rattle.td_walk.specs.SubQueries.{recipe_of, expanded};
+ghost use Rattle.td_lang.specs.Recipes.{recipe_of};
+ghost use Rattle.td_walk.specs.SubQueries.{expanded};
 
 use std::alloc::Global;
 use td_cdr::{Memory, Text};
@@ -10,7 +11,7 @@ use td_lang::{LangFault, Recipe, read_recipe};
 use td_store::{OfferRecord, ProxyPart};
 
 /// The recipe that a text spells, where it spells one.
-#[tactic(auto, using(crate::proofs::Recipes::spelled, crate::proofs::Recipes::too_long))]
+#[tactic(auto, using(td_lang::proofs::SpelledRecipes::spelled, td_lang::proofs::SpelledRecipes::too_long))]
 fn recipe_of(alloc: Global, text: &[u8]) -> Result<Option<Recipe>, Memory>
     ensures { IfOk result (λ recipe. option_map (λ r. r.parts) recipe ≡ recipe_of text.now) }
 {

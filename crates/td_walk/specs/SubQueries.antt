@@ -3,8 +3,7 @@
 use Rattle.std.specs.Prelude.{ℕ, zero, suc, nat_le, nat_lt, Bool, true, false, ◌&&◌, if◌then◌else◌, List, [], ◌∷◌}
 use Rattle.std.specs.Prelude.{length, drop, Option, None, Some, option_map, option_and_then, codes}
 use Rattle.td_eval.specs.Expansion.{expansion}
-use Rattle.td_lang.specs.Recipes.{part_in_front}
-use Rattle.td_lang.specs.declared.expr.Part.{Part}
+use Rattle.td_lang.specs.Recipes.{recipe_of}
 use Rattle.td_lang.specs.declared.expr.Preference.{Preference}
 use Rattle.td_lang.specs.declared.expr.Preference.TheVariants as preference
 use Rattle.td_ops.specs.declared.call.Query.{Query}
@@ -84,20 +83,6 @@ link_step l local_match link =
     if follows l local_match link then Some (Forward link.target (link_query l link)) else None
 
 -- ---- to a proxy offer's trader
-
-abbrev pub part_before : (List ℕ → Option (List Part)) → List ℕ → Option (Part × ℕ) → Option (List Part)
-part_before rest text None = None
-part_before rest text (Some found) = option_map (λ parts. found.0 ∷ parts) (rest (drop found.1 text))
-
--- the parts that stand one behind the other up to the end; there are no more of them than bytes
-abbrev pub parts_of : (most : ℕ) → List ℕ → Option (List Part)
-parts_of most [] = Some []
-parts_of zero (b ∷ text) = None
-parts_of (suc most) (b ∷ text) = part_before (parts_of most) (b ∷ text) (part_in_front (b ∷ text))
-
--- the parts of a recipe
-unfoldable pub recipe_of : List ℕ → Option (List Part)
-recipe_of text = if nat_le (length text) 4096 then parts_of (length text) text else None
 
 -- what the recipe makes of the importer's constraint and the offer's properties as they were exported
 unfoldable pub expanded : (constraint : List ℕ) → OfferRecord → ProxyPart → Option (List ℕ)

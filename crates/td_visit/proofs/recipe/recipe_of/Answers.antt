@@ -1,5 +1,5 @@
 use Rattle.std.proofs.Common.{sym}
-use Rattle.td_visit.proofs.Recipes.{refused}
+use Rattle.td_lang.proofs.SpelledRecipes.{refused}
 use Rattle.td_visit.proofs.recipe.recipe_of.Goals as goal
 
 pub returns-in-Err-Syntax : goal.returns-in-Err-Syntax

@@ -5,10 +5,11 @@ use Rattle.td_codes.specs.declared.code.Value.TheVariants as value
 use Rattle.td_eval.specs.Expansion.{part_text}
 use Rattle.td_eval.specs.Mentioning.{with_names}
 use Rattle.td_eval.specs.Properties.{property}
+use Rattle.td_lang.specs.Recipes.{recipe_of}
 use Rattle.td_store.proofs.Shapes.{dynamic-shape, shape-ulong}
 use Rattle.td_store.specs.Examples.{nobody, nothing_more}
 use Rattle.td_walk.specs.Resolving.{dynamic_named, dynamic_of, resolved}
-use Rattle.td_walk.specs.SubQueries.{expanded, link_step, proxy_step, recipe_of}
+use Rattle.td_walk.specs.SubQueries.{expanded, link_step, proxy_step}
 use Rattle.td_walk.specs.Visits.{next_of, steps, visit_of}
 use Rattle.td_walk_laws.proofs.examples.worked_orders.Goals as goal
 

@@ -1,8 +1,9 @@
 use Rattle.std.proofs.Common.{refl}
 use Rattle.td_eval.specs.Expansion.{part_text}
 use Rattle.td_eval.specs.Mentioning.{with_names}
+use Rattle.td_lang.specs.Recipes.{recipe_of}
 use Rattle.td_walk.specs.Resolving.{resolved}
-use Rattle.td_walk.specs.SubQueries.{recipe_of, expanded}
+use Rattle.td_walk.specs.SubQueries.{expanded}
 use Rattle.td_walk.specs.Visits.{next_of, visit_of, steps}
 use Rattle.td_walk.specs.SubQueries.{link_step, proxy_step}
 use Rattle.td_walk_laws.proofs.examples.worked_proxies.Goals as goal

@@ -1,13 +1,12 @@
--- A text's recipe is the one that it spells.
-use Rattle.std.proofs.Common.{◌≡◌, ℕ, zero, suc, ◌+◌, ◌<◌, ◌≤◌, List, [], ◌∷◌}
+-- A text's recipe is the parts that it spells, where it isn't too long.
+use Rattle.std.proofs.Common.{◌≡◌, ℕ, zero, suc, ◌+◌, ◌<◌, ◌≤◌, nat_le, inl, inr, List, [], ◌∷◌}
 use Rattle.std.proofs.Common.{length, take, drop, Option, Some, None, refl, sym, ap, subst, ◌∙◌, arith}
 use Rattle.std.proofs.Common.{option_map}
-use Rattle.std.proofs.lemmas.Bool.{le-leb, lt-leb}
+use Rattle.std.proofs.lemmas.Bool.{cases_Bool, le-leb, leb-true, lt-leb}
 use Rattle.std.proofs.lemmas.List.{take-append-drop, length-append}
 use Rattle.td_lang.specs.declared.expr.Part.{Part}
-use Rattle.td_lang.specs.Recipes.{SpellsParts, Begins, IsRefusedAt, part_in_front}
+use Rattle.td_lang.specs.Recipes.{SpellsParts, Begins, IsRefusedAt, part_in_front, part_before, parts_of, recipe_of}
 use Rattle.td_lang.proofs.RecipeParts.{begins-front, begins-rest, front-found, not_both}
-use Rattle.td_walk.specs.SubQueries.{part_before, parts_of, recipe_of}
 
 empty : (most : ℕ) → parts_of most [] ≡ Some []
 empty zero = refl
@@ -78,3 +77,11 @@ refused text place short h = rw (le-leb (length text) 4096 short) (by_parts (par
     by_parts : (o : Option (List Part)) → parts_of (length text) text ≡ o → o ≡ None
     by_parts None e = refl
     by_parts (Some ps) e = absurd (not_both text place ps h (sound (length text) text ps e))
+
+pub spelled_by : (text : List ℕ) (ps : List Part) → recipe_of text ≡ Some ps → (length text ≤ 4096) × SpellsParts ps text
+unfolding recipe_of
+spelled_by text ps e =
+    elim (cases_Bool (nat_le (length text) 4096)) [
+      | inl short ↦ (leb-true (length text) 4096 short, sound (length text) text ps (rw short at e))
+      | inr long ↦ let none : None ≡ Some ps = rw long at e in absurd cc
+    ]
