@@ -8,7 +8,7 @@ use Rattle.std.specs.Str.{bytes_eq}
 use Rattle.td_cdr.specs.Names.{identifier}
 use Rattle.td_cdr.specs.declared.order.Order.TheVariants.{Big}
 use Rattle.td_codes.specs.Labels.{Held}
-use Rattle.td_codes.specs.Same.{same, shape}
+use Rattle.td_codes.specs.Same.{same}
 use Rattle.td_codes.specs.Values.{code_in}
 use Rattle.td_codes.specs.declared.code.Any.{Any}
 use Rattle.td_codes.specs.declared.code.TypeCode.{TypeCode}
@@ -22,12 +22,11 @@ use Rattle.td_exceptions.specs.declared.exception.UserException.TheVariants.{Mis
 use Rattle.td_types.specs.Modes.{is_mandatory, is_readonly}
 use Rattle.td_types.specs.Properties.{property_named}
 use Rattle.td_types.specs.Repository.{is_among}
-use Rattle.td_value.specs.Dynamic.{dynamic_shape}
 use Rattle.td_value.specs.Structures.{offer}
 use Rattle.td_value.specs.declared.enumerations.PropertyMode.{PropertyMode}
 use Rattle.td_value.specs.declared.structures.PropStruct.{PropStruct}
 use Rattle.td_value.specs.declared.structures.Property.{Property}
-use Rattle.td_store.specs.Candidates.{mode_in}
+use Rattle.td_store.specs.Candidates.{is_dynamic, mode_in}
 use Rattle.td_store.specs.Stores.{most_properties, most_bytes}
 use Rattle.td_register.specs.Causes.{Cause, raise_if, ◌otherwise◌}
 
@@ -35,9 +34,6 @@ abbrev pub carries : List Property → List ℕ → Bool
 carries properties name = list_any (λ p. bytes_eq p.name name) properties
 
 -- ---- dynamic properties
-
-abbrev pub is_dynamic : Any → Bool
-is_dynamic a = dynamic_shape (shape a.code)
 
 abbrev pub second_code : List Value → Option TypeCode
 second_code [] = None

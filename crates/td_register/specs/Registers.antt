@@ -23,14 +23,14 @@ use Rattle.td_value.specs.declared.structures.PropStruct.{PropStruct}
 use Rattle.td_value.specs.declared.structures.Property.{Property}
 use Rattle.td_ops.specs.declared.outcome.Outcome.{Outcome}
 use Rattle.td_ops.specs.declared.outcome.Reply.TheVariants as reply
-use Rattle.td_store.specs.Candidates.{belongs}
+use Rattle.td_store.specs.Candidates.{belongs, is_dynamic}
 use Rattle.td_store.specs.OfferLists.{without_offer, with_properties, most_offers}
 use Rattle.td_store.specs.Stores.{offer_info_of}
 use Rattle.td_store.specs.declared.record.OfferRecord.{OfferRecord}
 use Rattle.td_register.specs.Causes.{Cause, Found, Comes, raise, raise_if, limit_if, ◌otherwise◌, given, tells, unless}
 use Rattle.td_register.specs.Ids.{id_of, number_in, ordinary}
 use Rattle.td_register.specs.Named.{known, open_type, demanded}
-use Rattle.td_register.specs.Properties.{carries, is_dynamic, mode_of, name_cause, value_cause, properties_cause}
+use Rattle.td_register.specs.Properties.{carries, mode_of, name_cause, value_cause, properties_cause}
 use Rattle.td_register.specs.Properties.{missing, missing_cause, is_too_large}
 use Rattle.td_register.specs.Stores.{Store}
 

@@ -2,7 +2,7 @@
 use Rattle.std.proofs.Common.{◌≡◌, ℕ, ◌+◌, ◌<◌, ◌≤◌, Bool, true, false, not, cond, ◌||◌, ◌&&◌, inl, inr, List}
 use Rattle.std.proofs.Common.{[], ◌∷◌, ◌++◌, length, map, take, zero, suc, Option, None, Some, refl, sym, ap, ◌∙◌}
 use Rattle.std.proofs.Common.{subst, arith}
-use Rattle.std.specs.List.{filter, list_any, AllByRecursion, IsDistinct}
+use Rattle.std.specs.List.{filter, AllByRecursion, IsDistinct}
 use Rattle.std.specs.List.Sorted.{IsStrictlySortedBy}
 use Rattle.std.specs.Option.{is_none}
 use Rattle.std.specs.Ordering.{nat_cmp}
@@ -19,7 +19,7 @@ use Rattle.td_value.specs.Enumerations.{follow_option}
 use Rattle.td_value.specs.declared.enumerations.FollowOption.{FollowOption}
 use Rattle.td_value.specs.declared.enumerations.FollowOption.TheVariants.{LocalOnly, IfNoLocal, Always}
 use Rattle.td_value.specs.declared.structures.Property.{Property}
-use Rattle.td_store.specs.Candidates.{belongs, is_exact, is_asked, is_dynamic, is_candidate, candidates}
+use Rattle.td_store.specs.Candidates.{belongs, is_exact, is_asked, has_dynamic, is_candidate, candidates}
 use Rattle.td_store.specs.Candidates.{has_conforming_type}
 use Rattle.td_store.specs.Laws.{HasConformingType, IsPlain}
 use Rattle.td_store.specs.LinkLists.{most_links, link_of, is_linked, ruled, without_link}
@@ -132,7 +132,7 @@ plain-searched : (types : List ServiceType) (a : Attributes) (asked : List ℕ) 
 plain-searched types a asked o plain =
     thrice (has_conforming_type types asked o) _ _ _
     (ap (λ proxy. is_none proxy || a.supports_proxy_offers) plain.ordinary)
-    (or_fixed a.supports_dynamic_properties (list_any is_dynamic o.properties) plain.fixed) refl
+    (or_fixed a.supports_dynamic_properties (has_dynamic o.properties) plain.fixed) refl
 
 pub all-searched : (types : List ServiceType) (a : Attributes) (asked : List ℕ) (offers : List OfferRecord)
     → AllByRecursion IsPlain offers

@@ -5,6 +5,7 @@ use Rattle.std.specs.Prelude.{◌+◌, Option, Some, None, is_none, unwrap_or}
 use Rattle.std.specs.List.{list_any, list_all}
 use Rattle.std.specs.Str.{bytes_eq}
 use Rattle.td_codes.specs.Same.{shape}
+use Rattle.td_codes.specs.declared.code.Any.{Any}
 use Rattle.td_value.specs.Dynamic.{dynamic_shape}
 use Rattle.td_value.specs.declared.enumerations.PropertyMode.{PropertyMode}
 use Rattle.td_value.specs.declared.enumerations.PropertyMode.TheVariants.{Normal}
@@ -56,13 +57,17 @@ uses stated = unwrap_or stated true
 abbrev pub passes_proxy : Attributes → Stated → OfferRecord → Bool
 passes_proxy a s o = is_none o.proxy || (uses s.use_proxy && a.supports_proxy_offers)
 
--- the property's any holds a DynamicProp
-abbrev pub is_dynamic : Property → Bool
-is_dynamic p = dynamic_shape (shape p.value.code)
+-- the any holds a DynamicProp
+abbrev pub is_dynamic : Any → Bool
+is_dynamic a = dynamic_shape (shape a.code)
+
+-- one of the properties is evaluated when it is asked for
+abbrev pub has_dynamic : List Property → Bool
+has_dynamic properties = list_any (λ p. is_dynamic p.value) properties
 
 -- offers with a dynamic property are left out unless these are used and supported
 abbrev pub passes_dynamic : Attributes → Stated → OfferRecord → Bool
-passes_dynamic a s o = (uses s.use_dynamic && a.supports_dynamic_properties) || not (list_any is_dynamic o.properties)
+passes_dynamic a s o = (uses s.use_dynamic && a.supports_dynamic_properties) || not (has_dynamic o.properties)
 
 -- the mode that a type gives a property, normal where it doesn't name it
 abbrev pub mode_in : Option PropStruct → PropertyMode

@@ -1,9 +1,8 @@
 -- What holds of the offers that a query searches (OMG's Trading Object Service, "Lookup Interface", query).
 use Rattle.std.specs.Prelude.{◌≡◌, ℕ, false, IsTrue, List, None}
-use Rattle.std.specs.List.{list_any}
 use Rattle.td_types.specs.Conforming.{conforms}
 use Rattle.td_types.specs.declared.entry.ServiceType.{ServiceType}
-use Rattle.td_store.specs.Candidates.{belongs, is_dynamic}
+use Rattle.td_store.specs.Candidates.{belongs, has_dynamic}
 use Rattle.td_store.specs.declared.record.OfferRecord.{OfferRecord}
 
 -- the offer belongs to a type, and this conforms to the asked one
@@ -14,4 +13,4 @@ pub record HasConformingType (types : List ServiceType) (asked : List ℕ) (o : 
 -- an ordinary offer without dynamic properties
 pub record IsPlain (o : OfferRecord) : Type 0 where
   pub ordinary : o.proxy ≡ None
-  pub fixed : list_any is_dynamic o.properties ≡ false
+  pub fixed : has_dynamic o.properties ≡ false

@@ -1,16 +1,16 @@
 //! Whether a query searches an offer.
 
 ghost use Rattle.std.specs.Prelude.{◌≡◌};
-ghost use Rattle.std.specs.List.{list_any, list_all};
+ghost use Rattle.std.specs.List.{list_all};
 ghost use Rattle.td_store.specs.Candidates.{belongs, has_asked_type, has_conforming_type, is_asked, is_candidate};
-ghost use Rattle.td_store.specs.Candidates.{is_dynamic, is_exact, is_fixed, mode_of, passes_dynamic};
+ghost use Rattle.td_store.specs.Candidates.{has_dynamic, is_exact, is_fixed, mode_of, passes_dynamic};
 ghost use Rattle.td_store.specs.Candidates.{passes_modifiable, passes_proxy, uses};
 
 use crate::record::OfferRecord;
 use td_cdr::Text;
 use td_policy::{Attributes, Stated};
 use td_types::{Types, is_readonly};
-use td_value::{Property, PropertyMode};
+use td_value::{Property, PropertyMode, is_dynamic};
 
 /// Whether the offer's type is there, with the incarnation that it had when the offer came. Takes no
 /// memory.
@@ -100,17 +100,13 @@ fn passes_dynamic(attributes: &Attributes, stated: &Stated, offer: &OfferRecord)
         || !has_dynamic(offer.properties.as_slice())
 }
 
+/// Whether one of the properties is evaluated when it is asked for.
 fn has_dynamic(properties: &[Property]) -> bool
-    ensures { result ≡ list_any is_dynamic properties.now }
+    ensures { result ≡ has_dynamic properties.now }
 {
-    properties.iter().any(|property| is_dynamic(property))
-}
-
-/// Whether the property is evaluated when it is asked for.
-fn is_dynamic(property: &Property) -> bool
-    ensures { result ≡ is_dynamic property.now }
-{
-    td_value::is_dynamic(&property.value.code)
+    properties
+        .iter()
+        .any(|property| is_dynamic(&property.value.code))
 }
 
 fn passes_modifiable(

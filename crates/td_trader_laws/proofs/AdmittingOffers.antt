@@ -19,6 +19,7 @@ use Rattle.td_ops.specs.declared.operation.Operation.TheVariants.{Register, Prox
 use Rattle.td_ops.specs.declared.operation.ProxyOperation.TheVariants as proxy_operation
 use Rattle.td_ops.specs.declared.operation.RegisterOperation.TheVariants as register
 use Rattle.td_ops.specs.declared.outcome.Reply.TheVariants as reply
+use Rattle.td_store.specs.Candidates.{is_dynamic}
 use Rattle.td_store.specs.OfferLists.{is_numbered, most_offers, offer_of, with_properties}
 use Rattle.td_store.specs.Stores.{IsOffer, IsStore, most_bytes, most_properties}
 use Rattle.td_store.specs.declared.record.OfferRecord.{OfferRecord}
@@ -41,7 +42,7 @@ use Rattle.td_register.specs.Causes.{Found, given, limit_if, raise, raise_if, th
 use Rattle.td_register.specs.Causes.{◌otherwise◌}
 use Rattle.td_register.specs.Ids.{id_of, identified, number_in, numbered, of_ordinary, of_proxies, ordinary, proxy}
 use Rattle.td_register.specs.Named.{demanded, known, open_type, unmasked}
-use Rattle.td_register.specs.Properties.{carries, encoded, is_dynamic, is_too_large, mismatches, missing, missing_cause}
+use Rattle.td_register.specs.Properties.{carries, encoded, is_too_large, mismatches, missing, missing_cause}
 use Rattle.td_register.specs.Properties.{mode_of, name_cause, properties_cause, value_cause}
 use Rattle.td_register.specs.Proxies.{export_proxy, export_proxy_cause, exported_proxy, is_recipe, policies_cause}
 use Rattle.td_register.specs.Proxies.{withdraw_proxy, withdraw_proxy_cause}

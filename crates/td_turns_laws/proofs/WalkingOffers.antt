@@ -51,7 +51,7 @@ value-when false o v h k = k
 value-resolved : (made : List Evaluation) (p : Property) → AreWritableEvaluations made → property.format.admits p
     → IsWritableValue (resolved_value made p)
 value-resolved made p h a =
-    value-when (is_dynamic p) (option_and_then (λ e. e.value) (evaluation_of made p.name)) p.value
+    value-when (is_dynamic p.value) (option_and_then (λ e. e.value) (evaluation_of made p.name)) p.value
     (value-left (evaluation_of made p.name) (there-found IsWritableEvaluation (λ e. bytes_eq e.name p.name) made h))
     a.1
 

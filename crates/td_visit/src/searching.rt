@@ -2,8 +2,7 @@
 //! interface Lookup, query).
 
 ghost use Rattle.std.specs.Prelude.{◌≡◌, ◌≤◌, ◌++◌, [], ◌∷◌, drop, length, IfOk, OnOk};
-ghost use Rattle.std.specs.List.{list_any};
-ghost use Rattle.td_store.specs.Candidates.{is_dynamic};
+ghost use Rattle.td_store.specs.Candidates.{has_dynamic};
 ghost use Rattle.td_walk.specs.Told.{Tells, TellsMore, Kept};
 ghost use Rattle.td_walk.specs.Resolving.{resolved};
 ghost use Rattle.td_visit.specs.Resuming.{tried_on, made_trying, searched_on, searched_up_to, made_completing};
@@ -34,7 +33,7 @@ fn matches_all(proxy: &Option<Shared<ProxyPart>>) -> bool
 
 /// Whether one of the properties is evaluated when it is asked for.
 pub(crate) fn has_dynamic(properties: &[Property]) -> bool
-    ensures { result ≡ list_any is_dynamic properties.now }
+    ensures { result ≡ has_dynamic properties.now }
 {
     properties
         .iter()

@@ -6,7 +6,7 @@ use Rattle.std.specs.List.{find, filter_map}
 use Rattle.std.specs.Str.{bytes_eq}
 use Rattle.td_cdr.specs.declared.order.Order.TheVariants.{Big}
 use Rattle.td_codes.specs.Labels.{Held}
-use Rattle.td_codes.specs.Same.{same, shape}
+use Rattle.td_codes.specs.Same.{same}
 use Rattle.td_codes.specs.Values.{any_in, any_value, code_in, reference_in}
 use Rattle.td_codes.specs.declared.code.Any.{Any}
 use Rattle.td_codes.specs.declared.code.TypeCode.{TypeCode}
@@ -16,7 +16,6 @@ use Rattle.td_codes.specs.declared.reference.Ior.{Ior}
 use Rattle.td_eval.specs.Properties.{property}
 use Rattle.td_ior.specs.Profiles.{iiop_of}
 use Rattle.td_store.specs.Candidates.{is_dynamic}
-use Rattle.td_value.specs.Dynamic.{dynamic_shape}
 use Rattle.td_value.specs.declared.structures.DynamicProp.{DynamicProp}
 use Rattle.td_value.specs.declared.structures.Property.{Property}
 use Rattle.td_walk.specs.declared.answer.StepAnswer.{StepAnswer}
@@ -41,7 +40,7 @@ dynamic_among members = None
 
 -- the DynamicProp that an any holds
 unfoldable pub dynamic_of : Any → Option DynamicProp
-dynamic_of a = if dynamic_shape (shape a.code) then dynamic_among (members_in (out-Value a.value)) else None
+dynamic_of a = if is_dynamic a then dynamic_among (members_in (out-Value a.value)) else None
 
 -- that of a property of this name
 unfoldable pub dynamic_named : List Property → (name : List ℕ) → Option DynamicProp
@@ -74,7 +73,7 @@ is_evaluated made name = is_some (evaluation_of made name)
 -- a dynamic property's value is what its evaluation gave
 abbrev pub resolved_value : List Evaluation → Property → Option Any
 resolved_value made p =
-    if is_dynamic p then option_and_then (λ e. e.value) (evaluation_of made p.name) else Some p.value
+    if is_dynamic p.value then option_and_then (λ e. e.value) (evaluation_of made p.name) else Some p.value
 
 abbrev pub resolved_property : List Evaluation → Property → Option Property
 resolved_property made p = option_map (λ v. record { name = p.name; value = v }) (resolved_value made p)
