@@ -3,10 +3,10 @@
 use Rattle.std.specs.Prelude.{ℕ, List, [], ◌∷◌, ◌++◌, codes, length}
 use Rattle.td_file.specs.Files.{Opening}
 use Rattle.td_ior.specs.Texts.{printed}
+use Rattle.td_objects.specs.References.{own_reference}
+use Rattle.td_objects.specs.declared.interface.Interface.TheVariants as interface
+use Rattle.td_objects.specs.declared.interface.Interface.{Interface}
 use Rattle.td_put.specs.Pieces.{counted}
-use Rattle.td_reply.specs.References.{own_reference}
-use Rattle.td_reply.specs.declared.interface.Interface.{Interface}
-use Rattle.td_reply.specs.declared.interface.Interface.TheVariants as interface
 use Rattle.td_trader.specs.PlainTraders.{PlainTrader, store_of}
 use Rattle.td_value.specs.declared.key.Kind.{Kind}
 use Rattle.td_value.specs.declared.key.Kind.TheVariants as kind

@@ -2,7 +2,8 @@
 
 ghost use Rattle.std.specs.Prelude.{◌≡◌, ◌++◌, IfOk, OnOk};
 ghost use Rattle.td_check.specs.Checked.{all_lines, check_lines, trader_lines};
-ghost use Rattle.td_file.specs.Files.{IsAddress, seen};
+ghost use Rattle.td_file.specs.Files.{seen};
+ghost use Rattle.td_objects.specs.References.{IsAddress};
 
 use crate::counting::put_count_line;
 use crate::objects::put_references;

@@ -3,13 +3,13 @@
 ghost use Rattle.std.specs.Prelude.{◌≡◌, ◌++◌, IfOk, OnOk};
 ghost use Rattle.td_check.specs.Checked.{interface_of, kind_of, reference_line, reference_lines, reference_text};
 ghost use Rattle.td_check.specs.Checked.{word_of};
-ghost use Rattle.td_file.specs.Files.{IsAddress};
+ghost use Rattle.td_objects.specs.References.{IsAddress};
 
 use std::alloc::Global;
 use td_cdr::{Memory, Text};
 use td_ior::{Kind, print_text};
+use td_objects::{Interface, own_reference};
 use td_put::put;
-use td_reply::{Interface, own_reference};
 use td_walk::Address;
 
 /// One of a trader's objects.

@@ -3,7 +3,8 @@
 ghost use Rattle.std.specs.Prelude.{◌≤◌, length};
 ghost use Rattle.td_command.specs.Printing.{Checks, Prints, PrintsFile, PrintsOf, sink_seen};
 ghost use Rattle.td_command.specs.Shelves.{shelves};
-ghost use Rattle.td_file.specs.Files.{IsAddress, seen};
+ghost use Rattle.td_file.specs.Files.{seen};
+ghost use Rattle.td_objects.specs.References.{IsAddress};
 
 use crate::ended::Ended;
 use crate::printing::print;

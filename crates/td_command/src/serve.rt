@@ -2,7 +2,8 @@
 
 ghost use Rattle.std.specs.Prelude.{◌≡◌, ◌≤◌, length};
 ghost use Rattle.td_command.specs.Runs.{ServesFile, ServesOpened, ServesText, shelves};
-ghost use Rattle.td_file.specs.Files.{IsAddress, seen};
+ghost use Rattle.td_file.specs.Files.{seen};
+ghost use Rattle.td_objects.specs.References.{IsAddress};
 ghost use Rattle.td_session.specs.Outside.{outside};
 
 use crate::ended::Ended;

@@ -1,10 +1,10 @@
 -- The entries of a trader, one by one.
 use Rattle.std.proofs.Common.{◌≡◌, List, ◌∷◌, Result, sym, ap, ◌∙◌}
 use Rattle.td_cdr.specs.Reading.{◌>>=◌}
-use Rattle.td_lines.specs.declared.entry.Home.{Home}
 use Rattle.td_lines.specs.declared.entry.Numbered.{Numbered}
 use Rattle.td_lines.specs.declared.entry.Refused.{Refused}
 use Rattle.td_register.specs.Stores.{Store}
+use Rattle.td_walk.specs.declared.trace.Address.{Address}
 use Rattle.td_file.specs.Openings.{behind, store_after}
 use Rattle.td_file.specs.Stages.{Refuses}
 use Rattle.td_file.specs.declared.fault.FileFault.{FileFault}
@@ -23,7 +23,7 @@ refused_as told other (Line n cause) e h = sym e ∙ h
 refused_as told other Memory e h = tt
 
 -- one entry more is refused
-pub entry_refused : (home : Home) (s : Store) (one : Numbered) (before after : List Numbered)
+pub entry_refused : (home : Address) (s : Store) (one : Numbered) (before after : List Numbered)
     (whole : Result Store Refused) (fault : FileFault) → before ≡ one ∷ after → Refuses (behind home s one) fault
     → store_after home s before ≡ whole → Refuses whole fault
 entry_refused home s one before after whole fault e h same =

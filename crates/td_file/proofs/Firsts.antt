@@ -6,7 +6,6 @@ use Rattle.td_changes.specs.Applying.{apply}
 use Rattle.td_changes.specs.Histories.{after_all, is_done}
 use Rattle.td_lines.specs.Steps.{refusal}
 use Rattle.td_lines.specs.declared.cause.LineCause.TheVariants.{Rejected}
-use Rattle.td_lines.specs.declared.entry.Home.{Home}
 use Rattle.td_lines.specs.declared.entry.Numbered.{Numbered}
 use Rattle.td_lines.specs.declared.entry.Refused.{Refused}
 use Rattle.td_ops.specs.declared.call.Change.{Change}
@@ -17,6 +16,7 @@ use Rattle.td_register.specs.Causes.{Applied}
 use Rattle.td_register.specs.Entries.{entry}
 use Rattle.td_register.specs.Stores.{Store}
 use Rattle.td_register.specs.declared.history.Accepted.{Accepted}
+use Rattle.td_walk.specs.declared.trace.Address.{Address}
 use Rattle.td_file.specs.Laws.{AcceptedEntriesAreDone, AreAccepted, FirstRefusedIsTold, IsBehind, IsFirstRefused}
 use Rattle.td_file.specs.Laws.{StoresAreBehind, changes_in, changes_of}
 use Rattle.td_file.specs.Openings.{behind, change_of, entered, store_after}
@@ -51,11 +51,11 @@ entered-done n a told e = ap (λ (o : Outcome). entered n (with_outcome o a.stor
 
 -- ---- a history
 
-none-behind : (home : Home) (s after : Store) → s ≡ after → IsBehind home s [] after
+none-behind : (home : Address) (s after : Store) → s ≡ after → IsBehind home s [] after
 unfolding after_all
 none-behind home s after e = record { history = []; changes = refl; accepted = tt; store = e }
 
-one-behind : (home : Home) (one : Numbered) (others : List Numbered) (s next after : Store)
+one-behind : (home : Address) (one : Numbered) (others : List Numbered) (s next after : Store)
     → Passes (apply s (change_of home one.entry)).outcome (apply s (change_of home one.entry)).store next
     → IsBehind home next others after → IsBehind home s (one ∷ others) after
 unfolding after_all
@@ -68,12 +68,12 @@ one-behind home one others s next after p rest =
       store = ap (λ (t : Store). after_all t rest.history) p.store ∙ rest.store;
     }
 
-passes-one : (home : Home) (s : Store) (one : Numbered) (next : Store) → behind home s one ≡ Ok next
+passes-one : (home : Address) (s : Store) (one : Numbered) (next : Store) → behind home s one ≡ Ok next
     → Passes (apply s (change_of home one.entry)).outcome (apply s (change_of home one.entry)).store next
 passes-one home s one next e =
     let a = apply s (change_of home one.entry) in passed one.line a.outcome a.store next e
 
-behind-step : (home : Home) (one : Numbered) (others : List Numbered) (s after : Store) (told : Result Store Refused)
+behind-step : (home : Address) (one : Numbered) (others : List Numbered) (s after : Store) (told : Result Store Refused)
     → behind home s one ≡ told → (told >>= λ more. store_after home more others) ≡ Ok after
     → ((next : Store) → store_after home next others ≡ Ok after → IsBehind home next others after)
     → IsBehind home s (one ∷ others) after
@@ -81,7 +81,7 @@ behind-step home one others s after (Ok next) e h more =
     one-behind home one others s next after (passes-one home s one next e) (more next h)
 behind-step home one others s after (Err refused) e h more = absurd (let bad : ⊥ = cc in bad)
 
-behind-all : (home : Home) (entries : List Numbered) (s after : Store) → store_after home s entries ≡ Ok after
+behind-all : (home : Address) (entries : List Numbered) (s after : Store) → store_after home s entries ≡ Ok after
     → IsBehind home s entries after
 behind-all home [] s after e = none-behind home s after cc
 behind-all home (one ∷ others) s after e =
@@ -93,7 +93,7 @@ stores home s entries after e = behind-all home entries s after e
 
 -- ---- and back
 
-done-step : (home : Home) (one : Numbered) (others : List Numbered) (s : Store) (e : Accepted)
+done-step : (home : Address) (one : Numbered) (others : List Numbered) (s : Store) (e : Accepted)
     → e.change ≡ change_of home one.entry → (apply s e.change).outcome ≡ Done e.reply
     → store_after home s (one ∷ others) ≡ store_after home (apply s e.change).store others
 done-step home one others s e same is =
@@ -102,7 +102,7 @@ done-step home one others s e same is =
     ∙ entered-done one.line (apply s e.change) e.reply is in
     ap (λ (told : Result Store Refused). told >>= λ more. store_after home more others) here
 
-done-all : (home : Home) (entries : List Numbered) (s after : Store) (history : List Accepted)
+done-all : (home : Address) (entries : List Numbered) (s after : Store) (history : List Accepted)
     → changes_in history ≡ changes_of home entries → AreAccepted s history → after_all s history ≡ after
     → store_after home s entries ≡ Ok after
 unfolding after_all
@@ -119,7 +119,7 @@ accepted home s entries after h = done-all home entries s after h.history h.chan
 
 -- ---- the first refused entry
 
-later-refused : (home : Home) (one : Numbered) (others : List Numbered) (s next : Store) (refused : Refused)
+later-refused : (home : Address) (one : Numbered) (others : List Numbered) (s next : Store) (refused : Refused)
     → behind home s one ≡ Ok next → IsFirstRefused home next others refused
     → IsFirstRefused home s (one ∷ others) refused
 later-refused home one others s next refused e rest = record {
@@ -133,7 +133,7 @@ later-refused home one others s next refused e rest = record {
   not_done = rest.not_done;
 }
 
-first-step : (home : Home) (one : Numbered) (others : List Numbered) (s : Store) (refused : Refused)
+first-step : (home : Address) (one : Numbered) (others : List Numbered) (s : Store) (refused : Refused)
     (told : Result Store Refused) → behind home s one ≡ told
     → (told >>= λ more. store_after home more others) ≡ Err refused
     → ((next : Store) → store_after home next others ≡ Err refused → IsFirstRefused home next others refused)
@@ -155,7 +155,7 @@ first-step home one others s refused (Err r) e h more =
       not_done = stops.not_done;
     }
 
-first-refused : (home : Home) (entries : List Numbered) (s : Store) (refused : Refused)
+first-refused : (home : Address) (entries : List Numbered) (s : Store) (refused : Refused)
     → store_after home s entries ≡ Err refused → IsFirstRefused home s entries refused
 first-refused home [] s refused e = absurd (let bad : ⊥ = cc in bad)
 first-refused home (one ∷ others) s refused e =

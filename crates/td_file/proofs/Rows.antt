@@ -4,12 +4,12 @@ use Rattle.std.proofs.Common.{refl, sym, ap, subst, ◌∙◌}
 use Rattle.std.specs.List.{IsDistinct}
 use Rattle.std.specs.Str.{bytes_eq}
 use Rattle.td_cdr.specs.Reading.{◌>>=◌}
-use Rattle.td_lines.specs.declared.entry.Home.{Home}
 use Rattle.td_lines.specs.declared.entry.Refused.{Refused}
 use Rattle.td_lines.specs.declared.entry.TraderScript.{TraderScript}
 use Rattle.td_register.specs.Stores.{Store}
 use Rattle.td_trader.specs.PlainTraders.{PlainTrader, opened}
 use Rattle.td_trader.specs.Solos.{AreDistinct}
+use Rattle.td_walk.specs.declared.trace.Address.{Address}
 use Rattle.td_file.specs.Openings.{AreApart, all_traders, bounds, names_in, opening_store, trader_of}
 use Rattle.td_file.specs.Stages.{Refuses}
 use Rattle.td_file.specs.declared.fault.FileFault.{FileFault}
@@ -22,7 +22,7 @@ with_front found told = told >>= λ more. Ok (found ++ more)
 
 -- ---- one trader
 
-pub trader_not_made : (home : Home) (one : TraderScript) (fault : FileFault) → Refuses (opening_store home one) fault
+pub trader_not_made : (home : Address) (one : TraderScript) (fault : FileFault) → Refuses (opening_store home one) fault
     → Refuses (trader_of home one) fault
 trader_not_made home one fault h =
     refused_on (opening_store home one) (λ (s : Store). Ok (opened one.name s bounds)) fault h
@@ -53,14 +53,14 @@ named-more name names (Ok t) (Ok ts) h k =
 named-more name names (Ok t) (Err refused) h k = tt
 named-more name names (Err refused) others h k = tt
 
-named-all : (home : Home) (told : List TraderScript) → AreNamed (names_in told) (all_traders home told)
+named-all : (home : Address) (told : List TraderScript) → AreNamed (names_in told) (all_traders home told)
 named-all home [] = refl
 named-all home (t ∷ ts) =
     named-more t.name (names_in ts) (trader_of home t) (all_traders home ts)
     (named-one t.name (opening_store home t)) (named-all home ts)
 
 -- the traders have the names that the file gives them, of which no two are one
-pub apart : (home : Home) (told : List TraderScript) (ts : List PlainTrader) → all_traders home told ≡ Ok ts
+pub apart : (home : Address) (told : List TraderScript) (ts : List PlainTrader) → all_traders home told ≡ Ok ts
     → AreApart told → AreDistinct ts
 apart home told ts e h =
     let named : names_of ts ≡ names_in told = subst (AreNamed (names_in told)) e (named-all home told) in

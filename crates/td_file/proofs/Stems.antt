@@ -14,7 +14,6 @@ use Rattle.td_admin.specs.Repositories.{add_type, changes_types, mask_type, remo
 use Rattle.td_codes.specs.declared.reference.Ior.{Ior}
 use Rattle.td_lines.specs.Steps.{refusal}
 use Rattle.td_lines.specs.declared.cause.LineCause.TheVariants.{Rejected}
-use Rattle.td_lines.specs.declared.entry.Home.{Home}
 use Rattle.td_lines.specs.declared.entry.Numbered.{Numbered}
 use Rattle.td_lines.specs.declared.entry.Refused.{Refused}
 use Rattle.td_ops.specs.declared.attribute.FollowAttribute.{FollowAttribute}
@@ -43,6 +42,7 @@ use Rattle.td_value.specs.declared.enumerations.FollowOption.{FollowOption}
 use Rattle.td_value.specs.declared.structures.Policy.{Policy}
 use Rattle.td_value.specs.declared.structures.PropStruct.{PropStruct}
 use Rattle.td_value.specs.declared.structures.Property.{Property}
+use Rattle.td_walk.specs.declared.trace.Address.{Address}
 use Rattle.td_file.specs.Openings.{behind, change_of, new_store, store_after}
 
 abbrev IsShort : Store → Type 0
@@ -242,7 +242,7 @@ stays-if : (s : Store) (refused : Refused) (test : Bool) → IsShort s → Stays
 stays-if s refused true h = h
 stays-if s refused false h = tt
 
-stays-behind : (home : Home) (s : Store) (one : Numbered) → IsShort s → Stays (behind home s one)
+stays-behind : (home : Address) (s : Store) (one : Numbered) → IsShort s → Stays (behind home s one)
 stays-behind home s one h =
     let c = change_of home one.entry in
     stays-if (apply s c).store (refusal one.line Rejected) (is_done (apply s c).outcome)
@@ -253,19 +253,19 @@ stays-on : (told : Result Store Refused) (f : Store → Result Store Refused) �
 stays-on (Ok s) f h k = k s h
 stays-on (Err refused) f h k = tt
 
-stays : (home : Home) (s : Store) (entries : List Numbered) → IsShort s → Stays (store_after home s entries)
+stays : (home : Address) (s : Store) (entries : List Numbered) → IsShort s → Stays (store_after home s entries)
 stays home s [] h = h
 stays home s (one ∷ others) h =
     stays-on (behind home s one) (λ (more : Store). store_after home more others) (stays-behind home s one h)
     (λ (more : Store) k. stays home more others k)
 
-short-new : (home : Home) (name : List ℕ) (interfaces : Declared) → length name ≤ 32
+short-new : (home : Address) (name : List ℕ) (interfaces : Declared) → length name ≤ 32
     → IsShort (new_store home name interfaces)
 unfolding new_store
 short-new home name interfaces h = omega (arith, h)
 
 -- the stem of an opening store: the name, or what a line has set
-pub short_stem : (home : Home) (name : List ℕ) (interfaces : Declared) (entries : List Numbered) (s : Store)
+pub short_stem : (home : Address) (name : List ℕ) (interfaces : Declared) (entries : List Numbered) (s : Store)
     → length name ≤ 32 → store_after home (new_store home name interfaces) entries ≡ Ok s
     → length s.attributes.request_id_stem ≤ 64
 short_stem home name interfaces entries s h e =

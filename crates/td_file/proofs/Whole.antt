@@ -8,8 +8,10 @@ use Rattle.td_lines.specs.declared.entry.Home.{Home}
 use Rattle.td_lines.specs.declared.entry.Refused.{Refused}
 use Rattle.td_lines.specs.declared.entry.Script.{Script}
 use Rattle.td_lines.specs.declared.entry.TraderScript.{TraderScript}
+use Rattle.td_objects.specs.References.{IsAddress}
 use Rattle.td_trader.specs.PlainTraders.{PlainTrader}
-use Rattle.td_file.specs.Files.{Answers, IsAddress, Opening, opening, opening_at, opening_of, opening_with, seen}
+use Rattle.td_walk.specs.declared.trace.Address.{Address}
+use Rattle.td_file.specs.Files.{Answers, Opening, home_address, opening, opening_at, opening_of, opening_with, seen}
 use Rattle.td_file.specs.Files.{unless_refused}
 use Rattle.td_file.specs.Openings.{all_traders, later_refusal, missing_in}
 use Rattle.td_file.specs.Stages.{Refuses}
@@ -19,11 +21,11 @@ use Rattle.td_file.proofs.Entrance.{refused_on}
 
 -- ---- what is opened at an address
 
-abbrev behind_all : Home → List ℕ → List TraderScript → Option Refused → List PlainTrader → Result Opening Refused
+abbrev behind_all : Address → List ℕ → List TraderScript → Option Refused → List PlainTrader → Result Opening Refused
 behind_all home seed told refused traders =
     unless_refused (later_refusal refused (missing_in told told)) (opening home seed traders)
 
-pub opens_at : (home : Home) (seed : List ℕ) (told : List TraderScript) (refused later : Option Refused)
+pub opens_at : (home : Address) (seed : List ℕ) (told : List TraderScript) (refused later : Option Refused)
     (ts : List PlainTrader) (r : Result Opened FileFault) → all_traders home told ≡ Ok ts
     → later ≡ later_refusal refused (missing_in told told) → Answers (unless_refused later (opening home seed ts)) r
     → Answers (opening_at home seed told refused) r
@@ -33,7 +35,7 @@ opens_at home seed told refused later ts r all tried h =
     subst (λ (x : Result (List PlainTrader) Refused). Answers (x >>= behind_all home seed told refused) r) (sym all)
     here
 
-pub refuses_at : (home : Home) (seed : List ℕ) (told : List TraderScript) (refused : Option Refused)
+pub refuses_at : (home : Address) (seed : List ℕ) (told : List TraderScript) (refused : Option Refused)
     (fault : FileFault) → Refuses (all_traders home told) fault
     → Refuses (opening_at home seed told refused) fault
 refuses_at home seed told refused fault h =
@@ -55,18 +57,22 @@ fits-unless : (later : Option Refused) (o : Opening) → IsAddress o.home → le
 fits-unless None o address seed = (address, seed)
 fits-unless (Some refused) o address seed = tt
 
-fits-at : (home : Home) (seed : List ℕ) (told : List TraderScript) (refused : Option Refused)
-    (all : Result (List PlainTrader) Refused) → length home.host ≤ 1000 → HasNoNul home.host → length seed ≡ 32
+fits-at : (home : Address) (seed : List ℕ) (told : List TraderScript) (refused : Option Refused)
+    (all : Result (List PlainTrader) Refused) → IsAddress home → length seed ≡ 32
     → Fits (all >>= behind_all home seed told refused)
-fits-at home seed told refused (Ok ts) short text long =
-    fits-unless (later_refusal refused (missing_in told told)) (opening home seed ts)
-    (record { short = short; no_nul = text }) long
-fits-at home seed told refused (Err e) short text long = tt
+fits-at home seed told refused (Ok ts) reached long =
+    fits-unless (later_refusal refused (missing_in told told)) (opening home seed ts) reached long
+fits-at home seed told refused (Err e) reached long = tt
+
+-- the address of a file that is sound is one where a server may listen
+pub listens : (home : Home) → length home.host ≤ 1000 → HasNoNul home.host → IsAddress (home_address home)
+listens home short text = record { short = short; no_nul = text }
 
 fits-with : (s : Script) (home : Option Home) → IfSome home (λ (h : Home). length h.host ≤ 1000)
     → IfSome home (λ (h : Home). HasNoNul h.host) → length s.seed ≡ 32 → Fits (opening_with s home)
 fits-with s (Some home) short text long =
-    fits-at home s.seed s.traders s.refused (all_traders home s.traders) short text long
+    fits-at (home_address home) s.seed s.traders s.refused (all_traders (home_address home) s.traders)
+    (listens home short text) long
 fits-with s None short text long = tt
 
 fits : (text : List ℕ) → IsSound (script_of text) → Fits (opening_of text)

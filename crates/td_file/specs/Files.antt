@@ -1,8 +1,7 @@
 -- What a server's file opens: its address, its seed and its traders; or the entry that is answered, by its first line
 -- and the cause.
-use Rattle.std.specs.Prelude.{◌≡◌, ℕ, ◌≤◌, List, length, Option, Some, None, Result, Ok, Err}
+use Rattle.std.specs.Prelude.{◌≡◌, ℕ, List, Option, Some, None, Result, Ok, Err}
 use Rattle.td_cdr.specs.Reading.{◌>>=◌}
-use Rattle.td_cdr.specs.Text.{HasNoNul}
 use Rattle.td_lines.specs.Scripts.{script_of}
 use Rattle.td_lines.specs.Steps.{refusal}
 use Rattle.td_lines.specs.declared.cause.LineCause.TheVariants.{Place}
@@ -23,19 +22,19 @@ pub record Opening : Type 0 where
   pub seed : List ℕ
   pub traders : List PlainTrader
 
-abbrev pub opening : Home → List ℕ → List PlainTrader → Opening
-opening home seed traders = record {
-  home = record { host = home.host; port = home.port };
-  seed = seed;
-  traders = traders;
-}
+abbrev pub opening : Address → List ℕ → List PlainTrader → Opening
+opening home seed traders = record { home = home; seed = seed; traders = traders }
+
+-- where the lines of the file say that the server is reached
+abbrev pub home_address : Home → Address
+home_address home = record { host = home.host; port = home.port }
 
 abbrev pub unless_refused : Option Refused → Opening → Result Opening Refused
 unless_refused None o = Ok o
 unless_refused (Some refused) o = Err refused
 
 -- at this address
-abbrev pub opening_at : Home → List ℕ → List TraderScript → Option Refused → Result Opening Refused
+abbrev pub opening_at : Address → List ℕ → List TraderScript → Option Refused → Result Opening Refused
 opening_at home seed told refused =
     all_traders home told >>= λ traders.
     unless_refused (later_refusal refused (missing_in told told)) (opening home seed traders)
@@ -46,7 +45,7 @@ or_place (Some refused) = refused
 or_place None = refusal 1 Place
 
 abbrev pub opening_with : Script → Option Home → Result Opening Refused
-opening_with s (Some home) = opening_at home s.seed s.traders s.refused
+opening_with s (Some home) = opening_at (home_address home) s.seed s.traders s.refused
 opening_with s None = Err (or_place s.refused)
 
 -- what a file opens, or the refusal that is answered
@@ -63,8 +62,3 @@ seen o = record { home = o.home; seed = o.seed; traders = o.solo.traders.items }
 abbrev pub Answers : Result Opening Refused → Result Opened FileFault → Type 0
 Answers told (Ok o) = told ≡ Ok (seen o)
 Answers told (Err fault) = Refuses told fault
-
--- where a server is reached: a host of 1,000 bytes at most, none of them NUL
-pub record IsAddress (a : Address) : Type 0 where
-  pub short : length a.host ≤ 1000
-  pub no_nul : HasNoNul a.host

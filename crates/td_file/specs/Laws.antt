@@ -5,17 +5,17 @@ use Rattle.td_changes.specs.Applying.{apply}
 use Rattle.td_changes.specs.Histories.{after_all, is_done}
 use Rattle.td_lines.specs.Steps.{refusal}
 use Rattle.td_lines.specs.declared.cause.LineCause.TheVariants.{Rejected}
-use Rattle.td_lines.specs.declared.entry.Home.{Home}
 use Rattle.td_lines.specs.declared.entry.Numbered.{Numbered}
 use Rattle.td_lines.specs.declared.entry.Refused.{Refused}
 use Rattle.td_ops.specs.declared.call.Change.{Change}
 use Rattle.td_ops.specs.declared.outcome.Outcome.TheVariants.{Done}
 use Rattle.td_register.specs.Stores.{Store}
 use Rattle.td_register.specs.declared.history.Accepted.{Accepted}
+use Rattle.td_walk.specs.declared.trace.Address.{Address}
 use Rattle.td_file.specs.Openings.{change_of, store_after}
 
 -- the changes that the entries ask for
-abbrev pub changes_of : Home → List Numbered → List Change
+abbrev pub changes_of : Address → List Numbered → List Change
 changes_of home entries = map (λ (one : Numbered). change_of home one.entry) entries
 
 abbrev pub changes_in : List Accepted → List Change
@@ -27,14 +27,14 @@ AreAccepted s [] = Unit {0}
 AreAccepted s (e ∷ es) = ((apply s e.change).outcome ≡ Done e.reply) × AreAccepted (apply s e.change).store es
 
 -- the store is the one behind a history of these entries' changes
-pub record IsBehind (home : Home) (s : Store) (entries : List Numbered) (after : Store) : Type 0 where
+pub record IsBehind (home : Address) (s : Store) (entries : List Numbered) (after : Store) : Type 0 where
   pub history : List Accepted
   pub changes : changes_in history ≡ changes_of home entries
   pub accepted : AreAccepted s history
   pub store : after_all s history ≡ after
 
 -- The entries before it are accepted, and its own operation refuses this one.
-pub record IsFirstRefused (home : Home) (s : Store) (entries : List Numbered) (refused : Refused) : Type 0 where
+pub record IsFirstRefused (home : Address) (s : Store) (entries : List Numbered) (refused : Refused) : Type 0 where
   pub before : List Numbered
   pub one : Numbered
   pub later : List Numbered
@@ -48,15 +48,15 @@ pub record IsFirstRefused (home : Home) (s : Store) (entries : List Numbered) (r
 
 abbrev pub StoresAreBehind : Type 0
 StoresAreBehind =
-    (home : Home) (s : Store) (entries : List Numbered) (after : Store) → store_after home s entries ≡ Ok after
+    (home : Address) (s : Store) (entries : List Numbered) (after : Store) → store_after home s entries ≡ Ok after
     → IsBehind home s entries after
 
 abbrev pub AcceptedEntriesAreDone : Type 0
 AcceptedEntriesAreDone =
-    (home : Home) (s : Store) (entries : List Numbered) (after : Store) → IsBehind home s entries after
+    (home : Address) (s : Store) (entries : List Numbered) (after : Store) → IsBehind home s entries after
     → store_after home s entries ≡ Ok after
 
 abbrev pub FirstRefusedIsTold : Type 0
 FirstRefusedIsTold =
-    (home : Home) (s : Store) (entries : List Numbered) (refused : Refused) → store_after home s entries ≡ Err refused
-    → IsFirstRefused home s entries refused
+    (home : Address) (s : Store) (entries : List Numbered) (refused : Refused)
+    → store_after home s entries ≡ Err refused → IsFirstRefused home s entries refused

@@ -1,6 +1,5 @@
 pub mod Examples
 pub mod Files
 pub mod Laws
-pub mod Objects
 pub mod Openings
 pub mod Stages

@@ -11,10 +11,10 @@ use Rattle.td_lines.specs.Steps.{refusal}
 use Rattle.td_lines.specs.declared.cause.LineCause.TheVariants.{Name, Rejected}
 use Rattle.td_lines.specs.declared.entry.Entry.{Entry}
 use Rattle.td_lines.specs.declared.entry.Entry.TheVariants as entry
-use Rattle.td_lines.specs.declared.entry.Home.{Home}
 use Rattle.td_lines.specs.declared.entry.Numbered.{Numbered}
 use Rattle.td_lines.specs.declared.entry.Refused.{Refused}
 use Rattle.td_lines.specs.declared.entry.TraderScript.{TraderScript}
+use Rattle.td_objects.specs.References.{lookup_reference, register_reference, trader_references}
 use Rattle.td_ops.specs.declared.call.Change.{Change}
 use Rattle.td_ops.specs.declared.call.Change.TheVariants.{AddLink}
 use Rattle.td_policy.specs.Attributes.{default_attributes}
@@ -23,28 +23,28 @@ use Rattle.td_register.specs.Stores.{Store}
 use Rattle.td_trader.specs.PlainTraders.{PlainTrader, opened}
 use Rattle.td_types.specs.Repository.{Declared}
 use Rattle.td_value.specs.declared.enumerations.FollowOption.{FollowOption}
-use Rattle.td_file.specs.Objects.{lookup_of, own, register_of}
+use Rattle.td_walk.specs.declared.trace.Address.{Address}
 
 -- ---- the entries of one trader
 
 -- A new trader's store: no types but the declared interfaces, no offers, no links, and the attributes as they are where
 -- nothing is set.
-unfoldable pub new_store : Home → (name : List ℕ) → Declared → Store
+unfoldable pub new_store : Address → (name : List ℕ) → Declared → Store
 new_store home name interfaces = record {
   types = record { types = []; interfaces = interfaces; last = 0 };
   offers = [];
   links = [];
-  attributes = default_attributes name (own home name);
+  attributes = default_attributes name (trader_references home name);
   last_offer = 0;
 }
 
 -- A trader of the file is linked by its Lookup, with its own Register.
-abbrev pub link_to : Home → (name trader : List ℕ) → (def_pass_on limiting : FollowOption) → Change
+abbrev pub link_to : Address → (name trader : List ℕ) → (def_pass_on limiting : FollowOption) → Change
 link_to home name trader def_pass_on limiting =
-    AddLink name (lookup_of home trader) def_pass_on limiting (Some (register_of home trader))
+    AddLink name (lookup_reference home trader) def_pass_on limiting (Some (register_reference home trader))
 
 -- the change that an entry asks for
-abbrev pub change_of : Home → Entry → Change
+abbrev pub change_of : Address → Entry → Change
 change_of home (entry.Change c) = c
 change_of home (entry.Link name trader def_pass_on limiting) = link_to home name trader def_pass_on limiting
 
@@ -53,11 +53,11 @@ abbrev pub entered : ℕ → Applied → Result Store Refused
 entered n a = if is_done a.outcome then Ok a.store else Err (refusal n Rejected)
 
 -- the store behind an entry
-abbrev pub behind : Home → Store → Numbered → Result Store Refused
+abbrev pub behind : Address → Store → Numbered → Result Store Refused
 behind home s one = entered one.line (apply s (change_of home one.entry))
 
 -- the store behind these entries, or the first of them that is refused
-abbrev pub store_after : Home → Store → List Numbered → Result Store Refused
+abbrev pub store_after : Address → Store → List Numbered → Result Store Refused
 store_after home s [] = Ok s
 store_after home s (one ∷ others) = behind home s one >>= λ more. store_after home more others
 
@@ -67,15 +67,15 @@ abbrev pub bounds : Bounds
 bounds = record { ring = 4096; changes = 1000000; begins = 2 ^ 40 }
 
 -- the store with which a trader opens
-abbrev pub opening_store : Home → TraderScript → Result Store Refused
+abbrev pub opening_store : Address → TraderScript → Result Store Refused
 opening_store home t = store_after home (new_store home t.name t.interfaces) t.entries
 
 -- a trader in its opening store, with an empty history and no marks
-abbrev pub trader_of : Home → TraderScript → Result PlainTrader Refused
+abbrev pub trader_of : Address → TraderScript → Result PlainTrader Refused
 trader_of home t = opening_store home t >>= λ s. Ok (opened t.name s bounds)
 
 -- these traders, or the first of their entries that is refused
-abbrev pub all_traders : Home → List TraderScript → Result (List PlainTrader) Refused
+abbrev pub all_traders : Address → List TraderScript → Result (List PlainTrader) Refused
 all_traders home [] = Ok []
 all_traders home (t ∷ ts) =
     trader_of home t >>= λ first. all_traders home ts >>= λ others. Ok (first ∷ others)

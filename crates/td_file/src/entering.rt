@@ -1,36 +1,37 @@
 //! The entries of a trader, done to its store.
 
 ghost use Rattle.std.specs.Prelude.{◌≡◌, IfOk, OnOk};
-ghost use Rattle.td_cdr.specs.Text.{HasNoNul};
 ghost use Rattle.td_changes.specs.Applying.{apply};
 ghost use Rattle.td_changes.specs.Histories.{is_done};
 ghost use Rattle.td_changes.specs.Numbering.{AreNumbered};
 ghost use Rattle.td_file.specs.Openings.{behind, change_of, link_to, store_after};
 ghost use Rattle.td_file.specs.Stages.{Enters};
+ghost use Rattle.td_objects.specs.References.{IsAddress};
 
 use crate::fault::FileFault;
-use crate::objects::ends_of;
 use std::alloc::Global;
 use td_cdr::{List, Memory, Text};
 use td_changes::apply;
-use td_lines::{Entry, Home, LineCause, Numbered};
+use td_lines::{Entry, LineCause, Numbered};
+use td_objects::lookup_and_register;
 use td_ops::{Change, Outcome};
 use td_store::Store;
 use td_value::FollowOption;
+use td_walk::Address;
 
 /// The link to a trader of the file, with its own Register.
 fn link_to(
     alloc: Global,
-    home: &Home,
+    home: &Address,
     name: Text,
     trader: Text,
     def_pass_on: FollowOption,
     limiting: FollowOption,
 ) -> Result<Change, Memory>
-    requires { HasNoNul home.now.host }
+    requires { IsAddress home.now }
     ensures { IfOk result (λ c. c ≡ link_to home.now name trader def_pass_on limiting) }
 {
-    let (target, register) = ends_of(alloc, home, trader.as_slice())?;
+    let (target, register) = lookup_and_register(alloc, home, &trader)?;
     Ok(Change::AddLink {
         name,
         target,
@@ -41,8 +42,8 @@ fn link_to(
 }
 
 /// The change that an entry asks for.
-fn change_of(alloc: Global, home: &Home, entry: Entry) -> Result<Change, Memory>
-    requires { HasNoNul home.now.host }
+fn change_of(alloc: Global, home: &Address, entry: Entry) -> Result<Change, Memory>
+    requires { IsAddress home.now }
     ensures { IfOk result (λ c. c ≡ change_of home.now entry) }
 {
     match entry {
@@ -81,8 +82,8 @@ fn is_applied(alloc: Global, store: &mut Store, change: Change) -> Result<bool, 
 }
 
 /// Does what an entry asks for.
-fn enter(alloc: Global, home: &Home, store: &mut Store, one: Numbered) -> Result<(), FileFault>
-    requires host { HasNoNul home.now.host }
+fn enter(alloc: Global, home: &Address, store: &mut Store, one: Numbered) -> Result<(), FileFault>
+    requires home { IsAddress home.now }
     requires numbered { AreNumbered store.old }
     ensures enters { Enters (behind home.now store.old one) store.new result }
     ensures numbered { AreNumbered store.new }
@@ -99,11 +100,11 @@ fn enter(alloc: Global, home: &Home, store: &mut Store, one: Numbered) -> Result
 /// Does what these entries ask for, in order, up to the first that is refused.
 pub(crate) fn enter_all(
     alloc: Global,
-    home: &Home,
+    home: &Address,
     store: &mut Store,
     entries: List<Numbered>,
 ) -> Result<(), FileFault>
-    requires host { HasNoNul home.now.host }
+    requires home { IsAddress home.now }
     requires numbered { AreNumbered store.old }
     ensures enters { Enters (store_after home.now store.old entries) store.new result }
     ensures numbered { AreNumbered store.new }

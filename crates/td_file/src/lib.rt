@@ -4,7 +4,6 @@
 mod entering;
 mod fault;
 mod laws;
-mod objects;
 mod opening;
 mod reading;
 mod trading;

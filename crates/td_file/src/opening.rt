@@ -1,36 +1,35 @@
 //! The store of a new trader of the file.
 
 ghost use Rattle.std.specs.Prelude.{◌≡◌, [], IfOk};
-ghost use Rattle.td_cdr.specs.Text.{HasNoNul};
 ghost use Rattle.td_changes.specs.Numbering.{AreNumbered};
-ghost use Rattle.td_file.specs.Objects.{own};
 ghost use Rattle.td_file.specs.Openings.{new_store};
+ghost use Rattle.td_objects.specs.References.{IsAddress, trader_references};
 ghost use Rattle.td_policy.specs.Attributes.{default_attributes};
 
-use crate::objects::own;
 use std::alloc::Global;
 use td_cdr::{List, Memory, Text};
-use td_lines::Home;
+use td_objects::trader_references;
 use td_policy::{Attributes, default_attributes};
 use td_store::{Links, Offers, Store};
 use td_types::Types;
+use td_walk::Address;
 
-fn attributes(alloc: Global, home: &Home, name: &Text) -> Result<Attributes, Memory>
-    requires { HasNoNul home.now.host }
-    ensures { IfOk result (λ a. a ≡ default_attributes name.now (own home.now name.now)) }
+fn attributes(alloc: Global, home: &Address, name: &Text) -> Result<Attributes, Memory>
+    requires { IsAddress home.now }
+    ensures { IfOk result (λ a. a ≡ default_attributes name.now (trader_references home.now name.now)) }
 {
-    let own = own(alloc, home, name.as_slice())?;
+    let own = trader_references(alloc, home, name)?;
     default_attributes(alloc, name, own)
 }
 
 fn links_and_attributes(
     alloc: Global,
-    home: &Home,
+    home: &Address,
     name: &Text,
 ) -> Result<(Links, Attributes), Memory>
-    requires { HasNoNul home.now.host }
+    requires { IsAddress home.now }
     ensures links { IfOk result (λ p. p.0 ≡ []) }
-    ensures attributes { IfOk result (λ p. p.1 ≡ default_attributes name.now (own home.now name.now)) }
+    ensures attributes { IfOk result (λ p. p.1 ≡ default_attributes name.now (trader_references home.now name.now)) }
 {
     let links = Links::new(alloc);
     match attributes(alloc, home, name) {
@@ -44,13 +43,13 @@ fn links_and_attributes(
 
 fn offers_and_others(
     alloc: Global,
-    home: &Home,
+    home: &Address,
     name: &Text,
 ) -> Result<(Offers, (Links, Attributes)), Memory>
-    requires { HasNoNul home.now.host }
+    requires { IsAddress home.now }
     ensures offers { IfOk result (λ p. p.0 ≡ []) }
     ensures links { IfOk result (λ p. p.1.0 ≡ []) }
-    ensures attributes { IfOk result (λ p. p.1.1 ≡ default_attributes name.now (own home.now name.now)) }
+    ensures attributes { IfOk result (λ p. p.1.1 ≡ default_attributes name.now (trader_references home.now name.now)) }
 {
     let offers = Offers::new(alloc)?;
     match links_and_attributes(alloc, home, name) {
@@ -66,11 +65,11 @@ fn offers_and_others(
 #[tactic(auto, unfolding(crate::specs::Openings::new_store))]
 pub(crate) fn new_store(
     alloc: Global,
-    home: &Home,
+    home: &Address,
     name: &Text,
     interfaces: List<(Text, List<Text>)>,
 ) -> Result<Store, Memory>
-    requires { HasNoNul home.now.host }
+    requires { IsAddress home.now }
     ensures opens { IfOk result (λ s. s ≡ new_store home.now name.now interfaces) }
     ensures numbered { IfOk result AreNumbered }
 {

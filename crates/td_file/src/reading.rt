@@ -1,11 +1,12 @@
 //! A whole file.
 
-ghost use Rattle.std.specs.Prelude.{◌≡◌, ◌<◌, ◌^◌, length, IfOk, None, Err};
+ghost use Rattle.std.specs.Prelude.{◌≡◌, ◌≤◌, ◌<◌, ◌^◌, length, IfOk, None, Err};
 ghost use Rattle.td_cdr.specs.Text.{HasNoNul};
-ghost use Rattle.td_file.specs.Files.{Answers, IsAddress, opening, opening_at, opening_of, opening_with, or_place};
+ghost use Rattle.td_file.specs.Files.{Answers, home_address, opening, opening_at, opening_of, opening_with, or_place};
 ghost use Rattle.td_file.specs.Files.{unless_refused};
 ghost use Rattle.td_file.specs.Openings.{AreApart, later_refusal};
 ghost use Rattle.td_lines.specs.Laws.{AreShort, IsSound};
+ghost use Rattle.td_objects.specs.References.{IsAddress};
 ghost use Rattle.td_trader.specs.Solos.{AreDistinct};
 
 use crate::fault::FileFault;
@@ -54,7 +55,7 @@ fn missing_name(missing: Option<u32>) -> Option<Refused>
 /// What is opened, unless it is refused.
 fn open_unless(
     later: Option<Refused>,
-    home: Home,
+    home: Address,
     seed: Octets,
     traders: List<Trader>,
 ) -> Result<Opened, FileFault>
@@ -64,10 +65,7 @@ fn open_unless(
     match later {
         Some(Refused { line, cause }) => Err(FileFault::Line(line, cause)),
         None => Ok(Opened {
-            home: Address {
-                host: home.host,
-                port: home.port,
-            },
+            home,
             seed,
             solo: Solo {
                 traders: traders.into_vec(),
@@ -79,12 +77,12 @@ fn open_unless(
 /// What the lines of a file open, at its address.
 fn open_at(
     alloc: Global,
-    home: Home,
+    home: Address,
     seed: Octets,
     told: List<TraderScript>,
     refused: Option<Refused>,
 ) -> Result<Opened, FileFault>
-    requires host { HasNoNul home.host }
+    requires home { IsAddress home }
     requires short { AreShort told }
     requires distinct { AreApart told }
     ensures { Answers (opening_at home seed told refused) result }
@@ -93,6 +91,19 @@ fn open_at(
     match open_all(alloc, &home, told) {
         Ok(traders) => open_unless(later, home, seed, traders),
         Err(fault) => Err(fault),
+    }
+}
+
+/// Where the lines of a file say that the server is reached.
+fn home_address(home: Home) -> Address
+    requires short { length home.host ≤ 1000 }
+    requires no_nul { HasNoNul home.host }
+    ensures address { result ≡ home_address home }
+    ensures reached { IsAddress result }
+{
+    Address {
+        host: home.host,
+        port: home.port,
     }
 }
 
@@ -118,7 +129,7 @@ fn open_script(alloc: Global, script: Script) -> Result<Opened, FileFault>
         refused,
     } = script;
     match home {
-        Some(home) => open_at(alloc, home, seed, traders, refused),
+        Some(home) => open_at(alloc, home_address(home), seed, traders, refused),
         None => without_home(refused),
     }
 }

@@ -1,11 +1,11 @@
 //! The traders of the file, in the stores with which they open.
 
 ghost use Rattle.std.specs.Prelude.{◌≡◌, ◌≤◌, length, IfOk};
-ghost use Rattle.td_cdr.specs.Text.{HasNoNul};
 ghost use Rattle.td_changes.specs.Numbering.{AreNumbered};
 ghost use Rattle.td_file.specs.Openings.{all_traders, bounds, new_store, store_after, trader_of};
 ghost use Rattle.td_file.specs.Stages.{Gives};
 ghost use Rattle.td_lines.specs.Laws.{AreShort};
+ghost use Rattle.td_objects.specs.References.{IsAddress};
 ghost use Rattle.td_trader.specs.PlainTraders.{opened};
 
 use crate::entering::enter_all;
@@ -14,9 +14,10 @@ use crate::opening::new_store;
 use std::alloc::Global;
 use td_cdr::{List, Memory, Text, Twin};
 use td_changes::Bounds;
-use td_lines::{Home, Numbered, TraderScript};
+use td_lines::{Numbered, TraderScript};
 use td_store::Store;
 use td_trader::Trader;
+use td_walk::Address;
 
 /// The bounds of each trader.
 fn bounds() -> Bounds
@@ -32,12 +33,12 @@ fn bounds() -> Bounds
 /// The store behind a trader's entries.
 fn store_of(
     alloc: Global,
-    home: &Home,
+    home: &Address,
     name: &Text,
     interfaces: List<(Text, List<Text>)>,
     entries: List<Numbered>,
 ) -> Result<Store, FileFault>
-    requires { HasNoNul home.now.host }
+    requires { IsAddress home.now }
     ensures gives { Gives (store_after home.now (new_store home.now name.now interfaces) entries) result }
     ensures numbered { IfOk result AreNumbered }
 {
@@ -68,8 +69,8 @@ fn trader_in(alloc: Global, name: Text, store: Store) -> Result<Trader, Memory>
 }
 
 /// A trader of the file.
-fn open_trader(alloc: Global, home: &Home, told: TraderScript) -> Result<Trader, FileFault>
-    requires host { HasNoNul home.now.host }
+fn open_trader(alloc: Global, home: &Address, told: TraderScript) -> Result<Trader, FileFault>
+    requires home { IsAddress home.now }
     requires short { length told.name ≤ 32 }
     ensures { Gives (trader_of home.now told) result }
 {
@@ -87,10 +88,10 @@ fn open_trader(alloc: Global, home: &Home, told: TraderScript) -> Result<Trader,
 /// The traders of the file in order, up to the first entry that is refused.
 pub(crate) fn open_all(
     alloc: Global,
-    home: &Home,
+    home: &Address,
     told: List<TraderScript>,
 ) -> Result<List<Trader>, FileFault>
-    requires host { HasNoNul home.now.host }
+    requires home { IsAddress home.now }
     requires short { AreShort told }
     ensures { Gives (all_traders home.now told) result }
 {

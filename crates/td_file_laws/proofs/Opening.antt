@@ -2,7 +2,7 @@
 use Rattle.std.proofs.Common.{◌≡◌, ℕ, zero, suc, ◌≤◌, List, [], ◌∷◌, slice_get, Option, Some, None, Result, Ok, Err, refl}
 use Rattle.std.proofs.Common.{ap, subst, arith}
 use Rattle.td_cdr.specs.Reading.{◌>>=◌}
-use Rattle.td_file.specs.Files.{Opening, opening, opening_at, opening_of, opening_with, unless_refused}
+use Rattle.td_file.specs.Files.{Opening, home_address, opening, opening_at, opening_of, opening_with, unless_refused}
 use Rattle.td_file.specs.Openings.{all_traders, bounds, later_refusal, missing_in, opening_store, trader_of}
 use Rattle.td_lines.specs.Scripts.{script_of}
 use Rattle.td_lines.specs.declared.entry.Home.{Home}
@@ -13,6 +13,7 @@ use Rattle.td_file_laws.specs.Files.{FilesOpenReachedTraders}
 use Rattle.td_register.specs.Stores.{Store}
 use Rattle.td_trader.specs.PlainTraders.{AreBounds, PlainTrader, opened}
 use Rattle.td_trader_laws.specs.Reaching.{AreReached, IsReached, just_opened}
+use Rattle.td_walk.specs.declared.trace.Address.{Address}
 
 may-be : AreBounds bounds
 may-be = record { remembers = omega arith; ring = omega arith; begins = omega arith }
@@ -32,7 +33,7 @@ cons-reached t ts one all (suc n) u is = all n u is
 none-reached : AreReached []
 none-reached n u is = absurd (cc)
 
-all-reached : (home : Home) (ts : List TraderScript) (us : List PlainTrader) → all_traders home ts ≡ Ok us
+all-reached : (home : Address) (ts : List TraderScript) (us : List PlainTrader) → all_traders home ts ≡ Ok us
     → AreReached us
 all-reached home [] us e = subst AreReached (ok-same [] us e) none-reached
 all-reached home (t ∷ ts) us e =
@@ -47,7 +48,7 @@ all-reached home (t ∷ ts) us e =
     go (Ok first) one (Ok others) all e =
         subst AreReached (ok-same (first ∷ others) us e) (cons-reached first others (one first refl) (all others refl))
 
-at-reached : (home : Home) (seed : List ℕ) (refused : Option Refused) (r : Result (List PlainTrader) Refused)
+at-reached : (home : Address) (seed : List ℕ) (refused : Option Refused) (r : Result (List PlainTrader) Refused)
     (later : Option Refused) → ((us : List PlainTrader) → r ≡ Ok us → AreReached us) → (o : Opening)
     → (r >>= λ traders. unless_refused later (opening home seed traders)) ≡ Ok o → AreReached o.traders
 at-reached home seed refused (Err f) later all o e = absurd (cc)
@@ -58,8 +59,9 @@ at-reached home seed refused (Ok us) None all o e =
 with-reached : (s : Script) (h : Option Home) (o : Opening) → opening_with s h ≡ Ok o → AreReached o.traders
 with-reached s None o e = absurd (cc)
 with-reached s (Some home) o e =
-    at-reached home s.seed s.refused (all_traders home s.traders)
-    (later_refusal s.refused (missing_in s.traders s.traders)) (λ us is. all-reached home s.traders us is) o e
+    at-reached (home_address home) s.seed s.refused (all_traders (home_address home) s.traders)
+    (later_refusal s.refused (missing_in s.traders s.traders))
+    (λ us is. all-reached (home_address home) s.traders us is) o e
 
 pub files-open : FilesOpenReachedTraders
 unfolding opening_of

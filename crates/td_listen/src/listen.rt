@@ -3,8 +3,9 @@
 ghost use Rattle.std.specs.Prelude.{◌≡◌, ◌≤◌, length, map, string_bytes};
 ghost use Rattle.std.specs.Option.{option_map};
 ghost use Rattle.td_command.specs.Shelves.{shelves};
-ghost use Rattle.td_file.specs.Files.{IsAddress, seen};
+ghost use Rattle.td_file.specs.Files.{seen};
 ghost use Rattle.td_listen.specs.Listens.{Listens, Obeys, ServesFile, ServesOpening, ServesText, file_named, front};
+ghost use Rattle.td_objects.specs.References.{IsAddress};
 ghost use Rattle.td_session.specs.Outside.{outside};
 
 use crate::listened::{Listened, tell};

@@ -13,10 +13,10 @@ use Rattle.td_iter.specs.Batches.{GivesWhole, IsBatch, PutsBatch}
 use Rattle.td_iter.specs.Desks.{Live, added}
 use Rattle.td_iter.specs.Heads.{offers_found}
 use Rattle.td_iter.specs.declared.item.Item.TheVariants.{Offers}
+use Rattle.td_objects.specs.References.{offer_iterator}
 use Rattle.td_lookup.specs.Querying.{first_offers, offers_kept}
 use Rattle.td_lookup.specs.Telling.{PutsBatched, PutsFirst}
 use Rattle.td_ops.specs.Outcomes.{outcome_piece}
-use Rattle.td_reply.specs.References.{offer_iterator}
 use Rattle.td_reply.specs.declared.answer.ReplyBody.{ReplyBody}
 use Rattle.td_value.specs.declared.structures.Offer.{Offer}
 use Rattle.td_walk.specs.declared.trace.Address.{Address}

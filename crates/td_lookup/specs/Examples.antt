@@ -3,13 +3,13 @@
 use Rattle.std.specs.Prelude.{◌≡◌, List, [], ◌∷◌, codes}
 use Rattle.td_codes.specs.declared.code.Any.{Any}
 use Rattle.td_iter.specs.Heads.{nil}
+use Rattle.td_objects.specs.References.{offer_iterator}
 use Rattle.td_lookup.specs.Choosing.{chosen_of}
 use Rattle.td_lookup.specs.Querying.{first_offers}
 use Rattle.td_lookup.specs.Telling.{in_vain}
 use Rattle.td_lookup.specs.Unserved.{completion_of}
 use Rattle.td_ops.specs.declared.outcome.Outcome.TheVariants.{Done}
 use Rattle.td_ops.specs.declared.outcome.Reply.TheVariants.{Found}
-use Rattle.td_reply.specs.References.{offer_iterator}
 use Rattle.td_reply.specs.declared.entry.Entry.TheVariants.{Plain, Point, Walk}
 use Rattle.td_trader.specs.Worlds.{View}
 use Rattle.td_value.specs.declared.structures.Offer.{Offer}

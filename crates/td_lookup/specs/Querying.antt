@@ -10,6 +10,7 @@ use Rattle.td_iter.specs.Batches.{IsBatch}
 use Rattle.td_iter.specs.Desks.{Live, added}
 use Rattle.td_iter.specs.Heads.{given_or_nil, offers_found}
 use Rattle.td_iter.specs.declared.item.Item.TheVariants.{Offers}
+use Rattle.td_objects.specs.References.{offer_iterator}
 use Rattle.td_lookup.specs.Choosing.{chosen}
 use Rattle.td_lookup.specs.Scenes.{Scene}
 use Rattle.td_ops.specs.declared.call.Query.{Query}
@@ -17,7 +18,6 @@ use Rattle.td_ops.specs.declared.outcome.Outcome.{Outcome}
 use Rattle.td_ops.specs.declared.outcome.Outcome.TheVariants.{Done}
 use Rattle.td_ops.specs.declared.outcome.Reply.TheVariants as reply
 use Rattle.td_register.specs.declared.history.Accepted.{Accepted}
-use Rattle.td_reply.specs.References.{offer_iterator}
 use Rattle.td_reply.specs.declared.entry.Entry.{Entry}
 use Rattle.td_reply.specs.declared.entry.Entry.TheVariants.{Walk}
 use Rattle.td_trader.specs.Worlds.{name_at}

@@ -8,6 +8,7 @@ use Rattle.td_fed.specs.declared.resolving.NameAnswer.{NameAnswer}
 use Rattle.td_iter.specs.Batches.{IsBatch, PutsBatch}
 use Rattle.td_iter.specs.Desks.{Live}
 use Rattle.td_iter.specs.Heads.{AreLimits, offers_found}
+use Rattle.td_objects.specs.References.{offer_iterator}
 use Rattle.td_lookup.specs.Naming.{NameComes, name_entry}
 use Rattle.td_lookup.specs.Querying.{QueryComes, VisitTold, first_offers, offers_kept}
 use Rattle.td_lookup.specs.Scenes.{Scene}
@@ -20,7 +21,6 @@ use Rattle.td_ops.specs.declared.outcome.Outcome.TheVariants.{System}
 use Rattle.td_ops.specs.declared.outcome.SystemKind.TheVariants.{NoMemory}
 use Rattle.td_register.specs.declared.history.Accepted.{Accepted}
 use Rattle.td_reply.specs.Answers.{IsTold, IsToldPlainly, Tells}
-use Rattle.td_reply.specs.References.{offer_iterator}
 use Rattle.td_reply.specs.declared.answer.Answer.{Answer}
 use Rattle.td_reply.specs.declared.answer.ReplyBody.{ReplyBody}
 use Rattle.td_reply.specs.declared.answer.ReplyBody.TheVariants as reply_body

@@ -8,14 +8,15 @@ ghost use Rattle.td_iter.specs.declared.item.Item.TheVariants.{Offers};
 ghost use Rattle.td_iter.specs.declared.limits.TheConstants.{REPLY_START};
 ghost use Rattle.td_lookup.specs.Choosing.{chosen};
 ghost use Rattle.td_lookup.specs.Telling.{PutsBatched, PutsFirst};
-ghost use Rattle.td_reply.specs.References.{IsAddress, offer_iterator};
+ghost use Rattle.td_objects.specs.References.{IsAddress, offer_iterator};
 
 use crate::choosing::choose_each;
 use std::alloc::Global;
 use td_cdr::{List, Memory, Text, Writer};
 use td_iter::{Desk, Item, OfferIter};
+use td_objects::offer_iterator;
 use td_ops::Query;
-use td_reply::{DeskLabel, ReplyBody, offer_iterator};
+use td_reply::{DeskLabel, ReplyBody};
 use td_value::Offer;
 use td_walk::Address;
 

@@ -5,7 +5,6 @@ use Rattle.std.proofs.Common.{arith, length-append}
 use Rattle.std.proofs.lemmas.Bool.{le-ltb, lt-leb}
 use Rattle.td_changes.specs.Applying.{comes_to}
 use Rattle.td_codes.specs.declared.reference.Ior.{Ior}
-use Rattle.td_lines.specs.declared.entry.Home.{Home}
 use Rattle.td_make.specs.Generated.{cost, offer_type}
 use Rattle.td_make_file_laws.proofs.Adding.{both_types}
 use Rattle.td_make_file_laws.proofs.AtMost.{offer-short}
@@ -31,6 +30,7 @@ use Rattle.td_types.specs.Properties.{full_properties}
 use Rattle.td_types.specs.Repository.{Repository}
 use Rattle.td_value.specs.declared.structures.PropStruct.{PropStruct}
 use Rattle.td_value.specs.declared.structures.Property.{Property}
+use Rattle.td_walk.specs.declared.trace.Address.{Address}
 
 -- an offer that nothing is at fault with
 export-becomes : (s : Store) (r : Ior) (name : List ℕ) (ps : List Property) → export_cause s r name ps ≡ None
@@ -127,7 +127,7 @@ module _ (s : Store) (known : s.types ≡ both_types) (few : length s.offers ≤
 -- so many offers behind a store without offers
 pub record AreOffered (trader : ℕ) (s : Store) (count : ℕ) : Type 0 where
   pub after : Store
-  pub goes : (home : Home) → Goes home s (offer_entries trader count) after
+  pub goes : (home : Address) → Goes home s (offer_entries trader count) after
   pub types : after.types ≡ both_types
   pub offers : length after.offers ≡ count
   pub last : after.last_offer ≡ count

@@ -6,14 +6,15 @@ use Rattle.td_admin.specs.Links.{add_link, add_link_cause, name_cause, new_links
 use Rattle.td_changes.specs.Applying.{comes_to}
 use Rattle.td_codes.specs.declared.reference.Ior.{Ior}
 use Rattle.td_exceptions.specs.declared.exception.UserException.TheVariants.{InvalidLookupRef}
-use Rattle.td_file.specs.Objects.{key, lookup_of, object, register_of}
 use Rattle.td_file.specs.Openings.{link_to}
 use Rattle.td_ior.proofs.Profiles.{made-found}
+use Rattle.td_ior.specs.Keys.{written_key}
 use Rattle.td_ior.specs.Profiles.{iiop_of, made_octets}
 use Rattle.td_ior.specs.declared.profile.Iiop.{Iiop}
 use Rattle.td_make_file_laws.proofs.AtMost.{counted-short, made-short}
-use Rattle.td_make_file_laws.proofs.Going.{Becomes, Goes}
-use Rattle.td_make_laws.specs.Said.{link_entry, local_host, name_of}
+use Rattle.td_make_file_laws.proofs.Going.{Becomes, Goes, local_address}
+use Rattle.td_make_laws.specs.Said.{link_entry, name_of}
+use Rattle.td_objects.specs.References.{lookup_reference, register_reference}
 use Rattle.td_ops.specs.declared.call.Change.TheVariants.{AddLink}
 use Rattle.td_ops.specs.declared.outcome.Reply.TheVariants as told
 use Rattle.td_policy.specs.declared.attributes.Attributes.{Attributes}
@@ -25,13 +26,16 @@ use Rattle.td_value.specs.declared.enumerations.FollowOption.{FollowOption}
 use Rattle.td_value.specs.declared.enumerations.FollowOption.TheVariants.{Always}
 use Rattle.td_value.specs.declared.key.Kind.TheVariants as kind
 
--- a trader's Lookup can be reached
+-- the key of a trader's Lookup
+abbrev lookup_key : (trader : ℕ) → List ℕ
+lookup_key trader = written_key (record { trader = name_of trader; kind = kind.Lookup })
+
+-- it can be reached
 lookup-found : (trader : ℕ) → trader ≤ 64
-    → iiop_of (lookup_of local_host (name_of trader))
-    ≡ Some (record { host = codes "127.0.0.1"; port = 2809; key = key (name_of trader) kind.Lookup })
-unfolding object
+    → iiop_of (lookup_reference local_address (name_of trader))
+    ≡ Some (record { host = codes "127.0.0.1"; port = 2809; key = lookup_key trader })
 lookup-found trader most =
-    let octets : List ℕ = key (name_of trader) kind.Lookup in
+    let octets : List ℕ = lookup_key trader in
     let named = counted-short (codes "T") trader most in
     let whole = length-append (name_of trader) (codes "/L") in
     let made = made-short (codes "127.0.0.1") octets 2809 in
@@ -41,8 +45,8 @@ lookup-found trader most =
 abbrev pub record_of : (name : List ℕ) → (trader : ℕ) → LinkRecord
 record_of name trader = record {
   name = name;
-  target = lookup_of local_host (name_of trader);
-  register = register_of local_host (name_of trader);
+  target = lookup_reference local_address (name_of trader);
+  register = register_reference local_address (name_of trader);
   def_pass_on = Always;
   limiting = Always;
 }
@@ -50,10 +54,10 @@ record_of name trader = record {
 module _ (s : Store) (name : List ℕ) (trader : ℕ) (most : trader ≤ 64) (free : name_cause s.links name ≡ None)
     (follows : s.attributes.max_link_follow_policy ≡ Always) (few : length s.links ≤ 64) where
   abbrev target : Ior
-  target = lookup_of local_host (name_of trader)
+  target = lookup_reference local_address (name_of trader)
 
   abbrev register : Ior
-  register = register_of local_host (name_of trader)
+  register = register_reference local_address (name_of trader)
 
   reached : target_cause target (Some register) ≡ None
   reached =
@@ -79,7 +83,7 @@ module _ (s : Store) (name : List ℕ) (trader : ℕ) (most : trader ≤ 64) (fr
       (neither (rules_cause s.attributes.max_link_follow_policy Always Always)
       (limit_if (nat_le 1024 (length s.links))) ruled within))
 
-  pub link-added : Becomes s (link_to local_host name (name_of trader) Always Always)
+  pub link-added : Becomes s (link_to local_address name (name_of trader) Always Always)
       (record s { links = s.links ++ record_of name trader ∷ [] })
   unfolding comes_to add_link
   link-added = record {
@@ -91,7 +95,7 @@ module _ (s : Store) (name : List ℕ) (trader : ℕ) (most : trader ≤ 64) (fr
 -- both links of a trader that has none
 pub both-added : (s : Store) (next chord : ℕ) → next ≤ 64 → chord ≤ 64 → s.links ≡ []
     → s.attributes.max_link_follow_policy ≡ Always
-    → Goes local_host s (link_entry (codes "next") next ∷ link_entry (codes "chord") chord ∷ [])
+    → Goes local_address s (link_entry (codes "next") next ∷ link_entry (codes "chord") chord ∷ [])
     (record s { links = (s.links ++ record_of (codes "next") next ∷ []) ++ record_of (codes "chord") chord ∷ [] })
 both-added s next chord n c none follows =
     let once : Store = record s { links = s.links ++ record_of (codes "next") next ∷ [] } in

@@ -10,9 +10,9 @@ use Rattle.td_lines.specs.declared.entry.TraderScript.{TraderScript}
 use Rattle.td_make.specs.Generated.{chord_after, next_after}
 use Rattle.td_make_file_laws.proofs.Adding.{base-added, base_alone, both_types, sub-added}
 use Rattle.td_make_file_laws.proofs.Exporting.{AreOffered, offered}
-use Rattle.td_make_file_laws.proofs.Going.{Goes, entries-go, goes-joined}
+use Rattle.td_make_file_laws.proofs.Going.{Goes, entries-go, goes-joined, local_address}
 use Rattle.td_make_file_laws.proofs.Meeting.{both-added, record_of}
-use Rattle.td_make_laws.specs.Said.{Asked, asked, entries_in, first_names, head_entries, link_entries, local_host}
+use Rattle.td_make_laws.specs.Said.{Asked, asked, entries_in, first_names, head_entries, link_entries}
 use Rattle.td_make_laws.specs.Said.{name_of, offer_entries, ring_trader, ring_traders, type_entries}
 use Rattle.td_register.specs.Stores.{Store}
 use Rattle.td_trader.specs.PlainTraders.{PlainTrader, opened}
@@ -23,7 +23,7 @@ use Rattle.td_types.specs.Repository.{Declared}
 
 module _ (count trader : ℕ) (least : 1 ≤ count) (ring : count ≤ 64) (most : trader ≤ 64) (name : List ℕ) where
   abbrev first : Store
-  first = new_store local_host name []
+  first = new_store local_address name []
 
   abbrev with_base : Store
   with_base = record first { types = base_alone }
@@ -31,7 +31,7 @@ module _ (count trader : ℕ) (least : 1 ≤ count) (ring : count ≤ 64) (most 
   abbrev with_both : Store
   with_both = record first { types = both_types }
 
-  types-go : Goes local_host first type_entries with_both
+  types-go : Goes local_address first type_entries with_both
   unfolding new_store
   types-go = (with_base, base-added first refl, (with_both, sub-added with_base refl, refl))
 
@@ -46,29 +46,29 @@ module _ (count trader : ℕ) (least : 1 ≤ count) (ring : count ≤ 64) (most 
         ++ record_of (codes "chord") (chord_after count trader) ∷ [];
   }
 
-  links-go : Goes local_host offers-go.after (link_entries count trader) linked
+  links-go : Goes local_address offers-go.after (link_entries count trader) linked
   unfolding new_store
   links-go =
       both-added offers-go.after (next_after count trader) (chord_after count trader) (omega (arith, least, ring))
       (omega (arith, least, ring)) offers-go.links
       (ap (λ (a : Attributes). a.max_link_follow_policy) offers-go.attributes)
 
-  all-go : Goes local_host first (ring_trader count trader).entries linked
+  all-go : Goes local_address first (ring_trader count trader).entries linked
   all-go =
-      goes-joined local_host (head_entries trader) (link_entries count trader) first offers-go.after linked
-      (goes-joined local_host type_entries (offer_entries trader 10) first with_both offers-go.after types-go
-      (offers-go.goes local_host))
+      goes-joined local_address (head_entries trader) (link_entries count trader) first offers-go.after linked
+      (goes-joined local_address type_entries (offer_entries trader 10) first with_both offers-go.after types-go
+      (offers-go.goes local_address))
       links-go
 
   pub trader-goes : (t : TraderScript) → t.name ≡ name → t.interfaces ≡ []
       → entries_in t.entries ≡ (ring_trader count trader).entries
-      → (s : Store) × (opening_store local_host t ≡ Ok s)
+      → (s : Store) × (opening_store local_address t ≡ Ok s)
   trader-goes t named plain says = (
     linked,
-    ap (λ (n : List ℕ). store_after local_host (new_store local_host n t.interfaces) t.entries) named
-        ∙ (ap (λ (ds : Declared). store_after local_host (new_store local_host name ds) t.entries) plain
-        ∙ entries-go local_host t.entries first linked
-        (subst (λ (es : List Entry). Goes local_host first es linked) (sym says) all-go)),
+    ap (λ (n : List ℕ). store_after local_address (new_store local_address n t.interfaces) t.entries) named
+        ∙ (ap (λ (ds : Declared). store_after local_address (new_store local_address name ds) t.entries) plain
+        ∙ entries-go local_address t.entries first linked
+        (subst (λ (es : List Entry). Goes local_address first es linked) (sym says) all-go)),
   )
 
 -- ---- all traders
@@ -76,7 +76,7 @@ module _ (count trader : ℕ) (least : 1 ≤ count) (ring : count ≤ 64) (most 
 -- a trader that is asked this opens, under its name
 abbrev pub IsOpened : Asked → Type 0
 IsOpened a = (t : TraderScript) → asked t ≡ a
-    → (p : PlainTrader) × (trader_of local_host t ≡ Ok p) × (p.name ≡ t.name)
+    → (p : PlainTrader) × (trader_of local_address t ≡ Ok p) × (p.name ≡ t.name)
 
 ring-opens : (count trader : ℕ) → 1 ≤ count → count ≤ 64 → trader ≤ 64 → IsOpened (ring_trader count trader)
 ring-opens count trader least ring most t says =
@@ -103,7 +103,7 @@ all-open count (suc done) least ring most =
 -- so they open, one after the other
 pub record AreOpened (ts : List TraderScript) : Type 0 where
   pub traders : List PlainTrader
-  pub is : all_traders local_host ts ≡ Ok traders
+  pub is : all_traders local_address ts ≡ Ok traders
   pub names : map (λ (p : PlainTrader). p.name) traders ≡ map (λ (t : TraderScript). t.name) ts
 
 each-opened : (ts : List TraderScript) → AllByRecursion IsOpened (map asked ts) → AreOpened ts
@@ -114,7 +114,7 @@ each-opened (t ∷ ts) all =
     record {
       traders = first.0 ∷ others.traders;
       is =
-          ap (λ (r : Result PlainTrader Refused). r >>= λ p. all_traders local_host ts >>= λ ps. Ok (p ∷ ps)) first.1
+          ap (λ (r : Result PlainTrader Refused). r >>= λ p. all_traders local_address ts >>= λ ps. Ok (p ∷ ps)) first.1
           ∙ ap (λ (r : Result (List PlainTrader) Refused). r >>= λ ps. Ok (first.0 ∷ ps)) others.is;
       names =
           ap (λ (n : List ℕ). n ∷ map (λ (p : PlainTrader). p.name) others.traders) first.2

@@ -12,11 +12,11 @@ use Rattle.td_ior.proofs.Numbers.{and-left, and-right}
 use Rattle.td_iter.specs.Desks.{Live, added}
 use Rattle.td_iter.specs.Heads.{AreSmallIds}
 use Rattle.td_iter.specs.declared.item.Item.TheVariants.{Ids}
+use Rattle.td_objects.specs.References.{iterator_reference}
 use Rattle.td_ops.specs.declared.outcome.Outcome.{Outcome}
 use Rattle.td_walk.specs.declared.trace.Address.{Address}
 use Rattle.td_reply.specs.Listing.{PutsBatched, has_small_size}
 use Rattle.td_reply.specs.Looking.{Cuts, CutsList, PutsFirst, first_ids, ids_in, kept_for}
-use Rattle.td_reply.specs.References.{iterator_reference}
 use Rattle.td_reply.specs.declared.answer.ReplyBody.{ReplyBody}
 use Rattle.td_reply.specs.declared.answer.ReplyBody.TheVariants.{Written}
 use Rattle.td_reply.specs.declared.answer.ReplyBody.TheVariants as reply_body

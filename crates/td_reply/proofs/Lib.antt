@@ -7,6 +7,5 @@ pub mod Naming
 pub mod Nexts
 pub mod Seen
 pub mod Shortness
-pub mod Sizes
 pub mod Standing
 pub mod Worked

@@ -5,6 +5,7 @@ use Rattle.std.specs.Prelude.{IfErr, Result, Ok, Err}
 use Rattle.td_cdr.specs.Marks.{Marks}
 use Rattle.td_cdr.specs.declared.memory.Memory.{Memory}
 use Rattle.td_codes.specs.declared.reference.Ior.{Ior}
+use Rattle.td_objects.specs.References.{register_reference}
 use Rattle.td_places.proofs.Within.{inside-within}
 use Rattle.td_places.specs.Targets.{inside_group}
 use Rattle.td_ior.specs.Profiles.{iiop_of}
@@ -21,7 +22,6 @@ use Rattle.td_reply.specs.Answers.{IsToldPlainly, no_memory}
 use Rattle.td_reply.specs.Changing.{ChangeComes, Rests, changes_before}
 use Rattle.td_reply.specs.Linking.{AddLinkBy, AddLinkComes, AskedInVain, ChangeNoted, Gave, LinkedAs, NotedInVain}
 use Rattle.td_reply.specs.Linking.{PeersSeen, RegisterAsked, link_change}
-use Rattle.td_reply.specs.References.{register_reference}
 use Rattle.td_reply.specs.Targets.{reached, target_by, target_of}
 use Rattle.td_reply.specs.declared.answer.Answer.{Answer}
 use Rattle.td_reply.specs.declared.answer.ReplyBody.TheVariants as reply_body

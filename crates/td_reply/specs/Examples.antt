@@ -5,6 +5,9 @@ use Rattle.td_cdr.specs.Place.{At}
 use Rattle.td_iter.specs.Desks.{Live}
 use Rattle.td_iter.specs.Heads.{nil}
 use Rattle.td_iter.specs.declared.item.Item.TheVariants.{Ids}
+use Rattle.td_objects.specs.Interfaces.{is_a}
+use Rattle.td_objects.specs.References.{iterator_reference}
+use Rattle.td_objects.specs.declared.interface.Interface.TheVariants as interface
 use Rattle.td_ops.specs.declared.call.Look.TheVariants as look
 use Rattle.td_ops.specs.declared.outcome.Outcome.TheVariants.{Done, System}
 use Rattle.td_ops.specs.declared.outcome.Reply.TheVariants as reply
@@ -13,12 +16,9 @@ use Rattle.td_trader.specs.Worlds.{View}
 use Rattle.td_value.specs.declared.key.Kind.TheVariants.{Iterator, Lookup}
 use Rattle.td_walk.specs.declared.trace.Address.{Address}
 use Rattle.td_reply.specs.Changing.{changes_before}
-use Rattle.td_reply.specs.Interfaces.{is_a}
 use Rattle.td_reply.specs.Judging.{judged}
 use Rattle.td_reply.specs.Looking.{first_ids, how_many, kept_for}
 use Rattle.td_reply.specs.Objects.{object_at, object_with}
-use Rattle.td_reply.specs.References.{iterator_reference}
-use Rattle.td_reply.specs.declared.interface.Interface.TheVariants as interface
 use Rattle.td_reply.specs.declared.judging.Judged.TheVariants.{Refused}
 
 -- no iterator is kept, and the next number is 1

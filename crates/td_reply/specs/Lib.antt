@@ -1,7 +1,6 @@
 pub mod Answers
 pub mod Changing
 pub mod Examples
-pub mod Interfaces
 pub mod Iterating
 pub mod Judging
 pub mod Laws
@@ -9,5 +8,4 @@ pub mod Linking
 pub mod Listing
 pub mod Looking
 pub mod Objects
-pub mod References
 pub mod Targets

@@ -6,6 +6,7 @@ use Rattle.std.specs.Prelude.{IfErr}
 use Rattle.td_cdr.specs.Marks.{Marks}
 use Rattle.td_codes.specs.declared.reference.Ior.{Ior}
 use Rattle.td_ior.specs.Nil.{is_nil}
+use Rattle.td_objects.specs.References.{register_reference}
 use Rattle.td_ops.specs.declared.call.AddLink.{AddLink}
 use Rattle.td_ops.specs.declared.call.Change.{Change}
 use Rattle.td_ops.specs.declared.call.Change.TheVariants as change
@@ -17,7 +18,6 @@ use Rattle.td_walk.specs.declared.fault.PeerFault.{PeerFault}
 use Rattle.td_walk.specs.declared.trace.Address.{Address}
 use Rattle.td_reply.specs.Answers.{no_memory}
 use Rattle.td_reply.specs.Changing.{ChangeComes, Rests}
-use Rattle.td_reply.specs.References.{register_reference}
 use Rattle.td_reply.specs.Targets.{target_of}
 use Rattle.td_reply.specs.declared.entry.Entry.{Entry}
 use Rattle.td_reply.specs.declared.entry.Entry.TheVariants.{Asked}

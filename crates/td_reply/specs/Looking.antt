@@ -9,6 +9,7 @@ use Rattle.td_iter.specs.Batches.{IsBatch}
 use Rattle.td_iter.specs.Desks.{Live, added}
 use Rattle.td_iter.specs.Heads.{given_or_nil, ids_found}
 use Rattle.td_iter.specs.declared.item.Item.TheVariants.{Ids}
+use Rattle.td_objects.specs.References.{iterator_reference}
 use Rattle.td_ops.specs.Outcomes.{outcome_piece}
 use Rattle.td_ops.specs.declared.call.Look.{Look}
 use Rattle.td_ops.specs.declared.call.Look.TheVariants as look
@@ -19,7 +20,6 @@ use Rattle.td_register.specs.declared.history.Accepted.{Accepted}
 use Rattle.td_trader.specs.Worlds.{Looks, View, name_at}
 use Rattle.td_walk.specs.declared.trace.Address.{Address}
 use Rattle.td_reply.specs.Answers.{Tells}
-use Rattle.td_reply.specs.References.{iterator_reference}
 use Rattle.td_reply.specs.declared.answer.ReplyBody.{ReplyBody}
 use Rattle.td_reply.specs.declared.entry.Entry.{Entry}
 use Rattle.td_reply.specs.declared.entry.Entry.TheVariants.{Point}

@@ -4,6 +4,8 @@
 use Rattle.std.specs.Prelude.{ℕ, ◌<◌, List, length, Option, Some, option_map}
 use Rattle.td_cdr.specs.Names.{IsTraderName}
 use Rattle.td_ior.specs.Keys.{◌>>=◌, key_of}
+use Rattle.td_objects.specs.declared.interface.Interface.TheVariants as interface
+use Rattle.td_objects.specs.declared.interface.Interface.{Interface}
 use Rattle.td_places.specs.Targets.{place_of}
 use Rattle.td_iter.specs.Desks.{Live, item_of}
 use Rattle.td_iter.specs.declared.item.Item.{Item}
@@ -12,8 +14,6 @@ use Rattle.td_trader.specs.Worlds.{View, name_at}
 use Rattle.td_value.specs.declared.key.Kind.{Kind}
 use Rattle.td_value.specs.declared.key.Kind.TheVariants as kind
 use Rattle.td_value.specs.declared.key.ObjectKey.{ObjectKey}
-use Rattle.td_reply.specs.declared.interface.Interface.{Interface}
-use Rattle.td_reply.specs.declared.interface.Interface.TheVariants as interface
 use Rattle.td_reply.specs.declared.objects.Object.{Object}
 
 -- of an iterator over what is left

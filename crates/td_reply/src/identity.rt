@@ -1,13 +1,13 @@
 //! The calls that every object has (CORBA, chapter "ORB Interface", is_a and non_existent).
 
 ghost use Rattle.std.specs.Prelude.{◌≡◌, false};
+ghost use Rattle.td_objects.specs.Interfaces.{is_a};
 ghost use Rattle.td_ops.specs.declared.outcome.Outcome.TheVariants.{Done};
 ghost use Rattle.td_ops.specs.declared.outcome.Reply.TheVariants.{Truth};
 ghost use Rattle.td_reply.specs.Answers.{plain};
-ghost use Rattle.td_reply.specs.Interfaces.{is_a};
 
 use crate::answer::{Answer, plain};
-use crate::interface::{Interface, is_a};
+use td_objects::{Interface, is_a};
 use td_ops::{Outcome, Reply};
 
 /// Whether an object whose own interface this is has the one of a repository id.

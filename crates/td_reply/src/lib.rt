@@ -7,7 +7,6 @@ mod changing;
 mod desk_label;
 mod entry;
 mod identity;
-mod interface;
 mod iterating;
 mod judging;
 mod laws;
@@ -15,7 +14,6 @@ mod linking;
 mod listing;
 mod looking;
 mod objects;
-mod references;
 mod target;
 
 pub use answer::{Answer, ReplyBody, no_memory, plain, unserved};
@@ -23,7 +21,6 @@ pub use changing::answer_change;
 pub use desk_label::DeskLabel;
 pub use entry::Entry;
 pub use identity::{answer_is_a, answer_non_existent};
-pub use interface::Interface;
 pub use iterating::answer_iterator;
 pub use judging::{Judged, judge};
 pub use laws::{
@@ -32,5 +29,4 @@ pub use laws::{
 pub use linking::answer_add_link;
 pub use looking::answer_look;
 pub use objects::{Object, find_object};
-pub use references::{offer_iterator, own_reference};
 pub use target::Target;

@@ -1,12 +1,12 @@
 //! `add_link` (OMG's Trading Object Service, interface Link).
 
 ghost use Rattle.std.specs.Prelude.{◌≡◌, ◌⊎◌, ◌≤◌, ◌<◌, false, List, length, None, Some, Ok, IfOk, IfErr, OnErr};
+ghost use Rattle.td_objects.specs.References.{IsAddress, register_reference};
 ghost use Rattle.td_ops.specs.declared.call.Change.{Change as a_change};
 ghost use Rattle.td_reply.specs.Answers.{IfLong, IsToldPlainly};
 ghost use Rattle.td_reply.specs.Changing.{ChangeComes, Rests};
 ghost use Rattle.td_reply.specs.Linking.{AddLinkComes, AskedInVain, ChangeNoted, LinkedAs, NotedInVain, RegisterAsked};
 ghost use Rattle.td_reply.specs.Linking.{link_change, peers_seen, register_given};
-ghost use Rattle.td_reply.specs.References.{IsAddress, register_reference};
 ghost use Rattle.td_reply.specs.Targets.{target_of};
 ghost use Rattle.td_reply.specs.declared.target.Target.TheVariants.{Outside};
 ghost use Rattle.td_trader.specs.Worlds.{View, Watches, name_at};
@@ -15,12 +15,11 @@ ghost use Rattle.td_walk.specs.Peering.{IsNoted, Referred, RegisterOf, is_memory
 use crate::answer::{Answer, ReplyBody, no_memory};
 use crate::changing::{answer_change, point_of};
 use crate::entry::Entry;
-use crate::interface::Interface;
-use crate::references::own_reference;
 use crate::target::{Target, target_of};
 use std::alloc::Global;
 use td_cdr::{Memory, Twin};
 use td_ior::{Kind, is_nil};
+use td_objects::{Interface, own_reference};
 use td_ops::{AddLink, Change};
 use td_trader::Traders;
 use td_value::Ior;

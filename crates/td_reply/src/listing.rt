@@ -7,18 +7,18 @@ ghost use Rattle.td_iter.specs.Desks.{added};
 ghost use Rattle.td_iter.specs.Heads.{AreSmallIds, IsSmallReference};
 ghost use Rattle.td_iter.specs.declared.item.Item.TheVariants.{Ids};
 ghost use Rattle.td_iter.specs.declared.limits.TheConstants.{REPLY_START};
+ghost use Rattle.td_objects.specs.References.{IsAddress, iterator_reference};
 ghost use Rattle.td_ops.specs.declared.outcome.Outcome.TheVariants.{Done};
 ghost use Rattle.td_reply.specs.Answers.{IfLong};
 ghost use Rattle.td_reply.specs.Listing.{IsListed, PutsBatched, has_small_size};
 ghost use Rattle.td_reply.specs.Looking.{Cuts, PutsFirst};
-ghost use Rattle.td_reply.specs.References.{IsAddress, iterator_reference};
 
 use crate::answer::ReplyBody;
 use crate::desk_label::DeskLabel;
-use crate::references::iterator_reference;
 use std::alloc::Global;
 use td_cdr::{List, Memory, Text, Writer};
 use td_iter::{Desk, IdIter, Item};
+use td_objects::iterator_reference;
 use td_ops::{Outcome, Reply};
 use td_walk::Address;
 

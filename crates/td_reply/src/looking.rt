@@ -3,10 +3,10 @@
 
 ghost use Rattle.std.specs.Prelude.{◌≡◌, ◌<◌, ◌^◌, length, IfOk, OnErr};
 ghost use Rattle.td_iter.specs.declared.limits.TheConstants.{REPLY_START};
+ghost use Rattle.td_objects.specs.References.{IsAddress};
 ghost use Rattle.td_reply.specs.Answers.{IfLong, IsTold};
 ghost use Rattle.td_reply.specs.Looking.{LookComes, how_many};
 ghost use Rattle.td_reply.specs.Objects.{IsNamed};
-ghost use Rattle.td_reply.specs.References.{IsAddress};
 ghost use Rattle.td_trader.specs.Worlds.{Watches};
 
 use crate::answer::Answer;

@@ -5,10 +5,10 @@ ghost use Rattle.td_iter.specs.Desks.{item_of};
 ghost use Rattle.td_reply.specs.Objects.{IsNamed, interface_of, iterator_interface, object_at, object_keyed};
 ghost use Rattle.td_reply.specs.Objects.{key_with, object_of};
 
-use crate::interface::Interface;
 use td_cdr::Text;
 use td_ior::{Kind, key_parts};
 use td_iter::{Desk, Item};
+use td_objects::Interface;
 use td_places::place_of;
 use td_trader::Traders;
 

@@ -7,13 +7,13 @@ use Rattle.td_iter.specs.Desks.{Live}
 use Rattle.td_lookup.specs.Scenes.{Scene, scene}
 use Rattle.td_lookup.specs.Telling.{in_vain}
 use Rattle.td_lookup.specs.Unserved.{Unserved, wanting}
+use Rattle.td_objects.specs.Interfaces.{is_a}
 use Rattle.td_ops.specs.declared.call.Call.TheVariants as call
 use Rattle.td_ops.specs.declared.call.IterCall.{IterCall}
 use Rattle.td_ops.specs.declared.outcome.Outcome.TheVariants.{Done}
 use Rattle.td_ops.specs.declared.outcome.Reply.TheVariants.{Truth}
 use Rattle.td_register.specs.declared.history.Accepted.{Accepted}
 use Rattle.td_reply.specs.Answers.{IfLong, IsTold, plain}
-use Rattle.td_reply.specs.Interfaces.{is_a}
 use Rattle.td_reply.specs.Iterating.{IteratorComes}
 use Rattle.td_reply.specs.Linking.{PeersSeen}
 use Rattle.td_reply.specs.declared.answer.Answer.{Answer}

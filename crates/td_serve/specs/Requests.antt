@@ -8,6 +8,7 @@ use Rattle.td_lookup.specs.Naming.{NameComes}
 use Rattle.td_lookup.specs.Querying.{QueryComes}
 use Rattle.td_lookup.specs.Scenes.{Scene}
 use Rattle.td_lookup.specs.Unserved.{Unserved}
+use Rattle.td_objects.specs.Interfaces.{is_a}
 use Rattle.td_ops.specs.declared.call.Call.{Call as Asked}
 use Rattle.td_ops.specs.declared.call.Call.TheVariants as call
 use Rattle.td_ops.specs.declared.outcome.Outcome.{Outcome}
@@ -15,7 +16,6 @@ use Rattle.td_ops.specs.declared.outcome.Outcome.TheVariants.{Done}
 use Rattle.td_ops.specs.declared.outcome.Reply.TheVariants.{Truth}
 use Rattle.td_register.specs.declared.history.Accepted.{Accepted}
 use Rattle.td_reply.specs.Changing.{ChangeComes}
-use Rattle.td_reply.specs.Interfaces.{is_a}
 use Rattle.td_reply.specs.Iterating.{IteratorComes}
 use Rattle.td_reply.specs.Linking.{AddLinkComes}
 use Rattle.td_reply.specs.Looking.{LookComes}

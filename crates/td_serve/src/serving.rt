@@ -3,10 +3,10 @@
 ghost use Rattle.std.specs.Prelude.{◌≡◌, ◌≤◌, ◌<◌, ◌^◌, length};
 ghost use Rattle.td_iter.specs.declared.limits.TheConstants.{REPLY_START};
 ghost use Rattle.td_lookup.specs.Scenes.{scene};
+ghost use Rattle.td_objects.specs.References.{IsAddress};
 ghost use Rattle.td_ops.specs.declared.outcome.Outcome.{Outcome as Told};
 ghost use Rattle.td_reply.specs.Judging.{IsServable};
 ghost use Rattle.td_reply.specs.Linking.{peers_seen};
-ghost use Rattle.td_reply.specs.References.{IsAddress};
 ghost use Rattle.td_reply.specs.declared.judging.Judged.TheVariants as spelled;
 ghost use Rattle.td_serve.specs.Requests.{Served};
 ghost use Rattle.td_serve.specs.Serving.{Performed, Performs};

@@ -2,8 +2,8 @@
 
 ghost use Rattle.std.specs.Prelude.{◌≡◌, ◌<◌, ◌^◌, OnOk, OnErr};
 ghost use Rattle.td_lookup.specs.Scenes.{scene};
+ghost use Rattle.td_objects.specs.References.{IsAddress};
 ghost use Rattle.td_reply.specs.Linking.{peers_seen};
-ghost use Rattle.td_reply.specs.References.{IsAddress};
 ghost use Rattle.td_session.specs.Prepared.{NotesHead, ServesHead, asked_of};
 ghost use Rattle.td_session.specs.Stages.{stage_in};
 

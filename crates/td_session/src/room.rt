@@ -26,7 +26,7 @@ impl<J: Journal> Model for Room<J> {
     ghost use Rattle.std.specs.Coded.{codes};
     ghost use Rattle.td_codes.specs.contracts.code.TypeCode as code;
     ghost use Rattle.td_codes.specs.contracts.code.Value as value;
-    ghost use Rattle.td_reply.specs.References.{IsAddress};
+    ghost use Rattle.td_objects.specs.References.{IsAddress};
     ghost use Rattle.td_session.specs.Rooms.{Room as TheRoom};
 
     ghost Value = { TheRoom };
@@ -40,7 +40,7 @@ impl<J: Journal> Model for Room<J> {
 
 impl<J: Journal> Room<J> {
     ghost use Rattle.std.specs.Prelude.{◌≡◌, IfOk};
-    ghost use Rattle.td_reply.specs.References.{IsAddress};
+    ghost use Rattle.td_objects.specs.References.{IsAddress};
     ghost use Rattle.td_session.specs.Rooms.{IsNew};
 
     /// A room for one session with the traders that are reached at this address.

@@ -1,9 +1,8 @@
 //! Servers that no session has used.
 
 ghost use Rattle.std.specs.Prelude.{◌≡◌, ◌∷◌, [], IfOk};
+ghost use Rattle.td_objects.specs.References.{IsAddress};
 ghost use Rattle.td_trader.specs.PlainTraders.{AreBounds};
-ghost use Rattle.td_file.specs.Files.{IsAddress as IsHome};
-ghost use Rattle.td_reply.specs.References.{IsAddress};
 
 use std::alloc::Global;
 use td_cdr::{List, Memory, Octets, Shared, Text, copy_three};
@@ -27,9 +26,8 @@ pub struct Server {
 }
 
 /// What was opened, with these peers.
-#[tactic(auto, using(crate::proofs::Addresses::listens))]
 fn with_peers(opened: Opened, peers: MemPeers) -> Server
-    requires { IsHome opened.home }
+    requires { IsAddress opened.home }
 {
     let Opened { home, seed, solo } = opened;
     drop(seed);
@@ -105,7 +103,7 @@ fn names(alloc: Global) -> Result<(Text, Octets), Memory>
 }
 
 /// The one trader of a group.
-#[tactic(auto, using(crate::proofs::Addresses::lone))]
+#[tactic(auto, using(crate::proofs::Groups::lone))]
 fn alone(alloc: Global, trader: Trader) -> Result<Solo, Memory> {
     let mut traders = Vec::new(alloc);
     traders.push(trader)?;

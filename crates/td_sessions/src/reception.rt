@@ -5,7 +5,7 @@ ghost use Rattle.std.specs.List.{AllZip};
 ghost use Rattle.td_group.specs.Grouping.{AreOpening, IsOut, Meets, OutStays, SplitsOff};
 ghost use Rattle.td_group.specs.Rows.{Rows};
 ghost use Rattle.td_group.specs.Seeing.{seen_by};
-ghost use Rattle.td_reply.specs.References.{IsAddress};
+ghost use Rattle.td_objects.specs.References.{IsAddress};
 ghost use Rattle.td_session.specs.Rooms.{IsNew};
 ghost use Rattle.td_sessions.specs.Sessions.{ComesIn, ComesToAnEnd, GoesOut, HandsSome, StopsSo};
 

@@ -4,6 +4,7 @@ use Rattle.std.specs.Prelude.{◌≡◌, ℕ, List, [], ◌∷◌, codes, None}
 use Rattle.td_cdr.specs.Marks.{Marks}
 use Rattle.td_fed.specs.Trails.{Rises}
 use Rattle.td_lookup.specs.Scenes.{Scene}
+use Rattle.td_objects.specs.declared.interface.Interface.TheVariants as interface
 use Rattle.td_ops.specs.declared.call.Call.TheVariants as call
 use Rattle.td_ops.specs.declared.call.Change.TheVariants as change
 use Rattle.td_ops.specs.declared.call.Query.{Query}
@@ -12,7 +13,6 @@ use Rattle.td_ops.specs.declared.outcome.Reply.TheVariants.{Nothing}
 use Rattle.td_ops.specs.declared.outcome.SystemKind.TheVariants.{ImpLimit, NoMemory}
 use Rattle.td_register.specs.declared.history.Accepted.{Accepted}
 use Rattle.td_reply.specs.declared.entry.Entry.TheVariants.{Point, Walk}
-use Rattle.td_reply.specs.declared.interface.Interface.TheVariants as interface
 use Rattle.td_reply.specs.declared.judging.Judged.TheVariants.{Call}
 use Rattle.td_reply.specs.declared.objects.Object.{Object}
 use Rattle.td_turns.specs.Journals.{all_marks_in, all_places_in, all_served_at}

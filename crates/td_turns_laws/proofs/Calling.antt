@@ -7,6 +7,7 @@ use Rattle.td_cdr.specs.Writing.{Draft}
 use Rattle.td_iter.specs.Desks.{item_of}
 use Rattle.td_lookup.specs.Scenes.{Scene}
 use Rattle.td_lookup.specs.Unserved.{Unserved, gave_in, is_search, items_of, wanting}
+use Rattle.td_objects.specs.Interfaces.{is_a}
 use Rattle.td_ops.specs.Answers.{AdmitsOutcome}
 use Rattle.td_ops.specs.Called.{operation_in}
 use Rattle.td_ops.specs.Calls.{AdmitsCall}
@@ -17,7 +18,6 @@ use Rattle.td_ops.specs.declared.operation.Operation.{Operation}
 use Rattle.td_ops.specs.declared.outcome.Outcome.{Outcome}
 use Rattle.td_ops.specs.declared.outcome.Outcome.TheVariants.{Done, User, System}
 use Rattle.td_register.specs.declared.history.Accepted.{Accepted}
-use Rattle.td_reply.specs.Interfaces.{is_a}
 use Rattle.td_reply.specs.declared.entry.Entry.{Entry}
 use Rattle.td_reply.specs.declared.judging.Judged.{Judged}
 use Rattle.td_reply.specs.declared.judging.Judged.TheVariants.{Call, Refused}

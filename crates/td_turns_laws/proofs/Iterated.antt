@@ -6,6 +6,7 @@ use Rattle.td_codes.specs.Formats.{is_some}
 use Rattle.td_iter.specs.Desks.{Live}
 use Rattle.td_iter.specs.declared.item.Item.{Item}
 use Rattle.td_iter.specs.declared.item.Item.TheVariants.{Offers, Ids}
+use Rattle.td_objects.specs.declared.interface.Interface.{Interface}
 use Rattle.td_ops.specs.declared.call.Call.TheVariants as call
 use Rattle.td_ops.specs.declared.call.IterCall.{IterCall}
 use Rattle.td_ops.specs.declared.call.IterCall.TheVariants as iter
@@ -14,7 +15,6 @@ use Rattle.td_ops.specs.declared.outcome.Outcome.TheVariants.{Done}
 use Rattle.td_ops.specs.declared.outcome.Reply.TheVariants as reply
 use Rattle.td_reply.specs.Iterating.{IteratorDone, NextOf, gone, left_in}
 use Rattle.td_reply.specs.Objects.{iterator_interface}
-use Rattle.td_reply.specs.declared.interface.Interface.{Interface}
 use Rattle.td_reply.specs.declared.objects.Object.{Object}
 use Rattle.td_turns_laws.proofs.Desks.{AdmitsLeft, item-writes, removed-writes}
 use Rattle.td_turns_laws.proofs.Parts.{sequence-behind, sequence-front}

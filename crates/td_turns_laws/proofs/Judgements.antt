@@ -8,6 +8,7 @@ use Rattle.td_cdr.specs.Format.{value_named}
 use Rattle.td_cdr.specs.Marks.{Marks}
 use Rattle.td_cdr.specs.Place.{At}
 use Rattle.td_cdr.specs.Writing.{Draft}
+use Rattle.td_objects.specs.declared.interface.Interface.{Interface}
 use Rattle.td_places.specs.Targets.{place_of}
 use Rattle.td_ior.specs.Keys.{◌>>=◌, key_of}
 use Rattle.td_iter.specs.Desks.{Live, item_of}
@@ -31,7 +32,6 @@ use Rattle.td_register.specs.declared.history.Accepted.{Accepted}
 use Rattle.td_reply.specs.Judging.{judged, judged_by, judged_reading, refusal_of}
 use Rattle.td_reply.specs.Objects.{interface_of, iterator_interface, object_at, object_keyed, object_of, object_with}
 use Rattle.td_reply.specs.declared.entry.Entry.{Entry}
-use Rattle.td_reply.specs.declared.interface.Interface.{Interface}
 use Rattle.td_reply.specs.declared.judging.Judged.{Judged}
 use Rattle.td_reply.specs.declared.judging.Judged.TheVariants.{Call, Refused}
 use Rattle.td_reply.specs.declared.objects.Object.{Object}

@@ -6,6 +6,9 @@ use Rattle.td_codes.specs.declared.reference.Ior.{Ior}
 use Rattle.td_ior.specs.Keys.{written_key}
 use Rattle.td_ior.specs.Nil.{is_nil}
 use Rattle.td_lookup.specs.Unserved.{gave_in}
+use Rattle.td_objects.specs.Interfaces.{interface_id}
+use Rattle.td_objects.specs.References.{register_reference}
+use Rattle.td_objects.specs.declared.interface.Interface.TheVariants.{Register}
 use Rattle.td_ops.specs.Answers.{AdmitsOutcome}
 use Rattle.td_ops.specs.Parameters.{add_link}
 use Rattle.td_ops.specs.declared.call.AddLink.{AddLink}
@@ -13,13 +16,10 @@ use Rattle.td_ops.specs.declared.operation.LinkOperation.TheVariants as link
 use Rattle.td_ops.specs.declared.operation.Operation.TheVariants.{Link}
 use Rattle.td_ops.specs.declared.outcome.Outcome.{Outcome}
 use Rattle.td_register.specs.declared.history.Accepted.{Accepted}
-use Rattle.td_reply.specs.Interfaces.{interface_id}
 use Rattle.td_reply.specs.Linking.{AddLinkBy, AddLinkComes, Gave, PeersSeen, link_change, register_given}
-use Rattle.td_reply.specs.References.{register_reference}
 use Rattle.td_reply.specs.Targets.{target_of}
 use Rattle.td_reply.specs.declared.entry.Entry.{Entry}
 use Rattle.td_reply.specs.declared.entry.Entry.TheVariants.{Asked}
-use Rattle.td_reply.specs.declared.interface.Interface.TheVariants.{Register}
 use Rattle.td_reply.specs.declared.target.Target.{Target}
 use Rattle.td_reply.specs.declared.target.Target.TheVariants.{Inside, Outside, Unreachable}
 use Rattle.td_trader.specs.Worlds.{Changes, View, name_at}

@@ -11,6 +11,9 @@ use Rattle.td_ior.specs.Keys.{written_key}
 use Rattle.td_iter.specs.Desks.{Live}
 use Rattle.td_iter.specs.Heads.{given_or_nil}
 use Rattle.td_iter.specs.declared.item.Item.TheVariants.{Ids}
+use Rattle.td_objects.specs.Interfaces.{interface_id}
+use Rattle.td_objects.specs.References.{iterator_reference}
+use Rattle.td_objects.specs.declared.interface.Interface.TheVariants.{OfferIdIterator}
 use Rattle.td_ops.specs.Answers.{AdmitsOutcome}
 use Rattle.td_ops.specs.Called.{look_operation}
 use Rattle.td_ops.specs.declared.call.Look.{Look}
@@ -19,11 +22,8 @@ use Rattle.td_ops.specs.declared.outcome.Outcome.{Outcome}
 use Rattle.td_ops.specs.declared.outcome.Outcome.TheVariants.{Done}
 use Rattle.td_ops.specs.declared.outcome.Reply.TheVariants as reply
 use Rattle.td_register.specs.declared.history.Accepted.{Accepted}
-use Rattle.td_reply.specs.Interfaces.{interface_id}
 use Rattle.td_reply.specs.Looking.{CutsList, IsFirst, LookComes, first_ids, how_many, ids_in, kept_for}
-use Rattle.td_reply.specs.References.{iterator_reference}
 use Rattle.td_reply.specs.declared.entry.Entry.{Entry}
-use Rattle.td_reply.specs.declared.interface.Interface.TheVariants.{OfferIdIterator}
 use Rattle.td_trader.specs.Worlds.{View, name_at}
 use Rattle.td_trader_laws.proofs.WritingWorlds.{worlds-look}
 use Rattle.td_trader_laws.specs.Writable.{AdmitsLook}

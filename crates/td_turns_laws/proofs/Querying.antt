@@ -9,6 +9,9 @@ use Rattle.td_cdr.specs.Writing.{Draft}
 use Rattle.td_codes.specs.Formats.{is_some}
 use Rattle.td_codes.specs.References.{reference}
 use Rattle.td_fed.proofs.Members.{Beginnings, Insides}
+use Rattle.td_objects.specs.Interfaces.{interface_id}
+use Rattle.td_objects.specs.References.{offer_iterator}
+use Rattle.td_objects.specs.declared.interface.Interface.TheVariants as interface
 use Rattle.td_places.specs.Targets.{inside_group}
 use Rattle.td_fed.specs.Visiting.{Begins, Walks, course}
 use Rattle.td_ior.proofs.Texts.{made-admitted}
@@ -29,10 +32,7 @@ use Rattle.td_ops.specs.declared.call.Query.{Query}
 use Rattle.td_ops.specs.declared.operation.Operation.TheVariants as operation
 use Rattle.td_ops.specs.declared.outcome.Outcome.{Outcome}
 use Rattle.td_register.specs.declared.history.Accepted.{Accepted}
-use Rattle.td_reply.specs.Interfaces.{interface_id}
-use Rattle.td_reply.specs.References.{offer_iterator}
 use Rattle.td_reply.specs.declared.entry.Entry.{Entry}
-use Rattle.td_reply.specs.declared.interface.Interface.TheVariants as interface
 use Rattle.td_trader.specs.Worlds.{View, name_at}
 use Rattle.td_trader_laws.specs.WritableWorlds.{IsWritableWorld, OthersAreAdmitted}
 use Rattle.td_types.proofs.Sequences.{sequence-from}

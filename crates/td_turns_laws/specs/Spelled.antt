@@ -4,6 +4,8 @@ use Rattle.td_cdr.specs.Sound.{◌&◌, text, ulong}
 use Rattle.td_cdr.specs.declared.order.Order.{Order}
 use Rattle.td_exceptions.specs.Exceptions.{row_of, user_id}
 use Rattle.td_giop.specs.Written.{reply_start, sealed}
+use Rattle.td_objects.specs.declared.interface.Interface.TheVariants.{OfferIdIterator}
+use Rattle.td_objects.specs.declared.interface.Interface.{Interface}
 use Rattle.td_ops.specs.Called.{operation_in}
 use Rattle.td_ops.specs.Operations.{row}
 use Rattle.td_ops.specs.Outcomes.{outcome_status, system_id}
@@ -15,8 +17,6 @@ use Rattle.td_ops.specs.declared.outcome.Outcome.{Outcome}
 use Rattle.td_ops.specs.declared.outcome.Outcome.TheVariants.{Done, User, System}
 use Rattle.td_ops.specs.declared.shape.Shape.{Shape}
 use Rattle.td_ops.specs.declared.shape.Shape.TheVariants as shape
-use Rattle.td_reply.specs.declared.interface.Interface.{Interface}
-use Rattle.td_reply.specs.declared.interface.Interface.TheVariants.{OfferIdIterator}
 use Rattle.td_reply.specs.declared.judging.Judged.{Judged}
 use Rattle.td_reply.specs.declared.judging.Judged.TheVariants.{Call, Refused}
 use Rattle.td_reply.specs.declared.objects.Object.{Object}

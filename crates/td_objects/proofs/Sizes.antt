@@ -25,10 +25,10 @@ use Rattle.td_iter.proofs.Lengths.{number-length, octets-length}
 use Rattle.td_iter.specs.Heads.{IsSmallReference}
 use Rattle.td_value.specs.declared.key.Kind.TheVariants.{Iterator}
 use Rattle.td_walk.specs.declared.trace.Address.{Address}
-use Rattle.td_reply.specs.Interfaces.{interface_id}
-use Rattle.td_reply.specs.References.{IsAddress, iterator_reference, offer_iterator, own_reference}
-use Rattle.td_reply.specs.declared.interface.Interface.{Interface}
-use Rattle.td_reply.specs.declared.interface.Interface.TheVariants.{OfferIdIterator, OfferIterator}
+use Rattle.td_objects.specs.Interfaces.{interface_id}
+use Rattle.td_objects.specs.References.{IsAddress, iterator_reference, offer_iterator, own_reference}
+use Rattle.td_objects.specs.declared.interface.Interface.{Interface}
+use Rattle.td_objects.specs.declared.interface.Interface.TheVariants.{OfferIdIterator, OfferIterator}
 
 -- ---- pieces that are at most so long, wherever they stand
 

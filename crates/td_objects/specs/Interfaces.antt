@@ -3,11 +3,11 @@
 -- CosTradingRepos::ServiceTypeRepository; CORBA, chapter "ORB Interface", is_a).
 use Rattle.std.specs.Prelude.{ℕ, Bool, List, [], ◌∷◌, ◌++◌, codes, is_some}
 use Rattle.td_cdr.specs.Format.{value_named}
-use Rattle.td_reply.specs.declared.interface.Interface.{Interface}
-use Rattle.td_reply.specs.declared.interface.Interface.TheVariants.{Object, TraderComponents, SupportAttributes}
-use Rattle.td_reply.specs.declared.interface.Interface.TheVariants.{ImportAttributes, LinkAttributes, Lookup, Register}
-use Rattle.td_reply.specs.declared.interface.Interface.TheVariants.{Link, Proxy, Admin, ServiceTypeRepository}
-use Rattle.td_reply.specs.declared.interface.Interface.TheVariants.{OfferIterator, OfferIdIterator}
+use Rattle.td_objects.specs.declared.interface.Interface.{Interface}
+use Rattle.td_objects.specs.declared.interface.Interface.TheVariants.{Object, TraderComponents, SupportAttributes}
+use Rattle.td_objects.specs.declared.interface.Interface.TheVariants.{ImportAttributes, LinkAttributes, Lookup, Register}
+use Rattle.td_objects.specs.declared.interface.Interface.TheVariants.{Link, Proxy, Admin, ServiceTypeRepository}
+use Rattle.td_objects.specs.declared.interface.Interface.TheVariants.{OfferIterator, OfferIdIterator}
 
 abbrev pub interface_id : Interface → List ℕ
 interface_id Object = codes "IDL:omg.org/CORBA/Object:1.0"

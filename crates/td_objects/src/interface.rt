@@ -3,7 +3,7 @@
 
 ghost use Rattle.std.specs.Prelude.{◌≡◌, [], ◌∷◌};
 ghost use Rattle.td_cdr.specs.Format.{value_named};
-ghost use Rattle.td_reply.specs.Interfaces.{interface_id, interfaces_of, is_a};
+ghost use Rattle.td_objects.specs.Interfaces.{interface_id, interfaces_of, is_a};
 
 use td_cdr::{Named, find_named};
 
@@ -53,7 +53,7 @@ impl Named for Interface {
 
 /// Whether an object of this interface has the one of a repository id: it is its own, one that its own
 /// inherits, or that of every object.
-pub(crate) fn is_a(interface: Interface, id: &[u8]) -> bool
+pub fn is_a(interface: Interface, id: &[u8]) -> bool
     ensures { result ≡ is_a interface id.now }
 {
     among(interface, id).is_some()

@@ -1,6 +1,6 @@
 use Rattle.std.proofs.Common.{arith}
-use Rattle.td_reply.proofs.Sizes.{offers_if_small}
-use Rattle.td_reply.proofs.references.offer_iterator.Goals as goal
+use Rattle.td_objects.proofs.Sizes.{offers_if_small}
+use Rattle.td_objects.proofs.references.offer_iterator.Goals as goal
 
 pub returns-clause-small : goal.returns-clause-small
 returns-clause-small c =
