@@ -19,6 +19,7 @@ use Rattle.td_reply.specs.declared.entry.Entry.TheVariants.{Plain}
 use Rattle.td_reply.specs.declared.judging.Judged.{Judged}
 use Rattle.td_serve.specs.Requests.{Answers}
 use Rattle.td_serve.specs.Serving.{IsBodyOf, MayBeRefused, Performed, Performs}
+use Rattle.td_serve.specs.declared.reply_to.ReplyTo.{ReplyTo}
 use Rattle.td_walk.specs.declared.trace.Address.{Address}
 
 -- a Reply was begun with its head alone
@@ -88,11 +89,10 @@ module _ (others : List Accepted → Type 0) (later : Marks → Marks → Type 0
   }
 
   -- with one for whose beginning memory was wanted
-  pub unbegun_performed : (order : Order) (id : ℕ) (written : Draft)
-      → Unserved others later home j s (wanting Plain) Plain t
-      → Performed others later home order id j k s (reply_body.Outcome no_memory) Plain written t
-  unbegun_performed order id written h = record {
-    draft = record { bytes = reply_start order id 0; order = order; room = 0 };
+  pub unbegun_performed : (to : ReplyTo) (written : Draft) → Unserved others later home j s (wanting Plain) Plain t
+      → Performed others later home to j k s (reply_body.Outcome no_memory) Plain written t
+  unbegun_performed to written h = record {
+    draft = record { bytes = reply_start to.order to.id 0; order = to.order; room = 0 };
     begun = record { bytes = refl; is_in = refl };
-    performs = wanting_performs (record { bytes = reply_start order id 0; order = order; room = 0 }) written h;
+    performs = wanting_performs (record { bytes = reply_start to.order to.id 0; order = to.order; room = 0 }) written h;
   }

@@ -23,16 +23,16 @@ use Rattle.td_serve.proofs.Wanting.{no_walk, nothing_done}
 use Rattle.td_serve.specs.ReplyBytes.{BeginsReply, outcome_reply, reply_for}
 use Rattle.td_serve.specs.Requests.{Answers, Served}
 use Rattle.td_serve.specs.Serving.{HasHead, IsBodyOf, MayBeRefused, Performed, Settles}
+use Rattle.td_serve.specs.declared.reply_to.ReplyTo.{ReplyTo}
 use Rattle.td_walk.specs.declared.trace.Address.{Address}
 
 -- ---- the bytes
 
-expected : (b : Bool) (order : Order) (id : ℕ) (o : Outcome) → b ≡ true
-    → reply_for b order id o ≡ outcome_reply order id o
-expected b order id o e = ap (λ c. cond c (outcome_reply order id o) []) e
+expected : (to : ReplyTo) (o : Outcome) → to.answered ≡ true → reply_for to o ≡ outcome_reply to o
+expected to o e = ap (λ c. cond c (outcome_reply to o) []) e
 
-unexpected : (b : Bool) (order : Order) (id : ℕ) (o : Outcome) → b ≡ false → reply_for b order id o ≡ []
-unexpected b order id o e = ap (λ c. cond c (outcome_reply order id o) []) e
+unexpected : (to : ReplyTo) (o : Outcome) → to.answered ≡ false → reply_for to o ≡ []
+unexpected to o e = ap (λ c. cond c (outcome_reply to o) []) e
 
 -- the Reply for a result whose body stands behind the head
 result_bytes : (order : Order) (id status : ℕ) (o : Outcome) (bytes : List ℕ) → status ≡ 0
@@ -44,10 +44,12 @@ result_bytes order id status o bytes done is =
     (λ (n : ℕ). sealed order bytes ≡ sealed order (reply_start order id n ++ outcome_piece o order (length (reply_start
     order id n)))) (sym done) (ap (sealed order) is)
 
-written_bytes : (order : Order) (id : ℕ) (o : Outcome) (draft written : Draft) → BeginsReply order id draft
+written_bytes : (to : ReplyTo) (o : Outcome) (draft written : Draft) → BeginsReply to draft
     → outcome_status o ≡ 0 → written.bytes ≡ draft.bytes ++ outcome_piece o draft.order (length draft.bytes)
-    → written.order ≡ draft.order → sealed written.order written.bytes ≡ outcome_reply order id o
-written_bytes order id o draft written begun done bytes same =
+    → written.order ≡ draft.order → sealed written.order written.bytes ≡ outcome_reply to o
+written_bytes to o draft written begun done bytes same =
+    let order : Order = to.order in
+    let id : ℕ = to.id in
     let in_order : written.order ≡ order = same ∙ begun.is_in in
     let with_head : written.bytes ≡ reply_start order id 0 ++ outcome_piece o draft.order (length (reply_start order id
     0)) = bytes ∙ ap (λ (xs : List ℕ). xs ++ outcome_piece o draft.order (length xs)) begun.bytes in
@@ -57,11 +59,10 @@ written_bytes order id o draft written begun done bytes same =
     ap (λ (x : Order). sealed x written.bytes) in_order
     ∙ result_bytes order id (outcome_status o) o written.bytes done whole
 
-module _ (others : List Accepted → Type 0) (later : Marks → Marks → Type 0) (home : Address) (order : Order) (id : ℕ)
-    (answered : Bool) where
+module _ (others : List Accepted → Type 0) (later : Marks → Marks → Type 0) (home : Address) (to : ReplyTo) where
   serves : (j : Judged) (s t : Scene) (o : Outcome) (e settled : Entry) (draft : Draft) (bytes : List ℕ)
-      → BeginsReply order id draft → Answers others later home j draft s o e t → settled ≡ e
-      → bytes ≡ reply_for answered order id o → Served others later home order id answered j s o settled bytes t
+      → BeginsReply to draft → Answers others later home j draft s o e t → settled ≡ e
+      → bytes ≡ reply_for to o → Served others later home to j s o settled bytes t
   serves j s t o e settled draft bytes begun answers same is = record {
     draft = draft;
     begun = begun;
@@ -71,9 +72,9 @@ module _ (others : List Accepted → Type 0) (later : Marks → Marks → Type 0
 
   -- NO_MEMORY, with what is noted then
   serves_in_vain : (j : Judged) (k : ℕ) (s t : Scene) (e settled : Entry) (draft : Draft) (bytes : List ℕ)
-      → BeginsReply order id draft → MayBeRefused others later home j k s e t → settled ≡ in_vain t.world k e
-      → bytes ≡ reply_for answered order id (wanting settled)
-      → Served others later home order id answered j s (wanting settled) settled bytes t
+      → BeginsReply to draft → MayBeRefused others later home j k s e t → settled ≡ in_vain t.world k e
+      → bytes ≡ reply_for to (wanting settled)
+      → Served others later home to j s (wanting settled) settled bytes t
   serves_in_vain j k s t e settled draft bytes begun back same is = record {
     draft = draft;
     begun = begun;
@@ -83,67 +84,67 @@ module _ (others : List Accepted → Type 0) (later : Marks → Marks → Type 0
   }
 
   pub served : (j : Judged) (k : ℕ) (s t : Scene) (b : ReplyBody) (e settled : Entry) (written : Draft)
-      (bytes : List ℕ) → Performed others later home order id j k s b e written t
-      → Settles t.world k order id answered b e written settled bytes
-      → (o : Outcome) × Served others later home order id answered j s o settled bytes t
+      (bytes : List ℕ) → Performed others later home to j k s b e written t
+      → Settles t.world k to b e written settled bytes
+      → (o : Outcome) × Served others later home to j s o settled bytes t
   served j k s t (reply_body.Outcome told) e settled written bytes p (inl (yes_, inl whole)) =
       let q = p.performs in (
         q.outcome,
         serves j s t q.outcome e settled p.draft bytes p.begun q.answers whole.0
-            (whole.1 ∙ ap (outcome_reply order id) q.body ∙ sym (expected answered order id q.outcome yes_)),
+            (whole.1 ∙ ap (outcome_reply to) q.body ∙ sym (expected to q.outcome yes_)),
       )
   served j k s t (reply_body.Outcome told) e settled written bytes p (inl (yes_, inr vain)) =
       let q = p.performs in (
         wanting settled,
         serves_in_vain j k s t e settled p.draft bytes p.begun (q.taken_back vain.0) vain.1
-            (vain.2 ∙ sym (expected answered order id (wanting settled) yes_)),
+            (vain.2 ∙ sym (expected to (wanting settled) yes_)),
       )
   served j k s t reply_body.Written e settled written bytes p (inl (yes_, whole)) =
       let q = p.performs in (
         q.outcome,
         serves j s t q.outcome e settled p.draft bytes p.begun q.answers whole.0
             (whole.1
-            ∙ written_bytes order id q.outcome p.draft written p.begun q.body.0 q.body.1 q.body.2
-            ∙ sym (expected answered order id q.outcome yes_)),
+            ∙ written_bytes to q.outcome p.draft written p.begun q.body.0 q.body.1 q.body.2
+            ∙ sym (expected to q.outcome yes_)),
       )
   served j k s t b e settled written bytes p (inr none) =
       let q = p.performs in (
         q.outcome,
         serves j s t q.outcome e settled p.draft bytes p.begun q.answers none.1
-            (none.2 ∙ sym (unexpected answered order id q.outcome none.0)),
+            (none.2 ∙ sym (unexpected to q.outcome none.0)),
       )
 
 -- ---- what settling asks for
 
 -- a body that is written stands behind a head
-head_before : (b : ReplyBody) (o : Outcome) (order : Order) (id : ℕ) (draft written : Draft)
-    → BeginsReply order id draft → IsBodyOf o b draft written → HasHead b written
-head_before (reply_body.Outcome told) o order id draft written begun h = tt
-head_before reply_body.Written o order id draft written begun h =
+head_before : (b : ReplyBody) (o : Outcome) (to : ReplyTo) (draft written : Draft)
+    → BeginsReply to draft → IsBodyOf o b draft written → HasHead b written
+head_before (reply_body.Outcome told) o to draft written begun h = tt
+head_before reply_body.Written o to draft written begun h =
     omega (
       arith,
       ap (length {A = ℕ}) h.1,
       ap (length {A = ℕ}) begun.bytes,
       length-append draft.bytes (outcome_piece o draft.order (length draft.bytes)),
-      reply_start_length order id 0,
+      reply_start_length to.order to.id 0,
     )
 
-module _ (others : List Accepted → Type 0) (later : Marks → Marks → Type 0) (home : Address) (order : Order) (id : ℕ)
+module _ (others : List Accepted → Type 0) (later : Marks → Marks → Type 0) (home : Address) (to : ReplyTo)
     (j : Judged) (k : ℕ) (s t : Scene) (b : ReplyBody) (e : Entry) (written : Draft) where
-  pub performed_head : Performed others later home order id j k s b e written t → HasHead b written
-  performed_head p = head_before b p.performs.outcome order id p.draft written p.begun p.performs.body
+  pub performed_head : Performed others later home to j k s b e written t → HasHead b written
+  performed_head p = head_before b p.performs.outcome to p.draft written p.begun p.performs.body
 
 -- ---- no call
 
-module _ (others : List Accepted → Type 0) (later : Marks → Marks → Type 0) (home : Address) (order : Order) (id : ℕ)
-    (answered : Bool) (s : Scene) where
+module _ (others : List Accepted → Type 0) (later : Marks → Marks → Type 0) (home : Address) (to : ReplyTo)
+    (s : Scene) where
   abbrev begun_draft : Draft
-  begun_draft = record { bytes = reply_start order id 0; order = order; room = 0 }
+  begun_draft = record { bytes = reply_start to.order to.id 0; order = to.order; room = 0 }
 
   -- a Request that is refused
   pub refusal_served : (o : Outcome) (e : Entry) (bytes : List ℕ) → e ≡ Plain
-      → bytes ≡ reply_for answered order id o
-      → Served others later home order id answered (Refused o) s o e bytes s
+      → bytes ≡ reply_for to o
+      → Served others later home to (Refused o) s o e bytes s
   refusal_served o e bytes noted is = record {
     draft = begun_draft;
     begun = record { bytes = refl; is_in = refl };
@@ -153,8 +154,8 @@ module _ (others : List Accepted → Type 0) (later : Marks → Marks → Type 0
 
   -- memory was wanted, and nothing was called
   pub memory_served : (j : Judged) (e : Entry) (bytes : List ℕ) → e ≡ Plain
-      → bytes ≡ reply_for answered order id no_memory
-      → Served others later home order id answered j s no_memory e bytes s
+      → bytes ≡ reply_for to no_memory
+      → Served others later home to j s no_memory e bytes s
   memory_served j e bytes noted is = record {
     draft = begun_draft;
     begun = record { bytes = refl; is_in = refl };
@@ -166,7 +167,7 @@ module _ (others : List Accepted → Type 0) (later : Marks → Marks → Type 0
 
   -- one of both
   pub either_served : (o : Outcome) (e : Entry) (bytes : List ℕ) → e ≡ Plain
-      → (bytes ≡ reply_for answered order id o) ⊎ (bytes ≡ reply_for answered order id no_memory)
-      → (told : Outcome) × Served others later home order id answered (Refused o) s told e bytes s
+      → (bytes ≡ reply_for to o) ⊎ (bytes ≡ reply_for to no_memory)
+      → (told : Outcome) × Served others later home to (Refused o) s told e bytes s
   either_served o e bytes noted (inl is) = (o, refusal_served o e bytes noted is)
   either_served o e bytes noted (inr is) = (no_memory, memory_served (Refused o) e bytes noted is)

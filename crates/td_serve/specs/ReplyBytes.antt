@@ -2,24 +2,30 @@
 use Rattle.std.specs.Prelude.{◌≡◌, ℕ, Bool, if◌then◌else◌, List, [], ◌++◌, length}
 use Rattle.td_cdr.specs.declared.order.Order.{Order}
 use Rattle.td_cdr.specs.Writing.{Draft}
+use Rattle.td_giop.specs.Heads.{Request}
 use Rattle.td_giop.specs.Written.{locate_reply_written, reply_start, sealed}
 use Rattle.td_ops.specs.Outcomes.{outcome_piece, outcome_status}
 use Rattle.td_ops.specs.declared.outcome.Outcome.{Outcome}
+use Rattle.td_serve.specs.declared.reply_to.ReplyTo.{ReplyTo}
+
+-- what the reply to a Request with this head answers, whose message is in this order
+abbrev pub reply_to : Order → Request → ReplyTo
+reply_to order head = record { order = order; id = head.id; answered = head.answered }
 
 -- the whole Reply for an outcome
-abbrev pub outcome_reply : Order → ℕ → Outcome → List ℕ
-outcome_reply order id outcome =
-    let start = reply_start order id (outcome_status outcome) in
-    sealed order (start ++ outcome_piece outcome order (length start))
+abbrev pub outcome_reply : ReplyTo → Outcome → List ℕ
+outcome_reply to outcome =
+    let start = reply_start to.order to.id (outcome_status outcome) in
+    sealed to.order (start ++ outcome_piece outcome to.order (length start))
 
 -- a Request that expects no reply gets no bytes
-abbrev pub reply_for : (answered : Bool) → Order → ℕ → Outcome → List ℕ
-reply_for answered order id outcome = if answered then outcome_reply order id outcome else []
+abbrev pub reply_for : ReplyTo → Outcome → List ℕ
+reply_for to outcome = if to.answered then outcome_reply to outcome else []
 
 -- what stands in a writer behind the head of a Reply with a result
-pub record BeginsReply (order : Order) (id : ℕ) (draft : Draft) : Type 0 where
-  pub bytes : draft.bytes ≡ reply_start order id 0
-  pub is_in : draft.order ≡ order
+pub record BeginsReply (to : ReplyTo) (draft : Draft) : Type 0 where
+  pub bytes : draft.bytes ≡ reply_start to.order to.id 0
+  pub is_in : draft.order ≡ to.order
 
 -- the LocateReply: OBJECT_HERE for the key of a live object, else UNKNOWN_OBJECT
 abbrev pub locate_reply : Order → ℕ → (live : Bool) → List ℕ

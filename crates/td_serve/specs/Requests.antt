@@ -1,9 +1,8 @@
 -- What a Request comes to: an outcome, what is noted of it, and how everything stands then (OMG's Trading Object
 -- Service; CORBA, chapter "ORB Interface" for the calls of all objects).
-use Rattle.std.specs.Prelude.{◌≡◌, ◌⊎◌, ℕ, Bool, false, List}
+use Rattle.std.specs.Prelude.{◌≡◌, ◌⊎◌, ℕ, false, List}
 use Rattle.td_cdr.specs.Marks.{Marks}
 use Rattle.td_cdr.specs.Writing.{Draft}
-use Rattle.td_cdr.specs.declared.order.Order.{Order}
 use Rattle.td_lookup.specs.Naming.{NameComes}
 use Rattle.td_lookup.specs.Querying.{QueryComes}
 use Rattle.td_lookup.specs.Scenes.{Scene}
@@ -25,6 +24,7 @@ use Rattle.td_reply.specs.declared.judging.Judged.{Judged}
 use Rattle.td_reply.specs.declared.judging.Judged.TheVariants.{Call, Refused}
 use Rattle.td_reply.specs.declared.objects.Object.{Object}
 use Rattle.td_serve.specs.ReplyBytes.{BeginsReply, reply_for}
+use Rattle.td_serve.specs.declared.reply_to.ReplyTo.{ReplyTo}
 use Rattle.td_trader.specs.Worlds.{name_at}
 use Rattle.td_value.specs.declared.key.Kind.{Kind}
 use Rattle.td_value.specs.declared.key.Kind.TheVariants as kind
@@ -64,9 +64,9 @@ module _ (others : List Accepted → Type 0) (later : Marks → Marks → Type 0
   Answers j draft s o e t = Comes j draft s o e t ⊎ Unserved others later home j s o e t
 
   -- The Request was answered so, and these are the bytes of its Reply: none where it expects none.
-  pub record Served (order : Order) (id : ℕ) (answered : Bool) (j : Judged) (s : Scene) (o : Outcome) (e : Entry)
-      (bytes : List ℕ) (t : Scene) : Type 0 where
+  pub record Served (to : ReplyTo) (j : Judged) (s : Scene) (o : Outcome) (e : Entry) (bytes : List ℕ) (t : Scene)
+      : Type 0 where
     pub draft : Draft
-    pub begun : BeginsReply order id draft
+    pub begun : BeginsReply to draft
     pub answers : Answers j draft s o e t
-    pub reply : bytes ≡ reply_for answered order id o
+    pub reply : bytes ≡ reply_for to o

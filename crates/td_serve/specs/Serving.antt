@@ -3,7 +3,6 @@ use Rattle.std.specs.Prelude.{◌≡◌, ◌⊎◌, ℕ, ◌<◌, ◌≤◌, ◌
 use Rattle.td_cdr.specs.Marks.{Marks}
 use Rattle.td_cdr.specs.Writing.{Draft}
 use Rattle.td_cdr.specs.declared.memory.Memory.{Memory as Wanting}
-use Rattle.td_cdr.specs.declared.order.Order.{Order}
 use Rattle.td_giop.specs.Written.{sealed}
 use Rattle.td_lookup.specs.Scenes.{Scene}
 use Rattle.td_lookup.specs.Telling.{in_vain}
@@ -19,6 +18,7 @@ use Rattle.td_reply.specs.declared.entry.Entry.{Entry}
 use Rattle.td_reply.specs.declared.judging.Judged.{Judged}
 use Rattle.td_serve.specs.ReplyBytes.{BeginsReply, outcome_reply}
 use Rattle.td_serve.specs.Requests.{Answers}
+use Rattle.td_serve.specs.declared.reply_to.ReplyTo.{ReplyTo}
 use Rattle.td_trader.specs.Worlds.{View}
 use Rattle.td_walk.specs.declared.trace.Address.{Address}
 
@@ -53,10 +53,10 @@ module _ (others : List Accepted → Type 0) (later : Marks → Marks → Type 0
     pub taken_back : IfLong b (MayBeRefused home j k s e t)
 
   -- the same, with a writer that was begun for the Reply
-  pub record Performed (home : Address) (order : Order) (id : ℕ) (j : Judged) (k : ℕ) (s : Scene) (b : ReplyBody)
-      (e : Entry) (written : Draft) (t : Scene) : Type 0 where
+  pub record Performed (home : Address) (to : ReplyTo) (j : Judged) (k : ℕ) (s : Scene) (b : ReplyBody) (e : Entry)
+      (written : Draft) (t : Scene) : Type 0 where
     pub draft : Draft
-    pub begun : BeginsReply order id draft
+    pub begun : BeginsReply to draft
     pub performs : Performs home j k draft s b e written t
 
 -- ---- replies
@@ -66,12 +66,12 @@ abbrev pub HasHead : ReplyBody → (written : Draft) → Type 0
 HasHead (reply_body.Outcome o) written = Unit {0}
 HasHead reply_body.Written written = 12 ≤ length written.bytes
 
-module _ (w : List View) (k : ℕ) (order : Order) (id : ℕ) where
+module _ (w : List View) (k : ℕ) (to : ReplyTo) where
   -- The outcome was told, or memory was wanted for a long one.
   abbrev pub SettlesOutcome : Outcome → Entry → (settled : Entry) → (bytes : List ℕ) → Type 0
   SettlesOutcome o e settled bytes =
-      ((settled ≡ e) × (bytes ≡ outcome_reply order id o))
-      ⊎ ((is_short o ≡ false) × (settled ≡ in_vain w k e) × (bytes ≡ outcome_reply order id (wanting settled)))
+      ((settled ≡ e) × (bytes ≡ outcome_reply to o))
+      ⊎ ((is_short o ≡ false) × (settled ≡ in_vain w k e) × (bytes ≡ outcome_reply to (wanting settled)))
 
   abbrev pub SettlesBody : ReplyBody → Entry → (written : Draft) → (settled : Entry) → (bytes : List ℕ) → Type 0
   SettlesBody (reply_body.Outcome o) e written settled bytes = SettlesOutcome o e settled bytes
@@ -79,8 +79,7 @@ module _ (w : List View) (k : ℕ) (order : Order) (id : ℕ) where
       (settled ≡ e) × (bytes ≡ sealed written.order written.bytes)
 
   -- The body was sent, or what stands in its place; a Request that expects no reply gets no bytes.
-  abbrev pub Settles : (answered : Bool) → ReplyBody → Entry → (written : Draft) → (settled : Entry) → (bytes : List ℕ)
-      → Type 0
-  Settles answered b e written settled bytes =
-      ((answered ≡ true) × SettlesBody b e written settled bytes)
-      ⊎ ((answered ≡ false) × (settled ≡ e) × (bytes ≡ []))
+  abbrev pub Settles : ReplyBody → Entry → (written : Draft) → (settled : Entry) → (bytes : List ℕ) → Type 0
+  Settles b e written settled bytes =
+      ((to.answered ≡ true) × SettlesBody b e written settled bytes)
+      ⊎ ((to.answered ≡ false) × (settled ≡ e) × (bytes ≡ []))

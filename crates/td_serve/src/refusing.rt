@@ -11,26 +11,20 @@ ghost use Rattle.td_serve.specs.Requests.{Served};
 ghost use Rattle.td_walk.specs.declared.trace.Address.{Address};
 
 use crate::replies::Replies;
+use crate::reply_to::ReplyTo;
 use crate::settling::tell_outcome;
 use std::alloc::Global;
-use td_cdr::Order;
 use td_ops::Outcome;
 use td_reply::{Entry, no_memory};
 use td_trader::Traders;
 
 /// Serves a Request whose reading wanted memory: the reply is NO_MEMORY, which has no bytes where none is expected.
 /// Answers what the journal notes, which is nothing.
-pub fn refuse_memory<T: Traders>(
-    alloc: Global,
-    replies: &mut Replies,
-    order: Order,
-    id: u32,
-    answered: bool,
-) -> Entry
-    ensures served { (home : Address) (j : Judged) (s : Scene) → Served T.others T.later home order id answered j s
+pub fn refuse_memory<T: Traders>(alloc: Global, replies: &mut Replies, to: ReplyTo) -> Entry
+    ensures served { (home : Address) (j : Judged) (s : Scene) → Served T.others T.later home to j s
         no_memory result replies.new s }
 {
-    answer_no_memory(alloc, replies, order, id, answered);
+    answer_no_memory(alloc, replies, to);
     Entry::Plain
 }
 
@@ -38,32 +32,22 @@ pub fn refuse_memory<T: Traders>(
 pub(crate) fn serve_refusal<T: Traders>(
     alloc: Global,
     replies: &mut Replies,
-    order: Order,
-    id: u32,
-    answered: bool,
+    to: ReplyTo,
     outcome: Outcome,
 ) -> Entry
-    ensures served { (home : Address) (s : Scene) → (o : Told) × Served T.others T.later home order id answered
+    ensures served { (home : Address) (s : Scene) → (o : Told) × Served T.others T.later home to
         (Refused outcome) s o result replies.new s }
 {
-    answer_refusal(alloc, replies, order, id, answered, outcome);
+    answer_refusal(alloc, replies, to, outcome);
     Entry::Plain
 }
 
 /// Leaves the Reply for an outcome, or NO_MEMORY; no bytes where no reply is expected.
-fn answer_refusal(
-    alloc: Global,
-    replies: &mut Replies,
-    order: Order,
-    id: u32,
-    answered: bool,
-    outcome: Outcome,
-)
-    ensures { (replies.new ≡ reply_for answered order id outcome)
-        ⊎ (replies.new ≡ reply_for answered order id no_memory) }
+fn answer_refusal(alloc: Global, replies: &mut Replies, to: ReplyTo, outcome: Outcome)
+    ensures { (replies.new ≡ reply_for to outcome) ⊎ (replies.new ≡ reply_for to no_memory) }
 {
-    if answered {
-        tell_refusal(alloc, replies, order, id, outcome);
+    if to.answered {
+        tell_refusal(alloc, replies, to, outcome);
     } else {
         drop(outcome);
         replies.clear();
@@ -71,40 +55,33 @@ fn answer_refusal(
 }
 
 /// Leaves NO_MEMORY; no bytes where no reply is expected.
-fn answer_no_memory(alloc: Global, replies: &mut Replies, order: Order, id: u32, answered: bool)
-    ensures { replies.new ≡ reply_for answered order id no_memory }
+fn answer_no_memory(alloc: Global, replies: &mut Replies, to: ReplyTo)
+    ensures { replies.new ≡ reply_for to no_memory }
 {
-    if answered {
-        tell_no_memory(alloc, replies, order, id);
+    if to.answered {
+        tell_no_memory(alloc, replies, to);
     } else {
         replies.clear();
     }
 }
 
 /// Leaves the Reply for an outcome, or NO_MEMORY.
-fn tell_refusal(alloc: Global, replies: &mut Replies, order: Order, id: u32, outcome: Outcome)
-    ensures { (replies.new ≡ outcome_reply order id outcome) ⊎ (replies.new ≡ outcome_reply order id no_memory) }
+fn tell_refusal(alloc: Global, replies: &mut Replies, to: ReplyTo, outcome: Outcome)
+    ensures { (replies.new ≡ outcome_reply to outcome) ⊎ (replies.new ≡ outcome_reply to no_memory) }
 {
-    let told = tell_outcome(
-        alloc,
-        &mut replies.short,
-        &mut replies.long,
-        order,
-        id,
-        &outcome,
-    );
+    let told = tell_outcome(alloc, &mut replies.short, &mut replies.long, to, &outcome);
     drop(outcome);
     match told {
         Ok(is_long) => replies.is_long = is_long,
-        Err(_) => tell_no_memory(alloc, replies, order, id),
+        Err(_) => tell_no_memory(alloc, replies, to),
     }
 }
 
 /// Leaves NO_MEMORY, for which there is always room.
-fn tell_no_memory(alloc: Global, replies: &mut Replies, order: Order, id: u32)
-    ensures { replies.new ≡ outcome_reply order id no_memory }
+fn tell_no_memory(alloc: Global, replies: &mut Replies, to: ReplyTo)
+    ensures { replies.new ≡ outcome_reply to no_memory }
 {
     let outcome = no_memory();
-    replies.tell_short(alloc, order, id, &outcome);
+    replies.tell_short(alloc, to, &outcome);
     drop(outcome);
 }

@@ -4,6 +4,7 @@ ghost use Rattle.std.specs.Prelude.{◌≡◌, [], IsTrue, IfOk, OnOk};
 ghost use Rattle.td_ops.specs.Outcomes.{is_short};
 ghost use Rattle.td_serve.specs.ReplyBytes.{locate_reply, outcome_reply};
 
+use crate::reply_to::ReplyTo;
 use crate::writing::{write_location, write_short};
 use std::alloc::Global;
 use std::marker::Model;
@@ -81,11 +82,11 @@ impl Replies {
     }
 
     /// Leaves the Reply for a short outcome, for which there is always room.
-    pub(crate) fn tell_short(&mut self, alloc: Global, order: Order, id: u32, outcome: &Outcome)
+    pub(crate) fn tell_short(&mut self, alloc: Global, to: ReplyTo, outcome: &Outcome)
         requires { IsTrue (is_short outcome.now) }
-        ensures { self.new ≡ outcome_reply order id outcome.now }
+        ensures { self.new ≡ outcome_reply to outcome.now }
     {
         self.is_long = false;
-        write_short(alloc, &mut self.short, order, id, outcome);
+        write_short(alloc, &mut self.short, to, outcome);
     }
 }

@@ -17,9 +17,10 @@ use crate::arms::{
 };
 use crate::refusing::serve_refusal;
 use crate::replies::Replies;
+use crate::reply_to::ReplyTo;
 use crate::settling::settle;
 use std::alloc::Global;
-use td_cdr::{Order, Writer};
+use td_cdr::Writer;
 use td_giop::start_reply;
 use td_iter::Desk;
 use td_ops::Call;
@@ -41,9 +42,7 @@ pub fn serve_request<T: Traders, P: Peers, W: Words>(
     peers: &mut P,
     words: &mut W,
     replies: &mut Replies,
-    order: Order,
-    id: u32,
-    answered: bool,
+    to: ReplyTo,
     judged: Judged,
 ) -> Entry
     requires servable { IsServable (T.world traders.old) judged }
@@ -52,7 +51,7 @@ pub fn serve_request<T: Traders, P: Peers, W: Words>(
     ensures same { T.same traders.old traders.new }
     ensures same_peers { P.same peers.old peers.new }
     ensures same_words { W.same words.old words.new }
-    ensures served { (o : Told) × Served T.others T.later home.now order id answered judged
+    ensures served { (o : Told) × Served T.others T.later home.now to judged
         (scene (T.world traders.old) desk.old (peers_seen (P.calls peers.old) (P.faults peers.old)) (W.word words.old))
         o result replies.new
         (scene (T.world traders.new) desk.new (peers_seen (P.calls peers.new) (P.faults peers.new))
@@ -61,11 +60,9 @@ pub fn serve_request<T: Traders, P: Peers, W: Words>(
 {
     match judged {
         Judged::Call { object, call } => serve_call(
-            alloc, traders, home, desk, peers, words, replies, order, id, answered, object, call,
+            alloc, traders, home, desk, peers, words, replies, to, object, call,
         ),
-        Judged::Refused(outcome) => {
-            serve_refusal::<T>(alloc, replies, order, id, answered, outcome)
-        }
+        Judged::Refused(outcome) => serve_refusal::<T>(alloc, replies, to, outcome),
     }
 }
 
@@ -78,9 +75,7 @@ fn serve_call<T: Traders, P: Peers, W: Words>(
     peers: &mut P,
     words: &mut W,
     replies: &mut Replies,
-    order: Order,
-    id: u32,
-    answered: bool,
+    to: ReplyTo,
     object: Object,
     call: Call,
 ) -> Entry
@@ -90,7 +85,7 @@ fn serve_call<T: Traders, P: Peers, W: Words>(
     ensures same { T.same traders.old traders.new }
     ensures same_peers { P.same peers.old peers.new }
     ensures same_words { W.same words.old words.new }
-    ensures served { (o : Told) × Served T.others T.later home.now order id answered (spelled.Call object call)
+    ensures served { (o : Told) × Served T.others T.later home.now to (spelled.Call object call)
         (scene (T.world traders.old) desk.old (peers_seen (P.calls peers.old) (P.faults peers.old)) (W.word words.old))
         o result replies.new
         (scene (T.world traders.new) desk.new (peers_seen (P.calls peers.new) (P.faults peers.new))
@@ -105,8 +100,7 @@ fn serve_call<T: Traders, P: Peers, W: Words>(
         peers,
         words,
         &mut replies.long,
-        order,
-        id,
+        to,
         object,
         call,
     );
@@ -116,9 +110,7 @@ fn serve_call<T: Traders, P: Peers, W: Words>(
         object.trader,
         &mut replies.short,
         &mut replies.long,
-        order,
-        id,
-        answered,
+        to,
         answer,
     );
     replies.is_long = settled.is_long;
@@ -135,8 +127,7 @@ fn perform<T: Traders, P: Peers, W: Words>(
     peers: &mut P,
     words: &mut W,
     w: &mut Writer,
-    order: Order,
-    id: u32,
+    to: ReplyTo,
     object: Object,
     call: Call,
 ) -> Answer
@@ -146,15 +137,15 @@ fn perform<T: Traders, P: Peers, W: Words>(
     ensures same { T.same traders.old traders.new }
     ensures same_peers { P.same peers.old peers.new }
     ensures same_words { W.same words.old words.new }
-    ensures performed { Performed T.others T.later home.now order id (spelled.Call object call) object.trader
+    ensures performed { Performed T.others T.later home.now to (spelled.Call object call) object.trader
         (scene (T.world traders.old) desk.old (peers_seen (P.calls peers.old) (P.faults peers.old)) (W.word words.old))
         result.body result.entry w.new
         (scene (T.world traders.new) desk.new (peers_seen (P.calls peers.new) (P.faults peers.new))
         (W.word words.new)) }
     ensures faults { P.faults peers.old ≤ P.faults peers.new }
 {
-    w.restart(order);
-    match start_reply(w, id, NO_EXCEPTION) {
+    w.restart(to.order);
+    match start_reply(w, to.id, NO_EXCEPTION) {
         Ok(()) => answer_call(alloc, traders, home, desk, peers, words, w, object, call),
         Err(_) => {
             drop(call);

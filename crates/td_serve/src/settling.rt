@@ -8,9 +8,10 @@ ghost use Rattle.td_reply.specs.Answers.{IfLong};
 ghost use Rattle.td_serve.specs.ReplyBytes.{chosen, outcome_reply};
 ghost use Rattle.td_serve.specs.Serving.{HasHead, Settles, SettlesBody, SettlesOutcome};
 
+use crate::reply_to::ReplyTo;
 use crate::writing::{is_short, write_reply, write_short};
 use std::alloc::Global;
-use td_cdr::{Memory, Order, Writer};
+use td_cdr::{Memory, Writer};
 use td_giop::seal;
 use td_lookup::{entry_in_vain, wanting};
 use td_ops::Outcome;
@@ -32,27 +33,24 @@ pub(crate) fn settle<T: Traders>(
     trader: usize,
     short: &mut Writer,
     long: &mut Writer,
-    order: Order,
-    id: u32,
-    answered: bool,
+    to: ReplyTo,
     answer: Answer,
 ) -> Settled
     requires reserved { 512 ≤ short.old.room }
     requires head { HasHead answer.body long.old }
     requires within { IfLong answer.body (trader < length (T.world traders.now)) }
-    ensures settles { Settles (T.world traders.now) trader order id answered answer.body answer.entry long.old
+    ensures settles { Settles (T.world traders.now) trader to answer.body answer.entry long.old
         result.entry (chosen result.is_long short.new long.new) }
     ensures reserved { 512 ≤ short.new.room }
 {
-    if answered {
+    if to.answered {
         settle_body(
             alloc,
             traders,
             trader,
             short,
             long,
-            order,
-            id,
+            to,
             answer.body,
             answer.entry,
         )
@@ -82,21 +80,20 @@ fn settle_body<T: Traders>(
     trader: usize,
     short: &mut Writer,
     long: &mut Writer,
-    order: Order,
-    id: u32,
+    to: ReplyTo,
     body: ReplyBody,
     entry: Entry,
 ) -> Settled
     requires reserved { 512 ≤ short.old.room }
     requires head { HasHead body long.old }
     requires within { IfLong body (trader < length (T.world traders.now)) }
-    ensures settles { SettlesBody (T.world traders.now) trader order id body entry long.old result.entry
+    ensures settles { SettlesBody (T.world traders.now) trader to body entry long.old result.entry
         (chosen result.is_long short.new long.new) }
     ensures reserved { 512 ≤ short.new.room }
 {
     match body {
         ReplyBody::Outcome(outcome) => settle_outcome(
-            alloc, traders, trader, short, long, order, id, outcome, entry,
+            alloc, traders, trader, short, long, to, outcome, entry,
         ),
         ReplyBody::Written => {
             seal(long);
@@ -115,22 +112,21 @@ fn settle_outcome<T: Traders>(
     trader: usize,
     short: &mut Writer,
     long: &mut Writer,
-    order: Order,
-    id: u32,
+    to: ReplyTo,
     outcome: Outcome,
     entry: Entry,
 ) -> Settled
     requires reserved { 512 ≤ short.old.room }
     requires within { is_short outcome ≡ false → trader < length (T.world traders.now) }
-    ensures settles { SettlesOutcome (T.world traders.now) trader order id outcome entry result.entry
+    ensures settles { SettlesOutcome (T.world traders.now) trader to outcome entry result.entry
         (chosen result.is_long short.new long.new) }
     ensures reserved { 512 ≤ short.new.room }
 {
-    let told = tell_outcome(alloc, short, long, order, id, &outcome);
+    let told = tell_outcome(alloc, short, long, to, &outcome);
     drop(outcome);
     match told {
         Ok(is_long) => Settled { entry, is_long },
-        Err(_) => settle_in_vain(alloc, traders, trader, short, order, id, entry),
+        Err(_) => settle_in_vain(alloc, traders, trader, short, to, entry),
     }
 }
 
@@ -143,20 +139,19 @@ pub(crate) fn tell_outcome(
     alloc: Global,
     short: &mut Writer,
     long: &mut Writer,
-    order: Order,
-    id: u32,
+    to: ReplyTo,
     outcome: &Outcome,
 ) -> Result<bool, Memory>
     requires { 512 ≤ short.old.room }
-    ensures ok { IfOk result (λ is_long. chosen is_long short.new long.new ≡ outcome_reply order id outcome.now) }
+    ensures ok { IfOk result (λ is_long. chosen is_long short.new long.new ≡ outcome_reply to outcome.now) }
     ensures err { OnErr result (is_short outcome.now ≡ false) }
     ensures reserved { 512 ≤ short.new.room }
 {
     if is_short(outcome) {
-        write_short(alloc, short, order, id, outcome);
+        write_short(alloc, short, to, outcome);
         Ok(false)
     } else {
-        write_reply(alloc, long, order, id, outcome)?;
+        write_reply(alloc, long, to, outcome)?;
         Ok(true)
     }
 }
@@ -167,20 +162,19 @@ fn settle_in_vain<T: Traders>(
     traders: &T,
     trader: usize,
     short: &mut Writer,
-    order: Order,
-    id: u32,
+    to: ReplyTo,
     entry: Entry,
 ) -> Settled
     requires reserved { 512 ≤ short.old.room }
     requires within { trader < length (T.world traders.now) }
     ensures entry { result.entry ≡ in_vain (T.world traders.now) trader entry }
     ensures short { result.is_long ≡ false }
-    ensures bytes { short.new.bytes ≡ outcome_reply order id (wanting result.entry) }
+    ensures bytes { short.new.bytes ≡ outcome_reply to (wanting result.entry) }
     ensures reserved { 512 ≤ short.new.room }
 {
     let entry = entry_in_vain(traders, trader, entry);
     let outcome = wanting(&entry);
-    write_short(alloc, short, order, id, &outcome);
+    write_short(alloc, short, to, &outcome);
     drop(outcome);
     Settled {
         entry,

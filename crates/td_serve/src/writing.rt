@@ -5,6 +5,7 @@ ghost use Rattle.td_ops.specs.Outcomes.{is_short};
 ghost use Rattle.td_ops.specs.declared.outcome.Outcome.TheVariants.{Done};
 ghost use Rattle.td_serve.specs.ReplyBytes.{locate_reply, outcome_reply};
 
+use crate::reply_to::ReplyTo;
 use std::alloc::Global;
 use td_cdr::{Memory, Order, Writer};
 use td_giop::{seal, start_reply, write_locate_reply};
@@ -48,35 +49,28 @@ fn is_short_reply(reply: &Reply) -> bool
 pub(crate) fn write_reply(
     alloc: Global,
     writer: &mut Writer,
-    order: Order,
-    id: u32,
+    to: ReplyTo,
     outcome: &Outcome,
 ) -> Result<(), Memory>
-    ensures ok { OnOk result (writer.new.bytes ≡ outcome_reply order id outcome.now) }
+    ensures ok { OnOk result (writer.new.bytes ≡ outcome_reply to outcome.now) }
     ensures room { IsTrue (is_short outcome.now) → writer.old.room ≤ writer.new.room }
     ensures fits { IsTrue (is_short outcome.now) → 512 ≤ writer.old.room → IsOk result }
 {
-    writer.restart(order);
-    start_reply(writer, id, status_of(outcome))?;
+    writer.restart(to.order);
+    start_reply(writer, to.id, status_of(outcome))?;
     write_outcome(alloc, writer, outcome)?;
     seal(writer);
     Ok(())
 }
 
 /// Writes the Reply for a short outcome, for which there is always room.
-pub(crate) fn write_short(
-    alloc: Global,
-    writer: &mut Writer,
-    order: Order,
-    id: u32,
-    outcome: &Outcome,
-)
+pub(crate) fn write_short(alloc: Global, writer: &mut Writer, to: ReplyTo, outcome: &Outcome)
     requires short { IsTrue (is_short outcome.now) }
     requires room { 512 ≤ writer.old.room }
-    ensures bytes { writer.new.bytes ≡ outcome_reply order id outcome.now }
+    ensures bytes { writer.new.bytes ≡ outcome_reply to outcome.now }
     ensures room { 512 ≤ writer.new.room }
 {
-    write_reply(alloc, writer, order, id, outcome).unwrap();
+    write_reply(alloc, writer, to, outcome).unwrap();
 }
 
 /// Writes a LocateReply, for which there is always room.

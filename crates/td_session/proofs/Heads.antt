@@ -13,6 +13,7 @@ use Rattle.td_reply.specs.Judging.{judged}
 use Rattle.td_reply.specs.Linking.{PeersSeen}
 use Rattle.td_reply.specs.declared.entry.Entry.{Entry}
 use Rattle.td_reply.specs.declared.judging.Judged.{Judged}
+use Rattle.td_serve.specs.ReplyBytes.{reply_to}
 use Rattle.td_serve.specs.Requests.{Served}
 use Rattle.td_trader.specs.Worlds.{View}
 use Rattle.td_walk.specs.declared.trace.Address.{Address}
@@ -23,13 +24,13 @@ module _ (others : List Accepted → Type 0) (later : Marks → Marks → Type 0
   pub served_head : (order : Order) (head : Request) (body : At) (w : List View) (d m : Live) (peers : PeersSeen)
       (words : ℕ → ℕ) (j : Judged) (o : Outcome) (e : Entry) (reply : List ℕ) (u : Scene) → m ≡ d
       → j ≡ judged w d head.key head.operation body
-      → Served others later home order head.id head.answered j (scene w m peers words) o e reply u
+      → Served others later home (reply_to order head) j (scene w m peers words) o e reply u
       → ServesHead others later home order head body (scene w d peers words) e reply u
   served_head order head body w d m peers words j o e reply u same asks h = record {
     noted = record { judged = j; outcome = o; entry = e };
     asks = asks;
     served =
-        subst (λ (x : Live). Served others later home order head.id head.answered j (scene w x peers words) o e reply u)
+        subst (λ (x : Live). Served others later home (reply_to order head) j (scene w x peers words) o e reply u)
         same h;
     entry = refl;
   }
@@ -37,7 +38,7 @@ module _ (others : List Accepted → Type 0) (later : Marks → Marks → Type 0
   -- memory was wanted to read the call
   pub refused_head : (order : Order) (head : Request) (body : At) (w : List View) (d m : Live) (peers : PeersSeen)
       (words : ℕ → ℕ) (e : Entry) (reply : List ℕ) → m ≡ d
-      → ((j : Judged) (s : Scene) → Served others later home order head.id head.answered j s no_memory e reply s)
+      → ((j : Judged) (s : Scene) → Served others later home (reply_to order head) j s no_memory e reply s)
       → ServesHead others later home order head body (scene w d peers words) e reply (scene w m peers words)
   refused_head order head body w d m peers words e reply same h =
       let s = scene w d peers words in

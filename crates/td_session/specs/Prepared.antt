@@ -14,6 +14,7 @@ use Rattle.td_lookup.specs.Scenes.{Scene}
 use Rattle.td_register.specs.declared.history.Accepted.{Accepted}
 use Rattle.td_reply.specs.Judging.{judged}
 use Rattle.td_reply.specs.declared.entry.Entry.{Entry}
+use Rattle.td_serve.specs.ReplyBytes.{reply_to}
 use Rattle.td_serve.specs.Requests.{Served}
 use Rattle.td_turns.specs.Messages.{is_request}
 use Rattle.td_turns.specs.Turns.{Noted, Turn}
@@ -52,8 +53,7 @@ module _ (others : List Accepted → Type 0) (later : Marks → Marks → Type 0
       (u : Scene) : Type 0 where
     pub noted : Noted
     pub asks : noted.judged ≡ judged s.world s.desk head.key head.operation body
-    pub served : Served others later home order head.id head.answered noted.judged s noted.outcome
-        noted.entry reply u
+    pub served : Served others later home (reply_to order head) noted.judged s noted.outcome noted.entry reply u
     pub entry : noted.entry ≡ e
 
   -- and it is noted behind the journal

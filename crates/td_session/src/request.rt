@@ -15,7 +15,7 @@ use td_iter::Desk;
 use td_journal::Journal;
 use td_out::Words;
 use td_reply::{Entry, judge};
-use td_serve::{Replies, refuse_memory, serve_request};
+use td_serve::{Replies, ReplyTo, refuse_memory, serve_request};
 use td_trader::Traders;
 use td_walk::{Address, Peers};
 
@@ -88,20 +88,15 @@ fn serve_head<T: Traders, P: Peers, W: Words>(
         (scene (T.world traders.new) desk.new (peers_seen (P.calls peers.new) (P.faults peers.new))
         (W.word words.new)) }
 {
+    let to = ReplyTo {
+        order,
+        id: head.id,
+        answered: head.answered,
+    };
     match judge(alloc, traders, desk, head.key, head.operation, &head.body) {
         Ok(judged) => serve_request(
-            alloc,
-            traders,
-            home,
-            desk,
-            peers,
-            words,
-            replies,
-            order,
-            head.id,
-            head.answered,
-            judged,
+            alloc, traders, home, desk, peers, words, replies, to, judged,
         ),
-        Err(_) => refuse_memory::<T>(alloc, replies, order, head.id, head.answered),
+        Err(_) => refuse_memory::<T>(alloc, replies, to),
     }
 }

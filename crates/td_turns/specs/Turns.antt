@@ -16,7 +16,7 @@ use Rattle.td_reply.specs.Judging.{judged}
 use Rattle.td_reply.specs.Objects.{object_at}
 use Rattle.td_reply.specs.declared.entry.Entry.{Entry}
 use Rattle.td_reply.specs.declared.judging.Judged.{Judged}
-use Rattle.td_serve.specs.ReplyBytes.{locate_reply}
+use Rattle.td_serve.specs.ReplyBytes.{locate_reply, reply_to}
 use Rattle.td_serve.specs.Requests.{Served}
 use Rattle.td_trader.specs.Worlds.{View}
 use Rattle.td_turns.specs.Messages.{behind, is_request, kind_of, order_of}
@@ -68,8 +68,8 @@ pub record ServesRequest (others : List Accepted → Type 0) (later : Marks → 
   pub noted : Noted
   pub request : t.request ≡ Some noted
   pub asks : noted.judged ≡ judged s.world s.desk head.key head.operation body
-  pub served : Served others later home (order_of t.message) head.id head.answered noted.judged s noted.outcome
-      noted.entry t.reply t.after
+  pub served : Served others later home (reply_to (order_of t.message) head) noted.judged s noted.outcome noted.entry
+      t.reply t.after
 
 -- the message is served
 pub data IsTurn (others : List Accepted → Type 0) (later : Marks → Marks → Type 0) (home : Address) (s : Scene)

@@ -1,5 +1,6 @@
 -- A Reply whose outcome can be written spells it.
-use Rattle.std.proofs.Common.{◌≡◌, ℕ, ◌+◌, ◌-◌, ◌^◌, ◌<◌, ◌≤◌, Bool, true, false, List, ◌++◌, length, drop, take}
+use Rattle.std.proofs.Common.{◌≡◌, ℕ, ◌+◌, ◌-◌, ◌^◌, ◌<◌, ◌≤◌, Bool, true, false, List, [], ◌++◌, length, drop, take}
+use Rattle.std.specs.Prelude.{if◌then◌else◌}
 use Rattle.std.proofs.Common.{ap, arith, length-append, length-drop}
 use Rattle.td_cdr.specs.Gap.{bytes_of}
 use Rattle.td_cdr.specs.declared.order.Order.{Order}
@@ -7,10 +8,11 @@ use Rattle.td_giop.proofs.Lengths.{reply_start_length}
 use Rattle.td_giop.specs.Written.{reply_start, sealed}
 use Rattle.td_giop.specs.declared.header.TheConstants.{HEADER_SIZE, SIZE_PLACE}
 use Rattle.td_ops.specs.Outcomes.{outcome_piece, outcome_status}
-use Rattle.td_serve.specs.ReplyBytes.{reply_for}
+use Rattle.td_serve.specs.ReplyBytes.{outcome_reply, reply_for}
+use Rattle.td_serve.specs.declared.reply_to.ReplyTo.{ReplyTo}
 use Rattle.td_turns.specs.Turns.{Noted}
 use Rattle.td_turns_laws.proofs.SpellingOutcomes.{answer-spells}
-use Rattle.td_turns_laws.specs.Spelled.{IsAnswered, IsTold}
+use Rattle.td_turns_laws.specs.Spelled.{IsAnswered, IsTold, IsToldIf}
 
 -- what stands behind a header is no longer than the sealed message
 sealed-longer : (order : Order) (start body : List ℕ) → HEADER_SIZE ≤ length start
@@ -26,13 +28,14 @@ sealed-longer order start body whole =
     omega arith
 
 -- a Reply of fewer than 2^32 bytes, or none where none is expected
-pub reply-told : (n : Noted) (order : Order) (id : ℕ) (answered : Bool) (bytes : List ℕ) → IsAnswered n
-    → length bytes < 2 ^ 32 → bytes ≡ reply_for answered order id n.outcome → IsTold answered id n order bytes
-reply-told n order id false bytes ok short is = is
-reply-told n order id true bytes ok short is =
-    let start : List ℕ = reply_start order id (outcome_status n.outcome) in
+told-if : (n : Noted) (to : ReplyTo) (answered : Bool) (bytes : List ℕ) → IsAnswered n → length bytes < 2 ^ 32
+    → bytes ≡ (if answered then outcome_reply to n.outcome else []) → IsToldIf answered to n bytes
+told-if n to false bytes ok short is = is
+told-if n to true bytes ok short is =
+    let order : Order = to.order in
+    let start : List ℕ = reply_start order to.id (outcome_status n.outcome) in
     let body : List ℕ = outcome_piece n.outcome order (length start) in
-    let head : length start ≡ 24 = reply_start_length order id (outcome_status n.outcome) in
+    let head : length start ≡ 24 = reply_start_length order to.id (outcome_status n.outcome) in
     let within : length body ≤ length (sealed order (start ++ body)) = sealed-longer order start body (omega arith) in
     let long : length bytes ≡ length (sealed order (start ++ body)) = ap (length {A = ℕ}) is in
     record {
@@ -40,3 +43,7 @@ reply-told n order id true bytes ok short is =
       reply = is;
       spells = answer-spells n.judged n.outcome order (length start) ok (omega arith);
     }
+
+pub reply-told : (n : Noted) (to : ReplyTo) (bytes : List ℕ) → IsAnswered n → length bytes < 2 ^ 32
+    → bytes ≡ reply_for to n.outcome → IsTold to n bytes
+reply-told n to bytes ok short is = told-if n to to.answered bytes ok short is

@@ -18,6 +18,7 @@ use Rattle.td_ops.specs.declared.shape.Shape.TheVariants as shape
 use Rattle.td_reply.specs.declared.objects.Object.{Object}
 use Rattle.td_turns_laws.proofs.SpellingOutcomes.{outcome-spells}
 use Rattle.td_turns_laws.specs.Examples.{WorkedSpelling, bad_operation, bad_operation_told, is_one, is_one_told}
+use Rattle.td_turns_laws.specs.Examples.{to_five}
 use Rattle.td_turns_laws.specs.Spelled.{IsTold, SpellsOutcome}
 
 truth : SpellsOutcome shape.Truth (Done (Truth true)) Big 24 (1 ∷ [])
@@ -63,19 +64,19 @@ no-other-completion s =
     let same : ◌≡◌ {A = ℕ} 2 1 = sym completion-read ∙ ap completion_in read in
     absurd (let never : ⊥ = omega arith in never)
 
-reply : (x : Object) → IsTold true 5 (is_one x) Big (is_one_told 1)
+reply : (x : Object) → IsTold to_five (is_one x) (is_one_told 1)
 unfolding reply_start
 reply x = record { body = 1 ∷ []; reply = refl; spells = truth }
 
 -- what stands behind the head
-no-other-reply : (x : Object) → IsTold true 5 (is_one x) Big (is_one_told 0) → ⊥
+no-other-reply : (x : Object) → IsTold to_five (is_one x) (is_one_told 0) → ⊥
 unfolding reply_start
 no-other-reply x s =
     let body : 0 ∷ [] ≡ s.body = ap (drop {A = ℕ} 24) s.reply in
     no-falsehood (subst (λ (b : List ℕ). SpellsOutcome shape.Truth (Done (Truth true)) Big 24 b) (sym body) s.spells)
 
 -- a Reply has more bytes than none
-no-reply : (x : Object) → IsTold true 5 (is_one x) Big [] → ⊥
+no-reply : (x : Object) → IsTold to_five (is_one x) [] → ⊥
 unfolding reply_start
 no-reply x s = absurd (let bad : ⊥ = let is = s.reply in cc in bad)
 

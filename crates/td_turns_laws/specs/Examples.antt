@@ -11,6 +11,7 @@ use Rattle.td_ops.specs.declared.shape.Shape.TheVariants as shape
 use Rattle.td_reply.specs.declared.entry.Entry.TheVariants.{Plain}
 use Rattle.td_reply.specs.declared.judging.Judged.TheVariants.{Call}
 use Rattle.td_reply.specs.declared.objects.Object.{Object}
+use Rattle.td_serve.specs.declared.reply_to.ReplyTo.{ReplyTo}
 use Rattle.td_turns.specs.Turns.{Noted}
 use Rattle.td_turns_laws.specs.Spelled.{IsTold, SpellsOutcome}
 
@@ -32,7 +33,11 @@ is_one x = record {
   entry = Plain;
 }
 
--- the Reply to the Request 5, which ends with this octet
+-- what the Reply to the Request 5 answers
+abbrev pub to_five : ReplyTo
+to_five = record { order = Big; id = 5; answered = true }
+
+-- that Reply, which ends with this octet
 abbrev pub is_one_told : (octet : ℕ) → List ℕ
 is_one_told octet =
     71 ∷ 73 ∷ 79 ∷ 80 ∷ 1 ∷ 0 ∷ 0 ∷ 1 ∷ 0 ∷ 0 ∷ 0 ∷ 13 ∷ 0 ∷ 0 ∷ 0 ∷ 0 ∷ 0 ∷ 0 ∷ 0 ∷ 5 ∷ 0 ∷ 0 ∷ 0 ∷ 0 ∷ octet ∷ []
@@ -44,6 +49,6 @@ pub record WorkedSpelling : Type 0 where
   pub no_number : (b : List ℕ) → SpellsOutcome shape.Truth (Done (Number 1)) Big 24 b → ⊥
   pub refusal : SpellsOutcome shape.Truth bad_operation Big 24 (bad_operation_told 1)
   pub no_other_completion : SpellsOutcome shape.Truth bad_operation Big 24 (bad_operation_told 2) → ⊥
-  pub reply : (x : Object) → IsTold true 5 (is_one x) Big (is_one_told 1)
-  pub no_other_reply : (x : Object) → IsTold true 5 (is_one x) Big (is_one_told 0) → ⊥
-  pub no_reply : (x : Object) → IsTold true 5 (is_one x) Big [] → ⊥
+  pub reply : (x : Object) → IsTold to_five (is_one x) (is_one_told 1)
+  pub no_other_reply : (x : Object) → IsTold to_five (is_one x) (is_one_told 0) → ⊥
+  pub no_reply : (x : Object) → IsTold to_five (is_one x) [] → ⊥

@@ -7,6 +7,7 @@ use Rattle.td_cdr.specs.Place.{At}
 use Rattle.td_giop.specs.Heads.{Request, request_at}
 use Rattle.td_lookup.specs.Scenes.{Scene}
 use Rattle.td_register.specs.declared.history.Accepted.{Accepted}
+use Rattle.td_serve.specs.ReplyBytes.{reply_to}
 use Rattle.td_trader_laws.specs.WritableWorlds.{OthersAreAdmitted}
 use Rattle.td_turns.specs.Journals.{all_gave}
 use Rattle.td_turns.specs.Messages.{behind, order_of}
@@ -28,7 +29,7 @@ pub record IsRequestTold (n : Noted) (t : Turn) : Type 0 where
   pub head : Request
   pub body : At
   pub read : request_at (behind t.message) ≡ Ok (head, body)
-  pub told : IsTold head.answered head.id n (order_of t.message) t.reply
+  pub told : IsTold (reply_to (order_of t.message) head) n t.reply
 
 abbrev pub IsToldOf : Option Noted → Turn → Type 0
 IsToldOf None t = Unit {0}

@@ -20,6 +20,7 @@ use Rattle.td_ops.specs.declared.shape.Shape.TheVariants as shape
 use Rattle.td_reply.specs.declared.judging.Judged.{Judged}
 use Rattle.td_reply.specs.declared.judging.Judged.TheVariants.{Call, Refused}
 use Rattle.td_reply.specs.declared.objects.Object.{Object}
+use Rattle.td_serve.specs.declared.reply_to.ReplyTo.{ReplyTo}
 use Rattle.td_turns.specs.Turns.{Noted}
 
 -- ---- the shape of a result
@@ -80,12 +81,16 @@ SpellsAnswer (Call x c) o order place b = SpellsOutcome (shape_asked x c) o orde
 SpellsAnswer (Refused r) o order place b = minor_of o < 2 ^ 32 → SpellsSystem o order place b
 
 -- the bytes are a Reply to the Request of this id, under the outcome's status, whose body spells the outcome
-pub record IsSpelled (id : ℕ) (n : Noted) (order : Order) (bytes : List ℕ) : Type 0 where
+pub record IsSpelled (to : ReplyTo) (n : Noted) (bytes : List ℕ) : Type 0 where
   pub body : List ℕ
-  pub reply : bytes ≡ sealed order (reply_start order id (outcome_status n.outcome) ++ body)
-  pub spells : SpellsAnswer n.judged n.outcome order (length (reply_start order id (outcome_status n.outcome))) body
+  pub reply : bytes ≡ sealed to.order (reply_start to.order to.id (outcome_status n.outcome) ++ body)
+  pub spells : SpellsAnswer n.judged n.outcome to.order
+      (length (reply_start to.order to.id (outcome_status n.outcome))) body
+
+abbrev pub IsToldIf : (answered : Bool) → ReplyTo → Noted → List ℕ → Type 0
+IsToldIf false to n bytes = bytes ≡ []
+IsToldIf true to n bytes = IsSpelled to n bytes
 
 -- a Request that expects no reply gets no bytes
-abbrev pub IsTold : (answered : Bool) → (id : ℕ) → Noted → Order → List ℕ → Type 0
-IsTold false id n order bytes = bytes ≡ []
-IsTold true id n order bytes = IsSpelled id n order bytes
+abbrev pub IsTold : ReplyTo → Noted → List ℕ → Type 0
+IsTold to n bytes = IsToldIf to.answered to n bytes

@@ -6,6 +6,6 @@ use Rattle.td_serve.proofs.refusing.refuse_memory.Goals as goal
 pub returns : goal.returns
 returns g c = record {
   served = λ home j s.
-      memory_served g.T.Traders.others g.T.Traders.later home c.args.order c.args.id c.args.answered s j Plain
+      memory_served g.T.Traders.others g.T.Traders.later home c.args.to s j Plain
       c.answer_no_memory.new.replies refl c.answer_no_memory.ensures;
 }

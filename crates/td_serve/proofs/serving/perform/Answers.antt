@@ -11,7 +11,7 @@ use Rattle.td_serve.specs.Serving.{Performed}
 
 pub answer_call-requires-clause-start : goal.answer_call-requires-clause-start
 answer_call-requires-clause-start g c =
-    head_length c.restart.new.self.bytes c.start_reply.new.w.bytes c.restart.new.self.order c.args.id 0
+    head_length c.restart.new.self.bytes c.start_reply.new.w.bytes c.restart.new.self.order c.args.to.id 0
     (ap (λ (d : Draft). d.bytes) c.restart.ensures) c.in-Ok.ensures.done.0
 
 pub returns-in-Err-clause-performed : goal.returns-in-Err-clause-performed
@@ -23,9 +23,9 @@ returns-in-Err-clause-performed g c =
     let j = Call c.args.object c.args.call in
     let k = c.args.object.trader in
     subst
-    (λ (a : Answer). Performed g.T.Traders.others g.T.Traders.later c.args.home.now c.args.order c.args.id j k s a.body
+    (λ (a : Answer). Performed g.T.Traders.others g.T.Traders.later c.args.home.now c.args.to j k s a.body
     a.entry c.start_reply.new.w s) (sym c.unserved.ensures)
-    (unbegun_performed g.T.Traders.others g.T.Traders.later c.args.home.now j k s s c.args.order c.args.id
+    (unbegun_performed g.T.Traders.others g.T.Traders.later c.args.home.now j k s s c.args.to
     c.start_reply.new.w
     (nothing_done g.T.Traders.others g.T.Traders.later c.args.home.now j w w k c.args.desk.now c.args.desk.now p p
     words (inl refl) refl refl (no_walk g.T.Traders.others g.T.Traders.later c.args.home.now j s)))

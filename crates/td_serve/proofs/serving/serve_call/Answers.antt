@@ -7,7 +7,7 @@ use Rattle.td_serve.specs.ReplyBytes.{chosen}
 
 pub settle-settled-requires-clause-head : goal.settle-settled-requires-clause-head
 settle-settled-requires-clause-head g c =
-    performed_head g.T.Traders.others g.T.Traders.later c.args.home.now c.args.order c.args.id
+    performed_head g.T.Traders.others g.T.Traders.later c.args.home.now c.args.to
     (Call c.args.object c.args.call) c.args.object.trader
     (scene (g.T.Traders.world c.args.traders.now) c.args.desk.now
     (peers_seen (g.P.Peers.calls c.args.peers.now) (g.P.Peers.faults c.args.peers.now))
@@ -20,7 +20,7 @@ settle-settled-requires-clause-head g c =
 
 pub returns-clause-served : goal.returns-clause-served
 returns-clause-served g c =
-    served g.T.Traders.others g.T.Traders.later c.args.home.now c.args.order c.args.id c.args.answered
+    served g.T.Traders.others g.T.Traders.later c.args.home.now c.args.to
     (Call c.args.object c.args.call) c.args.object.trader
     (scene (g.T.Traders.world c.args.traders.now) c.args.desk.now
     (peers_seen (g.P.Peers.calls c.args.peers.now) (g.P.Peers.faults c.args.peers.now))

@@ -6,7 +6,7 @@ use Rattle.td_serve.proofs.writing.write_reply.Goals as goal
 pub returns-in_err-start_reply-clause-fits : goal.returns-in_err-start_reply-clause-fits
 returns-in_err-start_reply-clause-fits c = λ short fits.
     absurd (not_refused _ _ (written_whole _ _ _ _ _ _ c.restart.ensures fits
-    (omega (arith, reply_start_length c.restart.new.self.order c.args.id c.status_of.result)) c.start_reply.ensures)
+    (omega (arith, reply_start_length c.restart.new.self.order c.args.to.id c.status_of.result)) c.start_reply.ensures)
     c.in_err-start_reply.was)
 
 pub returns-in_err-write_outcome-clause-room : goal.returns-in_err-write_outcome-clause-room
