@@ -90,7 +90,7 @@ twice w k point (Some gave) = refl
 entry_wanting : (w : List View) (x : Object) (names : List (List ℕ)) (k point : ℕ)
     (asked : Option (Result Ior PeerFault)) → x.trader ≡ k
     → WantingEntry w (Call x (call.Resolve names)) (in_vain w k (name_entry k point asked))
-entry_wanting w x names k point None h = of_nothing
+entry_wanting w x names k point None h = of_nothing refl
 entry_wanting w x names k point (Some gave) h =
     subst (λ (j : ℕ). WantingEntry w (Call x (call.Resolve names)) (Asked j (length (history_at w j)) gave)) h
     (of_name gave)

@@ -13,11 +13,14 @@ use Rattle.td_ops.specs.declared.outcome.Outcome.{Outcome}
 use Rattle.td_ops.specs.declared.outcome.Outcome.TheVariants.{System}
 use Rattle.td_ops.specs.declared.outcome.SystemKind.TheVariants.{NoMemory}
 use Rattle.td_register.specs.declared.history.Accepted.{Accepted}
+use Rattle.td_reply.specs.Classes.{is_query}
 use Rattle.td_reply.specs.Linking.{PeersSeen}
+use Rattle.td_reply.specs.declared.class.RequestClass.{RequestClass}
+use Rattle.td_reply.specs.declared.class.RequestClass.TheVariants as class
 use Rattle.td_reply.specs.declared.entry.Entry.{Entry}
 use Rattle.td_reply.specs.declared.entry.Entry.TheVariants.{Asked, Plain, Walk}
 use Rattle.td_reply.specs.declared.judging.Judged.{Judged}
-use Rattle.td_reply.specs.declared.judging.Judged.TheVariants.{Call}
+use Rattle.td_reply.specs.declared.judging.Judged.TheVariants.{Call, Refused}
 use Rattle.td_reply.specs.declared.objects.Object.{Object}
 use Rattle.td_trader.specs.Worlds.{View, history_at}
 use Rattle.td_walk.specs.Peering.{Exchange, Failed, Given, Referred}
@@ -60,19 +63,22 @@ pub record Gives (before : PeersSeen) (gave : List Given) (after : PeersSeen) : 
   pub given : given_in made ≡ gave
   pub count : CountsOver made before.faults after.faults
 
+-- what is noted of a Request of a class for which nothing was done: a query's trace, which is empty
+abbrev pub unbegun_entry : RequestClass → Entry
+unbegun_entry class.Query = Walk (record { items = [] })
+unbegun_entry class.Other = Plain
+
 -- What is noted then: a query's trace so far; what a peer gave for add_link or resolve, at how many changes are seen;
--- and nothing for any other Request, and where memory was wanted before anything was done.
+-- and nothing for any other call, or where no peer was asked. Where memory was wanted to read a Request for a query, an
+-- empty trace is noted, also if its body spells none.
 pub data WantingEntry (w : List View) : Judged → Entry → Type 0 where
-  nothing : {j : Judged} → WantingEntry w j Plain
+  nothing : {j : Judged} → is_query j ≡ false → WantingEntry w j Plain
+  unread : {o : Outcome} → WantingEntry w (Refused o) (unbegun_entry class.Query)
   trace : {x : Object} {q : Query} (t : Trace) → WantingEntry w (Call x (call.Query q)) (Walk t)
   link : {x : Object} {l : AddLink} (gave : Result Ior PeerFault)
       → WantingEntry w (Call x (call.AddLink l)) (Asked x.trader (length (history_at w x.trader)) gave)
   name : {x : Object} {names : List (List ℕ)} (gave : Result Ior PeerFault)
       → WantingEntry w (Call x (call.Resolve names)) (Asked x.trader (length (history_at w x.trader)) gave)
-
-abbrev pub is_query : Judged → Bool
-is_query (Call x (call.Query q)) = true
-is_query other = false
 
 module _ (others : List Accepted → Type 0) (later : Marks → Marks → Type 0) (home : Address) where
   -- what is noted of a query is the beginning of a walk from its trader on

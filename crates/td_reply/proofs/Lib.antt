@@ -1,4 +1,5 @@
 pub mod Backing
+pub mod Classes
 pub mod FirstBatch
 pub mod Keeping
 pub mod Linked

@@ -1,5 +1,6 @@
 pub mod Answers
 pub mod Changing
+pub mod Classes
 pub mod Examples
 pub mod Iterating
 pub mod Judging

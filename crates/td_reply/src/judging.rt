@@ -1,18 +1,21 @@
 //! How a Request is judged (CORBA, chapter on General Inter-ORB Protocol, "Request Header" and "Request Body").
 
-ghost use Rattle.std.specs.Prelude.{◌≡◌, List, IfOk, Result, Err};
+ghost use Rattle.std.specs.Prelude.{◌≡◌, List, IfErr, IfOk, Result, Err};
 ghost use Rattle.td_cdr.specs.Place.{At};
 ghost use Rattle.td_ops.specs.Calls.{call_read};
+ghost use Rattle.td_ops.specs.Operations.{operation_named};
 ghost use Rattle.td_ops.specs.Refusals.{Told};
 ghost use Rattle.td_ops.specs.declared.call.Call.{Call as asked};
+ghost use Rattle.td_reply.specs.Classes.{IsOfClass, class_named, request_class};
 ghost use Rattle.td_reply.specs.Judging.{IsServable, judged, judged_reading};
 ghost use Rattle.td_reply.specs.Objects.{IsNamed};
 ghost use Rattle.td_trader.specs.Worlds.{View};
 
 use crate::answer::system;
+use crate::class::{RequestClass, class_named};
 use crate::objects::{Object, find_object};
 use std::alloc::Global;
-use td_cdr::{Memory, Reader};
+use td_cdr::Reader;
 use td_iter::Desk;
 use td_ops::{Call, OpsFault, Outcome, SystemKind, read_call};
 use td_trader::Traders;
@@ -31,7 +34,7 @@ pub enum Judged {
 ///
 /// # Errors
 ///
-/// `Memory` for want of memory alone, to read the call.
+/// For want of memory alone, to read the call: the class of the Request, by its key and its operation.
 pub fn judge<T: Traders>(
     alloc: Global,
     traders: &T,
@@ -39,9 +42,12 @@ pub fn judge<T: Traders>(
     key: &[u8],
     operation: &[u8],
     body: &Reader,
-) -> Result<Judged, Memory>
+) -> Result<Judged, RequestClass>
     ensures judged { IfOk result (λ j. j ≡ judged (T.world traders.now) desk.old key.now operation.now body.now) }
     ensures servable { IfOk result (λ j. IsServable (T.world traders.now) j) }
+    ensures class { IfErr result (λ c. c ≡ request_class (T.world traders.now) desk.old key.now operation.now) }
+    ensures unread { IfErr result (λ c.
+        IsOfClass c (judged (T.world traders.now) desk.old key.now operation.now body.now)) }
     ensures same { desk.new ≡ desk.old }
 {
     match find_object(traders, desk, key) {
@@ -56,31 +62,35 @@ fn judge_call(
     object: Object,
     operation: &[u8],
     body: &Reader,
-) -> Result<Judged, Memory>
+) -> Result<Judged, RequestClass>
     ensures judged { IfOk result (λ j. j ≡ judged_reading object (call_read object.kind operation.now body.now)) }
     ensures servable { (w : List View) → IsNamed w object.trader → IfOk result (λ j. IsServable w j) }
+    ensures class { IfErr result (λ c. c ≡ class_named (operation_named object.kind operation.now)) }
+    ensures unread { IfErr result (λ c.
+        IsOfClass c (judged_reading object (call_read object.kind operation.now body.now))) }
 {
     let mut reader = body.copied();
     match read_call(alloc, &object.kind, operation, &mut reader) {
         Ok(call) => Ok(Judged::Call { object, call }),
-        Err(fault) => refuse(fault),
+        Err(fault) => refuse(fault, class_named(&object.kind, operation)),
     }
 }
 
-/// The refusal of a Request that spells no call.
+/// The refusal of a Request of a class that spells no call.
 ///
 /// # Errors
 ///
-/// `Memory` where memory was wanted to read it.
-fn refuse(fault: OpsFault) -> Result<Judged, Memory>
+/// The class, where memory was wanted to read it.
+fn refuse(fault: OpsFault, class: RequestClass) -> Result<Judged, RequestClass>
     ensures judged { (x : Object) (reading : Result (asked × At) OpsFault) (at : At) → Told at (Err fault) reading
         → IfOk result (λ j. j ≡ judged_reading x reading) }
     ensures servable { (w : List View) → IfOk result (λ j. IsServable w j) }
+    ensures class { IfErr result (λ c. c ≡ class) }
 {
     match fault {
         OpsFault::BadOperation => Ok(Judged::Refused(system(SystemKind::BadOperation, 0))),
         OpsFault::Marshal(place) => Ok(Judged::Refused(system(SystemKind::Marshal, place))),
         OpsFault::NoImplement => Ok(Judged::Refused(system(SystemKind::NoImplement, 0))),
-        OpsFault::Memory => Err(Memory),
+        OpsFault::Memory => Err(class),
     }
 }

@@ -4,6 +4,7 @@
 
 mod answer;
 mod changing;
+mod class;
 mod desk_label;
 mod entry;
 mod identity;
@@ -18,6 +19,7 @@ mod target;
 
 pub use answer::{Answer, ReplyBody, no_memory, plain, unserved};
 pub use changing::answer_change;
+pub use class::{RequestClass, class_of};
 pub use desk_label::DeskLabel;
 pub use entry::Entry;
 pub use identity::{answer_is_a, answer_non_existent};

@@ -40,7 +40,7 @@ module _ (others : List Accepted → Type 0) (later : Marks → Marks → Type 0
           (λ (y : Entry). Unserved others later home (Call x (call.Iter i)) (scene w d p words)
           (wanting (in_vain w x.trader y)) (in_vain w x.trader y) (scene w e p words))
           (sym noted)
-          (nothing_done others later home (Call x (call.Iter i)) w w x.trader d e p p words (inl refl) same refl tt);
+          (nothing_done others later home (Call x (call.Iter i)) w w x.trader d e p p words (inl refl) same refl refl);
     }
 
     pub iterator_performs : (name : List ℕ) (number : ℕ) (r : Result Answer Wanting) (a : Answer)
@@ -69,7 +69,7 @@ module _ (others : List Accepted → Type 0) (later : Marks → Marks → Type 0
         (λ (y : Answer). Performs others later home j x.trader draft (scene w d p words) y.body y.entry new
         (scene w e p words)) (sym is)
         (wanting_performs others later home j x.trader (scene w d p words) (scene w e p words) draft new
-        (nothing_done others later home j w w x.trader d e p p words (inl refl) err.0 refl tt))
+        (nothing_done others later home j w w x.trader d e p p words (inl refl) err.0 refl refl))
 
   -- ---- every object
 

@@ -67,15 +67,20 @@ module _ (others : List Accepted → Type 0) (later : Marks → Marks → Type 0
     taken_back = back;
   }
 
-  -- memory was wanted, and nothing is noted
-  pub wanting_performs : (draft written : Draft) → Unserved others later home j s (wanting Plain) Plain t
-      → Performs others later home j k draft s (reply_body.Outcome no_memory) Plain written t
-  wanting_performs draft written h = record {
+  -- memory was wanted, and this is noted
+  memory_performs : (draft written : Draft) (e : Entry) → Unserved others later home j s no_memory e t
+      → Performs others later home j k draft s (reply_body.Outcome no_memory) e written t
+  memory_performs draft written e h = record {
     outcome = no_memory;
     answers = inr h;
     body = refl;
     taken_back = λ long. absurd cc;
   }
+
+  -- and nothing is noted
+  pub wanting_performs : (draft written : Draft) → Unserved others later home j s (wanting Plain) Plain t
+      → Performs others later home j k draft s (reply_body.Outcome no_memory) Plain written t
+  wanting_performs draft written h = memory_performs draft written Plain h
 
   -- an outcome of few bytes
   pub short_performs : (draft written : Draft) (o : Outcome) (e : Entry) → is_short o ≡ true
@@ -89,10 +94,11 @@ module _ (others : List Accepted → Type 0) (later : Marks → Marks → Type 0
   }
 
   -- with one for whose beginning memory was wanted
-  pub unbegun_performed : (to : ReplyTo) (written : Draft) → Unserved others later home j s (wanting Plain) Plain t
-      → Performed others later home to j k s (reply_body.Outcome no_memory) Plain written t
-  unbegun_performed to written h = record {
+  pub unbegun_performed : (to : ReplyTo) (written : Draft) (e : Entry) → Unserved others later home j s no_memory e t
+      → Performed others later home to j k s (reply_body.Outcome no_memory) e written t
+  unbegun_performed to written e h = record {
     draft = record { bytes = reply_start to.order to.id 0; order = to.order; room = 0 };
     begun = record { bytes = refl; is_in = refl };
-    performs = wanting_performs (record { bytes = reply_start to.order to.id 0; order = to.order; room = 0 }) written h;
+    performs =
+        memory_performs (record { bytes = reply_start to.order to.id 0; order = to.order; room = 0 }) written e h;
   }

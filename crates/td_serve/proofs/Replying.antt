@@ -8,18 +8,21 @@ use Rattle.td_giop.proofs.Lengths.{reply_start_length}
 use Rattle.td_giop.specs.Written.{reply_start, sealed}
 use Rattle.td_lookup.specs.Scenes.{Scene}
 use Rattle.td_lookup.specs.Telling.{in_vain}
-use Rattle.td_lookup.specs.Unserved.{Unserved, wanting}
+use Rattle.td_lookup.specs.Unserved.{Unserved, unbegun_entry, wanting}
 use Rattle.td_ops.specs.Outcomes.{outcome_piece, outcome_status}
 use Rattle.td_ops.specs.declared.outcome.Outcome.{Outcome}
 use Rattle.td_register.specs.declared.history.Accepted.{Accepted}
 use Rattle.td_reply.specs.Answers.{no_memory}
+use Rattle.td_reply.specs.Classes.{IsOfClass}
 use Rattle.td_reply.specs.declared.answer.ReplyBody.{ReplyBody}
 use Rattle.td_reply.specs.declared.answer.ReplyBody.TheVariants as reply_body
+use Rattle.td_reply.specs.declared.class.RequestClass.{RequestClass}
+use Rattle.td_reply.specs.declared.class.RequestClass.TheVariants.{Other}
 use Rattle.td_reply.specs.declared.entry.Entry.{Entry}
 use Rattle.td_reply.specs.declared.entry.Entry.TheVariants.{Plain}
 use Rattle.td_reply.specs.declared.judging.Judged.{Judged}
 use Rattle.td_reply.specs.declared.judging.Judged.TheVariants.{Refused}
-use Rattle.td_serve.proofs.Wanting.{no_walk, nothing_done}
+use Rattle.td_serve.proofs.Wanting.{not_begun}
 use Rattle.td_serve.specs.ReplyBytes.{BeginsReply, outcome_reply, reply_for}
 use Rattle.td_serve.specs.Requests.{Answers, Served}
 use Rattle.td_serve.specs.Serving.{HasHead, IsBodyOf, MayBeRefused, Performed, Settles}
@@ -152,16 +155,15 @@ module _ (others : List Accepted → Type 0) (later : Marks → Marks → Type 0
     reply = is;
   }
 
-  -- memory was wanted, and nothing was called
-  pub memory_served : (j : Judged) (e : Entry) (bytes : List ℕ) → e ≡ Plain
-      → bytes ≡ reply_for to no_memory
+  -- memory was wanted for a Request of a class, and nothing was called
+  pub memory_served : (c : RequestClass) (j : Judged) (e : Entry) (bytes : List ℕ) → IsOfClass c j
+      → e ≡ unbegun_entry c → bytes ≡ reply_for to no_memory
       → Served others later home to j s no_memory e bytes s
-  memory_served j e bytes noted is = record {
+  memory_served c j e bytes of_class noted is = record {
     draft = begun_draft;
     begun = record { bytes = refl; is_in = refl };
     answers = inr (subst (λ (n : Entry). Unserved others later home j s no_memory n s) (sym noted)
-        (nothing_done others later home j s.world s.world 0 s.desk s.desk s.peers s.peers s.words (inl refl) refl refl
-        (no_walk others later home j s)));
+        (not_begun others later home c j s of_class));
     reply = is;
   }
 
@@ -170,4 +172,4 @@ module _ (others : List Accepted → Type 0) (later : Marks → Marks → Type 0
       → (bytes ≡ reply_for to o) ⊎ (bytes ≡ reply_for to no_memory)
       → (told : Outcome) × Served others later home to (Refused o) s told e bytes s
   either_served o e bytes noted (inl is) = (o, refusal_served o e bytes noted is)
-  either_served o e bytes noted (inr is) = (no_memory, memory_served (Refused o) e bytes noted is)
+  either_served o e bytes noted (inr is) = (no_memory, memory_served Other (Refused o) e bytes refl noted is)

@@ -1,6 +1,6 @@
 -- Changes, looks and add_link.
 use Rattle.std.proofs.Common.{◌≡◌, ◌⊎◌, inl, inr, ℕ, ◌<◌, List, length, Result, Ok, Err, IfOk, OnErr, refl, sym}
-use Rattle.std.proofs.Common.{◌≤◌, subst, arith}
+use Rattle.std.proofs.Common.{◌≤◌, false, subst, arith}
 use Rattle.td_cdr.specs.Marks.{Marks}
 use Rattle.td_cdr.specs.Writing.{Draft}
 use Rattle.td_cdr.specs.declared.memory.Memory.{Memory as Wanting}
@@ -9,7 +9,7 @@ use Rattle.td_fed.proofs.Staying.{goes-many}
 use Rattle.td_iter.specs.Desks.{Live}
 use Rattle.td_lookup.specs.Scenes.{Scene, scene}
 use Rattle.td_lookup.specs.Telling.{in_vain}
-use Rattle.td_lookup.specs.Unserved.{IsWalkSoFar, Unserved, wanting}
+use Rattle.td_lookup.specs.Unserved.{Unserved, wanting}
 use Rattle.td_ops.specs.declared.call.AddLink.{AddLink}
 use Rattle.td_ops.specs.declared.call.Call.TheVariants as call
 use Rattle.td_ops.specs.declared.call.Change.{Change}
@@ -18,6 +18,7 @@ use Rattle.td_ops.specs.declared.outcome.Outcome.{Outcome}
 use Rattle.td_register.specs.declared.history.Accepted.{Accepted}
 use Rattle.td_reply.specs.Answers.{IfLong, IsTold, IsToldPlainly}
 use Rattle.td_reply.specs.Changing.{ChangeComes, Rests}
+use Rattle.td_reply.specs.Classes.{is_query}
 use Rattle.td_reply.specs.Linking.{AddLinkBy, AddLinkComes, AskedInVain, Gave, PeersSeen}
 use Rattle.td_reply.specs.Looking.{LookComes}
 use Rattle.td_reply.specs.Targets.{target_of}
@@ -43,14 +44,14 @@ module _ (others : List Accepted → Type 0) (later : Marks → Marks → Type 0
   -- a call that noted a point, and did nothing
   point_refused : (home : Address) (j : Judged) (k point : ℕ) (e : Entry) (d a : Live) (before after : PeersSeen)
       (words : ℕ → ℕ) → k < length w → e ≡ Point k point → a ≡ d → after ≡ before → Watches others later w k u
-      → IsWalkSoFar others later home j (scene w d before words) Plain (scene u a after words)
+      → is_query j ≡ false
       → MayBeRefused others later home j k (scene w d before words) e (scene u a after words)
-  point_refused home j k point e d a before after words within noted same unasked seen walk = record {
+  point_refused home j k point e d a before after words within noted same unasked seen none = record {
     within = watched_within k within seen;
     unserved = subst
         (λ (x : Entry). Unserved others later home j (scene w d before words) (wanting (in_vain u k x)) (in_vain u k x)
         (scene u a after words))
-        (sym noted) (nothing_done others later home j w u k d a before after words (inr seen) same unasked walk);
+        (sym noted) (nothing_done others later home j w u k d a before after words (inr seen) same unasked none);
   }
 
   -- ---- a change
@@ -72,14 +73,14 @@ module _ (others : List Accepted → Type 0) (later : Marks → Marks → Type 0
       (long_from b.body (Watches others later w x.trader u)
       (MayBeRefused others later home j x.trader (scene w d p words) b.entry (scene u d p words))
       (λ seen. point_refused home j x.trader (length ok.comes.changes.seen.history) b.entry d d p p words within
-      ok.comes.noted refl refl seen tt) back))
+      ok.comes.noted refl refl seen refl) back))
   change_performs home x c draft written d p words (Err m) a within ok back err is =
       let j = Call x (call.Change c) in
       subst
       (λ (y : Answer). Performs others later home j x.trader draft (scene w d p words) y.body y.entry written
       (scene u d p words)) (sym is)
       (wanting_performs others later home j x.trader (scene w d p words) (scene u d p words) draft written
-      (nothing_done others later home j w u x.trader d d p p words (inr err) refl refl tt))
+      (nothing_done others later home j w u x.trader d d p p words (inr err) refl refl refl))
 
   -- ---- a look
 
@@ -102,14 +103,14 @@ module _ (others : List Accepted → Type 0) (later : Marks → Marks → Type 0
       (long_from b.body (e ≡ d)
       (MayBeRefused others later home j x.trader (scene w d p words) b.entry (scene u e p words))
       (λ same. point_refused home j x.trader (length ok.comes.looks.seen.history) b.entry d e p p words within
-      ok.comes.noted same refl seen tt) back))
+      ok.comes.noted same refl seen refl) back))
   look_performs home x l draft new d e p words (Err m) a within seen ok back err order is =
       let j = Call x (call.Look l) in
       subst
       (λ (y : Answer). Performs others later home j x.trader draft (scene w d p words) y.body y.entry new
       (scene u e p words)) (sym is)
       (wanting_performs others later home j x.trader (scene w d p words) (scene u e p words) draft new
-      (nothing_done others later home j w u x.trader d e p p words (inr seen) err.0 refl tt))
+      (nothing_done others later home j w u x.trader d e p p words (inr seen) err.0 refl refl))
 
   -- ---- add_link
 
@@ -136,10 +137,10 @@ module _ (others : List Accepted → Type 0) (later : Marks → Marks → Type 0
         → Watches others later w x.trader u → MayBeRefused others later home (Call x (call.AddLink l)) x.trader s e t
     link_refused (Inside i) o e h within seen =
         point_refused home (Call x (call.AddLink l)) x.trader (length h.0.changes.seen.history) e d d before after
-        words within h.0.noted refl h.1 seen tt
+        words within h.0.noted refl h.1 seen refl
     link_refused Unreachable o e h within seen =
         point_refused home (Call x (call.AddLink l)) x.trader (length h.0.changes.seen.history) e d d before after
-        words within h.0.noted refl h.1 seen tt
+        words within h.0.noted refl h.1 seen refl
     link_refused Outside o e h within seen = record {
       within = watched_within x.trader within seen;
       unserved = asked_refused (length h.linked.changes.seen.history) h.gave e h.linked.noted
@@ -198,4 +199,4 @@ module _ (others : List Accepted → Type 0) (later : Marks → Marks → Type 0
         let j = Call x (call.AddLink l) in
         subst (λ (y : Answer). Performs others later home j x.trader draft s y.body y.entry written t) (sym is)
         (wanting_performs others later home j x.trader s t draft written
-        (none_answered others later home j w u x.trader d d before after words err refl unasked counted tt))
+        (none_answered others later home j w u x.trader d d before after words err refl unasked counted refl))

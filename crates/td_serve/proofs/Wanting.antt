@@ -9,13 +9,17 @@ use Rattle.td_fed.specs.Trails.{Goes, own_marks_at, stays, watched}
 use Rattle.td_iter.specs.Desks.{Live}
 use Rattle.td_lookup.specs.Scenes.{Scene, scene}
 use Rattle.td_lookup.specs.Telling.{in_vain}
-use Rattle.td_lookup.specs.Unserved.{Gives, IsWalkSoFar, Unserved, WantingEntry, gave_in, is_query, wanting}
-use Rattle.td_lookup.specs.Unserved.{link, name, nothing, trace}
+use Rattle.td_lookup.specs.Unserved.{Gives, IsWalkSoFar, Unserved, WantingEntry, gave_in, unbegun_entry, wanting}
+use Rattle.td_lookup.specs.Unserved.{link, name, nothing, trace, unread}
 use Rattle.td_ops.specs.declared.call.AddLink.{AddLink}
 use Rattle.td_ops.specs.declared.call.Call.TheVariants as call
 use Rattle.td_register.specs.declared.history.Accepted.{Accepted}
+use Rattle.td_reply.specs.Answers.{no_memory}
 use Rattle.td_reply.specs.Changing.{Rests}
+use Rattle.td_reply.specs.Classes.{IsOfClass, is_query}
 use Rattle.td_reply.specs.Linking.{Gave, PeersSeen}
+use Rattle.td_reply.specs.declared.class.RequestClass.{RequestClass}
+use Rattle.td_reply.specs.declared.class.RequestClass.TheVariants as class
 use Rattle.td_reply.specs.declared.entry.Entry.{Entry}
 use Rattle.td_reply.specs.declared.entry.Entry.TheVariants.{Asked, Plain}
 use Rattle.td_reply.specs.declared.judging.Judged.{Judged}
@@ -83,26 +87,26 @@ module _ (others : List Accepted → Type 0) (later : Marks → Marks → Type 0
 
   -- ---- what is noted
 
-  -- where nothing was done, no walk has begun
-  pub no_walk : (j : Judged) (s : Scene) → IsWalkSoFar others later home j s Plain s
-  no_walk (Call x (call.Change c)) s = tt
-  no_walk (Call x (call.Look l)) s = tt
-  no_walk (Call x (call.AddLink l)) s = tt
-  no_walk (Call x (call.Iter i)) s = tt
-  no_walk (Call x (call.IsA id)) s = tt
-  no_walk (Call x call.NonExistent) s = tt
-  no_walk (Call x (call.Query q)) s = unbegun
-  no_walk (Call x (call.Resolve names)) s = tt
-  no_walk (Refused o) s = tt
+  -- only a query's walk is noted
+  no_walk : (j : Judged) (s : Scene) (e : Entry) (t : Scene) → is_query j ≡ false → IsWalkSoFar others later home j s e t
+  no_walk (Call x (call.Change c)) s e t none = tt
+  no_walk (Call x (call.Look l)) s e t none = tt
+  no_walk (Call x (call.AddLink l)) s e t none = tt
+  no_walk (Call x (call.Iter i)) s e t none = tt
+  no_walk (Call x (call.IsA id)) s e t none = tt
+  no_walk (Call x call.NonExistent) s e t none = tt
+  no_walk (Call x (call.Query q)) s e t none = absurd (let bad : ⊥ = cc in bad)
+  no_walk (Call x (call.Resolve names)) s e t none = tt
+  no_walk (Refused o) s e t none = tt
 
   -- nothing was done but by others, and nothing is noted; memory may have been wanted in a call of a peer
   pub none_answered : (j : Judged) (w u : List View) (k : ℕ) (d e : Live) (before after : PeersSeen) (words : ℕ → ℕ)
       → Rests others later w k u → e ≡ d → after.calls ≡ before.calls → before.faults ≤ after.faults
-      → IsWalkSoFar others later home j (scene w d before words) Plain (scene u e after words)
+      → is_query j ≡ false
       → Unserved others later home j (scene w d before words) (wanting Plain) Plain (scene u e after words)
-  none_answered j w u k d e before after words rests same unasked counted walk = record {
-    entry = nothing;
-    walk = walk;
+  none_answered j w u k d e before after words rests same unasked counted none = record {
+    entry = nothing none;
+    walk = no_walk j (scene w d before words) Plain (scene u e after words) none;
     outcome = refl;
     desk = same;
     goes = rests_goes w u k rests;
@@ -116,11 +120,38 @@ module _ (others : List Accepted → Type 0) (later : Marks → Marks → Type 0
   -- nor was a peer called
   pub nothing_done : (j : Judged) (w u : List View) (k : ℕ) (d e : Live) (before after : PeersSeen) (words : ℕ → ℕ)
       → Rests others later w k u → e ≡ d → after ≡ before
-      → IsWalkSoFar others later home j (scene w d before words) Plain (scene u e after words)
+      → is_query j ≡ false
       → Unserved others later home j (scene w d before words) (wanting Plain) Plain (scene u e after words)
-  nothing_done j w u k d e before after words rests same unasked walk =
+  nothing_done j w u k d e before after words rests same unasked none =
       none_answered j w u k d e before after words rests same (ap (λ (p : PeersSeen). p.calls) unasked)
-      (subst (λ (p : PeersSeen). before.faults ≤ p.faults) (sym unasked) (omega arith)) walk
+      (subst (λ (p : PeersSeen). before.faults ≤ p.faults) (sym unasked) (omega arith)) none
+
+  -- nothing was done, and an empty trace is noted
+  empty_noted : (j : Judged) (s : Scene) → WantingEntry s.world j (unbegun_entry class.Query)
+      → IsWalkSoFar others later home j s (unbegun_entry class.Query) s
+      → Unserved others later home j s no_memory (unbegun_entry class.Query) s
+  empty_noted j s entry walk = record {
+    entry = entry;
+    walk = walk;
+    outcome = refl;
+    desk = refl;
+    goes = stays;
+    marks = λ k. sym (append-nil (own_marks_at s.world k));
+    points = goes-length others later stays;
+    peers = none_given s.peers s.peers refl (omega arith);
+    draws = draws-none s.words;
+    words = λ q. refl;
+  }
+
+  -- nothing was done for a Request of a class
+  pub not_begun : (c : RequestClass) (j : Judged) (s : Scene) → IsOfClass c j
+      → Unserved others later home j s no_memory (unbegun_entry c) s
+  not_begun class.Query (Call x (call.Query q)) s h =
+      empty_noted (Call x (call.Query q)) s (trace (record { items = [] })) unbegun
+  not_begun class.Query (Call x c) s h = absurd (let bad : ⊥ = cc in bad)
+  not_begun class.Query (Refused o) s h = empty_noted (Refused o) s unread tt
+  not_begun class.Other j s h =
+      nothing_done j s.world s.world 0 s.desk s.desk s.peers s.peers s.words (inl refl) refl refl h
 
   -- nothing was done but by others and that a peer was asked for a register
   pub asked_in_vain : (x : Object) (l : AddLink) (w u : List View) (c : PeerCall) (d : Live) (before after : PeersSeen)
@@ -146,7 +177,8 @@ module _ (others : List Accepted → Type 0) (later : Marks → Marks → Type 0
 -- what a query notes is noted where it is taken back
 pub query_kept : (w v : List View) (k : ℕ) (j : Judged) (e : Entry) → WantingEntry w j e → is_query j ≡ true
     → in_vain v k e ≡ e
-query_kept w v k j e nothing q = refl
+query_kept w v k j e (nothing none) q = refl
+query_kept w v k j e unread q = refl
 query_kept w v k j e (trace t) q = refl
 query_kept w v k j e (link gave) q = absurd cc
 query_kept w v k j e (name gave) q = absurd cc

@@ -6,7 +6,7 @@ use Rattle.td_cdr.specs.declared.memory.Memory.{Memory as Wanting}
 use Rattle.td_giop.specs.Written.{sealed}
 use Rattle.td_lookup.specs.Scenes.{Scene}
 use Rattle.td_lookup.specs.Telling.{in_vain}
-use Rattle.td_lookup.specs.Unserved.{Unserved, wanting}
+use Rattle.td_lookup.specs.Unserved.{Unserved, unbegun_entry, wanting}
 use Rattle.td_ops.specs.Outcomes.{is_short, outcome_piece, outcome_status}
 use Rattle.td_ops.specs.declared.outcome.Outcome.{Outcome}
 use Rattle.td_register.specs.declared.history.Accepted.{Accepted}
@@ -14,6 +14,7 @@ use Rattle.td_reply.specs.Answers.{IfLong, no_memory, plain}
 use Rattle.td_reply.specs.declared.answer.Answer.{Answer}
 use Rattle.td_reply.specs.declared.answer.ReplyBody.{ReplyBody}
 use Rattle.td_reply.specs.declared.answer.ReplyBody.TheVariants as reply_body
+use Rattle.td_reply.specs.declared.class.RequestClass.{RequestClass}
 use Rattle.td_reply.specs.declared.entry.Entry.{Entry}
 use Rattle.td_reply.specs.declared.judging.Judged.{Judged}
 use Rattle.td_serve.specs.ReplyBytes.{BeginsReply, outcome_reply}
@@ -28,6 +29,10 @@ use Rattle.td_walk.specs.declared.trace.Address.{Address}
 abbrev pub OrNoMemory : Result Answer Wanting → Answer → Type 0
 OrNoMemory (Ok a) told = told ≡ a
 OrNoMemory (Err m) told = told ≡ plain no_memory
+
+-- where memory is wanted before anything was done for a Request of a class
+abbrev pub not_begun : RequestClass → Answer
+not_begun c = record { body = reply_body.Outcome no_memory; entry = unbegun_entry c }
 
 -- The body is that of this outcome: it is still to be written; or the outcome is a result, and stands in the writer
 -- behind the draft.

@@ -2,30 +2,63 @@
 
 ghost use Rattle.std.specs.Prelude.{◌≡◌, ◌⊎◌};
 ghost use Rattle.td_lookup.specs.Scenes.{Scene};
+ghost use Rattle.td_lookup.specs.Unserved.{unbegun_entry};
 ghost use Rattle.td_ops.specs.declared.outcome.Outcome.{Outcome as Told};
 ghost use Rattle.td_reply.specs.Answers.{no_memory};
+ghost use Rattle.td_reply.specs.Classes.{IsOfClass};
 ghost use Rattle.td_reply.specs.declared.judging.Judged.{Judged};
 ghost use Rattle.td_reply.specs.declared.judging.Judged.TheVariants.{Refused};
 ghost use Rattle.td_serve.specs.ReplyBytes.{outcome_reply, reply_for};
 ghost use Rattle.td_serve.specs.Requests.{Served};
+ghost use Rattle.td_serve.specs.Serving.{not_begun};
 ghost use Rattle.td_walk.specs.declared.trace.Address.{Address};
 
 use crate::replies::Replies;
 use crate::reply_to::ReplyTo;
 use crate::settling::tell_outcome;
 use std::alloc::Global;
+use td_cdr::List;
 use td_ops::Outcome;
-use td_reply::{Entry, no_memory};
+use td_reply::{Answer, Entry, ReplyBody, RequestClass, no_memory};
 use td_trader::Traders;
+use td_walk::Trace;
 
-/// Serves a Request whose reading wanted memory: the reply is NO_MEMORY, which has no bytes where none is expected.
-/// Answers what the journal notes, which is nothing.
-pub fn refuse_memory<T: Traders>(alloc: Global, replies: &mut Replies, to: ReplyTo) -> Entry
-    ensures served { (home : Address) (j : Judged) (s : Scene) → Served T.others T.later home to j s
-        no_memory result replies.new s }
+/// Serves a Request of a class whose reading wanted memory: the reply is NO_MEMORY, which has no bytes where none is
+/// expected. Answers what the journal notes: an empty trace of a query, and nothing of any other call.
+pub fn refuse_memory<T: Traders>(
+    alloc: Global,
+    replies: &mut Replies,
+    to: ReplyTo,
+    class: RequestClass,
+) -> Entry
+    ensures served { (home : Address) (j : Judged) (s : Scene) → IsOfClass class j
+        → Served T.others T.later home to j s no_memory result replies.new s }
+    ensures entry { result ≡ unbegun_entry class }
 {
     answer_no_memory(alloc, replies, to);
-    Entry::Plain
+    unbegun_entry(alloc, class)
+}
+
+/// The answer where memory is wanted before anything was done for a Request of a class.
+pub(crate) fn not_begun(alloc: Global, class: RequestClass) -> Answer
+    ensures { result ≡ not_begun class }
+{
+    Answer {
+        body: ReplyBody::Outcome(no_memory()),
+        entry: unbegun_entry(alloc, class),
+    }
+}
+
+/// What is noted of a Request of a class for which nothing was done.
+fn unbegun_entry(alloc: Global, class: RequestClass) -> Entry
+    ensures { result ≡ unbegun_entry class }
+{
+    match class {
+        RequestClass::Query => Entry::Walk(Trace {
+            items: List::new(alloc),
+        }),
+        RequestClass::Other => Entry::Plain,
+    }
 }
 
 /// Serves a Request that spells no call.

@@ -15,7 +15,7 @@ use crate::arms::{
     serve_add_link, serve_change, serve_is_a, serve_iterator, serve_look, serve_non_existent,
     serve_query, serve_resolve,
 };
-use crate::refusing::serve_refusal;
+use crate::refusing::{not_begun, serve_refusal};
 use crate::replies::Replies;
 use crate::reply_to::ReplyTo;
 use crate::settling::settle;
@@ -25,7 +25,7 @@ use td_giop::start_reply;
 use td_iter::Desk;
 use td_ops::Call;
 use td_out::Words;
-use td_reply::{Answer, Entry, Judged, Object, unserved};
+use td_reply::{Answer, Entry, Judged, Object, class_of};
 use td_trader::Traders;
 use td_walk::{Address, Peers};
 
@@ -148,8 +148,9 @@ fn perform<T: Traders, P: Peers, W: Words>(
     match start_reply(w, to.id, NO_EXCEPTION) {
         Ok(()) => answer_call(alloc, traders, home, desk, peers, words, w, object, call),
         Err(_) => {
+            let class = class_of(&call);
             drop(call);
-            unserved()
+            not_begun(alloc, class)
         }
     }
 }

@@ -9,8 +9,10 @@ use Rattle.td_lookup.specs.Scenes.{Scene, scene}
 use Rattle.td_ops.specs.declared.outcome.Outcome.{Outcome}
 use Rattle.td_register.specs.declared.history.Accepted.{Accepted}
 use Rattle.td_reply.specs.Answers.{no_memory}
+use Rattle.td_reply.specs.Classes.{IsOfClass}
 use Rattle.td_reply.specs.Judging.{judged}
 use Rattle.td_reply.specs.Linking.{PeersSeen}
+use Rattle.td_reply.specs.declared.class.RequestClass.{RequestClass}
 use Rattle.td_reply.specs.declared.entry.Entry.{Entry}
 use Rattle.td_reply.specs.declared.judging.Judged.{Judged}
 use Rattle.td_serve.specs.ReplyBytes.{reply_to}
@@ -37,16 +39,17 @@ module _ (others : List Accepted → Type 0) (later : Marks → Marks → Type 0
 
   -- memory was wanted to read the call
   pub refused_head : (order : Order) (head : Request) (body : At) (w : List View) (d m : Live) (peers : PeersSeen)
-      (words : ℕ → ℕ) (e : Entry) (reply : List ℕ) → m ≡ d
-      → ((j : Judged) (s : Scene) → Served others later home (reply_to order head) j s no_memory e reply s)
+      (words : ℕ → ℕ) (c : RequestClass) (e : Entry) (reply : List ℕ) → m ≡ d
+      → IsOfClass c (judged w d head.key head.operation body)
+      → ((j : Judged) (s : Scene) → IsOfClass c j → Served others later home (reply_to order head) j s no_memory e reply s)
       → ServesHead others later home order head body (scene w d peers words) e reply (scene w m peers words)
-  refused_head order head body w d m peers words e reply same h =
+  refused_head order head body w d m peers words c e reply same of_class h =
       let s = scene w d peers words in
       let j = judged w d head.key head.operation body in
       subst (λ (x : Live). ServesHead others later home order head body s e reply (scene w x peers words)) (sym same)
       (record {
         noted = record { judged = j; outcome = no_memory; entry = e };
         asks = refl;
-        served = h j s;
+        served = h j s of_class;
         entry = refl;
       })

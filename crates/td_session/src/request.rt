@@ -97,6 +97,6 @@ fn serve_head<T: Traders, P: Peers, W: Words>(
         Ok(judged) => serve_request(
             alloc, traders, home, desk, peers, words, replies, to, judged,
         ),
-        Err(_) => refuse_memory::<T>(alloc, replies, to),
+        Err(class) => refuse_memory::<T>(alloc, replies, to, class),
     }
 }

@@ -13,7 +13,7 @@ use Rattle.td_fed.specs.Visiting.{course}
 use Rattle.td_lookup.specs.Naming.{NameComes, name_entry}
 use Rattle.td_lookup.specs.Querying.{QueryComes}
 use Rattle.td_lookup.specs.Scenes.{Scene}
-use Rattle.td_lookup.specs.Unserved.{Gives, Unserved, WantingEntry, gave_in, items_of, link, name, nothing, trace}
+use Rattle.td_lookup.specs.Unserved.{Gives, Unserved, WantingEntry, gave_in, items_of, link, name, nothing, trace, unread}
 use Rattle.td_ops.specs.declared.call.AddLink.{AddLink}
 use Rattle.td_ops.specs.declared.call.Call.TheVariants as call
 use Rattle.td_ops.specs.declared.call.Call.{Call as Asking}
@@ -316,7 +316,8 @@ module _ (others : List Accepted → Type 0) (later : Marks → Marks → Type 0
 
 unplaced : (w : List View) (j : Judged) (o : Outcome) (e : Entry) → is_done o ≡ false → WantingEntry w j e → (k : ℕ)
     → [] ≡ places_in k (note j o e)
-unplaced w j o e other nothing k = sym (no-more _)
+unplaced w j o e other (nothing none) k = sym (no-more _)
+unplaced w j o e other unread k = refl
 unplaced w j o e other (trace t) k = refl
 unplaced w j o e other (link {x = x} gave) k =
     ap (λ (b : Bool). cond b (only_of x.trader (length (history_at w x.trader) ∷ []) k) []) (sym other)
@@ -325,7 +326,8 @@ unplaced w j o e other (name gave) k = refl
 unserved-rise : (w u : List View) (j : Judged) (o : Outcome) (e : Entry) → WantingEntry u j e → AllGrow w u → (k : ℕ)
     → Rises (length (history_at w k)) (points_of k (items_of e)) (length (history_at u k))
     → Rises (length (history_at w k)) (served_at k (note j o e)) (length (history_at u k))
-unserved-rise w u j o e nothing g k items = items
+unserved-rise w u j o e (nothing none) g k items = items
+unserved-rise w u j o e unread g k items = items
 unserved-rise w u j o e (trace t) g k items = items
 unserved-rise w u j o e (link {x = x} gave) g k items = end-rise w u g x.trader k
 unserved-rise w u j o e (name {x = x} gave) g k items = end-rise w u g x.trader k

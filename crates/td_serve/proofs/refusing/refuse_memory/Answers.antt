@@ -1,11 +1,10 @@
-use Rattle.std.proofs.Common.{refl}
-use Rattle.td_reply.specs.declared.entry.Entry.TheVariants.{Plain}
 use Rattle.td_serve.proofs.Replying.{memory_served}
 use Rattle.td_serve.proofs.refusing.refuse_memory.Goals as goal
 
 pub returns : goal.returns
 returns g c = record {
-  served = λ home j s.
-      memory_served g.T.Traders.others g.T.Traders.later home c.args.to s j Plain
-      c.answer_no_memory.new.replies refl c.answer_no_memory.ensures;
+  served = λ home j s of_class.
+      memory_served g.T.Traders.others g.T.Traders.later home c.args.to s c.args.class j c.unbegun_entry.result
+      c.answer_no_memory.new.replies of_class c.unbegun_entry.ensures c.answer_no_memory.ensures;
+  entry = c.unbegun_entry.ensures;
 }

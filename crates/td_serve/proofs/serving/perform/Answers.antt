@@ -1,11 +1,13 @@
-use Rattle.std.proofs.Common.{inl, refl, sym, ap, subst}
+use Rattle.std.proofs.Common.{sym, ap, subst}
 use Rattle.td_cdr.specs.Writing.{Draft}
 use Rattle.td_lookup.specs.Scenes.{scene}
+use Rattle.td_lookup.specs.Unserved.{unbegun_entry}
+use Rattle.td_reply.proofs.Classes.{of_its_class}
 use Rattle.td_reply.specs.Linking.{peers_seen}
 use Rattle.td_reply.specs.declared.answer.Answer.{Answer}
 use Rattle.td_reply.specs.declared.judging.Judged.TheVariants.{Call}
 use Rattle.td_serve.proofs.Performing.{head_length, unbegun_performed}
-use Rattle.td_serve.proofs.Wanting.{no_walk, nothing_done}
+use Rattle.td_serve.proofs.Wanting.{not_begun as none_begun}
 use Rattle.td_serve.proofs.serving.perform.Goals as goal
 use Rattle.td_serve.specs.Serving.{Performed}
 
@@ -22,10 +24,11 @@ returns-in-Err-clause-performed g c =
     let s = scene w c.args.desk.now p words in
     let j = Call c.args.object c.args.call in
     let k = c.args.object.trader in
+    let class = c.class_of-class.result in
     subst
     (λ (a : Answer). Performed g.T.Traders.others g.T.Traders.later c.args.home.now c.args.to j k s a.body
-    a.entry c.start_reply.new.w s) (sym c.unserved.ensures)
+    a.entry c.start_reply.new.w s) (sym c.not_begun.ensures)
     (unbegun_performed g.T.Traders.others g.T.Traders.later c.args.home.now j k s s c.args.to
-    c.start_reply.new.w
-    (nothing_done g.T.Traders.others g.T.Traders.later c.args.home.now j w w k c.args.desk.now c.args.desk.now p p
-    words (inl refl) refl refl (no_walk g.T.Traders.others g.T.Traders.later c.args.home.now j s)))
+    c.start_reply.new.w (unbegun_entry class)
+    (none_begun g.T.Traders.others g.T.Traders.later c.args.home.now class j s
+    (of_its_class class c.args.object c.args.call c.class_of-class.ensures)))

@@ -17,5 +17,5 @@ returns-in-Err-clause-serves g c =
     refused_head g.T.Traders.others g.T.Traders.later c.args.home.now c.args.order (asked_of c.args.head.now)
     c.args.head.now.body (g.T.Traders.world c.args.traders.now) c.args.desk.now c.judge.new.desk
     (peers_seen (g.P.Peers.calls c.args.peers.now) (g.P.Peers.faults c.args.peers.now))
-    (g.W.Words.word c.args.words.now) c.refuse_memory.result c.refuse_memory.new.replies
-    c.judge.ensures.same (λ j s. c.refuse_memory.ensures.served c.args.home.now j s)
+    (g.W.Words.word c.args.words.now) c.in-Err.class c.refuse_memory.result c.refuse_memory.new.replies
+    c.judge.ensures.same c.in-Err.ensures.unread (λ j s. c.refuse_memory.ensures.served c.args.home.now j s)
