@@ -6,7 +6,7 @@ use Rattle.td_cdr.specs.Writing.{Draft}
 use Rattle.td_lookup.specs.Naming.{NameComes}
 use Rattle.td_lookup.specs.Querying.{QueryComes}
 use Rattle.td_lookup.specs.Scenes.{Scene}
-use Rattle.td_lookup.specs.Unserved.{Unserved}
+use Rattle.td_lookup.specs.Unserved.{Unserved, unbegun_entry}
 use Rattle.td_objects.specs.Interfaces.{is_a}
 use Rattle.td_ops.specs.declared.call.Call.{Call as Asked}
 use Rattle.td_ops.specs.declared.call.Call.TheVariants as call
@@ -18,6 +18,7 @@ use Rattle.td_reply.specs.Changing.{ChangeComes}
 use Rattle.td_reply.specs.Iterating.{IteratorComes}
 use Rattle.td_reply.specs.Linking.{AddLinkComes}
 use Rattle.td_reply.specs.Looking.{LookComes}
+use Rattle.td_reply.specs.declared.class.RequestClass.{RequestClass}
 use Rattle.td_reply.specs.declared.entry.Entry.{Entry}
 use Rattle.td_reply.specs.declared.entry.Entry.TheVariants.{Plain}
 use Rattle.td_reply.specs.declared.judging.Judged.{Judged}
@@ -34,6 +35,11 @@ use Rattle.td_walk.specs.declared.trace.Address.{Address}
 abbrev pub number_in : Kind → ℕ
 number_in (kind.Iterator n) = n
 number_in other = 0
+
+-- Of a Request of a class that spells no call nothing is noted, or what is noted where nothing was done for its class.
+abbrev pub NotesNoCall : RequestClass → Judged → Entry → Type 0
+NotesNoCall c (Refused r) e = (e ≡ Plain) ⊎ (e ≡ unbegun_entry c)
+NotesNoCall c (Call x asked) e = Unit {0}
 
 module _ (others : List Accepted → Type 0) (later : Marks → Marks → Type 0) (home : Address) where
   -- A call of an object. What it doesn't name stays as it was.

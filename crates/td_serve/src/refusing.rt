@@ -6,6 +6,7 @@ ghost use Rattle.td_lookup.specs.Unserved.{unbegun_entry};
 ghost use Rattle.td_ops.specs.declared.outcome.Outcome.{Outcome as Told};
 ghost use Rattle.td_reply.specs.Answers.{no_memory};
 ghost use Rattle.td_reply.specs.Classes.{IsOfClass};
+ghost use Rattle.td_reply.specs.declared.entry.Entry.TheVariants.{Plain};
 ghost use Rattle.td_reply.specs.declared.judging.Judged.{Judged};
 ghost use Rattle.td_reply.specs.declared.judging.Judged.TheVariants.{Refused};
 ghost use Rattle.td_serve.specs.ReplyBytes.{outcome_reply, reply_for};
@@ -70,6 +71,7 @@ pub(crate) fn serve_refusal<T: Traders>(
 ) -> Entry
     ensures served { (home : Address) (s : Scene) → (o : Told) × Served T.others T.later home to
         (Refused outcome) s o result replies.new s }
+    ensures entry { result ≡ Plain }
 {
     answer_refusal(alloc, replies, to, outcome);
     Entry::Plain

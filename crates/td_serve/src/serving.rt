@@ -7,8 +7,9 @@ ghost use Rattle.td_objects.specs.References.{IsAddress};
 ghost use Rattle.td_ops.specs.declared.outcome.Outcome.{Outcome as Told};
 ghost use Rattle.td_reply.specs.Judging.{IsServable};
 ghost use Rattle.td_reply.specs.Linking.{peers_seen};
+ghost use Rattle.td_reply.specs.declared.class.RequestClass.{RequestClass};
 ghost use Rattle.td_reply.specs.declared.judging.Judged.TheVariants as spelled;
-ghost use Rattle.td_serve.specs.Requests.{Served};
+ghost use Rattle.td_serve.specs.Requests.{NotesNoCall, Served};
 ghost use Rattle.td_serve.specs.Serving.{Performed, Performs};
 
 use crate::arms::{
@@ -56,6 +57,7 @@ pub fn serve_request<T: Traders, P: Peers, W: Words>(
         o result replies.new
         (scene (T.world traders.new) desk.new (peers_seen (P.calls peers.new) (P.faults peers.new))
         (W.word words.new)) }
+    ensures no_call { (c : RequestClass) → NotesNoCall c judged result }
     ensures faults { P.faults peers.old ≤ P.faults peers.new }
 {
     match judged {

@@ -69,6 +69,7 @@ module _ (others : List Accepted → Type 0) (later : Marks → Marks → Type 0
         request = refl;
         asks = n.serves.asks;
         served = n.serves.served;
+        no_call = n.serves.no_call;
       } in
       record {
         noted = Some n.serves.noted;

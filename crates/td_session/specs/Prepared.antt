@@ -12,10 +12,11 @@ use Rattle.td_giop.specs.Header.{order_told}
 use Rattle.td_giop.specs.Heads.{Request}
 use Rattle.td_lookup.specs.Scenes.{Scene}
 use Rattle.td_register.specs.declared.history.Accepted.{Accepted}
+use Rattle.td_reply.specs.Classes.{request_class}
 use Rattle.td_reply.specs.Judging.{judged}
 use Rattle.td_reply.specs.declared.entry.Entry.{Entry}
 use Rattle.td_serve.specs.ReplyBytes.{reply_to}
-use Rattle.td_serve.specs.Requests.{Served}
+use Rattle.td_serve.specs.Requests.{NotesNoCall, Served}
 use Rattle.td_turns.specs.Messages.{is_request}
 use Rattle.td_turns.specs.Turns.{Noted, Turn}
 use Rattle.td_walk.specs.declared.trace.Address.{Address}
@@ -54,6 +55,7 @@ module _ (others : List Accepted → Type 0) (later : Marks → Marks → Type 0
     pub noted : Noted
     pub asks : noted.judged ≡ judged s.world s.desk head.key head.operation body
     pub served : Served others later home (reply_to order head) noted.judged s noted.outcome noted.entry reply u
+    pub no_call : NotesNoCall (request_class s.world s.desk head.key head.operation) noted.judged noted.entry
     pub entry : noted.entry ≡ e
 
   -- and it is noted behind the journal

@@ -12,12 +12,13 @@ use Rattle.td_iter.specs.Desks.{Live}
 use Rattle.td_lookup.specs.Scenes.{Scene}
 use Rattle.td_ops.specs.declared.outcome.Outcome.{Outcome}
 use Rattle.td_register.specs.declared.history.Accepted.{Accepted}
+use Rattle.td_reply.specs.Classes.{request_class}
 use Rattle.td_reply.specs.Judging.{judged}
 use Rattle.td_reply.specs.Objects.{object_at}
 use Rattle.td_reply.specs.declared.entry.Entry.{Entry}
 use Rattle.td_reply.specs.declared.judging.Judged.{Judged}
 use Rattle.td_serve.specs.ReplyBytes.{locate_reply, reply_to}
-use Rattle.td_serve.specs.Requests.{Served}
+use Rattle.td_serve.specs.Requests.{NotesNoCall, Served}
 use Rattle.td_trader.specs.Worlds.{View}
 use Rattle.td_turns.specs.Messages.{behind, is_request, kind_of, order_of}
 use Rattle.td_walk.specs.declared.trace.Address.{Address}
@@ -70,6 +71,7 @@ pub record ServesRequest (others : List Accepted → Type 0) (later : Marks → 
   pub asks : noted.judged ≡ judged s.world s.desk head.key head.operation body
   pub served : Served others later home (reply_to (order_of t.message) head) noted.judged s noted.outcome noted.entry
       t.reply t.after
+  pub no_call : NotesNoCall (request_class s.world s.desk head.key head.operation) noted.judged noted.entry
 
 -- the message is served
 pub data IsTurn (others : List Accepted → Type 0) (later : Marks → Marks → Type 0) (home : Address) (s : Scene)

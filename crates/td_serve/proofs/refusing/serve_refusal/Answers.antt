@@ -8,4 +8,5 @@ returns g c = record {
   served = λ home s.
       either_served g.T.Traders.others g.T.Traders.later home c.args.to s c.args.outcome
       Plain c.answer_refusal.new.replies refl c.answer_refusal.ensures;
+  entry = refl;
 }

@@ -10,7 +10,7 @@ returns-in-Ok-clause-serves g c =
     c.args.head.now.body (g.T.Traders.world c.args.traders.now) c.args.desk.now c.judge.new.desk
     (peers_seen (g.P.Peers.calls c.args.peers.now) (g.P.Peers.faults c.args.peers.now))
     (g.W.Words.word c.args.words.now) c.in-Ok.judged served.0 c.serve_request.result c.serve_request.new.replies _
-    c.judge.ensures.same c.in-Ok.ensures.judged served.1
+    c.judge.ensures.same c.in-Ok.ensures.judged served.1 c.serve_request.ensures.no_call
 
 pub returns-in-Err-clause-serves : goal.returns-in-Err-clause-serves
 returns-in-Err-clause-serves g c =
@@ -18,4 +18,5 @@ returns-in-Err-clause-serves g c =
     c.args.head.now.body (g.T.Traders.world c.args.traders.now) c.args.desk.now c.judge.new.desk
     (peers_seen (g.P.Peers.calls c.args.peers.now) (g.P.Peers.faults c.args.peers.now))
     (g.W.Words.word c.args.words.now) c.in-Err.class c.refuse_memory.result c.refuse_memory.new.replies
-    c.judge.ensures.same c.in-Err.ensures.unread (λ j s. c.refuse_memory.ensures.served c.args.home.now j s)
+    c.judge.ensures.same c.in-Err.ensures.class c.in-Err.ensures.unread
+    c.refuse_memory.ensures.entry (λ j s. c.refuse_memory.ensures.served c.args.home.now j s)
