@@ -1,3 +1,4 @@
+pub mod Backends
 pub mod Examples
 pub mod ReplyBytes
 pub mod Requests

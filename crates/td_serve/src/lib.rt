@@ -1,7 +1,9 @@
 //! One Request of a session: what it comes to, the bytes of its reply, and what the journal notes of it.
 #![tactic(auto)]
 
-mod arms;
+mod any_object;
+mod backend;
+mod backend_ref;
 mod laws;
 mod refusing;
 mod replies;
@@ -10,6 +12,8 @@ mod serving;
 mod settling;
 mod writing;
 
+pub use backend::Backend;
+pub use backend_ref::BackendRef;
 pub use laws::worked_replies;
 pub use refusing::refuse_memory;
 pub use replies::Replies;

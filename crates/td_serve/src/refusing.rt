@@ -14,6 +14,7 @@ ghost use Rattle.td_serve.specs.Requests.{Served};
 ghost use Rattle.td_serve.specs.Serving.{not_begun};
 ghost use Rattle.td_walk.specs.declared.trace.Address.{Address};
 
+use crate::backend::Backend;
 use crate::replies::Replies;
 use crate::reply_to::ReplyTo;
 use crate::settling::tell_outcome;
@@ -21,19 +22,18 @@ use std::alloc::Global;
 use td_cdr::List;
 use td_ops::Outcome;
 use td_reply::{Answer, Entry, ReplyBody, RequestClass, no_memory};
-use td_trader::Traders;
 use td_walk::Trace;
 
 /// Serves a Request of a class whose reading wanted memory: the reply is NO_MEMORY, which has no bytes where none is
 /// expected. Answers what the journal notes: an empty trace of a query, and nothing of any other call.
-pub fn refuse_memory<T: Traders>(
+pub fn refuse_memory<B: Backend>(
     alloc: Global,
     replies: &mut Replies,
     to: ReplyTo,
     class: RequestClass,
 ) -> Entry
     ensures served { (home : Address) (j : Judged) (s : Scene) → IsOfClass class j
-        → Served T.others T.later home to j s no_memory result replies.new s }
+        → Served B.others B.later home to j s no_memory result replies.new s }
     ensures entry { result ≡ unbegun_entry class }
 {
     answer_no_memory(alloc, replies, to);
@@ -63,13 +63,13 @@ fn unbegun_entry(alloc: Global, class: RequestClass) -> Entry
 }
 
 /// Serves a Request that spells no call.
-pub(crate) fn serve_refusal<T: Traders>(
+pub(crate) fn serve_refusal<B: Backend>(
     alloc: Global,
     replies: &mut Replies,
     to: ReplyTo,
     outcome: Outcome,
 ) -> Entry
-    ensures served { (home : Address) (s : Scene) → (o : Told) × Served T.others T.later home to
+    ensures served { (home : Address) (s : Scene) → (o : Told) × Served B.others B.later home to
         (Refused outcome) s o result replies.new s }
     ensures entry { result ≡ Plain }
 {

@@ -1,21 +1,18 @@
 //! One Request, from its judged call to its reply and the journal's entry.
 
-ghost use Rattle.std.specs.Prelude.{◌≡◌, ◌≤◌, ◌<◌, ◌^◌, length};
+ghost use Rattle.std.specs.Prelude.{◌≡◌, ◌<◌, ◌^◌, length};
 ghost use Rattle.td_iter.specs.declared.limits.TheConstants.{REPLY_START};
-ghost use Rattle.td_lookup.specs.Scenes.{scene};
 ghost use Rattle.td_objects.specs.References.{IsAddress};
 ghost use Rattle.td_ops.specs.declared.outcome.Outcome.{Outcome as Told};
 ghost use Rattle.td_reply.specs.Judging.{IsServable};
-ghost use Rattle.td_reply.specs.Linking.{peers_seen};
 ghost use Rattle.td_reply.specs.declared.class.RequestClass.{RequestClass};
 ghost use Rattle.td_reply.specs.declared.judging.Judged.TheVariants as spelled;
+ghost use Rattle.td_serve.specs.Backends.{scene_of};
 ghost use Rattle.td_serve.specs.Requests.{NotesNoCall, Served};
 ghost use Rattle.td_serve.specs.Serving.{Performed, Performs};
 
-use crate::arms::{
-    serve_add_link, serve_change, serve_is_a, serve_iterator, serve_look, serve_non_existent,
-    serve_query, serve_resolve,
-};
+use crate::any_object::{serve_is_a, serve_non_existent};
+use crate::backend::Backend;
 use crate::refusing::{not_begun, serve_refusal};
 use crate::replies::Replies;
 use crate::reply_to::ReplyTo;
@@ -25,82 +22,62 @@ use td_cdr::Writer;
 use td_giop::start_reply;
 use td_iter::Desk;
 use td_ops::Call;
-use td_out::Words;
 use td_reply::{Answer, Entry, Judged, Object, class_of};
-use td_trader::Traders;
-use td_walk::{Address, Peers};
+use td_walk::Address;
 
 /// The reply status of a result.
 const NO_EXCEPTION: u32 = 0;
 
 /// Serves a Request: performs its call, leaves the reply, which has no bytes where none is expected, and answers what
 /// the journal notes. Where memory is wanted the reply is NO_MEMORY, and no change was made then.
-pub fn serve_request<T: Traders, P: Peers, W: Words>(
+pub fn serve_request<B: Backend>(
     alloc: Global,
-    traders: &mut T,
+    backend: &mut B,
     home: &Address,
     desk: &mut Desk,
-    peers: &mut P,
-    words: &mut W,
     replies: &mut Replies,
     to: ReplyTo,
     judged: Judged,
 ) -> Entry
-    requires servable { IsServable (T.world traders.old) judged }
+    requires servable { IsServable (B.seen backend.old).world judged }
     requires home { IsAddress home.now }
     requires numbers { desk.old.1 < 2 ^ 63 }
-    ensures same { T.same traders.old traders.new }
-    ensures same_peers { P.same peers.old peers.new }
-    ensures same_words { W.same words.old words.new }
-    ensures served { (o : Told) × Served T.others T.later home.now to judged
-        (scene (T.world traders.old) desk.old (peers_seen (P.calls peers.old) (P.faults peers.old)) (W.word words.old))
-        o result replies.new
-        (scene (T.world traders.new) desk.new (peers_seen (P.calls peers.new) (P.faults peers.new))
-        (W.word words.new)) }
+    ensures same { B.same backend.old backend.new }
+    ensures served { (o : Told) × Served B.others B.later home.now to judged
+        (scene_of (B.seen backend.old) desk.old) o result replies.new (scene_of (B.seen backend.new) desk.new) }
     ensures no_call { (c : RequestClass) → NotesNoCall c judged result }
-    ensures faults { P.faults peers.old ≤ P.faults peers.new }
 {
     match judged {
         Judged::Call { object, call } => serve_call(
-            alloc, traders, home, desk, peers, words, replies, to, object, call,
+            alloc, backend, home, desk, replies, to, object, call,
         ),
-        Judged::Refused(outcome) => serve_refusal::<T>(alloc, replies, to, outcome),
+        Judged::Refused(outcome) => serve_refusal::<B>(alloc, replies, to, outcome),
     }
 }
 
 /// Serves a call of an object.
-fn serve_call<T: Traders, P: Peers, W: Words>(
+fn serve_call<B: Backend>(
     alloc: Global,
-    traders: &mut T,
+    backend: &mut B,
     home: &Address,
     desk: &mut Desk,
-    peers: &mut P,
-    words: &mut W,
     replies: &mut Replies,
     to: ReplyTo,
     object: Object,
     call: Call,
 ) -> Entry
-    requires servable { IsServable (T.world traders.old) (spelled.Call object call) }
+    requires servable { IsServable (B.seen backend.old).world (spelled.Call object call) }
     requires home { IsAddress home.now }
     requires numbers { desk.old.1 < 2 ^ 63 }
-    ensures same { T.same traders.old traders.new }
-    ensures same_peers { P.same peers.old peers.new }
-    ensures same_words { W.same words.old words.new }
-    ensures served { (o : Told) × Served T.others T.later home.now to (spelled.Call object call)
-        (scene (T.world traders.old) desk.old (peers_seen (P.calls peers.old) (P.faults peers.old)) (W.word words.old))
-        o result replies.new
-        (scene (T.world traders.new) desk.new (peers_seen (P.calls peers.new) (P.faults peers.new))
-        (W.word words.new)) }
-    ensures faults { P.faults peers.old ≤ P.faults peers.new }
+    ensures same { B.same backend.old backend.new }
+    ensures served { (o : Told) × Served B.others B.later home.now to (spelled.Call object call)
+        (scene_of (B.seen backend.old) desk.old) o result replies.new (scene_of (B.seen backend.new) desk.new) }
 {
     let answer = perform(
         alloc,
-        traders,
+        backend,
         home,
         desk,
-        peers,
-        words,
         &mut replies.long,
         to,
         object,
@@ -108,7 +85,7 @@ fn serve_call<T: Traders, P: Peers, W: Words>(
     );
     let settled = settle(
         alloc,
-        traders,
+        backend,
         object.trader,
         &mut replies.short,
         &mut replies.long,
@@ -121,34 +98,27 @@ fn serve_call<T: Traders, P: Peers, W: Words>(
 
 /// Performs a call, with a writer that is begun for the Reply with a result. Where memory is wanted for that, nothing
 /// is called.
-fn perform<T: Traders, P: Peers, W: Words>(
+fn perform<B: Backend>(
     alloc: Global,
-    traders: &mut T,
+    backend: &mut B,
     home: &Address,
     desk: &mut Desk,
-    peers: &mut P,
-    words: &mut W,
     w: &mut Writer,
     to: ReplyTo,
     object: Object,
     call: Call,
 ) -> Answer
-    requires servable { IsServable (T.world traders.old) (spelled.Call object call) }
+    requires servable { IsServable (B.seen backend.old).world (spelled.Call object call) }
     requires home { IsAddress home.now }
     requires numbers { desk.old.1 < 2 ^ 63 }
-    ensures same { T.same traders.old traders.new }
-    ensures same_peers { P.same peers.old peers.new }
-    ensures same_words { W.same words.old words.new }
-    ensures performed { Performed T.others T.later home.now to (spelled.Call object call) object.trader
-        (scene (T.world traders.old) desk.old (peers_seen (P.calls peers.old) (P.faults peers.old)) (W.word words.old))
-        result.body result.entry w.new
-        (scene (T.world traders.new) desk.new (peers_seen (P.calls peers.new) (P.faults peers.new))
-        (W.word words.new)) }
-    ensures faults { P.faults peers.old ≤ P.faults peers.new }
+    ensures same { B.same backend.old backend.new }
+    ensures performed { Performed B.others B.later home.now to (spelled.Call object call) object.trader
+        (scene_of (B.seen backend.old) desk.old) result.body result.entry w.new
+        (scene_of (B.seen backend.new) desk.new) }
 {
     w.restart(to.order);
     match start_reply(w, to.id, NO_EXCEPTION) {
-        Ok(()) => answer_call(alloc, traders, home, desk, peers, words, w, object, call),
+        Ok(()) => answer_call(alloc, backend, home, desk, w, object, call),
         Err(_) => {
             let class = class_of(&call);
             drop(call);
@@ -158,41 +128,32 @@ fn perform<T: Traders, P: Peers, W: Words>(
 }
 
 /// Performs a call by its class. The writer holds what stands before the body of a Reply with a result.
-fn answer_call<T: Traders, P: Peers, W: Words>(
+fn answer_call<B: Backend>(
     alloc: Global,
-    traders: &mut T,
+    backend: &mut B,
     home: &Address,
     desk: &mut Desk,
-    peers: &mut P,
-    words: &mut W,
     w: &mut Writer,
     object: Object,
     call: Call,
 ) -> Answer
-    requires servable { IsServable (T.world traders.old) (spelled.Call object call) }
+    requires servable { IsServable (B.seen backend.old).world (spelled.Call object call) }
     requires home { IsAddress home.now }
     requires start { length w.old.bytes ≡ REPLY_START }
     requires numbers { desk.old.1 < 2 ^ 63 }
-    ensures same { T.same traders.old traders.new }
-    ensures same_peers { P.same peers.old peers.new }
-    ensures same_words { W.same words.old words.new }
-    ensures performs { Performs T.others T.later home.now (spelled.Call object call) object.trader w.old
-        (scene (T.world traders.old) desk.old (peers_seen (P.calls peers.old) (P.faults peers.old)) (W.word words.old))
-        result.body result.entry w.new
-        (scene (T.world traders.new) desk.new (peers_seen (P.calls peers.new) (P.faults peers.new))
-        (W.word words.new)) }
-    ensures faults { P.faults peers.old ≤ P.faults peers.new }
+    ensures same { B.same backend.old backend.new }
+    ensures performs { Performs B.others B.later home.now (spelled.Call object call) object.trader w.old
+        (scene_of (B.seen backend.old) desk.old) result.body result.entry w.new
+        (scene_of (B.seen backend.new) desk.new) }
 {
     match call {
-        Call::Change(c) => serve_change(traders, object, c),
-        Call::Look(look) => serve_look(alloc, traders, home, desk, w, object, look),
-        Call::AddLink(link) => serve_add_link(alloc, traders, home, peers, object, link),
-        Call::Iter(iter) => serve_iterator(alloc, traders, desk, w, object, iter),
-        Call::IsA(id) => serve_is_a::<T>(object, id),
-        Call::NonExistent => serve_non_existent::<T>(object),
-        Call::Query(query) => {
-            serve_query(alloc, traders, home, desk, peers, words, w, object, query)
-        }
-        Call::Resolve(names) => serve_resolve(alloc, traders, home, peers, object, names),
+        Call::Change(c) => backend.serve_change(object, c),
+        Call::Look(look) => backend.serve_look(alloc, home, desk, w, object, look),
+        Call::AddLink(link) => backend.serve_add_link(alloc, home, object, link),
+        Call::Iter(iter) => backend.serve_iterator(alloc, desk, w, object, iter),
+        Call::IsA(id) => serve_is_a::<B>(object, id),
+        Call::NonExistent => serve_non_existent::<B>(object),
+        Call::Query(query) => backend.serve_query(alloc, home, desk, w, object, query),
+        Call::Resolve(names) => backend.serve_resolve(alloc, home, object, names),
     }
 }

@@ -8,15 +8,15 @@ ghost use Rattle.td_reply.specs.Answers.{IfLong};
 ghost use Rattle.td_serve.specs.ReplyBytes.{chosen, outcome_reply};
 ghost use Rattle.td_serve.specs.Serving.{HasHead, Settles, SettlesBody, SettlesOutcome};
 
+use crate::backend::Backend;
 use crate::reply_to::ReplyTo;
 use crate::writing::{is_short, write_reply, write_short};
 use std::alloc::Global;
 use td_cdr::{Memory, Writer};
 use td_giop::seal;
-use td_lookup::{entry_in_vain, wanting};
+use td_lookup::wanting;
 use td_ops::Outcome;
 use td_reply::{Answer, Entry, ReplyBody};
-use td_trader::Traders;
 
 /// What is noted of a Request in the end, and whether the long writer has its reply.
 #[derive(Drop)]
@@ -27,9 +27,9 @@ pub(crate) struct Settled {
 
 /// Leaves the reply to a Request in one of the writers, or NO_MEMORY where memory is wanted for it; no bytes where none
 /// is expected.
-pub(crate) fn settle<T: Traders>(
+pub(crate) fn settle<B: Backend>(
     alloc: Global,
-    traders: &T,
+    backend: &B,
     trader: usize,
     short: &mut Writer,
     long: &mut Writer,
@@ -38,15 +38,15 @@ pub(crate) fn settle<T: Traders>(
 ) -> Settled
     requires reserved { 512 ≤ short.old.room }
     requires head { HasHead answer.body long.old }
-    requires within { IfLong answer.body (trader < length (T.world traders.now)) }
-    ensures settles { Settles (T.world traders.now) trader to answer.body answer.entry long.old
+    requires within { IfLong answer.body (trader < length (B.seen backend.now).world) }
+    ensures settles { Settles (B.seen backend.now).world trader to answer.body answer.entry long.old
         result.entry (chosen result.is_long short.new long.new) }
     ensures reserved { 512 ≤ short.new.room }
 {
     if to.answered {
         settle_body(
             alloc,
-            traders,
+            backend,
             trader,
             short,
             long,
@@ -74,9 +74,9 @@ fn leave_none(short: &mut Writer, body: ReplyBody, entry: Entry) -> Settled
 }
 
 /// The reply that is expected.
-fn settle_body<T: Traders>(
+fn settle_body<B: Backend>(
     alloc: Global,
-    traders: &T,
+    backend: &B,
     trader: usize,
     short: &mut Writer,
     long: &mut Writer,
@@ -86,14 +86,14 @@ fn settle_body<T: Traders>(
 ) -> Settled
     requires reserved { 512 ≤ short.old.room }
     requires head { HasHead body long.old }
-    requires within { IfLong body (trader < length (T.world traders.now)) }
-    ensures settles { SettlesBody (T.world traders.now) trader to body entry long.old result.entry
+    requires within { IfLong body (trader < length (B.seen backend.now).world) }
+    ensures settles { SettlesBody (B.seen backend.now).world trader to body entry long.old result.entry
         (chosen result.is_long short.new long.new) }
     ensures reserved { 512 ≤ short.new.room }
 {
     match body {
         ReplyBody::Outcome(outcome) => settle_outcome(
-            alloc, traders, trader, short, long, to, outcome, entry,
+            alloc, backend, trader, short, long, to, outcome, entry,
         ),
         ReplyBody::Written => {
             seal(long);
@@ -106,9 +106,9 @@ fn settle_body<T: Traders>(
 }
 
 /// The reply for an outcome that is still to be written.
-fn settle_outcome<T: Traders>(
+fn settle_outcome<B: Backend>(
     alloc: Global,
-    traders: &T,
+    backend: &B,
     trader: usize,
     short: &mut Writer,
     long: &mut Writer,
@@ -117,8 +117,8 @@ fn settle_outcome<T: Traders>(
     entry: Entry,
 ) -> Settled
     requires reserved { 512 ≤ short.old.room }
-    requires within { is_short outcome ≡ false → trader < length (T.world traders.now) }
-    ensures settles { SettlesOutcome (T.world traders.now) trader to outcome entry result.entry
+    requires within { is_short outcome ≡ false → trader < length (B.seen backend.now).world }
+    ensures settles { SettlesOutcome (B.seen backend.now).world trader to outcome entry result.entry
         (chosen result.is_long short.new long.new) }
     ensures reserved { 512 ≤ short.new.room }
 {
@@ -126,7 +126,7 @@ fn settle_outcome<T: Traders>(
     drop(outcome);
     match told {
         Ok(is_long) => Settled { entry, is_long },
-        Err(_) => settle_in_vain(alloc, traders, trader, short, to, entry),
+        Err(_) => settle_in_vain(alloc, backend, trader, short, to, entry),
     }
 }
 
@@ -157,22 +157,22 @@ pub(crate) fn tell_outcome(
 }
 
 /// NO_MEMORY, and what is noted then.
-fn settle_in_vain<T: Traders>(
+fn settle_in_vain<B: Backend>(
     alloc: Global,
-    traders: &T,
+    backend: &B,
     trader: usize,
     short: &mut Writer,
     to: ReplyTo,
     entry: Entry,
 ) -> Settled
     requires reserved { 512 ≤ short.old.room }
-    requires within { trader < length (T.world traders.now) }
-    ensures entry { result.entry ≡ in_vain (T.world traders.now) trader entry }
+    requires within { trader < length (B.seen backend.now).world }
+    ensures entry { result.entry ≡ in_vain (B.seen backend.now).world trader entry }
     ensures short { result.is_long ≡ false }
     ensures bytes { short.new.bytes ≡ outcome_reply to (wanting result.entry) }
     ensures reserved { 512 ≤ short.new.room }
 {
-    let entry = entry_in_vain(traders, trader, entry);
+    let entry = backend.entry_in_vain(trader, entry);
     let outcome = wanting(&entry);
     write_short(alloc, short, to, &outcome);
     drop(outcome);

@@ -1,9 +1,9 @@
 //! A Request: it is served, and what came of it is noted.
 
 ghost use Rattle.std.specs.Prelude.{◌≡◌, ◌<◌, ◌^◌, OnOk, OnErr};
-ghost use Rattle.td_lookup.specs.Scenes.{scene};
 ghost use Rattle.td_objects.specs.References.{IsAddress};
 ghost use Rattle.td_reply.specs.Linking.{peers_seen};
+ghost use Rattle.td_serve.specs.Backends.{scene_of};
 ghost use Rattle.td_session.specs.Prepared.{NotesHead, ServesHead, asked_of};
 ghost use Rattle.td_session.specs.Stages.{stage_in};
 
@@ -14,8 +14,8 @@ use td_giop::RequestHead;
 use td_iter::Desk;
 use td_journal::Journal;
 use td_out::Words;
-use td_reply::{Entry, judge};
-use td_serve::{Replies, ReplyTo, refuse_memory, serve_request};
+use td_reply::Entry;
+use td_serve::{Backend, BackendRef, Replies, ReplyTo, refuse_memory, serve_request};
 use td_trader::Traders;
 use td_walk::{Address, Peers};
 
@@ -50,13 +50,16 @@ pub(crate) fn answer_request<T: Traders, P: Peers, W: Words, J: Journal>(
         (W.word words.old)) }
 {
     room.journal.take_room()?;
-    let entry = serve_head(
-        alloc,
+    let mut backend = BackendRef {
         traders,
-        &room.home,
-        &mut room.desk,
         peers,
         words,
+    };
+    let entry = serve_head(
+        alloc,
+        &mut backend,
+        &room.home,
+        &mut room.desk,
         &mut room.replies,
         order,
         head,
@@ -66,37 +69,28 @@ pub(crate) fn answer_request<T: Traders, P: Peers, W: Words, J: Journal>(
 }
 
 /// Serves a Request, and tells what is noted of it.
-fn serve_head<T: Traders, P: Peers, W: Words>(
+fn serve_head<B: Backend>(
     alloc: Global,
-    traders: &mut T,
+    backend: &mut B,
     home: &Address,
     desk: &mut Desk,
-    peers: &mut P,
-    words: &mut W,
     replies: &mut Replies,
     order: Order,
     head: &RequestHead,
 ) -> Entry
     requires home { IsAddress home.now }
     requires numbers { desk.old.1 < 2 ^ 63 }
-    ensures same { T.same traders.old traders.new }
-    ensures same_peers { P.same peers.old peers.new }
-    ensures same_words { W.same words.old words.new }
-    ensures serves { ServesHead T.others T.later home.now order (asked_of head.now) head.now.body
-        (scene (T.world traders.old) desk.old (peers_seen (P.calls peers.old) (P.faults peers.old))
-        (W.word words.old)) result replies.new
-        (scene (T.world traders.new) desk.new (peers_seen (P.calls peers.new) (P.faults peers.new))
-        (W.word words.new)) }
+    ensures same { B.same backend.old backend.new }
+    ensures serves { ServesHead B.others B.later home.now order (asked_of head.now) head.now.body
+        (scene_of (B.seen backend.old) desk.old) result replies.new (scene_of (B.seen backend.new) desk.new) }
 {
     let to = ReplyTo {
         order,
         id: head.id,
         answered: head.answered,
     };
-    match judge(alloc, traders, desk, head.key, head.operation, &head.body) {
-        Ok(judged) => serve_request(
-            alloc, traders, home, desk, peers, words, replies, to, judged,
-        ),
-        Err(class) => refuse_memory::<T>(alloc, replies, to, class),
+    match backend.judge(alloc, desk, head.key, head.operation, &head.body) {
+        Ok(judged) => serve_request(alloc, backend, home, desk, replies, to, judged),
+        Err(class) => refuse_memory::<B>(alloc, replies, to, class),
     }
 }

@@ -6,7 +6,7 @@ use Rattle.td_serve.proofs.refusing.serve_refusal.Goals as goal
 pub returns : goal.returns
 returns g c = record {
   served = λ home s.
-      either_served g.T.Traders.others g.T.Traders.later home c.args.to s c.args.outcome
+      either_served g.B.Backend.others g.B.Backend.later home c.args.to s c.args.outcome
       Plain c.answer_refusal.new.replies refl c.answer_refusal.ensures;
   entry = refl;
 }

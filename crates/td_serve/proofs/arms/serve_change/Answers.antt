@@ -1,9 +1,0 @@
-use Rattle.td_serve.proofs.TraderCalls.{change_performs}
-use Rattle.td_serve.proofs.arms.serve_change.Goals as goal
-
-pub returns-clause-performs : goal.returns-clause-performs
-returns-clause-performs g c = λ home draft written d p words.
-    change_performs g.T.Traders.others g.T.Traders.later (g.T.Traders.world c.args.traders.now)
-    (g.T.Traders.world c.answer_change.new.traders) home c.args.object c.args.c draft written d p words
-    c.answer_change.result c.or_no_memory.result c.requires c.answer_change.ensures.ok
-    c.answer_change.ensures.taken_back c.answer_change.ensures.err c.or_no_memory.ensures
