@@ -1,7 +1,7 @@
 -- From what a number of traders comes to, to the command that names it.
 use Rattle.std.proofs.Common.{◌≡◌, ℕ, false, List, Option, Some, None, option_map, sym, ap, subst, ◌∙◌}
 use Rattle.td_make.specs.Generated.{generated}
-use Rattle.td_session.specs.Outside.{Outside}
+use Rattle.td_stream.specs.Outside.{Outside}
 use Rattle.td_command.specs.Commands.{Command, Drill, Make, command_by, command_in, command_of, is_pipe}
 use Rattle.td_command.specs.Commands.{two_words, verb_named}
 use Rattle.td_command.specs.Printing.{DrillsWith, IsUnread, Prints, PrintsOf, sink_of}

@@ -6,8 +6,8 @@ use Rattle.td_iter.specs.Desks.{Live}
 use Rattle.td_lookup.specs.Scenes.{Scene, scene}
 use Rattle.td_reply.specs.Linking.{PeersSeen, peers_seen}
 use Rattle.td_reply.specs.declared.entry.Entry.{Entry}
-use Rattle.td_session.specs.declared.end.End.{End}
-use Rattle.td_session.specs.Outside.{Outside}
+use Rattle.td_stream.specs.declared.end.End.{End}
+use Rattle.td_stream.specs.Outside.{Outside}
 use Rattle.td_session.specs.Sessions.{Serves}
 use Rattle.td_trader.specs.PlainTraders.{PlainTrader}
 use Rattle.td_trader.specs.Solos.{nothing, solo_view, unchanged}

@@ -6,9 +6,9 @@ use Rattle.td_lines.specs.Steps.{refusal}
 use Rattle.td_lines.specs.declared.cause.LineCause.{LineCause}
 use Rattle.td_out.specs.declared.fault.TextFault.TheVariants as fault
 use Rattle.td_out.specs.Texts.{HasText, longest_text}
-use Rattle.td_session.specs.declared.end.End.{End}
-use Rattle.td_session.specs.Completeness.{IsServable, NoneFailed}
-use Rattle.td_session.specs.Outside.{Outside}
+use Rattle.td_stream.specs.declared.end.End.{End}
+use Rattle.td_stream.specs.Completeness.{IsServable, NoneFailed}
+use Rattle.td_stream.specs.Outside.{Outside}
 use Rattle.td_trader.specs.Solos.{nothing, unchanged}
 use Rattle.td_session.proofs.Complete.{complete}
 use Rattle.td_command.specs.declared.ended.Ended.{Ended}

@@ -4,8 +4,9 @@ use Rattle.td_file.specs.Files.{Opening, opening_of}
 use Rattle.td_lookup.specs.Scenes.{Scene}
 use Rattle.td_out.specs.Causes.{Rose}
 use Rattle.td_out.specs.Texts.{Named, text_named, longest_text}
-use Rattle.td_session.specs.Completeness.{IsServable, NoneFailed, ServesAll}
-use Rattle.td_session.specs.Outside.{Outside}
+use Rattle.td_session.specs.Completeness.{ServesAll}
+use Rattle.td_stream.specs.Completeness.{IsServable, NoneFailed}
+use Rattle.td_stream.specs.Outside.{Outside}
 use Rattle.td_trader.specs.Solos.{nothing, unchanged}
 use Rattle.td_command.specs.Commands.{Pipe, command_of}
 use Rattle.td_command.specs.Runs.{Seeded, Shelves, beginning}

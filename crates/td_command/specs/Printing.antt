@@ -8,7 +8,7 @@ use Rattle.td_lines.specs.Steps.{refusal}
 use Rattle.td_out.specs.Causes.{Rose}
 use Rattle.td_out.specs.Texts.{HasText, longest_text}
 use Rattle.td_out.specs.declared.fault.TextFault.TheVariants as fault
-use Rattle.td_session.specs.Outside.{Outside}
+use Rattle.td_stream.specs.Outside.{Outside}
 use Rattle.td_tell.specs.Texts.{Tells}
 use Rattle.td_command.specs.Seeds.{Seeded, seeding_of}
 use Rattle.td_command.specs.Shelves.{Shelves}

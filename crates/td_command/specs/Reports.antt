@@ -2,7 +2,7 @@
 use Rattle.std.specs.Prelude.{ℕ, List, [], ◌++◌, codes, decimal}
 use Rattle.td_lines.specs.declared.cause.LineCause.{LineCause}
 use Rattle.td_lines.specs.declared.cause.LineCause.TheVariants as cause
-use Rattle.td_session.specs.declared.end.End.TheVariants as end
+use Rattle.td_stream.specs.declared.end.End.TheVariants as end
 use Rattle.td_command.specs.declared.ended.Ended.{Ended}
 use Rattle.td_command.specs.declared.ended.Ended.TheVariants.{Usage, Missing, TooLong, Refused, Memory, Printed}
 use Rattle.td_command.specs.declared.ended.Ended.TheVariants.{PrintFault, Served}

@@ -10,8 +10,8 @@ use Rattle.td_out.specs.declared.fault.TextFault.TheVariants as fault
 use Rattle.td_out.specs.Texts.{HasText}
 use Rattle.td_reply.specs.Linking.{peers_seen}
 use Rattle.td_reply.specs.declared.entry.Entry.{Entry}
-use Rattle.td_session.specs.declared.end.End.{End}
-use Rattle.td_session.specs.Outside.{Outside}
+use Rattle.td_stream.specs.declared.end.End.{End}
+use Rattle.td_stream.specs.Outside.{Outside}
 use Rattle.td_session.specs.Sessions.{Serves}
 use Rattle.td_trader.specs.PlainTraders.{PlainTrader}
 use Rattle.td_trader.specs.Solos.{nothing, solo_view, unchanged}

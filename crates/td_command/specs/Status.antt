@@ -1,7 +1,7 @@
 -- The statuses of the program.
 use Rattle.std.specs.Prelude.{ℕ}
-use Rattle.td_session.specs.declared.end.End.{End}
-use Rattle.td_session.specs.declared.end.End.TheVariants as end
+use Rattle.td_stream.specs.declared.end.End.{End}
+use Rattle.td_stream.specs.declared.end.End.TheVariants as end
 use Rattle.td_command.specs.declared.ended.Ended.{Ended}
 use Rattle.td_command.specs.declared.ended.Ended.TheVariants.{Usage, Missing, TooLong, Refused, Memory, Printed}
 use Rattle.td_command.specs.declared.ended.Ended.TheVariants.{PrintFault, Served}

@@ -2,7 +2,7 @@
 
 ghost use Rattle.std.specs.Prelude.{◌≡◌, false, map, string_bytes};
 ghost use Rattle.std.specs.Option.{option_map};
-ghost use Rattle.td_session.specs.Outside.{outside};
+ghost use Rattle.td_stream.specs.Outside.{outside};
 ghost use Rattle.td_command.specs.Commands.{command_by, command_of, is_pipe, two_words};
 ghost use Rattle.td_command.specs.Completeness.{Completes};
 ghost use Rattle.td_command.specs.Runs.{Obeys, Runs, shelves};

@@ -2,7 +2,7 @@
 
 ghost use Rattle.std.specs.Prelude.{◌≡◌, false, map, string_bytes};
 ghost use Rattle.std.specs.Process.{exit_status};
-ghost use Rattle.td_session.specs.Outside.{outside};
+ghost use Rattle.td_stream.specs.Outside.{outside};
 ghost use Rattle.td_command.specs.Commands.{command_of, is_pipe};
 ghost use Rattle.td_command.specs.Completeness.{Completes};
 ghost use Rattle.td_command.specs.Reports.{line_of};

@@ -4,7 +4,7 @@ ghost use Rattle.std.specs.Prelude.{◌≡◌, ◌≤◌, length};
 ghost use Rattle.td_command.specs.Runs.{ServesFile, ServesOpened, ServesText, shelves};
 ghost use Rattle.td_file.specs.Files.{seen};
 ghost use Rattle.td_objects.specs.References.{IsAddress};
-ghost use Rattle.td_session.specs.Outside.{outside};
+ghost use Rattle.td_stream.specs.Outside.{outside};
 
 use crate::ended::Ended;
 use std::alloc::Global;

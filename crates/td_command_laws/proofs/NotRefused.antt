@@ -21,7 +21,7 @@ use Rattle.td_lines.specs.Steps.{refusal}
 use Rattle.td_lines.specs.declared.cause.LineCause.{LineCause}
 use Rattle.td_make.specs.Generated.{generated}
 use Rattle.td_make_file_laws.specs.Opened.{GeneratedOpen, Opens}
-use Rattle.td_session.specs.Outside.{Outside}
+use Rattle.td_stream.specs.Outside.{Outside}
 
 -- ---- the number of a drill's traders is from 1 to 64
 

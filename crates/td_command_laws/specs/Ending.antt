@@ -1,6 +1,6 @@
 -- How a drill ends.
 use Rattle.std.specs.Prelude.{◌≡◌, ℕ, List, Option, Some, ◌⊎◌}
-use Rattle.td_session.specs.Outside.{Outside}
+use Rattle.td_stream.specs.Outside.{Outside}
 use Rattle.td_command.specs.Commands.{Drill, command_of}
 use Rattle.td_command.specs.Runs.{Runs, Seeded, Shelves}
 

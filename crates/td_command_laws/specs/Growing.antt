@@ -1,8 +1,8 @@
 -- What comes to the traders of a file in a session.
 use Rattle.std.specs.Prelude.{ℕ, map}
 use Rattle.td_file.specs.Files.{Opening}
-use Rattle.td_session.specs.Outside.{Outside}
-use Rattle.td_session.specs.declared.end.End.{End}
+use Rattle.td_stream.specs.Outside.{Outside}
+use Rattle.td_stream.specs.declared.end.End.{End}
 use Rattle.td_trader.specs.Solos.{solo_view}
 use Rattle.td_turns.specs.Laws.{GrowsByOwn}
 use Rattle.td_turns.specs.Turns.{noted_of}

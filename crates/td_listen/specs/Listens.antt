@@ -12,7 +12,7 @@ use Rattle.td_lines.specs.Steps.{refusal}
 use Rattle.td_out.specs.Causes.{Rose}
 use Rattle.td_out.specs.Texts.{HasText}
 use Rattle.td_out.specs.declared.fault.TextFault.TheVariants as fault
-use Rattle.td_session.specs.Outside.{Outside}
+use Rattle.td_stream.specs.Outside.{Outside}
 use Rattle.td_sessions.specs.Sessions.{HandsSome, Seeded, Told}
 use Rattle.td_sessions.specs.Whole.{ServesAll}
 use Rattle.td_listen.specs.declared.listened.Listened.{Listened}

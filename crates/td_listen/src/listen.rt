@@ -6,7 +6,7 @@ ghost use Rattle.td_command.specs.Shelves.{shelves};
 ghost use Rattle.td_file.specs.Files.{seen};
 ghost use Rattle.td_listen.specs.Listens.{Listens, Obeys, ServesFile, ServesOpening, ServesText, file_named, front};
 ghost use Rattle.td_objects.specs.References.{IsAddress};
-ghost use Rattle.td_session.specs.Outside.{outside};
+ghost use Rattle.td_stream.specs.Outside.{outside};
 
 use crate::listened::{Listened, tell};
 use std::alloc::Global;

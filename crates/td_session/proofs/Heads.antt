@@ -21,7 +21,7 @@ use Rattle.td_serve.specs.ReplyBytes.{reply_to}
 use Rattle.td_serve.specs.Requests.{NotesNoCall, Served}
 use Rattle.td_trader.specs.Worlds.{View}
 use Rattle.td_walk.specs.declared.trace.Address.{Address}
-use Rattle.td_session.specs.Prepared.{ServesHead}
+use Rattle.td_session.specs.Serving.{ServesHead}
 
 module _ (others : List Accepted → Type 0) (later : Marks → Marks → Type 0) (home : Address) where
   -- judging has left the kept iterators as they were

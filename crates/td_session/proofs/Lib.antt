@@ -1,9 +1,6 @@
-pub mod ByType
 pub mod Complete
-pub mod Ends
-pub mod Fronts
+pub mod Exchanged
 pub mod Headlined
 pub mod Heads
 pub mod Leading
-pub mod Numbers
-pub mod Runs
+pub mod Messages

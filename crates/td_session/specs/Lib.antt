@@ -1,12 +1,7 @@
 pub mod Completeness
-pub mod Ends
 pub mod Headline
-pub mod Outside
-pub mod Pieces
-pub mod Prepared
-pub mod Progress
-pub mod Responses
+pub mod NumberLaws
 pub mod Rooms
+pub mod Serving
 pub mod Sessions
 pub mod Stages
-pub mod Steps

@@ -4,10 +4,10 @@ ghost use Rattle.std.specs.Prelude.{List};
 ghost use Rattle.td_lookup.specs.Scenes.{Scene};
 ghost use Rattle.td_reply.specs.declared.entry.Entry.{Entry};
 ghost use Rattle.td_walk.specs.declared.trace.Address.{Address};
-ghost use Rattle.td_session.specs.declared.end.End.{End};
-ghost use Rattle.td_session.specs.Outside.{Outside};
-ghost use Rattle.td_session.specs.Sessions.{Serves};
 ghost use Rattle.td_session.specs.Completeness.{Completes};
+ghost use Rattle.td_session.specs.Sessions.{Serves};
+ghost use Rattle.td_stream.specs.Outside.{Outside};
+ghost use Rattle.td_stream.specs.declared.end.End.{End};
 
 use td_trader::Traders;
 

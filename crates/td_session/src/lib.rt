@@ -1,15 +1,15 @@
-//! A session: the bytes of a client in, the bytes of the replies out, over any traders, peers, words and journal.
+//! A session: the traders' servant of a connection, over any traders, peers, words and journal, and the transport
+//! over it.
 #![tactic(auto)]
 
-mod end;
-mod front;
+mod answering;
 mod laws;
-mod piece;
 mod request;
 mod room;
+mod servant;
 mod session;
 
-pub use end::{Cause, End};
 pub use laws::all_messages_are_served;
 pub use room::Room;
 pub use session::serve_connection;
+pub use td_stream::{Cause, End};

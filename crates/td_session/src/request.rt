@@ -1,11 +1,11 @@
 //! A Request: it is served, and what came of it is noted.
 
-ghost use Rattle.std.specs.Prelude.{◌≡◌, ◌<◌, ◌^◌, OnOk, OnErr};
+ghost use Rattle.std.specs.Prelude.{◌<◌, ◌^◌, OnOk, OnErr};
 ghost use Rattle.td_objects.specs.References.{IsAddress};
-ghost use Rattle.td_reply.specs.Linking.{peers_seen};
 ghost use Rattle.td_serve.specs.Backends.{scene_of};
-ghost use Rattle.td_session.specs.Prepared.{NotesHead, ServesHead, asked_of};
+ghost use Rattle.td_session.specs.Serving.{NotesHead, ServesHead, Stays};
 ghost use Rattle.td_session.specs.Stages.{stage_in};
+ghost use Rattle.td_stream.specs.Heads.{asked_of};
 
 use crate::room::Room;
 use std::alloc::Global;
@@ -13,51 +13,33 @@ use td_cdr::{Memory, Order};
 use td_giop::RequestHead;
 use td_iter::Desk;
 use td_journal::Journal;
-use td_out::Words;
 use td_reply::Entry;
-use td_serve::{Backend, BackendRef, Replies, ReplyTo, refuse_memory, serve_request};
-use td_trader::Traders;
-use td_walk::{Address, Peers};
+use td_serve::{Backend, Replies, ReplyTo, refuse_memory, serve_request};
+use td_walk::Address;
 
 /// Serves a Request, and notes what came of it, in room that is taken before. Its reply stands in the room then.
 ///
 /// # Errors
 ///
 /// `Memory` where there is no room to note it; nothing was done then.
-pub(crate) fn answer_request<T: Traders, P: Peers, W: Words, J: Journal>(
+pub(crate) fn answer_request<B: Backend, J: Journal>(
     alloc: Global,
-    traders: &mut T,
+    backend: &mut B,
     room: &mut Room<J>,
-    peers: &mut P,
-    words: &mut W,
     order: Order,
     head: &RequestHead,
 ) -> Result<(), Memory>
     requires { room.old.desk.1 < 2 ^ 63 }
-    ensures same { T.same traders.old traders.new }
-    ensures same_peers { P.same peers.old peers.new }
-    ensures same_words { W.same words.old words.new }
-    ensures home { room.new.home ≡ room.old.home }
-    ensures ok { OnOk result (NotesHead T.others T.later room.old.home order (asked_of head.now) head.now.body
-        (stage_in (T.world traders.old) room.old (peers_seen (P.calls peers.old) (P.faults peers.old))
-        (W.word words.old)) room.new.replies
-        (stage_in (T.world traders.new) room.new (peers_seen (P.calls peers.new) (P.faults peers.new))
-        (W.word words.new))) }
+    ensures same { B.same backend.old backend.new }
+    ensures ok { OnOk result (NotesHead B.others B.later order (asked_of head.now) head.now.body
+        (stage_in (B.seen backend.old) room.old) room.new.replies (stage_in (B.seen backend.new) room.new)) }
     ensures err { OnErr result
-        (stage_in (T.world traders.new) room.new (peers_seen (P.calls peers.new) (P.faults peers.new))
-        (W.word words.new)
-        ≡ stage_in (T.world traders.old) room.old (peers_seen (P.calls peers.old) (P.faults peers.old))
-        (W.word words.old)) }
+        (Stays (stage_in (B.seen backend.old) room.old) (stage_in (B.seen backend.new) room.new)) }
 {
     room.journal.take_room()?;
-    let mut backend = BackendRef {
-        traders,
-        peers,
-        words,
-    };
     let entry = serve_head(
         alloc,
-        &mut backend,
+        backend,
         &room.home,
         &mut room.desk,
         &mut room.replies,

@@ -63,6 +63,13 @@ impl<J: Journal> Room<J> {
         })
     }
 
+    /// The reply to the last message.
+    pub(crate) fn reply(&self) -> &[u8]
+        ensures { result.now ≡ self.now.replies }
+    {
+        self.replies.bytes()
+    }
+
     /// The journal alone; the iterators and the room for replies are dropped.
     pub fn into_journal(self) -> J
         ensures { J.entries result ≡ self.journal }

@@ -3,8 +3,8 @@ use Rattle.std.proofs.Common.{◌≡◌, ◌∙◌, ℕ, Bool, List, [], OnOk, O
 use Rattle.std.proofs.lemmas.Result.{on_ok_weaker}
 use Rattle.td_accept.specs.Doors.{Door, bound_to}
 use Rattle.td_reply.specs.declared.entry.Entry.{Entry}
-use Rattle.td_session.specs.Outside.{Outside}
-use Rattle.td_session.specs.declared.end.End.{End}
+use Rattle.td_stream.specs.Outside.{Outside}
+use Rattle.td_stream.specs.declared.end.End.{End}
 use Rattle.td_trader.specs.PlainTraders.{PlainTrader}
 use Rattle.td_trader.specs.Worlds.{View}
 use Rattle.td_walk.specs.declared.trace.Address.{Address}

@@ -9,7 +9,7 @@ use Rattle.std.specs.List.{AllZip}
 use Rattle.td_accept.specs.Doors.{Comes, Door}
 use Rattle.td_cdr.specs.Marks.{In}
 use Rattle.td_fed.specs.Trails.{own_at}
-use Rattle.td_session.specs.Outside.{Outside}
+use Rattle.td_stream.specs.Outside.{Outside}
 use Rattle.td_trader.specs.Worlds.{View}
 use Rattle.td_workers.specs.Works.{came, closed, over, went}
 use Rattle.td_sessions.proofs.Worlds.{bare_twice, continue_bare, continue_itself, continue_on}

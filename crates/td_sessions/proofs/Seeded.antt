@@ -7,8 +7,8 @@ use Rattle.td_lookup.specs.Scenes.{Scene, scene}
 use Rattle.td_register.specs.declared.history.Accepted.{Accepted}
 use Rattle.td_reply.specs.Linking.{PeersSeen, peers_seen}
 use Rattle.td_reply.specs.declared.entry.Entry.{Entry}
-use Rattle.td_session.specs.declared.end.End.{End}
-use Rattle.td_session.specs.Outside.{Outside, outside}
+use Rattle.td_stream.specs.declared.end.End.{End}
+use Rattle.td_stream.specs.Outside.{Outside, outside}
 use Rattle.td_session.specs.Sessions.{Serves}
 use Rattle.td_trader.specs.Worlds.{View}
 use Rattle.td_walk.specs.declared.trace.Address.{Address}

@@ -16,7 +16,7 @@ use Rattle.td_sessions.specs.contracts.session.Served as served
 use Rattle.td_sessions.specs.contracts.session.Session as session
 use Rattle.td_sends.proofs.Sends.{any_send, group_pass_field, offer_send}
 use Rattle.td_serve.proofs.replies.Replies.TheSendSync as replies_cross
-use Rattle.td_session.proofs.end.End.TheSendSync as end_cross
+use Rattle.td_stream.proofs.end.End.TheSendSync as end_cross
 use Rattle.td_session.specs.contracts.room.Room as room
 use Rattle.td_session.specs.contracts.room.Room.TheInside as room_inside
 use Rattle.td_walk.proofs.trace.Address.TheSendSync as address_cross

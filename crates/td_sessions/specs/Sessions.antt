@@ -12,8 +12,8 @@ use Rattle.td_out.specs.RandomWords.{Seeding}
 use Rattle.td_register.specs.declared.history.Accepted.{Accepted}
 use Rattle.td_reply.specs.Linking.{peers_seen}
 use Rattle.td_reply.specs.declared.entry.Entry.{Entry}
-use Rattle.td_session.specs.declared.end.End.{End}
-use Rattle.td_session.specs.Outside.{Outside}
+use Rattle.td_stream.specs.declared.end.End.{End}
+use Rattle.td_stream.specs.Outside.{Outside}
 use Rattle.td_session.specs.Sessions.{Serves}
 use Rattle.td_trader.specs.declared.solo.Solo.{Solo}
 use Rattle.td_trader.specs.Following.{Follows}

@@ -6,7 +6,7 @@ use Rattle.td_accept.specs.Doors.{Door, bound_to}
 use Rattle.td_cdr.specs.Marks.{In}
 use Rattle.td_fed.specs.Trails.{own_at}
 use Rattle.td_group.specs.Rows.{Rows}
-use Rattle.td_session.specs.Outside.{Outside}
+use Rattle.td_stream.specs.Outside.{Outside}
 use Rattle.td_trader.specs.declared.solo.Solo.{Solo}
 use Rattle.td_trader.specs.PlainTraders.{PlainTrader}
 use Rattle.td_trader.specs.Worlds.{View, view_of}

@@ -5,7 +5,7 @@ ghost use Rattle.td_cell.specs.Passes.{opened};
 ghost use Rattle.td_group.specs.Grouping.{AreOpening, are_met};
 ghost use Rattle.td_group.specs.Seeing.{seen_by};
 ghost use Rattle.td_objects.specs.References.{IsAddress};
-ghost use Rattle.td_session.specs.Outside.{outside};
+ghost use Rattle.td_stream.specs.Outside.{outside};
 ghost use Rattle.td_sessions.specs.Sessions.{HandsSome, ServesOn, StopsSo};
 ghost use Rattle.td_sessions.specs.Whole.{HandsOn, ServesAll, ServesFrom, opened_views};
 

@@ -3,7 +3,7 @@
 ghost use Rattle.std.specs.Prelude.{◌≡◌, ℕ, is_some, length, map};
 ghost use Rattle.td_group.specs.Grouping.{SamePasses};
 ghost use Rattle.td_group.specs.Seeing.{seen_by};
-ghost use Rattle.td_session.specs.Outside.{outside};
+ghost use Rattle.td_stream.specs.Outside.{outside};
 ghost use Rattle.td_session.specs.Rooms.{IsNew};
 ghost use Rattle.td_sessions.specs.Sessions.{Serving, ServesOver};
 

@@ -13,7 +13,7 @@ use Rattle.td_group.specs.Rows.{Rows}
 use Rattle.td_lookup.specs.Scenes.{scene}
 use Rattle.td_reply.specs.Linking.{peers_seen}
 use Rattle.td_reply.specs.declared.entry.Entry.{Entry}
-use Rattle.td_session.specs.Outside.{Outside}
+use Rattle.td_stream.specs.Outside.{Outside}
 use Rattle.td_sessions.specs.Sessions.{Begun, Closes, Continues, Ended, Seeded, Serving, Stand, Told}
 use Rattle.td_sessions.specs.Whole.{AreApart, BeginsAfter, Every, HasChanged, ServesAll, Visit, beginning, opened_views}
 use Rattle.td_sessions_laws.proofs.OneSession.{IsSafe, IsSomewhere, all-safe, all-somewhere}

@@ -10,7 +10,7 @@ use Rattle.td_ops.specs.declared.outcome.Outcome.TheVariants.{Done}
 use Rattle.td_ops.specs.declared.outcome.Reply.{Reply}
 use Rattle.td_register.specs.declared.history.Accepted.{Accepted}
 use Rattle.td_reply.specs.declared.entry.Entry.{Entry}
-use Rattle.td_session.specs.Outside.{Outside}
+use Rattle.td_stream.specs.Outside.{Outside}
 use Rattle.td_sessions.specs.Sessions.{Seeded, Serving, Told}
 use Rattle.td_sessions.specs.Whole.{Every, ServesAll, Visit}
 use Rattle.td_trader.specs.Following.{Follows}

@@ -13,7 +13,7 @@ use Rattle.td_reply.specs.Objects.{object_at}
 use Rattle.td_serve.specs.ReplyBytes.{locate_reply}
 use Rattle.td_trader.specs.Worlds.{View}
 use Rattle.td_turns.specs.Examples.{WorkedJournal, WorkedRun, cancelling, locating, unknown}
-use Rattle.td_turns.specs.Messages.{behind, order_of}
+use Rattle.td_stream.specs.Messages.{behind, order_of}
 use Rattle.td_turns.specs.Turns.{cancel, is_live, locate}
 use Rattle.td_walk.specs.declared.trace.Address.{Address}
 

@@ -15,8 +15,9 @@ use Rattle.td_register.specs.declared.history.Accepted.{Accepted}
 use Rattle.td_reply.specs.declared.entry.Entry.TheVariants.{Point, Walk}
 use Rattle.td_reply.specs.declared.judging.Judged.TheVariants.{Call}
 use Rattle.td_reply.specs.declared.objects.Object.{Object}
+use Rattle.td_stream.specs.Exchanges.{output}
 use Rattle.td_turns.specs.Journals.{all_marks_in, all_places_in, all_served_at}
-use Rattle.td_turns.specs.Turns.{Noted, Run, Turn, output}
+use Rattle.td_turns.specs.Turns.{Noted, Run, Turn, exchanges_of}
 use Rattle.td_value.specs.declared.key.Kind.TheVariants as kind
 use Rattle.td_walk.specs.declared.trace.Address.{Address}
 use Rattle.td_walk.specs.declared.trace.TraceItem.TheVariants as item
@@ -98,4 +99,4 @@ two_turns s =
 pub record WorkedRun (others : List Accepted → Type 0) (later : Marks → Marks → Type 0) (home : Address) (s : Scene)
     : Type 0 where
   pub run : Run others later home s (two_turns s) s
-  pub told : output (two_turns s) ≡ unknown
+  pub told : output (exchanges_of (two_turns s)) ≡ unknown

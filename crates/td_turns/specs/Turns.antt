@@ -1,9 +1,7 @@
 -- What a session makes of its messages, one after the other (CORBA, chapter on General Inter-ORB Protocol, "GIOP
 -- Messages"): a Request is served, a LocateRequest is told whether its key is that of a live object, and a
 -- CancelRequest is ignored.
-use Rattle.std.specs.Prelude.{◌≡◌, ℕ, Bool, List, [], ◌∷◌, ◌++◌, map, count_by, Option, None}
-use Rattle.std.specs.Prelude.{Some, Ok, is_some}
-use Rattle.std.specs.List.{flat_map}
+use Rattle.std.specs.Prelude.{◌≡◌, ℕ, Bool, List, [], ◌∷◌, ◌++◌, map, Option, None, Some, Ok, is_some}
 use Rattle.td_cdr.specs.Marks.{Marks}
 use Rattle.td_cdr.specs.Place.{At}
 use Rattle.td_giop.specs.Heads.{Request, request_at, locate_at, cancel_at}
@@ -19,8 +17,9 @@ use Rattle.td_reply.specs.declared.entry.Entry.{Entry}
 use Rattle.td_reply.specs.declared.judging.Judged.{Judged}
 use Rattle.td_serve.specs.ReplyBytes.{locate_reply, reply_to}
 use Rattle.td_serve.specs.Requests.{NotesNoCall, Served}
+use Rattle.td_stream.specs.Exchanges.{Exchange, exchange}
+use Rattle.td_stream.specs.Messages.{behind, kind_of, order_of}
 use Rattle.td_trader.specs.Worlds.{View}
-use Rattle.td_turns.specs.Messages.{behind, is_request, kind_of, order_of}
 use Rattle.td_walk.specs.declared.trace.Address.{Address}
 
 -- a Request as it was served: what it asks for, its outcome, and what is noted of it
@@ -88,16 +87,12 @@ Run others later home s (t ∷ ts) u = IsTurn others later home s t × Run other
 
 -- ---- what is told of a run
 
-abbrev pub messages_of : List Turn → List (List ℕ)
-messages_of turns = map (λ t. t.message) turns
+-- a message that was served, and what it was answered with
+abbrev pub exchange_of : Turn → Exchange
+exchange_of turn = exchange turn.message turn.reply
 
--- what the served messages are answered with
-abbrev pub output : List Turn → List ℕ
-output turns = flat_map (λ t. t.reply) turns
-
--- how many Requests they are
-abbrev pub requests : List Turn → ℕ
-requests turns = count_by (λ t. is_request t.message) turns
+abbrev pub exchanges_of : List Turn → List Exchange
+exchanges_of turns = map exchange_of turns
 
 abbrev pub noted_in : Option Noted → List Noted
 noted_in None = []

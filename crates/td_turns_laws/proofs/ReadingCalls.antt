@@ -20,7 +20,7 @@ use Rattle.td_reply.specs.Objects.{object_at}
 use Rattle.td_reply.specs.declared.judging.Judged.TheVariants.{Call}
 use Rattle.td_reply.specs.declared.objects.Object.{Object}
 use Rattle.td_trader.specs.Worlds.{View}
-use Rattle.td_turns.specs.Messages.{behind}
+use Rattle.td_stream.specs.Messages.{behind}
 
 -- a body of octets that stands within its message
 pub record IsBody (body : At) : Type 0 where

@@ -10,7 +10,7 @@ use Rattle.td_register.specs.declared.history.Accepted.{Accepted}
 use Rattle.td_serve.specs.ReplyBytes.{reply_to}
 use Rattle.td_trader_laws.specs.WritableWorlds.{OthersAreAdmitted}
 use Rattle.td_turns.specs.Journals.{all_gave}
-use Rattle.td_turns.specs.Messages.{behind, order_of}
+use Rattle.td_stream.specs.Messages.{behind, order_of}
 use Rattle.td_turns.specs.Turns.{Noted, Run, Turn, noted_of}
 use Rattle.td_turns_laws.specs.Spelled.{IsAnswered, IsTold}
 use Rattle.td_turns_laws.specs.Writable.{AdmitsGifts, IsWritableScene}

@@ -1,6 +1,6 @@
 use Rattle.td_session.proofs.Heads.{refused_head, served_head}
-use Rattle.td_session.specs.Prepared.{asked_of}
 use Rattle.td_session.proofs.request.serve_head.Goals as goal
+use Rattle.td_stream.specs.Heads.{asked_of}
 
 pub returns-in-Ok-clause-serves : goal.returns-in-Ok-clause-serves
 returns-in-Ok-clause-serves g c =

@@ -1,7 +1,7 @@
--- The numbers of iterators rise by one with a Request at most.
-use Rattle.std.proofs.Common.{◌≡◌, ℕ, ◌+◌, ◌≤◌, Bool, true, false, cond, List, [], ◌∷◌, Option, None, Some, ap}
-use Rattle.std.proofs.Common.{inl, inr, arith, drop, eqb}
-use Rattle.std.proofs.lemmas.List.Sums.{sum_by-cons}
+-- The numbers of iterators rise by one with a Request at most, and with no other message.
+use Rattle.std.proofs.Common.{◌≡◌, ℕ, ◌+◌, ◌<◌, ◌≤◌, Bool, true, false, cond, List, Option, None, Some, ap}
+use Rattle.std.proofs.Common.{inl, inr, arith, drop, eqb, refl}
+use Rattle.std.proofs.lemmas.Bool.{ne_eqb}
 use Rattle.td_cdr.specs.Marks.{Marks}
 use Rattle.td_cdr.specs.Writing.{Draft}
 use Rattle.td_codes.specs.Formats.{is_some}
@@ -23,17 +23,14 @@ use Rattle.td_reply.specs.declared.judging.Judged.{Judged}
 use Rattle.td_reply.specs.declared.judging.Judged.TheVariants.{Call, Refused}
 use Rattle.td_reply.specs.declared.objects.Object.{Object}
 use Rattle.td_serve.specs.Requests.{Answers, CallComes, Comes}
-use Rattle.td_turns.specs.Messages.{is_request}
-use Rattle.td_turns.specs.Turns.{IsTurn, Run, Turn, request, locate, cancel, requests}
+use Rattle.td_stream.specs.Messages.{is_request, kind_of}
+use Rattle.td_turns.specs.Turns.{IsTurn, Turn, request, locate, cancel}
 use Rattle.td_value.specs.declared.structures.Offer.{Offer}
 use Rattle.td_walk.specs.declared.trace.Address.{Address}
 use Rattle.td_walk.specs.declared.trace.Visit.{Visit}
 use Rattle.td_walk.specs.declared.trace.Visit.TheVariants as visit
-use Rattle.td_session.specs.Outside.{Outside}
-use Rattle.td_session.specs.Progress.{Stand}
-use Rattle.td_session.specs.Stages.{Stage}
-use Rattle.td_session.proofs.ByType.{not_request}
-use Rattle.td_session.proofs.Leading.{Came}
+use Rattle.td_session.specs.Serving.{ServesMessage}
+use Rattle.td_session.specs.Stages.{Stage, turn_of}
 
 -- ---- of one call
 
@@ -80,7 +77,11 @@ desk_of s = s.desk
 abbrev counted : Bool → ℕ
 counted b = cond b 1 0
 
--- ---- of one turn, and of many
+-- ---- of one message
+
+-- it is no Request
+not_request : (m : List ℕ) (k : ℕ) → kind_of m ≡ k → 0 < k → is_request m ≡ false
+not_request m k e some = rw (e, ne_eqb k 0 (omega (arith, some))) refl
 
 module _ (others : List Accepted → Type 0) (later : Marks → Marks → Type 0) (home : Address) where
   call_rises : (x : Object) (c : Asking) (draft : Draft) (s : Scene) (o : Outcome) (e : Entry) (t : Scene)
@@ -123,24 +124,9 @@ module _ (others : List Accepted → Type 0) (later : Marks → Marks → Type 0
   turn_rises s t (cancel c) =
       kept_by s t.after (is_request t.message) (not_request t.message 2 c.kind (omega arith)) c.kept
 
-  run_rises : (s u : Scene) (ts : List Turn) → Run others later home s ts u
-      → number u.desk ≤ number s.desk + requests ts
-  run_rises s u [] run = omega (arith, ap (λ (x : Scene). number x.desk) run)
-  run_rises s u (t ∷ ts) run =
-      omega (
-        arith,
-        turn_rises s t run.0,
-        run_rises t.after u ts run.1,
-        sum_by-cons (λ (v : Turn). cond (is_request v.message) 1 0) t ts,
-      )
-
-  -- from 1 on
-  pub numbered : (s m : Stage) (before now : Outside) (at : Stand) → s.scene.desk ≡ ([], 1)
-      → Came others later home s m before now at → number m.scene.desk ≤ 1 + at.requests
-  numbered s m before now at first c =
-      omega (
-        arith,
-        run_rises s.scene m.scene c.turns c.leads.run,
-        ap number first,
-        c.sofar.asked,
-      )
+module _ (others : List Accepted → Type 0) (later : Marks → Marks → Type 0) where
+  -- from one stage to the next
+  pub message-spends : (s : Stage) (message reply : List ℕ) (u : Stage) → ServesMessage others later s message reply u
+      → number u.scene.desk ≤ number s.scene.desk + cond (is_request message) 1 0
+  message-spends s message reply u h =
+      turn_rises others later s.home s.scene (turn_of message h.noted reply u.scene) h.leads.run.0

@@ -1,0 +1,43 @@
+-- How a session serves one message.
+use Rattle.std.specs.Prelude.{◌≡◌, ℕ, List, ◌∷◌, [], ◌++◌, Option}
+use Rattle.td_cdr.specs.Marks.{Marks}
+use Rattle.td_cdr.specs.Place.{At}
+use Rattle.td_cdr.specs.declared.order.Order.{Order}
+use Rattle.td_giop.specs.Heads.{Request}
+use Rattle.td_lookup.specs.Scenes.{Scene}
+use Rattle.td_register.specs.declared.history.Accepted.{Accepted}
+use Rattle.td_reply.specs.Classes.{request_class}
+use Rattle.td_reply.specs.Judging.{judged}
+use Rattle.td_reply.specs.declared.entry.Entry.{Entry}
+use Rattle.td_serve.specs.ReplyBytes.{reply_to}
+use Rattle.td_serve.specs.Requests.{NotesNoCall, Served}
+use Rattle.td_turns.specs.Turns.{Noted}
+use Rattle.td_walk.specs.declared.trace.Address.{Address}
+use Rattle.td_session.specs.Stages.{Stage, Leads, turn_of}
+
+module _ (others : List Accepted → Type 0) (later : Marks → Marks → Type 0) where
+  -- The Request is judged and served at this scene; this is noted of it, and these bytes are its reply.
+  pub record ServesHead (home : Address) (order : Order) (head : Request) (body : At) (s : Scene) (e : Entry)
+      (reply : List ℕ) (u : Scene) : Type 0 where
+    pub noted : Noted
+    pub asks : noted.judged ≡ judged s.world s.desk head.key head.operation body
+    pub served : Served others later home (reply_to order head) noted.judged s noted.outcome noted.entry reply u
+    pub no_call : NotesNoCall (request_class s.world s.desk head.key head.operation) noted.judged noted.entry
+    pub entry : noted.entry ≡ e
+
+  -- and it is noted behind the journal
+  pub record NotesHead (order : Order) (head : Request) (body : At) (s : Stage) (reply : List ℕ) (u : Stage)
+      : Type 0 where
+    pub entry : Entry
+    pub serves : ServesHead s.home order head body s.scene entry reply u.scene
+    pub journal : u.journal ≡ s.journal ++ entry ∷ []
+    pub home : u.home ≡ s.home
+
+  -- the message is served with this reply
+  pub record ServesMessage (s : Stage) (message reply : List ℕ) (u : Stage) : Type 0 where
+    pub noted : Option Noted
+    pub leads : Leads others later (turn_of message noted reply u.scene ∷ []) s u
+
+-- nothing was done
+abbrev pub Stays : Stage → Stage → Type 0
+Stays s u = u ≡ s
