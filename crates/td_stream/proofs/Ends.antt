@@ -221,14 +221,8 @@ module _ {V : Type 0} (serves : V → List ℕ → List ℕ → V → Type 0) (s
         few = omega (arith, one_at_most x);
         reason = rw (faults0, faults1) at f.falters.rose;
         gives =
-            record {
-              answered = [];
-              last = x;
-              are = refl;
-              sent = f.falters.sent;
-              is = refl;
-              short = f.falters.short;
-            };
+            let all : x.reply ++ [] ≡ x.reply = append-nil x.reply in
+            record { sent = f.falters.sent; short = rw all f.falters.short; is = rw all refl };
       }
 
   pub answers : (s u : V) (o p : Outside) (old new : Stand) (asked : Bool) (a b : Outbound)

@@ -2,6 +2,7 @@
 use Rattle.std.proofs.Common.{◌≡◌, ℕ, ◌+◌, ◌≤◌, ◌⊎◌, List, [], ◌∷◌, ◌++◌, length, take, drop, Option, refl, sym, ap}
 use Rattle.std.proofs.Common.{subst, ◌∙◌, inl, inr, append_assoc, arith, length-append}
 use Rattle.std.proofs.KnownBytes.{Appends-nil, Appends-trans, Consumes-nil, Consumes-trans}
+use Rattle.std.proofs.Math.Seq.{take-append-add}
 use Rattle.std.proofs.lemmas.List.{map-append}
 use Rattle.std.proofs.lemmas.List.Concat.{flat_map-append}
 use Rattle.std.proofs.lemmas.List.Sums.{sum_by-append}
@@ -16,7 +17,7 @@ use Rattle.td_stream.specs.declared.end.End.TheVariants.{Closed, Broken, Truncat
 use Rattle.td_stream.specs.declared.end.End.TheVariants.{Memory}
 use Rattle.td_stream.specs.Outside.{Outside, outside}
 use Rattle.td_stream.specs.Progress.{Stand, GoesOn}
-use Rattle.td_stream.specs.Streams.{Runs, HasReason, Gives, Finishes}
+use Rattle.td_stream.specs.Streams.{Runs, IsFront, HasReason, Gives, Finishes}
 
 -- ---- messages in front of a stream
 
@@ -65,6 +66,19 @@ output-append ts us = flat_map-append (λ (t : Exchange). t.reply) ts us
 given_behind : (ts us : List Exchange) (given : List ℕ) → given ≡ output us → output ts ++ given ≡ output (ts ++ us)
 given_behind ts us given h = ap (λ (x : List ℕ). output ts ++ x) h ∙ sym (output-append ts us)
 
+front_behind : (ts us : List Exchange) (given : List ℕ) → IsFront (output us) given
+    → IsFront (output (ts ++ us)) (output ts ++ given)
+front_behind ts us given h =
+    let size : length (output (ts ++ us)) ≡ length (output ts) + length (output us) =
+    ap (length {A = ℕ}) (output-append ts us) ∙ length-append (output ts) (output us) in
+    record {
+      sent = length (output ts) + h.sent;
+      short = let short = h.short in omega (arith, size, short);
+      is =
+          ap (λ (x : List ℕ). output ts ++ x) h.is ∙ sym (take-append-add (output ts) (output us) h.sent)
+          ∙ ap (take (length (output ts) + h.sent)) (sym (output-append ts us));
+    }
+
 pub Gives-behind : (end : End) (o p q : Outside) (ts us : List Exchange) (given : List ℕ) → o.writes ≤ p.writes
     → Gives end p q us given → Gives end o q (ts ++ us) (output ts ++ given)
 Gives-behind Closed o p q ts us given w h = given_behind ts us given h
@@ -76,15 +90,7 @@ Gives-behind (Broken place cause) o p q ts us given w h = record {
 }
 Gives-behind (Truncated place) o p q ts us given w h = given_behind ts us given h
 Gives-behind ReadFault o p q ts us given w h = given_behind ts us given h
-Gives-behind WriteFault o p q ts us given w h = record {
-  answered = ts ++ h.answered;
-  last = h.last;
-  are = ap (λ (x : List Exchange). ts ++ x) h.are ∙ sym (append_assoc ts h.answered (h.last ∷ []));
-  sent = h.sent;
-  is = ap (λ (x : List ℕ). output ts ++ x) h.is ∙ sym (append_assoc (output ts) (output h.answered) _)
-      ∙ ap (λ (x : List ℕ). x ++ take h.sent h.last.reply) (sym (output-append ts h.answered));
-  short = h.short;
-}
+Gives-behind WriteFault o p q ts us given w h = front_behind ts us given h
 Gives-behind Long o p q ts us given w h = given_behind ts us given h
 Gives-behind Memory o p q ts us given w h = given_behind ts us given h
 

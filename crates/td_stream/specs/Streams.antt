@@ -84,20 +84,16 @@ pub record SendsError (before after : Outside) (output given : List ℕ) : Type 
   pub is : given ≡ output ++ take sent message_error
   pub whole : (sent ≡ length message_error) ⊎ Rose before.writes after.writes
 
--- All answers were given but that of the last message, of which the sink took no more than a front: with it the stream
--- ended.
-pub record SendsFront (exchanges : List Exchange) (given : List ℕ) : Type 0 where
-  pub answered : List Exchange
-  pub last : Exchange
-  pub are : exchanges ≡ answered ++ last ∷ []
+-- a front of the replies that isn't all
+pub record IsFront (replies given : List ℕ) : Type 0 where
   pub sent : ℕ
-  pub is : given ≡ output answered ++ take sent last.reply
-  pub short : sent < length last.reply
+  pub short : sent < length replies
+  pub is : given ≡ take sent replies
 
 -- what was given of the answers by this end
 abbrev pub Gives : End → Outside → Outside → List Exchange → (given : List ℕ) → Type 0
 Gives (Broken place cause) before after exchanges given = SendsError before after (output exchanges) given
-Gives WriteFault before after exchanges given = SendsFront exchanges given
+Gives WriteFault before after exchanges given = IsFront (output exchanges) given
 Gives Closed before after exchanges given = given ≡ output exchanges
 Gives (Truncated place) before after exchanges given = given ≡ output exchanges
 Gives ReadFault before after exchanges given = given ≡ output exchanges
