@@ -5,10 +5,11 @@ use Rattle.std.proofs.lemmas.List.Sums.{sum_by-cons}
 use Rattle.td_stream.specs.declared.end.End.{End}
 use Rattle.td_stream.specs.Exchanges.{Exchange, IsExchange, Run, requests}
 use Rattle.td_stream.specs.Messages.{is_request}
+use Rattle.td_stream.specs.Outbound.{Outbound}
 use Rattle.td_stream.specs.Outside.{Outside}
-use Rattle.td_stream.specs.Progress.{Stand, Advances, Leaves, Proceeds}
+use Rattle.td_stream.specs.Progress.{Stand, stand, first_stand, outside_of, Moves, Advances, Leaves, Proceeds}
 use Rattle.td_stream.specs.Streams.{Finishes, Streams}
-use Rattle.td_stream.proofs.Runs.{Sofar, goes_on, ends}
+use Rattle.td_stream.proofs.Runs.{moves-then, ends}
 
 module _ {V : Type 0} (serves : V → List ℕ → List ℕ → V → Type 0) (stays : V → V → Type 0) where
   run-then : (s m u : V) (xs ys : List Exchange) → Run serves s xs m → Run serves m ys u → Run serves s (xs ++ ys) u
@@ -22,20 +23,23 @@ module _ {V : Type 0} (serves : V → List ℕ → List ℕ → V → Type 0) (s
   leaves_kept (Some end) s u itself e = subst (stays s) (sym e) (itself s)
 
   -- the servant wasn't asked
-  pub passes : (s u : V) (o p : Outside) (old new : Stand) (result : Option End) → ((a : V) → stays a a) → u ≡ s
-      → Advances [] o p old new result → Proceeds serves stays s u o p old new result
-  passes s u o p old new result itself e a = record {
+  pub passes : (s u : V) (l : Option (List ℕ)) (r : ℕ) (rest : List ℕ) (count asked : ℕ) (o p : Outbound) (new : Stand)
+      (result : Option End) → ((a : V) → stays a a) → u ≡ s → p ≡ o
+      → Advances [] result (stand l r rest count asked p) new
+      → Proceeds serves stays s u (stand l r rest count asked o) new result
+  passes s u l r rest count asked o p new result itself e same a = record {
     exchanges = [];
     last = s;
     run = refl;
     leaves = leaves_kept result s u itself e;
-    advances = a;
+    advances =
+        subst (λ (x : Outbound). Advances [] result (stand l r rest count asked x) new) same a;
   }
 
   -- it was asked, and did nothing
-  pub keeps : (s u : V) (end : End) (o p : Outside) (old new : Stand) → stays s u
-      → Finishes [] end o p old.stream.rest old.taken old.requests → Proceeds serves stays s u o p old new (Some end)
-  keeps s u end o p old new kept a = record {
+  pub keeps : (s u : V) (end : End) (old new : Stand) → stays s u → Advances [] (Some end) old new
+      → Proceeds serves stays s u old new (Some end)
+  keeps s u end old new kept a = record {
     exchanges = [];
     last = s;
     run = refl;
@@ -48,10 +52,9 @@ module _ {V : Type 0} (serves : V → List ℕ → List ℕ → V → Type 0) (s
   leaves_same (Some end) u itself = itself u
 
   -- it answered
-  pub proceeds : (x : Exchange) (s u : V) (o p : Outside) (old new : Stand) (result : Option End)
-      → ((a : V) → stays a a) → IsExchange serves s x u → Advances (x ∷ []) o p old new result
-      → Proceeds serves stays s u o p old new result
-  proceeds x s u o p old new result itself done a = record {
+  pub proceeds : (x : Exchange) (s u : V) (old new : Stand) (result : Option End) → ((a : V) → stays a a)
+      → IsExchange serves s x u → Advances (x ∷ []) result old new → Proceeds serves stays s u old new result
+  proceeds x s u old new result itself done a = record {
     exchanges = x ∷ [];
     last = u;
     run = (u, done, refl);
@@ -60,32 +63,36 @@ module _ {V : Type 0} (serves : V → List ℕ → List ℕ → V → Type 0) (s
   }
 
   -- what was done since the beginning
-  pub record Came (s u : V) (before now : Outside) (at : Stand) : Type 0 where
+  pub record Came (s u : V) (before : Outside) (at : Stand) : Type 0 where
     pub exchanges : List Exchange
     pub run : Run serves s exchanges u
-    pub sofar : Sofar exchanges before now at
+    pub moves : Moves exchanges (first_stand before) at
 
-  pub came-first : (s : V) (before : Outside) (at : Stand) → Sofar [] before before at → Came s s before before at
-  came-first s before at f = record { exchanges = []; run = refl; sofar = f }
+  pub came-first : (s : V) (before : Outside) (at : Stand) → Moves [] (first_stand before) at → Came s s before at
+  came-first s before at m = record { exchanges = []; run = refl; moves = m }
 
-  pub came-on : (s m u : V) (before now next : Outside) (old new : Stand) → Came s m before now old
-      → Proceeds serves stays m u now next old new None → Came s u before next new
-  came-on s m u before now next old new c p =
+  pub came-on : (s m u : V) (before : Outside) (old new : Stand) → Came s m before old
+      → Proceeds serves stays m u old new None → Came s u before new
+  came-on s m u before old new c p =
       let run : Run serves m p.exchanges u = subst (Run serves m p.exchanges) (sym p.leaves) p.run in
+      let moves = moves-then c.exchanges p.exchanges (first_stand before) old p.advances.at c.moves p.advances.moves in
       record {
         exchanges = c.exchanges ++ p.exchanges;
         run = run-then s m u c.exchanges p.exchanges c.run run;
-        sofar = goes_on c.exchanges p.exchanges before now next old new c.sofar p.advances;
+        moves =
+            subst (λ (x : Stand). Moves (c.exchanges ++ p.exchanges) (first_stand before) x)
+            (sym p.advances.goes.here) moves;
       }
 
-  pub streams-last : (s m u : V) (end : End) (before now next : Outside) (old new : Stand) → Came s m before now old
-      → Proceeds serves stays m u now next old new (Some end) → Streams serves stays s u end before next
-  streams-last s m u end before now next old new c p = record {
+  pub streams-last : (s m u : V) (end : End) (before : Outside) (old new : Stand) → Came s m before old
+      → Proceeds serves stays m u old new (Some end) → Streams serves stays s u end before (outside_of new)
+  streams-last s m u end before old new c p = record {
     exchanges = c.exchanges ++ p.exchanges;
     last = p.last;
     run = run-then s m p.last c.exchanges p.exchanges c.run p.run;
     stayed = p.leaves;
-    stream = ends c.exchanges p.exchanges end before now next old c.sofar p.advances;
+    stream =
+        ends c.exchanges p.exchanges end before old p.advances.at new c.moves p.advances.moves p.advances.goes;
   }
 
   pub streams-none : (s : V) (end : End) (before after : Outside) → stays s s → Finishes [] end before after [] 0 0
@@ -114,7 +121,7 @@ module _ {V : Type 0} (serves : V → List ℕ → List ℕ → V → Type 0) (s
           sum_by-cons (λ (y : Exchange). cond (is_request y.message) 1 0) x xs,
         )
 
-    pub spends : (s u : V) (before now : Outside) (at : Stand) (from : ℕ) → budget s ≤ from → Came s u before now at
+    pub spends : (s u : V) (before : Outside) (at : Stand) (from : ℕ) → budget s ≤ from → Came s u before at
         → budget u ≤ from + at.requests
-    spends s u before now at from within c =
-        omega (arith, within, spends_run s u c.exchanges c.run, c.sofar.asked)
+    spends s u before at from within c =
+        omega (arith, within, spends_run s u c.exchanges c.run, c.moves.asked)

@@ -1,23 +1,27 @@
--- What one turn adds to what was done of a stream before.
-use Rattle.std.proofs.Common.{◌≡◌, ℕ, ◌+◌, ◌≤◌, ◌⊎◌, List, [], ◌∷◌, ◌++◌, length, take, drop, Option, refl, sym, ap}
-use Rattle.std.proofs.Common.{subst, ◌∙◌, inl, inr, append_assoc, arith, length-append}
+-- What one turn adds to what was done of a stream before, and what a stream is when it has ended.
+use Rattle.std.proofs.Common.{◌≡◌, ℕ, ◌+◌, ◌≤◌, ◌⊎◌, Bool, true, false, List, [], ◌∷◌, ◌++◌, length, take, drop, Option}
+use Rattle.std.proofs.Common.{refl, sym, ap, subst, ◌∙◌, inl, inr, append_assoc, append-nil, arith, length-append}
 use Rattle.std.proofs.KnownBytes.{Appends-nil, Appends-trans, Consumes-nil, Consumes-trans}
-use Rattle.std.proofs.Math.Seq.{take-append-add}
 use Rattle.std.proofs.lemmas.List.{map-append}
 use Rattle.std.proofs.lemmas.List.Concat.{flat_map-append}
 use Rattle.std.proofs.lemmas.List.Sums.{sum_by-append}
+use Rattle.std.specs.Io.KnownBytes.{Appends}
 use Rattle.td_giop.proofs.Cuts.{fronts_fed}
 use Rattle.td_out.specs.Causes.{Rose}
 use Rattle.td_out.proofs.Steps.{Rose-later}
 use Rattle.td_giop.specs.Cut.{Fronts}
 use Rattle.td_stream.specs.Messages.{message_error, message_limit}
 use Rattle.td_stream.specs.Exchanges.{Exchange, messages_of, output, requests}
+use Rattle.td_stream.specs.declared.end.Cause.{Cause}
 use Rattle.td_stream.specs.declared.end.End.{End}
 use Rattle.td_stream.specs.declared.end.End.TheVariants.{Closed, Broken, Truncated, ReadFault, WriteFault, Long}
 use Rattle.td_stream.specs.declared.end.End.TheVariants.{Memory}
+use Rattle.td_stream.specs.Outbound.{Outbound, outbound, Misses, Moves as Moved, Puts, IsSent}
+use Rattle.td_stream.specs.OutboundLaws.{puts-none, puts-then}
 use Rattle.td_stream.specs.Outside.{Outside, outside}
-use Rattle.td_stream.specs.Progress.{Stand, GoesOn}
-use Rattle.td_stream.specs.Streams.{Runs, IsFront, HasReason, Gives, Finishes}
+use Rattle.td_stream.specs.Pieces.{Writes}
+use Rattle.td_stream.specs.Progress.{Stand, stand, first_stand, outside_of, Moves, EndsAt, WritesLast, Ends}
+use Rattle.td_stream.specs.Streams.{Runs, HasReason, Gives, Finishes, bytes_limit, request_limit}
 
 -- ---- messages in front of a stream
 
@@ -27,135 +31,157 @@ module _ (limit : ℕ) where
   Fronts-then s [] ns mid rest f g = subst (λ (x : List ℕ). Fronts limit x ns rest) (sym f) g
   Fronts-then s (m ∷ ms) ns mid rest f g = (f.0, Fronts-then (drop (length m) s) ms ns mid rest f.1 g)
 
--- ---- one run after another
+-- ---- one move after another
 
-pub requests-append : (ts us : List Exchange) → requests (ts ++ us) ≡ requests ts + requests us
-requests-append ts us = sum_by-append _ ts us
+requests-append : (xs ys : List Exchange) → requests (xs ++ ys) ≡ requests xs + requests ys
+requests-append xs ys = sum_by-append _ xs ys
 
-pub Runs-then : (ts us : List Exchange) (o p q : Outside) (held mid rest : List ℕ) (xs ys gs hs : List ℕ)
-    → Runs ts o p held xs mid gs → Runs us p q mid ys rest hs → Runs (ts ++ us) o q held (xs ++ ys) rest (gs ++ hs)
-Runs-then ts us o p q held mid rest xs ys gs hs r s = record {
-  took = Consumes-trans _ _ _ xs ys r.took s.took;
-  cut = let messages : messages_of (ts ++ us) ≡ messages_of ts ++ messages_of us = map-append _ ts us in
-      rw (messages, ← append_assoc)
-      (Fronts-then message_limit _ _ _ _ rest (fronts_fed message_limit _ ys _ mid r.cut) s.cut);
-  gave = Appends-trans _ _ _ gs hs r.gave s.gave;
-  reads = let a = r.reads in let b = s.reads in omega arith;
-  writes = let a = r.writes in let b = s.writes in omega arith;
+output-append : (xs ys : List Exchange) → output (xs ++ ys) ≡ output xs ++ output ys
+output-append xs ys = flat_map-append (λ (x : Exchange). x.reply) xs ys
+
+pub moves-none : (a : Stand) → Moves [] a a
+moves-none a = record {
+  taken = [];
+  took = Consumes-nil a.left;
+  cut = append-nil a.rest;
+  bytes = omega arith;
+  asked = omega arith;
+  puts = puts-none a.out;
+  reads = omega arith;
 }
 
+pub moves-then : (xs ys : List Exchange) (a b c : Stand) → Moves xs a b → Moves ys b c → Moves (xs ++ ys) a c
+moves-then xs ys a b c p q = record {
+  taken = p.taken ++ q.taken;
+  took = Consumes-trans _ _ _ p.taken q.taken p.took q.took;
+  cut = let messages : messages_of (xs ++ ys) ≡ messages_of xs ++ messages_of ys = map-append _ xs ys in
+      rw (messages, ← append_assoc)
+      (Fronts-then message_limit _ _ _ _ c.rest (fronts_fed message_limit _ q.taken _ b.rest p.cut) q.cut);
+  bytes = omega (arith, p.bytes, q.bytes, length-append p.taken q.taken);
+  asked = omega (arith, p.asked, q.asked, requests-append xs ys);
+  puts =
+      subst (λ l. Puts l a.out c.out) (sym (output-append xs ys))
+      (puts-then (output xs) (output ys) a.out b.out c.out p.puts q.puts);
+  reads = let l = p.reads in let m = q.reads in omega arith;
+}
+
+-- nothing was done of a stream that begins
+pub begins : (l w : Option (List ℕ)) (r n : ℕ) (rest held : List ℕ) (taken asked : ℕ) (failed : Bool) → rest ≡ []
+    → taken ≡ 0 → asked ≡ 0 → held ≡ [] → failed ≡ false
+    → Moves [] (first_stand (outside l r w n)) (stand l r rest taken asked (outbound w n held failed))
+begins l w r n rest held taken asked failed e f g h i =
+    rw (e, f, g, h, i) (moves-none (first_stand (outside l r w n)))
+
+-- ---- a stream that has ended
+
+-- where all was sent, the replies were written
+gives_all : (xs : List Exchange) (w : Option (List ℕ)) (n : ℕ) (o : Outbound) (b : Bool) → b ≡ false → o.held ≡ []
+    → Moved false b (output xs) (outbound w n [] false) o → Appends w o.written (output xs)
+gives_all xs w n o true works held m = absurd cc
+gives_all xs w n o false works held m =
+    subst (λ l. Appends w o.written l) (sym (append-nil m.sent) ∙ ap (λ l. m.sent ++ l) (sym held) ∙ m.rest) m.gave
+
+-- where a send has failed, a front of them that isn't all
+gives_front : (xs : List Exchange) (w : Option (List ℕ)) (n : ℕ) (o : Outbound) (b : Bool) → b ≡ true
+    → Moved false b (output xs) (outbound w n [] false) o → Misses (output xs) (outbound w n [] false) o
+gives_front xs w n o true failed m = m
+gives_front xs w n o false failed m = absurd cc
+
 -- a reason stands from an earlier beginning
-pub HasReason-before : (end : End) (o p q : Outside) (count asked : ℕ) (rest : List ℕ) → o.reads ≤ p.reads
-    → o.writes ≤ p.writes → HasReason end p q count asked rest → HasReason end o q count asked rest
-HasReason-before Closed o p q count asked rest r w h = h
-HasReason-before (Broken place cause) o p q count asked rest r w h = h
-HasReason-before (Truncated place) o p q count asked rest r w h = h
-HasReason-before ReadFault o p q count asked rest r w h =
-    (h.0, record { few = h.1.few; not_whole = h.1.not_whole; rose = Rose-later _ _ _ r h.1.rose })
-HasReason-before WriteFault o p q count asked rest r w h = Rose-later _ _ _ w h
-HasReason-before Long o p q count asked rest r w h = h
-HasReason-before Memory o p q count asked rest r w h = tt
+reason_before : (end : End) (before : Outside) (old at : Stand) (p : Outbound) → before.reads ≤ old.reads
+    → HasReason end (outside_of old) (outside_of at) at.taken at.requests at.rest → (end ≡ WriteFault → ⊥)
+    → HasReason end before (outside at.left at.reads p.written p.writes) at.taken at.requests at.rest
+reason_before Closed before old at p later h other = h
+reason_before (Broken place cause) before old at p later h other = h
+reason_before (Truncated place) before old at p later h other = (
+  h.0,
+  h.1,
+  record { few = h.2.few; began = h.2.began; not_whole = h.2.not_whole; ended = h.2.ended },
+)
+reason_before ReadFault before old at p later h other =
+    (h.0, record { few = h.1.few; not_whole = h.1.not_whole; rose = Rose-later _ _ _ later h.1.rose })
+reason_before WriteFault before old at p later h other = absurd (other refl)
+reason_before Long before old at p later h other = h
+reason_before Memory before old at p later h other = tt
+
+-- these bytes were given by an end
+ended : (xs : List Exchange) (end : End) (before : Outside) (at : Stand) (p : Outbound) (given : List ℕ)
+    → Moves xs (first_stand before) at → at.taken ≤ bytes_limit → at.requests ≤ request_limit
+    → Appends before.written p.written given → before.writes ≤ p.writes
+    → HasReason end before (outside at.left at.reads p.written p.writes) at.taken at.requests at.rest
+    → Gives end before (outside at.left at.reads p.written p.writes) xs given
+    → Finishes xs end before (outside at.left at.reads p.written p.writes) [] 0 0
+ended xs end before at p given m bytes few gave writes reason gives = record {
+  taken = m.taken;
+  rest = at.rest;
+  given = given;
+  runs =
+      record { took = m.took; cut = m.cut; gave = gave; reads = m.reads; writes = writes };
+  bytes = rw m.bytes at bytes;
+  few = rw m.asked at few;
+  reason = rw (m.bytes, m.asked) at reason;
+  gives = gives;
+}
+
+-- all replies were written, and nothing behind them
+stopped : (xs : List Exchange) (end : End) (before : Outside) (old at : Stand) (p : Outbound)
+    → Moves xs (first_stand before) at → at.taken ≤ bytes_limit → at.requests ≤ request_limit
+    → before.reads ≤ old.reads → IsSent at.out → p ≡ at.out
+    → HasReason end (outside_of old) (outside_of at) at.taken at.requests at.rest → (end ≡ WriteFault → ⊥)
+    → Gives end before (outside at.left at.reads p.written p.writes) xs (output xs)
+    → Finishes xs end before (outside at.left at.reads p.written p.writes) [] 0 0
+stopped xs end before old at p m bytes few later is last reason other gives =
+    ended xs end before at p (output xs) m bytes few
+    (subst (λ (x : Outbound). Appends before.written x.written (output xs)) (sym last)
+    (gives_all xs before.written before.writes at.out at.out.failed is.works is.held m.puts.moves))
+    (subst (λ (x : Outbound). before.writes ≤ x.writes) (sym last) m.puts.later)
+    (reason_before end before old at p later reason other) gives
 
 still_rose : (a b c n : ℕ) → a ≤ b → (n ≡ 12) ⊎ Rose b c → (n ≡ 12) ⊎ Rose a c
 still_rose a b c n le h = elim h [ inl e ↦ inl e | inr rose ↦ inr (Rose-later a b c le rose) ]
 
--- what was given for the exchanges before stands in front
-output-append : (ts us : List Exchange) → output (ts ++ us) ≡ output ts ++ output us
-output-append ts us = flat_map-append (λ (t : Exchange). t.reply) ts us
+finishes : (xs : List Exchange) (end : End) (before : Outside) (old at : Stand) (p : Outbound)
+    → Moves xs (first_stand before) at → at.taken ≤ bytes_limit → at.requests ≤ request_limit
+    → before.reads ≤ old.reads → EndsAt end old at → WritesLast end at.out p
+    → Finishes xs end before (outside at.left at.reads p.written p.writes) [] 0 0
+finishes xs Closed before old at p m bytes few later e last =
+    stopped xs Closed before old at p m bytes few later e.sent last e.reason (λ x. cc) refl
+finishes xs (Truncated place) before old at p m bytes few later e last =
+    stopped xs (Truncated place) before old at p m bytes few later e.sent last e.reason (λ x. cc) refl
+finishes xs ReadFault before old at p m bytes few later e last =
+    stopped xs ReadFault before old at p m bytes few later e.sent last e.reason (λ x. cc) refl
+finishes xs Long before old at p m bytes few later e last =
+    stopped xs Long before old at p m bytes few later e.sent last e.reason (λ x. cc) refl
+finishes xs Memory before old at p m bytes few later e last =
+    stopped xs Memory before old at p m bytes few later e.sent last e.reason (λ x. cc) refl
+finishes xs WriteFault before old at p m bytes few later e last =
+    let f = gives_front xs before.written before.writes at.out at.out.failed e m.puts.moves in
+    ended xs WriteFault before at p (take f.sent (output xs)) m bytes few
+    (subst (λ (x : Outbound). Appends before.written x.written (take f.sent (output xs))) (sym last) f.gave)
+    (subst (λ (x : Outbound). before.writes ≤ x.writes) (sym last) m.puts.later)
+    (subst (λ (x : Outbound). Rose before.writes x.writes) (sym last) f.rose)
+    (record { sent = f.sent; short = f.short; is = refl })
+finishes xs (Broken place cause) before old at p m bytes few later e last =
+    ended xs (Broken place cause) before at p (output xs ++ take last.sent message_error) m bytes few
+    (Appends-trans before.written at.out.written p.written (output xs) (take last.sent message_error)
+    (gives_all xs before.written before.writes at.out at.out.failed e.sent.works e.sent.held m.puts.moves) last.gave)
+    (let a = m.puts.later in let b = last.later in omega arith)
+    (reason_before (Broken place cause) before old at p later e.reason (λ x. cc))
+    (record { sent = last.sent; is = refl; whole = still_rose _ _ _ _ m.puts.later last.whole })
 
-given_behind : (ts us : List Exchange) (given : List ℕ) → given ≡ output us → output ts ++ given ≡ output (ts ++ us)
-given_behind ts us given h = ap (λ (x : List ℕ). output ts ++ x) h ∙ sym (output-append ts us)
+told_so : (xs : List Exchange) (end : End) (before : Outside) (l m : Option (List ℕ)) (q r : ℕ) (w : Option (List ℕ))
+    (n : ℕ) → l ≡ m → q ≡ r → Finishes xs end before (outside m r w n) [] 0 0
+    → Finishes xs end before (outside l q w n) [] 0 0
+told_so xs end before l m q r w n e f h = rw (e, f) h
 
-front_behind : (ts us : List Exchange) (given : List ℕ) → IsFront (output us) given
-    → IsFront (output (ts ++ us)) (output ts ++ given)
-front_behind ts us given h =
-    let size : length (output (ts ++ us)) ≡ length (output ts) + length (output us) =
-    ap (length {A = ℕ}) (output-append ts us) ∙ length-append (output ts) (output us) in
-    record {
-      sent = length (output ts) + h.sent;
-      short = let short = h.short in omega (arith, size, short);
-      is =
-          ap (λ (x : List ℕ). output ts ++ x) h.is ∙ sym (take-append-add (output ts) (output us) h.sent)
-          ∙ ap (take (length (output ts) + h.sent)) (sym (output-append ts us));
-    }
-
-pub Gives-behind : (end : End) (o p q : Outside) (ts us : List Exchange) (given : List ℕ) → o.writes ≤ p.writes
-    → Gives end p q us given → Gives end o q (ts ++ us) (output ts ++ given)
-Gives-behind Closed o p q ts us given w h = given_behind ts us given h
-Gives-behind (Broken place cause) o p q ts us given w h = record {
-  sent = h.sent;
-  is = ap (λ (x : List ℕ). output ts ++ x) h.is ∙ sym (append_assoc (output ts) (output us) _)
-      ∙ ap (λ (x : List ℕ). x ++ take h.sent message_error) (sym (output-append ts us));
-  whole = still_rose _ _ _ _ w h.whole;
-}
-Gives-behind (Truncated place) o p q ts us given w h = given_behind ts us given h
-Gives-behind ReadFault o p q ts us given w h = given_behind ts us given h
-Gives-behind WriteFault o p q ts us given w h = front_behind ts us given h
-Gives-behind Long o p q ts us given w h = given_behind ts us given h
-Gives-behind Memory o p q ts us given w h = given_behind ts us given h
-
--- a run, and then a stream from where it stands, is a stream
-pub finishes : (ts us : List Exchange) (end : End) (o p q : Outside) (held mid : List ℕ) (xs : List ℕ) (count asked : ℕ)
-    → Runs ts o p held xs mid (output ts) → Finishes us end p q mid (count + length xs) (asked + requests ts)
-    → Finishes (ts ++ us) end o q held count asked
-finishes ts us end o p q held mid xs count asked r f =
-    let bytes-are : count + length (xs ++ f.taken) ≡ (count + length xs) + length f.taken =
-    omega (arith, length-append xs f.taken) in
-    let few-are : asked + requests (ts ++ us) ≡ (asked + requests ts) + requests us =
-    omega (arith, requests-append ts us) in
-    record {
-      taken = xs ++ f.taken;
-      rest = f.rest;
-      given = output ts ++ f.given;
-      runs = Runs-then ts us o p q held mid f.rest xs f.taken (output ts) f.given r f.runs;
-      bytes = rw bytes-are f.bytes;
-      few = rw few-are f.few;
-      reason = rw (bytes-are, few-are) (HasReason-before end o p q _ _ f.rest r.reads r.writes f.reason);
-      gives = Gives-behind end o p q ts us f.given r.writes f.gives;
-    }
-
--- ---- from the beginning
-
--- what was done since the beginning, and where it stands now
-pub record Sofar (exchanges : List Exchange) (before now : Outside) (s : Stand) : Type 0 where
-  pub taken : List ℕ
-  pub runs : Runs exchanges before now [] taken s.stream.rest (output exchanges)
-  pub bytes : s.taken ≡ length taken
-  pub asked : s.requests ≡ requests exchanges
-
-pub begins : (l w : Option (List ℕ)) (r f : ℕ) (s : Stand) → s.stream.rest ≡ [] → s.taken ≡ 0 → s.requests ≡ 0
-    → Sofar [] (outside l r w f) (outside l r w f) s
-begins l w r f s rest-is taken-is asked-is = record {
-  taken = [];
-  runs =
-      record {
-        took = Consumes-nil l;
-        cut = sym rest-is;
-        gave = Appends-nil w;
-        reads = omega arith;
-        writes = omega arith;
-      };
-  bytes = taken-is;
-  asked = asked-is;
-}
-
-pub goes_on : (ts us : List Exchange) (before now next : Outside) (old new : Stand) → Sofar ts before now old
-    → GoesOn us now next old new → Sofar (ts ++ us) before next new
-goes_on ts us before now next old new s g = record {
-  taken = s.taken ++ g.taken;
-  runs =
-      rw flat_map-append (Runs-then ts us before now next [] old.stream.rest new.stream.rest s.taken g.taken
-      (output ts) (output us) s.runs g.runs);
-  bytes = omega (arith, s.bytes, g.bytes, length-append s.taken g.taken);
-  asked = omega (arith, s.asked, g.asked, requests-append ts us);
-}
-
-pub ends : (ts us : List Exchange) (end : End) (before now next : Outside) (s : Stand) → Sofar ts before now s
-    → Finishes us end now next s.stream.rest s.taken s.requests → Finishes (ts ++ us) end before next [] 0 0
-ends ts us end before now next s sofar f =
-    let bytes-are : 0 + length sofar.taken ≡ s.taken = omega (arith, sofar.bytes) in
-    let asked-are : 0 + requests ts ≡ s.requests = omega (arith, sofar.asked) in
-    finishes ts us end before now next [] s.stream.rest sofar.taken 0 0 sofar.runs (rw (bytes-are, asked-are) f)
+-- what was done since a stream began, and then its end
+pub ends : (xs ys : List Exchange) (end : End) (before : Outside) (now at next : Stand)
+    → Moves xs (first_stand before) now → Moves ys now at → Ends end now at next
+    → Finishes (xs ++ ys) end before (outside_of next) [] 0 0
+ends xs ys end before now at next m n e =
+    told_so (xs ++ ys) end before _ _ _ _ _ _ e.left e.reads
+    (finishes (xs ++ ys) end before now at next.out (moves-then xs ys (first_stand before) now at m n) e.bytes e.few
+    m.reads e.ends e.last)
 
 -- a stream for which there is no memory
 pub no_stream : (l w : Option (List ℕ)) (r f : ℕ) → Finishes [] Memory (outside l r w f) (outside l r w f) [] 0 0

@@ -42,3 +42,8 @@ pub record Puts (bytes : List ℕ) (a b : Outbound) : Type 0 where
 pub record SendsAll (a b : Outbound) : Type 0 where
   pub puts : Puts [] a b
   pub empty : b.failed ≡ false → b.held ≡ []
+
+-- nothing is held, and no send has failed
+pub record IsSent (out : Outbound) : Type 0 where
+  pub held : out.held ≡ []
+  pub works : out.failed ≡ false

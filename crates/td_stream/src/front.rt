@@ -1,6 +1,6 @@
 //! The message in front of the stream, and what becomes of it.
 
-ghost use Rattle.std.specs.Prelude.{◌≡◌, ◌<◌, ◌^◌, [], false};
+ghost use Rattle.std.specs.Prelude.{◌≡◌, ◌<◌, ◌^◌};
 ghost use Rattle.td_stream.specs.Heads.{HasHead, IsMessage};
 ghost use Rattle.td_stream.specs.Messages.{message_limit};
 ghost use Rattle.td_stream.specs.Outbound.{outbound};
@@ -27,10 +27,8 @@ pub(crate) enum Front {
     Closes,
     /// A message that can't be answered.
     Breaks(Cause),
-    /// A message that was answered, and whether it is a Request.
+    /// A message that was answered, and whether it is a Request. Its reply was put into the outbox.
     Answered { request: bool },
-    /// A message whose reply the sink didn't take whole.
-    Unsent,
     /// A message for which the servant found no memory.
     Full,
 }
@@ -44,8 +42,6 @@ pub(crate) fn serve_front<'k, V: Servant, K: Sink>(
 ) -> Front
     requires limited { framer.old.limit ≡ message_limit }
     requires room { V.budget servant.old < 2 ^ 63 }
-    requires held { outbox.old.held.items ≡ [] }
-    requires works { outbox.old.failed ≡ false }
     ensures same { V.same servant.old servant.new }
     ensures same_sink { outbox.new.sink.ghost_name ≡ outbox.old.sink.ghost_name }
     ensures finds { Finds V.serves V.stays result framer.old.rest servant.old servant.new
@@ -71,8 +67,6 @@ fn respond<'k, V: Servant, K: Sink>(
 ) -> Front
     requires whole { IsMessage message.now }
     requires room { V.budget servant.old < 2 ^ 63 }
-    requires held { outbox.old.held.items ≡ [] }
-    requires works { outbox.old.failed ≡ false }
     ensures same { V.same servant.old servant.new }
     ensures same_sink { outbox.new.sink.ghost_name ≡ outbox.old.sink.ghost_name }
     ensures responds { Responds V.serves V.stays result message.now.bytes.now servant.old servant.new
@@ -88,7 +82,7 @@ fn respond<'k, V: Servant, K: Sink>(
     }
 }
 
-/// Answers a message, and sends the reply.
+/// Answers a message, and puts its reply behind those before.
 fn answer<'k, V: Servant, K: Sink>(
     alloc: Global,
     servant: &mut V,
@@ -100,8 +94,6 @@ fn answer<'k, V: Servant, K: Sink>(
     requires head { HasHead message.now head.now }
     requires step { step_of message.now.bytes.now ≡ answers }
     requires room { V.budget servant.old < 2 ^ 63 }
-    requires held { outbox.old.held.items ≡ [] }
-    requires works { outbox.old.failed ≡ false }
     ensures same { V.same servant.old servant.new }
     ensures same_sink { outbox.new.sink.ghost_name ≡ outbox.old.sink.ghost_name }
     ensures responds { Responds V.serves V.stays result message.now.bytes.now servant.old servant.new
@@ -114,13 +106,8 @@ fn answer<'k, V: Servant, K: Sink>(
         Err(_) => Front::Full,
         Ok(()) => {
             outbox.put(servant.reply());
-            outbox.send();
-            if outbox.has_failed() {
-                Front::Unsent
-            } else {
-                Front::Answered {
-                    request: message.kind == REQUEST,
-                }
+            Front::Answered {
+                request: message.kind == REQUEST,
             }
         }
     }

@@ -1,11 +1,13 @@
 //! The transport: the messages of a stream are answered in order until it ends.
 
-ghost use Rattle.std.specs.Prelude.{◌≡◌, ◌+◌, ◌^◌, ◌<◌, ◌≤◌, [], false, length};
+ghost use Rattle.std.specs.Prelude.{◌≡◌, ◌+◌, ◌^◌, ◌≤◌, [], false, length, if◌then◌else◌};
 ghost use Rattle.td_stream.specs.Completeness.{Completes};
 ghost use Rattle.td_stream.specs.Messages.{message_limit};
+ghost use Rattle.td_stream.specs.Outbound.{outbound, SendsAll};
 ghost use Rattle.td_stream.specs.Outside.{outside};
 ghost use Rattle.td_stream.specs.Steps.{cause_of};
 ghost use Rattle.td_stream.specs.Streams.{Streams};
+ghost use Rattle.td_stream.specs.declared.end.End.TheVariants.{WriteFault};
 
 use crate::end::{Cause, End};
 use crate::front::{Front, serve_front};
@@ -41,17 +43,12 @@ struct Transport {
 }
 
 impl Transport {
-    ghost use Rattle.std.specs.Prelude.{◌≡◌, ℕ, ◌+◌, ◌^◌, ◌<◌, ◌≤◌, List, Option, Ok, None, [], false};
-    ghost use Rattle.std.specs.Prelude.{IfOk, MatchOption, ⊤};
-    ghost use Rattle.std.specs.Io.KnownBytes.{Appends};
+    ghost use Rattle.std.specs.Prelude.{◌≡◌, ℕ, ◌+◌, ◌^◌, ◌<◌, ◌≤◌, Ok, None, [], IfOk};
     ghost use Rattle.td_giop.specs.Stream.{first_at};
-    ghost use Rattle.td_stream.specs.Ends.{EndsInput, EndsAtBad};
-    ghost use Rattle.td_stream.specs.Messages.{message_error, message_limit};
+    ghost use Rattle.td_stream.specs.Ends.{BreaksOff, EndsInput, EndsAtBad};
+    ghost use Rattle.td_stream.specs.Messages.{message_limit};
     ghost use Rattle.td_stream.specs.Outbound.{outbound};
-    ghost use Rattle.td_stream.specs.Outside.{outside};
-    ghost use Rattle.td_stream.specs.Pieces.{Writes};
     ghost use Rattle.td_stream.specs.Progress.{Advances, Proceeds, stand};
-    ghost use Rattle.td_stream.specs.Responses.{IsSent};
 
     /// A stream of which nothing was taken.
     fn new(alloc: Global) -> Result<Transport, Memory>
@@ -73,49 +70,58 @@ impl Transport {
         outbox: &mut Outbox<'k, K>,
     ) -> Option<End>
         requires room { V.budget servant.old ≤ 2 ^ 62 + self.old.requests }
-        requires held { outbox.old.held.items ≡ [] }
-        requires works { outbox.old.failed ≡ false }
         ensures same { V.same servant.old servant.new }
         ensures same_sink { outbox.new.sink.ghost_name ≡ outbox.old.sink.ghost_name }
-        ensures sent { MatchOption result
-            (IsSent (outbound (K.written outbox.new.sink.now) (K.faults outbox.new.sink.now)
-            outbox.new.held.items outbox.new.failed)) (λ _. ⊤) }
         ensures proceeds { Proceeds V.serves V.stays servant.old servant.new
-            (outside (S.left source.old) (S.faults source.old) (K.written outbox.old.sink.now)
-            (K.faults outbox.old.sink.now))
-            (outside (S.left source.new) (S.faults source.new) (K.written outbox.new.sink.now)
-            (K.faults outbox.new.sink.now))
-            (stand self.old.framer self.old.taken self.old.requests)
-            (stand self.new.framer self.new.taken self.new.requests) result }
+            (stand (S.left source.old) (S.faults source.old) self.old.framer.rest self.old.taken self.old.requests
+            (outbound (K.written outbox.old.sink.now) (K.faults outbox.old.sink.now) outbox.old.held.items
+            outbox.old.failed))
+            (stand (S.left source.new) (S.faults source.new) self.new.framer.rest self.new.taken self.new.requests
+            (outbound (K.written outbox.new.sink.now) (K.faults outbox.new.sink.now) outbox.new.held.items
+            outbox.new.failed)) result }
     {
         if self.requests == REQUEST_LIMIT {
-            return Some(End::Long);
+            return Some(finish(outbox, End::Long));
         }
         match serve_front(alloc, servant, &mut self.framer, outbox) {
-            Front::Nothing => self.take(source),
+            Front::Nothing => self.take(source, outbox),
             Front::Bad(fault) => Some(self.end_at_bad_header(outbox, fault)),
-            Front::Closes => Some(End::Closed),
+            Front::Closes => Some(finish(outbox, End::Closed)),
             Front::Breaks(cause) => Some(self.break_off(outbox, cause)),
-            Front::Unsent => Some(End::WriteFault),
-            Front::Full => Some(End::Memory),
+            Front::Full => Some(finish(outbox, End::Memory)),
             Front::Answered { request } => {
                 self.framer.drop_message();
                 self.requests += u64::from(request);
-                None
+                if outbox.has_failed() {
+                    Some(End::WriteFault)
+                } else {
+                    None
+                }
             }
         }
     }
 
-    /// Takes a piece of the stream, where no whole message is in front.
-    fn take<S: Source>(&mut self, source: &mut S) -> Option<End>
+    /// Takes a piece of the stream, where no whole message is in front. What is held is sent before.
+    fn take<'k, S: Source, K: Sink>(
+        &mut self,
+        source: &mut S,
+        outbox: &mut Outbox<'k, K>,
+    ) -> Option<End>
         requires served { first_at message_limit self.old.framer.rest ≡ Ok None }
         requires open { self.old.requests < 1000000 }
-        ensures { (w0 w1 : Option (List ℕ)) (f0 f1 : ℕ) → Appends w0 w1 [] → f0 ≤ f1
-            → Advances [] (outside (S.left source.old) (S.faults source.old) w0 f0)
-            (outside (S.left source.new) (S.faults source.new) w1 f1)
-            (stand self.old.framer self.old.taken self.old.requests)
-            (stand self.new.framer self.new.taken self.new.requests) result }
+        ensures same_sink { outbox.new.sink.ghost_name ≡ outbox.old.sink.ghost_name }
+        ensures takes { Advances [] result
+            (stand (S.left source.old) (S.faults source.old) self.old.framer.rest self.old.taken self.old.requests
+            (outbound (K.written outbox.old.sink.now) (K.faults outbox.old.sink.now) outbox.old.held.items
+            outbox.old.failed))
+            (stand (S.left source.new) (S.faults source.new) self.new.framer.rest self.new.taken self.new.requests
+            (outbound (K.written outbox.new.sink.now) (K.faults outbox.new.sink.now) outbox.new.held.items
+            outbox.new.failed)) }
     {
+        outbox.send();
+        if outbox.has_failed() {
+            return Some(End::WriteFault);
+        }
         if self.taken == BYTES_LIMIT {
             return Some(End::Long);
         }
@@ -141,27 +147,54 @@ impl Transport {
         }
     }
 
-    /// How a stream ends that is at a bad header.
+    /// Ends a stream that is at a bad header.
     fn end_at_bad_header<'k, K: Sink>(&self, outbox: &mut Outbox<'k, K>, fault: FrameFault) -> End
         ensures same_sink { outbox.new.sink.ghost_name ≡ outbox.old.sink.ghost_name }
-        ensures ends { EndsAtBad self.now.framer.start self.now.taken fault result (K.written outbox.old.sink.now)
-            (K.written outbox.new.sink.now) (K.faults outbox.old.sink.now) (K.faults outbox.new.sink.now) }
+        ensures ends { EndsAtBad self.now.framer.start self.now.taken fault result
+            (outbound (K.written outbox.old.sink.now) (K.faults outbox.old.sink.now) outbox.old.held.items
+            outbox.old.failed)
+            (outbound (K.written outbox.new.sink.now) (K.faults outbox.new.sink.now) outbox.new.held.items
+            outbox.new.failed) }
     {
         if self.taken == BYTES_LIMIT {
-            return End::Long;
+            return finish(outbox, End::Long);
         }
         self.break_off(outbox, cause_of(fault))
     }
 
-    /// Ends the stream with a MessageError, as far as the sink takes it.
+    /// Ends the stream: sends what is held, and a MessageError behind it, as far as the sink takes it.
     fn break_off<'k, K: Sink>(&self, outbox: &mut Outbox<'k, K>, cause: Cause) -> End
         ensures same_sink { outbox.new.sink.ghost_name ≡ outbox.old.sink.ghost_name }
-        ensures end { result ≡ End.Broken self.now.framer.start cause }
-        ensures sends { Writes message_error (K.written outbox.old.sink.now) (K.written outbox.new.sink.now)
-            (K.faults outbox.old.sink.now) (K.faults outbox.new.sink.now) }
+        ensures breaks { BreaksOff self.now.framer.start cause result
+            (outbound (K.written outbox.old.sink.now) (K.faults outbox.old.sink.now) outbox.old.held.items
+            outbox.old.failed)
+            (outbound (K.written outbox.new.sink.now) (K.faults outbox.new.sink.now) outbox.new.held.items
+            outbox.new.failed) }
     {
+        outbox.send();
+        if outbox.has_failed() {
+            return End::WriteFault;
+        }
         outbox.write_error(&MESSAGE_ERROR);
         End::Broken(self.framer.place(), cause)
+    }
+}
+
+/// Sends what is held, and says how the stream ends then.
+fn finish<'k, K: Sink>(outbox: &mut Outbox<'k, K>, end: End) -> End
+    ensures same_sink { outbox.new.sink.ghost_name ≡ outbox.old.sink.ghost_name }
+    ensures sends { SendsAll
+        (outbound (K.written outbox.old.sink.now) (K.faults outbox.old.sink.now) outbox.old.held.items
+        outbox.old.failed)
+        (outbound (K.written outbox.new.sink.now) (K.faults outbox.new.sink.now) outbox.new.held.items
+        outbox.new.failed) }
+    ensures end { result ≡ (if outbox.new.failed then WriteFault else end) }
+{
+    outbox.send();
+    if outbox.has_failed() {
+        End::WriteFault
+    } else {
+        end
     }
 }
 
@@ -177,8 +210,9 @@ fn cause_of(fault: FrameFault) -> Cause
     }
 }
 
-/// Answers the messages of a source in order, and writes their replies to a sink, until the stream ends. Each
-/// reply goes out behind its message.
+/// Answers the messages of a source in order, and writes their replies to a sink, until the stream ends. Replies
+/// go out together: before more of the source is read, before the stream ends, before the servant waits for
+/// anybody, and where 64 KiB are held. Where such a write fails, the message that is being answered is the last.
 ///
 /// Where the source is whole messages that a server can be sent, within a stream's limits, and none of the
 /// outside fails, those before the first CloseConnection or MessageError are all answered, or memory is wanted.

@@ -11,23 +11,24 @@ pub loop-end-init : goal.loop-end-init
 loop-end-init g c = (
   g.met.V.Servant.same_itself _,
   refl,
-  record { held = c.requires.held; works = c.requires.works },
   came-first g.V.Servant.serves g.V.Servant.stays _ _ _
-      (begins _ _ _ _ _ c.in-Ok.ensures.0 c.in-Ok.ensures.1 c.in-Ok.ensures.2),
+      (begins _ _ _ _ _ _ _ _ _ c.in-Ok.ensures.0 c.in-Ok.ensures.1 c.in-Ok.ensures.2 c.requires.held
+      c.requires.works),
 )
 
-pub turn-requires-clause-room : goal.turn-requires-clause-room
-turn-requires-clause-room g c =
-    spends g.V.Servant.serves g.V.Servant.stays g.V.Servant.budget g.met.V.Servant.spends _ _ _ _ _ (2 ^ 62)
-    c.requires.budget c.loop-end.invariant.3
+pub turn-requires : goal.turn-requires
+turn-requires g c = record {
+  room =
+      spends g.V.Servant.serves g.V.Servant.stays g.V.Servant.budget g.met.V.Servant.spends _ _ _ _ (2 ^ 62)
+      c.requires.budget c.loop-end.invariant.2;
+}
 
 pub loop-end-preserved : goal.loop-end-preserved
 loop-end-preserved g c =
     let i = c.loop-end.invariant in (
       g.met.V.Servant.same_on _ _ _ i.0 c.turn.ensures.same,
       c.turn.ensures.same_sink ∙ i.1,
-      c.in-None.ensures.sent,
-      came-on g.V.Servant.serves g.V.Servant.stays _ _ _ _ _ _ _ _ i.3 c.in-None.ensures.proceeds,
+      came-on g.V.Servant.serves g.V.Servant.stays _ _ _ _ _ _ i.2 c.in-None.ensures.proceeds,
     )
 
 pub returns-in-Some-clause-same : goal.returns-in-Some-clause-same
@@ -38,5 +39,5 @@ returns-in-Some-clause-same_sink g c = c.turn.ensures.same_sink ∙ c.loop-end.i
 
 pub returns-in-Some-clause-streams : goal.returns-in-Some-clause-streams
 returns-in-Some-clause-streams g c =
-    streams-last g.V.Servant.serves g.V.Servant.stays _ _ _ _ _ _ _ _ _ c.loop-end.invariant.3
+    streams-last g.V.Servant.serves g.V.Servant.stays _ _ _ _ _ _ _ c.loop-end.invariant.2
     c.in-Some.ensures.proceeds
