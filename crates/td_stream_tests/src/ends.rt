@@ -135,17 +135,21 @@ fn the_sink_fails(rt: HostRuntime) -> Result<(), Fail> {
     };
     assert!(rt; comes(alloc, &first)?, "at first");
     let second = Story {
+        pieces: &[47, 47],
         writes: &[2],
         given: &[REPLY],
         ..first
     };
-    assert!(rt; comes(alloc, &second)?, "at the second reply");
+    assert!(rt; comes(alloc, &second)?, "at the second piece's reply");
     let third = Story {
-        writes: &[3],
+        writes: &[2],
         end: End::Closed,
         given: &[REPLY, REPLY],
         ..first
     };
-    assert!(rt; comes(alloc, &third)?, "two replies are two writes");
+    assert!(rt;
+        comes(alloc, &third)?,
+        "two replies of a piece are one write"
+    );
     Ok(())
 }
