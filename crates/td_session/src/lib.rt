@@ -6,6 +6,7 @@ mod answering;
 mod laws;
 mod request;
 mod room;
+mod sending;
 mod servant;
 mod session;
 

@@ -11,6 +11,7 @@ ghost use Rattle.td_stream.specs.Heads.{HasHead, IsMessage};
 
 use crate::answering::answer_message;
 use crate::room::Room;
+use crate::sending::answer_holding;
 use std::alloc::Global;
 use td_cdr::Memory;
 use td_giop::Raw;
@@ -84,13 +85,14 @@ impl<'t, 'r, 'p, 'w, T: Traders, J: Journal, P: Peers, W: Words> Servant
         alloc: Global,
         message: &Raw<'_>,
         head: &Head<'_>,
-        _held: &mut G,
+        held: &mut G,
     ) -> Result<(), Memory> {
-        answer_lent(
+        answer_holding(
             alloc,
             self.traders,
             self.room,
             self.peers,
+            held,
             self.words,
             message,
             head,
@@ -103,7 +105,7 @@ impl<'t, 'r, 'p, 'w, T: Traders, J: Journal, P: Peers, W: Words> Servant
 }
 
 /// Answers a message with what is lent for it.
-fn answer_lent<T: Traders, J: Journal, P: Peers, W: Words>(
+pub(crate) fn answer_lent<T: Traders, J: Journal, P: Peers, W: Words>(
     alloc: Global,
     traders: &mut T,
     room: &mut Room<J>,

@@ -265,16 +265,16 @@ fn twice(alloc: Global) -> Result<Streams, Memory> {
 /// How many bytes a write takes at most, which write of two replies fails, and how many bytes are written then.
 type Cut = (usize, u64, usize);
 
-/// A reply has 156 bytes.
+/// A reply has 156 bytes, and both are held until they are written.
 const CUTS: [Cut; 11] = [
     (1000, 1, 0),
-    (1000, 2, 156),
+    (1000, 2, 312),
     (1000, 3, 312),
     (1000, 4, 312),
     (100, 1, 0),
     (100, 2, 100),
-    (100, 3, 156),
-    (100, 4, 256),
+    (100, 3, 200),
+    (100, 4, 300),
     (100, 5, 312),
     (1, 312, 311),
     (1, 313, 312),
