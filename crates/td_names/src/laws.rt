@@ -1,0 +1,47 @@
+//! What holds of all calls and references, as functions that do nothing: the contract of each is a law.
+
+ghost use Rattle.std.specs.Prelude.{◌≡◌, ◌≤◌, ◌+◌, ◌↔◌, ℕ, List, Some, true, length};
+ghost use Rattle.td_codes.specs.declared.reference.Ior.{Ior as Reference};
+ghost use Rattle.td_ior.specs.Laws.{Agrees};
+ghost use Rattle.td_names.specs.Applying.{Applies};
+ghost use Rattle.td_names.specs.Limits.{name_fits};
+ghost use Rattle.td_names.specs.Reaching.{Reach};
+ghost use Rattle.td_names.specs.References.{IsAddress, IsContextNumber, LeadsTo, SpellsContext, context_number};
+ghost use Rattle.td_names.specs.References.{led_to, reference_of};
+ghost use Rattle.td_names.specs.Refusing.{is_refusal};
+ghost use Rattle.td_names.specs.Stores.{Store, is_live};
+ghost use Rattle.td_names.specs.declared.act.NameAct.{NameAct as Called};
+ghost use Rattle.td_names.specs.declared.act.NameAct.TheVariants as call;
+ghost use Rattle.td_names.specs.declared.act.NameAnswer.{NameAnswer as Answered};
+ghost use Rattle.td_names.specs.declared.act.NameAnswer.TheVariants.{Done};
+ghost use Rattle.td_names.specs.declared.act.NameReply.TheVariants.{Object};
+ghost use Rattle.td_names.specs.declared.address.Address.{Address as Home};
+ghost use Rattle.td_names.specs.declared.component.NameComponent.{NameComponent as Part};
+
+/// A name within the limits is resolved to an object exactly where it reaches the object, whatever the contexts lead
+/// to, also back to themselves.
+pub fn resolve_reaches()
+    ensures { (s : Store) (c : ℕ) (name : List Part) (object : Reference) → name_fits name ≡ true → is_live s c ≡ true
+        → Applies s c (call.Resolve name) (Done (Object object)) s ↔ Reach s c name object }
+{}
+
+/// A call that is refused leaves everything as it was.
+pub fn refusals_change_nothing()
+    ensures { (s t : Store) (c : ℕ) (a : Called) (r : Answered) → Applies s c a r t → is_refusal r ≡ true → t ≡ s }
+{}
+
+/// A call makes one change at most, and no context's number is given again.
+pub fn calls_change_once()
+    ensures { (s t : Store) (c : ℕ) (a : Called) (r : Answered) → Applies s c a r t
+        → (t.home ≡ s.home) × (s.changes ≤ t.changes) × (t.changes ≤ s.changes + 1)
+        × (length s.contexts ≤ length t.contexts) }
+{}
+
+/// The key of a context is read as it is written, and only so. A reference leads to a context exactly where its first
+/// profile tells so, and the reference of each context leads back to it.
+pub fn references_lead_home()
+    ensures keys { Agrees SpellsContext context_number }
+    ensures agrees { (home : Home) → Agrees (LeadsTo home) (led_to home) }
+    ensures back { (home : Home) (n : ℕ) → IsAddress home → IsContextNumber n
+        → led_to home (reference_of home n) ≡ Some n }
+{}
