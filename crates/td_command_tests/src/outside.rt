@@ -13,9 +13,9 @@ const LINKED: &[u8] = b"address h 9\ntrader A\ntype Printer IDL:Printer:1.0\n\
     offer Printer ref:IDL:Printer:1.0,h,9,p1\n\
     link out ref:IDL:L:1.0,o,7,O ref:IDL:R:1.0,o,7,R always always\n";
 
-/// The query as it is passed on: for all properties of a thousand offers, with four hops left, the link's rule and a
-/// made identifier.
-const PASSED_ON: &[u8] = b"GIOP\x01\0\0\0\0\0\x01\x30\
+/// The query as it is passed on: for all properties of a thousand offers, with four hops left, the link's rule, a made
+/// identifier and one offer less to be returned than the trader's own thousand.
+const PASSED_ON: &[u8] = b"GIOP\x01\0\0\0\0\0\x01\x48\
     \0\0\0\0\0\0\0\x01\x01\0\0\0\
     \0\0\0\x01O\0\0\0\
     \0\0\0\x06query\0\0\0\
@@ -23,7 +23,7 @@ const PASSED_ON: &[u8] = b"GIOP\x01\0\0\0\0\0\x01\x30\
     \0\0\0\x08Printer\0\
     \0\0\0\x01\0\0\0\0\
     \0\0\0\x01\0\0\0\0\
-    \0\0\0\x03\
+    \0\0\0\x04\
     \0\0\0\x0ahop_count\0\0\0\
     \0\0\0\x05\0\0\0\x04\
     \0\0\0\x11link_follow_rule\0\0\0\0\
@@ -38,6 +38,8 @@ const PASSED_ON: &[u8] = b"GIOP\x01\0\0\0\0\0\x01\x30\
     \0\0\0\x0brequest_id\0\0\
     \0\0\0\x13\0\0\0\x0c\0\0\0\0\0\0\0\x0a\0\0\0\0\
     \0\0\0\x09A\0\0\0\0\0\0\0\0\0\0\0\
+    \0\0\0\x0creturn_card\0\
+    \0\0\0\x05\0\0\x03\xe7\
     \0\0\0\x02\0\0\x03\xe8";
 
 /// The reply of the trader outside, with one offer.

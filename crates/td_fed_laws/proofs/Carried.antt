@@ -16,7 +16,7 @@ use Rattle.td_register.specs.Stores.{Store}
 use Rattle.td_cdr.specs.Marks.{Marks}
 use Rattle.td_store.specs.declared.local.Local.{Local}
 use Rattle.td_trader.specs.Queries.{parts_of}
-use Rattle.td_walk.specs.SubQueries.{path_left, path_query}
+use Rattle.td_walk.specs.SubQueries.{path_left, path_query, wanted_behind}
 use Rattle.td_walk.specs.Visits.{next_of}
 use Rattle.td_walk.specs.declared.answer.Next.TheVariants.{Forward}
 use Rattle.td_walk.specs.declared.answer.StepAnswer.{StepAnswer}
@@ -56,8 +56,8 @@ search-states l id none named answers target sub e s is =
     by-way (only_passed l answers target sub e) is
   where
     by-way : {target : Ior} {sub : Query} → IsPassed l target sub → stated sub.policies ≡ Ok s → s.request_id ≡ Some id
-    by-way (over_link link p hops) r = (over_a_link l link s r).identifier id named
-    by-way (to_proxy o part constraint p hops) r = (to_a_proxy l part constraint s r).identifier id named
+    by-way (over_link link gathered p hops some) r = (over_a_link l (wanted_behind l gathered) link s r).identifier id named
+    by-way (to_proxy o part constraint gathered p hops some) r = (to_a_proxy l (wanted_behind l gathered) part constraint s r).identifier id named
     by-way (along_path link p) r = absurd (let bad : ⊥ = cc in bad)
 
 -- and fewer hops than the search; there are hops then
@@ -70,13 +70,13 @@ pub search-fewer : (l : Local) → l.path ≡ None → (answers : List StepAnswe
 search-fewer l none answers target sub e = by-way (only_passed l answers target sub e)
   where
     by-way : {target : Ior} {sub : Query} → IsPassed l target sub → HasFewer l.effective.hops sub
-    by-way (over_link link p hops) = record {
+    by-way (over_link link gathered p hops some) = record {
       some = ltb-true 0 l.effective.hops hops;
-      may = λ s r. (l.effective.hops - 1, (over_a_link l link s r).hops, omega arith);
+      may = λ s r. (l.effective.hops - 1, (over_a_link l (wanted_behind l gathered) link s r).hops, omega arith);
     }
-    by-way (to_proxy o part constraint p hops) = record {
+    by-way (to_proxy o part constraint gathered p hops some) = record {
       some = ltb-true 0 l.effective.hops hops;
-      may = λ s r. (to_a_proxy l part constraint s r).hops;
+      may = λ s r. (to_a_proxy l (wanted_behind l gathered) part constraint s r).hops;
     }
     by-way (along_path link p) = absurd (let bad : ⊥ = cc in bad)
 
@@ -122,10 +122,10 @@ path-keeps s point q l here answers target sub e = by-way (only_passed l answers
         ∙ (here.taken ∙ ap (λ (x : Stated). Ok x) (sym here.served.served.stated))
 
     by-way : {target : Ior} {sub : Query} → IsPassed l target sub → Keeps q sub
-    by-way (over_link link p hops) =
+    by-way (over_link link gathered p hops some) =
         let there : l.path ≡ Some here.link = here.served.path in
         absurd (let bad : ⊥ = cc in bad)
-    by-way (to_proxy o part constraint p hops) =
+    by-way (to_proxy o part constraint gathered p hops some) =
         let there : l.path ≡ Some here.link = here.served.path in
         absurd (let bad : ⊥ = cc in bad)
     by-way (along_path link p) = record {

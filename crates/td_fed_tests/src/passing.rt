@@ -20,15 +20,21 @@ fn link_of(local: &Local) -> Option<&LinkRecord> {
     }
 }
 
-fn over_link(alloc: Global, local: &Local) -> Result<Query, Memory> {
+/// How many offers are still wanted, where that is limited.
+fn number_of(word: &str) -> Option<u32> {
+    word.parse::<u32>().ok()
+}
+
+fn over_link(alloc: Global, local: &Local, wanted: Option<u32>) -> Result<Query, Memory> {
     match link_of(local) {
-        Some(link) => sub_query_for_link(alloc, local, link),
+        Some(link) => sub_query_for_link(alloc, local, wanted, link),
         None => Err(Memory),
     }
 }
 
-/// What goes to a proxy offer's trader with these policies.
-fn to_proxy(alloc: Global, local: &Local, words: &str) -> Result<Query, Memory> {
+/// What goes to a proxy offer's trader with these policies, `POLICIES` or `POLICIES/WANTED`.
+fn to_proxy(alloc: Global, local: &Local, tried: &str) -> Result<Query, Memory> {
+    let (words, wanted) = tried.split_once('/').unwrap_or((tried, ""));
     let constraint = text(alloc, "Cost < 10 and Floor == 3")?;
     match policies(alloc, words) {
         Ok(policies) => {
@@ -37,7 +43,7 @@ fn to_proxy(alloc: Global, local: &Local, words: &str) -> Result<Query, Memory> 
                 recipe: Text::new(alloc),
                 policies,
             };
-            let query = sub_query_for_proxy(alloc, local, &part, constraint);
+            let query = sub_query_for_proxy(alloc, local, number_of(wanted), &part, constraint);
             drop(part);
             query
         }
@@ -50,7 +56,7 @@ fn to_proxy(alloc: Global, local: &Local, words: &str) -> Result<Query, Memory> 
 
 fn sub_query(alloc: Global, case: Case, local: &Local, tried: &str) -> Result<Query, Memory> {
     match case {
-        Case::Link => over_link(alloc, local),
+        Case::Link => over_link(alloc, local, number_of(tried)),
         Case::Path => sub_query_for_path(alloc, local),
         _ => to_proxy(alloc, local, tried),
     }
@@ -83,13 +89,16 @@ fn start_of(stated: &Stated) -> usize {
     }
 }
 
-/// Whether a query is as `WHAT=VALUE` says: how many hops, matches and names of a start are stated, the rule, the names
-/// of its policies; `own` is the search's identifier, and `first` how a search asks where its preference was `random`.
+/// Whether a query is as `WHAT=VALUE` says: how many hops, matches, returned offers and names of a start are stated, the
+/// rule, the names of its policies; `own` is the search's identifier, and `first` how a search asks where its preference was `random`.
 fn says(local: &Local, query: &Query, stated: &Stated, word: &str) -> bool {
     let (what, value) = word.split_once('=').unwrap_or((word, ""));
     match what {
         "hops" => stated.hops.is_some() && value.parse::<u32>().ok() == stated.hops,
         "matches" => stated.match_card.is_some() && value.parse::<u32>().ok() == stated.match_card,
+        "returned" => {
+            stated.return_card.is_some() && value.parse::<u32>().ok() == stated.return_card
+        }
         "no_start" => stated.start.is_none(),
         "start" => value.parse::<usize>() == Ok(start_of(stated)),
         "rule" => stated.follow == Some(rule_of(value)),

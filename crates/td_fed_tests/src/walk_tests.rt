@@ -14,6 +14,24 @@ fn three_in_a_row(rt: HostRuntime) -> Result<(), Fail> {
     check(&rt, rt.alloc(), Case::Walk, ROW)
 }
 
+/// In the order of gathering, at random (the next trader asks in the order of gathering), by cost, and along a path.
+const STOPPED: &str = "A! B! C! A>B B>C;;;;return_card=0 => A. 0 0
+A! B! C! A>B B>C;;;;return_card=1 => A. 1 0
+A! B! C! A>B B>C;;;;return_card=2 => AB.. 2 0
+A! B! C! A>B B>C;;;;return_card=5 => ABC... 3 0
+A! B! C! A>B B>C;;;first;return_card=1 => A. 1 0
+A! B! C! A>B B>C;;;random;return_card=1 => AB.. 1 0
+A! B! C! A>B B>C;;;min Cost;return_card=1 => ABC... 1 0
+A! B! C! A>B B>C;;;;starting_trader=B return_card=0 => 0B.. 0 0
+A! B! C! D! A>B A>C B>C C>D;;;;hop_count=3 return_card=1 => A. 1 0
+A! B! C! D! A>B A>C B>C C>D;;;min Cost;hop_count=3 return_card=1 => ABCD...c. 1 0";
+
+/// No further trader is asked once enough offers are there, unless they get another order; a path is always followed.
+#[test]
+fn gathering_that_stops(rt: HostRuntime) -> Result<(), Fail> {
+    check(&rt, rt.alloc(), Case::Walk, STOPPED)
+}
+
 const CYCLES: &str = "A! B! A>B B>A => ABa.. 2 0
 A! A>A => Aa. 1 0
 C! A>B A>C B>C => ABC..c. 1 0";

@@ -181,13 +181,14 @@ pub const IDENTIFIED: &[u8] = b"GIOP\x01\0\0\0\0\0\0x\
     \0\0\0\x01q\0\0\0\
     \0\0\0\0\0\0\0\x0a";
 
-/// The query as it is passed on to B: for all properties of a thousand offers, with four hops left and the link's rule.
-pub const PASSED_ON: &[u8] = b"GIOP\x01\0\0\0\0\0\x01\x28\
+/// The query as it is passed on to B: for all properties of a thousand offers, with four hops left, the link's rule and
+/// one offer less to be returned than the trader's own thousand.
+pub const PASSED_ON: &[u8] = b"GIOP\x01\0\0\0\0\0\x01\x40\
     \0\0\0\0\0\0\0\x01\x01\0\0\0\0\0\0\x03\
     B/L\0\0\0\0\x06query\0\0\0\
     \0\0\0\0\0\0\0\x08Printer\0\
     \0\0\0\x01\0\0\0\0\0\0\0\x01\0\0\0\0\
-    \0\0\0\x03\0\0\0\x0brequest_id\0\0\
+    \0\0\0\x04\0\0\0\x0brequest_id\0\0\
     \0\0\0\x13\0\0\0\x0c\0\0\0\0\0\0\0\x0a\0\0\0\0\
     \0\0\0\x01q\0\0\0\
     \0\0\0\x0ahop_count\0\0\0\
@@ -201,6 +202,8 @@ pub const PASSED_ON: &[u8] = b"GIOP\x01\0\0\0\0\0\x01\x28\
     \0\0\0\x0cif_no_local\0\
     \0\0\0\x07always\0\0\
     \0\0\0\x02\
+    \0\0\0\x0creturn_card\0\
+    \0\0\0\x05\0\0\x03\xe7\
     \0\0\0\x02\0\0\x03\xe8";
 
 /// The same as B passes it on to this server, with three hops left.

@@ -23,42 +23,42 @@ module _ (to : List ℕ → Ior) (inside : Ior → Option ℕ) (words : List ℕ
   unfolding next_of visit_of steps link_step link_query proxy_step with_names resolved IsAnswer after_all comes_to
       withdraw number_below
   changed-2 f =
-      let here = is-here (without_first (unlinked (codes "C") (kept 1 (codes "c") ∷ kept 2 (codes "e") ∷ []))) 2
+      let here = is-here (without_first (unlinked (codes "C") (kept 1 (codes "c") ∷ kept 2 (codes "e") ∷ []))) 2 7
       refl in
       let before : visited (map head_of (changed to)) 2 0 2 ≡ false = rw here refl in
       let t = without_first (unlinked (codes "C") (kept 1 (codes "c") ∷ kept 2 (codes "e") ∷ [])) in
-      let k = call 2 2 (Some 0) 2 t [] (answered (codes "e")) in
-      none-tree (changed to) inside words f 2 k t 2 2 refl refl refl refl (found (codes "e")) before refl refl
+      let k = call 2 2 7 (Some 0) 2 t [] (answered (codes "e")) in
+      none-tree (changed to) inside words f 2 k t 2 2 7 refl refl refl refl (found (codes "e")) before refl refl
       (record { ranked = (found (codes "e")).offers; in_order = refl; cut = refl; limits = refl })
 
   changed-1 : (f : ℕ) → IsTree (suc f) (changed to) inside words 1 (found (codes "b"))
   unfolding next_of visit_of steps link_step link_query proxy_step with_names resolved IsAnswer after_all comes_to
       withdraw number_below
   changed-1 f =
-      let here = is-here (unlinked (codes "B") (kept 1 (codes "b") ∷ [])) 2 refl in
+      let here = is-here (unlinked (codes "B") (kept 1 (codes "b") ∷ [])) 2 8 refl in
       let before : visited (map head_of (changed to)) 1 0 1 ≡ false = rw here refl in
       let t = unlinked (codes "B") (kept 1 (codes "b") ∷ []) in
-      let k = call 1 2 (Some 0) 1 t [] (answered (codes "b")) in
-      none-tree (changed to) inside words f 1 k t 1 2 refl refl refl refl (found (codes "b")) before refl refl
+      let k = call 1 2 8 (Some 0) 1 t [] (answered (codes "b")) in
+      none-tree (changed to) inside words f 1 k t 1 2 8 refl refl refl refl (found (codes "b")) before refl refl
       (record { ranked = (found (codes "b")).offers; in_order = refl; cut = refl; limits = refl })
 
   changed-0 : (f : ℕ) → IsTree (suc (suc f)) (changed to) inside words 0 (found (codes "abe"))
   unfolding next_of visit_of steps link_step link_query proxy_step with_names resolved IsAnswer after_all comes_to
       withdraw number_below
   changed-0 f =
-      let here = is-here (top to) 3 refl in
+      let here = is-here (top to) 3 9 refl in
       let before : visited (map head_of (changed to)) 0 0 0 ≡ false = rw here refl in
       let t = top to in
-      let k = call 0 3 None 0 t (Given 1 ∷ Given 2 ∷ []) (answered (codes "abe")) in
-      let o1 = call 1 2 (Some 0) 1 (unlinked (codes "B") (kept 1 (codes "b") ∷ [])) [] (answered (codes "b")) in
-      let o2 = call 2 2 (Some 0) 2
+      let k = call 0 3 9 None 0 t (Given 1 ∷ Given 2 ∷ []) (answered (codes "abe")) in
+      let o1 = call 1 2 8 (Some 0) 1 (unlinked (codes "B") (kept 1 (codes "b") ∷ [])) [] (answered (codes "b")) in
+      let o2 = call 2 2 7 (Some 0) 2
       (without_first (unlinked (codes "C") (kept 1 (codes "c") ∷ kept 2 (codes "e") ∷ []))) []
       (answered (codes "e")) in
-      let told = first-given (changed to) inside words (suc f) 0 k t 0 3 refl refl refl refl 1 1 (to (codes "B"))
-      (asks 2) (found (codes "b")) refl at.b
+      let told = first-given (changed to) inside words (suc f) 0 k t 0 3 9 refl refl refl refl 1 1 (to (codes "B"))
+      (asks 2 8) (found (codes "b")) refl at.b
       (opened (changed to) 0 1 o1 refl refl) (changed-1 f) in
-      twice-tree (changed to) inside words (suc f) 0 k t 0 3 refl refl refl refl (found (codes "abe")) (Given 1)
-      (Offers (found (codes "b"))) 2 2 (to (codes "C")) (asks 2)
+      twice-tree (changed to) inside words (suc f) 0 k t 0 3 9 refl refl refl refl (found (codes "abe")) (Given 1)
+      (Offers (found (codes "b"))) 2 2 (to (codes "C")) (asks 2 7)
       (found (codes "e")) before refl told refl at.c
       (opened (changed to) 0 2 o2 refl refl) (changed-2 f) refl
       (record { ranked = (found (codes "abe")).offers; in_order = refl; cut = refl; limits = refl })

@@ -24,22 +24,22 @@ use Rattle.td_walk.specs.Visits.{next_of, steps, visit_of}
 use Rattle.td_walk.specs.declared.trace.Address.{Address}
 
 fresh-run : (home : Address) (words : List ℕ)
-    → Run (start (remembering ∷ []) home words) (Ask 0 (asks 1) ∷ []) (world (remembering ∷ []) home unfresh 1 words 0)
+    → Run (start (remembering ∷ []) home words) (Ask 0 (asks 1 9) ∷ []) (world (remembering ∷ []) home unfresh 1 words 0)
 unfolding marks_after after_all
 fresh-run home words =
     let w0 = start (remembering ∷ []) home words in
     let w1 = world (remembering ∷ []) home unfresh 1 words 0 in
-    let k = sent 0 (asks 1) 0 None in
-    then (come-repeat remembering (codes "q") 1 (omega arith) refl refl w0 (opened w0 k) 0 0 0 None w1 1 refl refl) over
+    let k = sent 0 (asks 1 9) 0 None in
+    then (come-repeat remembering (codes "q") 1 9 (omega arith) refl refl w0 (opened w0 k) 0 0 0 None w1 1 refl refl) over
 
 fresh-tree : (home : Address) (words : List ℕ)
     → IsTree 1 unfresh (inside (remembering ∷ []) home) words 0 (found (codes "a"))
 unfolding next_of visit_of steps link_step link_query proxy_step with_names resolved IsAnswer after_all
 fresh-tree home words =
-    let here = is-here remembering 1 refl in
+    let here = is-here remembering 1 9 refl in
     let before : visited (map head_of unfresh) 0 0 0 ≡ false = rw here refl in
-    let k = call_of 0 (asks 1) 0 None 0 remembering repeated in
-    none-tree unfresh (inside (remembering ∷ []) home) words 0 0 k remembering 0 1 refl refl refl refl
+    let k = call_of 0 (asks 1 9) 0 None 0 remembering repeated in
+    none-tree unfresh (inside (remembering ∷ []) home) words 0 0 k remembering 0 1 9 refl refl refl refl
     (found (codes "a")) before refl refl
     (record { ranked = (found (codes "a")).offers; in_order = refl; cut = refl; limits = refl })
 
@@ -48,16 +48,16 @@ unfolding after_all
 without-fresh home words = record {
   run = fresh-run home words;
   not_fresh = λ (fresh : IsFresh (remembering ∷ []) 0 (map head_of unfresh)).
-      let k = call_of 0 (asks 1) 0 None 0 remembering repeated in
-      let d = arrival_of (asks 1) (delivery_of 0 remembering) in
+      let k = call_of 0 (asks 1 9) 0 None 0 remembering repeated in
+      let d = arrival_of (asks 1 9) (delivery_of 0 remembering) in
       let visits : Visits 0 (map head_of unfresh) (head_of k) d = record {
         at = record { place = 0; is = refl; has_arrived = refl };
         root = refl;
-        visits = ap is_here (is-here remembering 1 refl);
+        visits = ap is_here (is-here remembering 1 9 refl);
       } in
-      let held : Holds remembering.marks (identifier_at remembering (asks 1)) 1 =
+      let held : Holds remembering.marks (identifier_at remembering (asks 1 9)) 1 =
       subst (λ (id : List ℕ). Holds remembering.marks id 1)
-      (sym (identifier-is remembering (codes "q") 1 (omega arith))) (inl refl) in
+      (sym (identifier-is remembering (codes "q") 1 9 (omega arith))) (inl refl) in
       fresh (head_of k) d visits 0 remembering 1 refl held;
   tree = fresh-tree home words;
   gives = refl;

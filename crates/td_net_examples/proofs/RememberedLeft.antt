@@ -33,7 +33,7 @@ module _ (to : List ℕ → Ior) (home : Address) (words : List ℕ) (at : AreLo
   a-inside a named = ap (keyed_in (map solo_view (a ∷ []))) at.a ∙ rw named refl
 
   remembered-run : Run (start (forgetting to ∷ []) home words)
-      (Ask 0 (asks 1) ∷ Ask 0 (asks_under (codes "r") 0) ∷ Deliver 1 ∷ [])
+      (Ask 0 (asks 1 9) ∷ Ask 0 (asks_under (codes "r") 0 9) ∷ Deliver 1 ∷ [])
       (world (searched (codes "q") (forgot to) ∷ []) home (forgotten to) 3 words 0)
   unfolding next_of visit_of steps link_step link_query proxy_step with_names resolved IsAnswer after_all marks_after
       drawn_by local_of identifier_at
@@ -42,20 +42,20 @@ module _ (to : List ℕ → Ior) (home : Address) (words : List ℕ) (at : AreLo
       let sa = searched (codes "q") a in
       let ra = forgot to in
       let w0 = start (a ∷ []) home words in
-      let first = call_of 0 (asks 1) 0 None 0 a (waits_at a (asks 1) 1) in
-      let second = sent 0 (asks 0) 0 (Some 0) in
-      let third = call_of 0 (asks_under (codes "r") 0) 2 None 1 sa (answered (codes "a")) in
+      let first = call_of 0 (asks 1 9) 0 None 0 a (waits_at a (asks 1 9) 1) in
+      let second = sent 0 (asks 0 8) 0 (Some 0) in
+      let third = call_of 0 (asks_under (codes "r") 0 9) 2 None 1 sa (answered (codes "a")) in
       let w1 = world (sa ∷ []) home (first ∷ second ∷ []) 1 words 0 in
       let w2 = world (ra ∷ []) home (first ∷ second ∷ third ∷ []) 2 words 0 in
       let w3 = world (searched (codes "q") ra ∷ []) home (forgotten to) 3 words 0 in
-      let k = sent 0 (asks 1) 0 None in
-      let m = sent 0 (asks_under (codes "r") 0) 2 None in
-      let one = come-waits a (codes "q") 1 (omega arith) refl refl w0 (opened w0 k) 0 0 0 None w1 (to (codes "A")) (asks 0) 0
+      let k = sent 0 (asks 1 9) 0 None in
+      let m = sent 0 (asks_under (codes "r") 0 9) 2 None in
+      let one = come-waits a (codes "q") 1 9 (omega arith) refl refl w0 (opened w0 k) 0 0 0 None w1 (to (codes "A")) (asks 0 8) 0
       refl refl (a-inside sa refl) refl in
-      let two = come-ends sa (codes "r") 0 (omega arith) refl refl w1 (opened w1 m) 2 0 2 None w2 (found (codes "a")) refl refl
+      let two = come-ends sa (codes "r") 0 9 (omega arith) refl refl w1 (opened w1 m) 2 0 2 None w2 (found (codes "a")) refl refl
       (record { ranked = (found (codes "a")).offers; in_order = refl; cut = refl; limits = refl })
       (ap (λ (n : ℕ). world (ra ∷ []) home (first ∷ second ∷ third ∷ []) 2 words n) (sym (none-drawn words))) in
-      let three = come-ends ra (codes "q") 0 (omega arith) refl refl w2 w2 1 0 0 (Some 0) w3 (found (codes "a")) refl refl
+      let three = come-ends ra (codes "q") 0 8 (omega arith) refl refl w2 w2 1 0 0 (Some 0) w3 (found (codes "a")) refl refl
       (record { ranked = (found (codes "a")).offers; in_order = refl; cut = refl; limits = refl })
       (ap (λ (n : ℕ). world (searched (codes "q") ra ∷ []) home (forgotten to) 3 words n)
       (sym (none-drawn words))) in
@@ -64,32 +64,32 @@ module _ (to : List ℕ → Ior) (home : Address) (words : List ℕ) (at : AreLo
   remembered-tree : IsTree 3 (forgotten to) (inside (forgetting to ∷ []) home) words 1 (found [])
   unfolding after_all
   remembered-tree =
-      let here = is-here (forgetting to) 1 refl in
+      let here = is-here (forgetting to) 1 9 refl in
       let before : visited (map head_of (forgotten to)) 0 0 2 ≡ true = rw here refl in
-      let k = call_of 0 (asks 0) 0 (Some 0) 2 (forgot to) (answered (codes "a")) in
-      repeat-tree (forgotten to) (inside (forgetting to ∷ []) home) words 2 1 k (forgot to) 2 0 refl refl refl refl before
+      let k = call_of 0 (asks 0 8) 0 (Some 0) 2 (forgot to) (answered (codes "a")) in
+      repeat-tree (forgotten to) (inside (forgetting to ∷ []) home) words 2 1 k (forgot to) 2 0 8 refl refl refl refl before
 
   not-remembered : IsRemembered 0 (map head_of (forgotten to)) → ⊥
   unfolding after_all
   not-remembered remembered =
       let a = forgetting to in
       let ra = forgot to in
-      let k = call_of 0 (asks 1) 0 None 0 a (waits_at a (asks 1) 1) in
-      let m = call_of 0 (asks 0) 0 (Some 0) 2 ra (answered (codes "a")) in
-      let d = arrival_of (asks 1) (delivery_of 0 a) in
-      let e = arrival_of (asks 0) (delivery_of 2 ra) in
+      let k = call_of 0 (asks 1 9) 0 None 0 a (waits_at a (asks 1 9) 1) in
+      let m = call_of 0 (asks 0 8) 0 (Some 0) 2 ra (answered (codes "a")) in
+      let d = arrival_of (asks 1 9) (delivery_of 0 a) in
+      let e = arrival_of (asks 0 8) (delivery_of 2 ra) in
       let first : Visits 0 (map head_of (forgotten to)) (head_of k) d = record {
         at = record { place = 0; is = refl; has_arrived = refl };
         root = refl;
-        visits = ap is_here (is-here a 1 refl);
+        visits = ap is_here (is-here a 1 9 refl);
       } in
       let second : Visits 0 (map head_of (forgotten to)) (head_of m) e = record {
         at = record { place = 1; is = refl; has_arrived = refl };
         root = refl;
-        visits = ap is_here (is-here ra 0 refl);
+        visits = ap is_here (is-here ra 0 8 refl);
       } in
       let searches : d.searches ≡ true =
-      ap is_search (begin-search a (codes "q") 1 (omega arith) refl refl refl) in
+      ap is_search (begin-search a (codes "q") 1 9 (omega arith) refl refl refl) in
       let within : 2 < 0 + 1 + 1 =
       remembered (head_of k) (head_of m) d e first second refl (omega arith) searches in
       absurd (omega (arith, within))

@@ -24,26 +24,26 @@ module _ (to : List ℕ → Ior) (inside : Ior → Option ℕ) (words : List ℕ
   unfolding next_of visit_of steps link_step link_query proxy_step with_names resolved IsAnswer after_all comes_to
       withdraw number_below
   returned-2 f =
-      let here = is-here (linked to (codes "A") (codes "a") (codes "B")) 3 refl in
+      let here = is-here (linked to (codes "A") (codes "a") (codes "B")) 3 9 refl in
       let before : visited (map head_of (returned to)) 0 0 2 ≡ true = rw here refl in
       let t = without_first (searched (codes "q") (linked to (codes "A") (codes "a") (codes "B"))) in
-      let k = call 0 1 (Some 1) 2 t [] repeated in
-      repeat-tree (returned to) inside words f 2 k t 2 1 refl refl refl refl before
+      let k = call 0 1 7 (Some 1) 2 t [] repeated in
+      repeat-tree (returned to) inside words f 2 k t 2 1 7 refl refl refl refl before
 
   returned-1 : (f : ℕ) → IsTree (suc (suc f)) (returned to) inside words 1 (found (codes "b"))
   unfolding next_of visit_of steps link_step link_query proxy_step with_names resolved IsAnswer after_all comes_to
       withdraw number_below
   returned-1 f =
-      let here = is-here (linked to (codes "B") (codes "b") (codes "A")) 2 refl in
+      let here = is-here (linked to (codes "B") (codes "b") (codes "A")) 2 8 refl in
       let before : visited (map head_of (returned to)) 1 0 1 ≡ false = rw here refl in
       let t = linked to (codes "B") (codes "b") (codes "A") in
-      let k = call 1 2 (Some 0) 1 t (Given 2 ∷ []) (answered (codes "b")) in
-      let o2 = call 0 1 (Some 1) 2
+      let k = call 1 2 8 (Some 0) 1 t (Given 2 ∷ []) (answered (codes "b")) in
+      let o2 = call 0 1 7 (Some 1) 2
       (without_first (searched (codes "q") (linked to (codes "A") (codes "a") (codes "B")))) [] repeated in
-      let told = first-given (returned to) inside words (suc f) 1 k t 1 2 refl refl refl refl 2 0 (to (codes "A"))
-      (asks 1) (found []) refl at.a
+      let told = first-given (returned to) inside words (suc f) 1 k t 1 2 8 refl refl refl refl 2 0 (to (codes "A"))
+      (asks 1 7) (found []) refl at.a
       (opened (returned to) 1 2 o2 refl refl) (returned-2 f) in
-      once-tree (returned to) inside words (suc f) 1 k t 1 2 refl refl refl refl (found (codes "b")) (Given 2)
+      once-tree (returned to) inside words (suc f) 1 k t 1 2 8 refl refl refl refl (found (codes "b")) (Given 2)
       (Offers (found [])) before refl told refl
       (record { ranked = (found (codes "b")).offers; in_order = refl; cut = refl; limits = refl })
 
@@ -51,18 +51,18 @@ module _ (to : List ℕ → Ior) (inside : Ior → Option ℕ) (words : List ℕ
   unfolding next_of visit_of steps link_step link_query proxy_step with_names resolved IsAnswer after_all comes_to
       withdraw number_below
   returned-0 f =
-      let here = is-here (linked to (codes "A") (codes "a") (codes "B")) 3 refl in
-      let here2 = is-here (without_first (searched (codes "q") (linked to (codes "A") (codes "a") (codes "B")))) 1
+      let here = is-here (linked to (codes "A") (codes "a") (codes "B")) 3 9 refl in
+      let here2 = is-here (without_first (searched (codes "q") (linked to (codes "A") (codes "a") (codes "B")))) 1 7
       refl in
       let before : visited (map head_of (returned to)) 0 0 0 ≡ false = rw (here, here2) refl in
       let t = linked to (codes "A") (codes "a") (codes "B") in
-      let k = call 0 3 None 0 t (Given 1 ∷ []) (answered (codes "ab")) in
-      let o1 = call 1 2 (Some 0) 1 (linked to (codes "B") (codes "b") (codes "A")) (Given 2 ∷ [])
+      let k = call 0 3 9 None 0 t (Given 1 ∷ []) (answered (codes "ab")) in
+      let o1 = call 1 2 8 (Some 0) 1 (linked to (codes "B") (codes "b") (codes "A")) (Given 2 ∷ [])
       (answered (codes "b")) in
-      let told = first-given (returned to) inside words (suc (suc f)) 0 k t 0 3 refl refl refl refl 1 1
-      (to (codes "B")) (asks 2) (found (codes "b")) refl at.b
+      let told = first-given (returned to) inside words (suc (suc f)) 0 k t 0 3 9 refl refl refl refl 1 1
+      (to (codes "B")) (asks 2 8) (found (codes "b")) refl at.b
       (opened (returned to) 0 1 o1 refl refl) (returned-1 f) in
-      once-tree (returned to) inside words (suc (suc f)) 0 k t 0 3 refl refl refl refl (found (codes "ab"))
+      once-tree (returned to) inside words (suc (suc f)) 0 k t 0 3 9 refl refl refl refl (found (codes "ab"))
       (Given 1) (Offers (found (codes "b"))) before refl told refl
       (record { ranked = (found (codes "ab")).offers; in_order = refl; cut = refl; limits = refl })
 

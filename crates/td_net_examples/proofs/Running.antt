@@ -70,18 +70,18 @@ settle-done n inside l rs ss done =
     let more : n + 1 ≡ suc n = omega arith in
     ap (λ (x : ℕ). settle x inside l rs ss) more ∙ ap (settle_by (settle n inside l) inside rs ss) done
 
-module _ (t : PlainTrader) (id : List ℕ) (hops : ℕ) (few : length id ≤ 256)
-    (taken : cause_at t (asks_under id hops) (Ok (states id hops)) ≡ None)
-    (no_path : path_link (store_of t).links (states id hops) ≡ None) where
+module _ (t : PlainTrader) (id : List ℕ) (hops card : ℕ) (few : length id ≤ 256)
+    (taken : cause_at t (asks_under id hops card) (Ok (states id hops card)) ≡ None)
+    (no_path : path_link (store_of t).links (states id hops card) ≡ None) where
   abbrev asked : Query
-  asked = asks_under id hops
+  asked = asks_under id hops card
 
-  pub begin-search : repeated_in t.marks (states id hops) ≡ None → begin_at t asked ≡ Search (search_at t asked)
+  pub begin-search : repeated_in t.marks (states id hops card) ≡ None → begin_at t asked ≡ Search (search_at t asked)
   unfolding identifier_at
-  begin-search new = begins t asked (states id hops) None (asks-states id hops few) taken no_path new
+  begin-search new = begins t asked (states id hops card) None (asks-states id hops card few) taken no_path new
 
-  begin-repeat : (n : ℕ) → repeated_in t.marks (states id hops) ≡ Some n → begin_at t asked ≡ Repeat n
-  begin-repeat n held = begins t asked (states id hops) (Some n) (asks-states id hops few) taken no_path held
+  begin-repeat : (n : ℕ) → repeated_in t.marks (states id hops card) ≡ Some n → begin_at t asked ≡ Repeat n
+  begin-repeat n held = begins t asked (states id hops card) (Some n) (asks-states id hops card few) taken no_path held
 
   -- the trader once it is searched
   abbrev now : PlainTrader
@@ -93,10 +93,10 @@ module _ (t : PlainTrader) (id : List ℕ) (hops : ℕ) (few : length id ≤ 256
       ap
       (λ (r : Result Stated PolicyFault). let made =
       identified t.marks (store_of t).attributes.request_id_stem (result_unwrap_or r nothing).request_id in
-      record t { marks = marked t.marks made.identifier made.counter }) (asks-states id hops few)
+      record t { marks = marked t.marks made.identifier made.counter }) (asks-states id hops card few)
 
-  at-search : search_at t asked ≡ served_at t asked (Ok (states id hops))
-  at-search = search-is t asked (Ok (states id hops)) (asks-states id hops few)
+  at-search : search_at t asked ≡ served_at t asked (Ok (states id hops card))
+  at-search = search-is t asked (Ok (states id hops card)) (asks-states id hops card few)
 
   -- ---- how the call of such a query is delivered
 
@@ -114,7 +114,7 @@ module _ (t : PlainTrader) (id : List ℕ) (hops : ℕ) (few : length id ≤ 256
     by b =
         begun_by (record w { traders = slice_set w.traders target (after_begin t asked b); clock = w.clock + 1 }) c come b
 
-    come-search : (u : World) → repeated_in t.marks (states id hops) ≡ None
+    come-search : (u : World) → repeated_in t.marks (states id hops card) ≡ None
         → Becomes w0 (goes_on behind c come (search_at t asked) [] []) u → Becomes w0 (deliver_to w c call (Some t)) u
     come-search u new goes =
         let l = search_at t asked in
@@ -126,13 +126,13 @@ module _ (t : PlainTrader) (id : List ℕ) (hops : ℕ) (few : length id ≤ 256
         subst (λ (b : Begin). Becomes w0 (by b) u) (sym (begin-search new)) searched
 
     -- it is a repeat
-    pub come-repeat : (u : World) (n : ℕ) → repeated_in t.marks (states id hops) ≡ Some n
+    pub come-repeat : (u : World) (n : ℕ) → repeated_in t.marks (states id hops card) ≡ Some n
         → Becomes w0 (by (Repeat n)) u → Becomes w0 (deliver_to w c call (Some t)) u
     come-repeat u n held goes = subst (λ (b : Begin). Becomes w0 (by b) u) (sym (begin-repeat n held)) goes
 
     -- its visit waits for its first question
-    pub come-waits : (u : World) (other : Ior) (sub : Query) (m : ℕ) → repeated_in t.marks (states id hops) ≡ None
-        → next_of (served_at t asked (Ok (states id hops))) [] ≡ Forward other sub
+    pub come-waits : (u : World) (other : Ior) (sub : Query) (m : ℕ) → repeated_in t.marks (states id hops card) ≡ None
+        → next_of (served_at t asked (Ok (states id hops card))) [] ≡ Forward other sub
         → inside (slice_set w.traders target now) w.home other ≡ Some m
         → u ≡ with_calls behind
         (slice_set w.calls c (waiting come (search_at t asked) [] [] (length w.calls)) ++ sent m sub root (Some c) ∷ [])
@@ -148,13 +148,13 @@ module _ (t : PlainTrader) (id : List ℕ) (hops : ℕ) (few : length id ≤ 256
         come-search u new (subst (λ (x : Taken). Becomes w0 x u) (sym moves) is)
 
     -- it ends
-    pub come-ends : (u : World) (a : SubAnswer) → repeated_in t.marks (states id hops) ≡ None
-        → next_of (served_at t asked (Ok (states id hops))) [] ≡ Done
-        → IsAnswer (served_at t asked (Ok (states id hops))) [] (words_from w.words w.drawn) a
-        → u ≡ closed behind c come (served_at t asked (Ok (states id hops))) [] [] a
+    pub come-ends : (u : World) (a : SubAnswer) → repeated_in t.marks (states id hops card) ≡ None
+        → next_of (served_at t asked (Ok (states id hops card))) [] ≡ Done
+        → IsAnswer (served_at t asked (Ok (states id hops card))) [] (words_from w.words w.drawn) a
+        → u ≡ closed behind c come (served_at t asked (Ok (states id hops card))) [] [] a
         → Becomes w0 (deliver_to w c call (Some t)) u
     come-ends u a new done gives is =
-        let l = served_at t asked (Ok (states id hops)) in
+        let l = served_at t asked (Ok (states id hops card)) in
         let settles = settle-done (turns_of l) (inside behind.traders behind.home) l [] [] done in
         let ends : goes_on behind c come l [] [] ≡ Closing behind c come l [] [] = ap (placed behind c come l) settles in
         let here : Becomes w0 (goes_on behind c come l [] []) u =

@@ -44,16 +44,22 @@ use Rattle.td_walk_laws.specs.Walks.{nothing as no_offers}
 
 -- ---- what the queries state
 
-abbrev pub states : (identifier : List ℕ) → (hops : ℕ) → Stated
-states identifier hops = record nothing { hops = Some hops; follow = Some Always; request_id = Some identifier }
+abbrev pub states : (identifier : List ℕ) → (hops card : ℕ) → Stated
+states identifier hops card = record nothing {
+  hops = Some hops;
+  follow = Some Always;
+  request_id = Some identifier;
+  return_card = Some card;
+}
 
-pub asks-states : (identifier : List ℕ) (hops : ℕ) → length identifier ≤ 256
-    → stated (asks_under identifier hops).policies ≡ Ok (states identifier hops)
-asks-states identifier hops few =
+pub asks-states : (identifier : List ℕ) (hops card : ℕ) → length identifier ≤ 256
+    → stated (asks_under identifier hops card).policies ≡ Ok (states identifier hops card)
+asks-states identifier hops card few =
     let first = number_back (codes "hop_count") hops in
     let second = rule_back (codes "link_follow_rule") Always in
     let third = octets_back (codes "request_id") identifier 256 few in
-    rw (first, second, third) refl
+    let fourth = number_back (codes "return_card") card in
+    rw (first, second, third, fourth) refl
 
 -- ---- how they are served, by what their policies state
 
@@ -85,14 +91,14 @@ unfolding identifier_at local_of
 search-is t q r is = ap (served_at t q) is
 
 -- under which identifier
-pub identifier-is : (t : PlainTrader) (identifier : List ℕ) (hops : ℕ) → length identifier ≤ 256
-    → identifier_at t (asks_under identifier hops) ≡ identifier
+pub identifier-is : (t : PlainTrader) (identifier : List ℕ) (hops card : ℕ) → length identifier ≤ 256
+    → identifier_at t (asks_under identifier hops card) ≡ identifier
 unfolding identifier_at
-identifier-is t identifier hops few =
+identifier-is t identifier hops card few =
     ap
     (λ (r : Result Stated PolicyFault).
     (identified t.marks (store_of t).attributes.request_id_stem (result_unwrap_or r nothing).request_id).identifier)
-    (asks-states identifier hops few)
+    (asks-states identifier hops card few)
 
 -- why a query is refused, if it is
 abbrev pub cause_at : PlainTrader → Query → Result Stated PolicyFault → Cause
@@ -113,13 +119,13 @@ unfolding way_of refusal
 way-is t q r is = ap (way_at t q) is
 
 -- what a query of the examples is searched with
-abbrev pub local : PlainTrader → (hops : ℕ) → Local
-local t hops = served_at t (asks hops) (Ok (states (codes "q") hops))
+abbrev pub local : PlainTrader → (hops card : ℕ) → Local
+local t hops card = served_at t (asks hops card) (Ok (states (codes "q") hops card))
 
 -- a trader that takes a query of the examples is visited by it
-pub is-here : (t : PlainTrader) (hops : ℕ) → way_at t (asks hops) (Ok (states (codes "q") hops)) ≡ Here
-    → way_of t (asks hops) ≡ Here
-is-here t hops way = way-is t (asks hops) (Ok (states (codes "q") hops)) (asks-states (codes "q") hops (omega arith)) ∙ way
+pub is-here : (t : PlainTrader) (hops card : ℕ) → way_at t (asks hops card) (Ok (states (codes "q") hops card)) ≡ Here
+    → way_of t (asks hops card) ≡ Here
+is-here t hops card way = way-is t (asks hops card) (Ok (states (codes "q") hops card)) (asks-states (codes "q") hops card (omega arith)) ∙ way
 
 -- ---- the tree of a call that came so to its trader
 
@@ -129,18 +135,18 @@ pub opened : (calls : List Call) (c d : ℕ) (o : Call) → slice_get calls d �
 opened calls c d o is by = record { call = o; is = is; at = refl; asks = refl; by = by }
 
 module _ (calls : List Call) (inside : Ior → Option ℕ) (words : List ℕ) (f c : ℕ) (k : Call) (t : PlainTrader)
-    (serial hops : ℕ) (is : slice_get calls c ≡ Some k) (delivered : k.delivery ≡ Some (delivery_of serial t))
-    (asked : k.query ≡ asks hops) (way : way_at t (asks hops) (Ok (states (codes "q") hops)) ≡ Here) where
+    (serial hops card : ℕ) (is : slice_get calls c ≡ Some k) (delivered : k.delivery ≡ Some (delivery_of serial t))
+    (asked : k.query ≡ asks hops card) (way : way_at t (asks hops card) (Ok (states (codes "q") hops card)) ≡ Here) where
   abbrev Sub : ℕ → SubAnswer → Type 0
   Sub = IsTree f calls inside words
 
   here : way_of t k.query ≡ Here
-  here = ap (way_of t) asked ∙ is-here t hops way
+  here = ap (way_of t) asked ∙ is-here t hops card way
 
-  at-search : search_at t k.query ≡ local t hops
+  at-search : search_at t k.query ≡ local t hops card
   at-search =
       ap (search_at t) asked
-      ∙ search-is t (asks hops) (Ok (states (codes "q") hops)) (asks-states (codes "q") hops (omega arith))
+      ∙ search-is t (asks hops card) (Ok (states (codes "q") hops card)) (asks-states (codes "q") hops card (omega arith))
 
   -- from what it gives where it visits its trader, for the first time or again
   by-visit : (a : SubAnswer) (b : Bool) → visited (map head_of calls) k.target k.root serial ≡ not b
@@ -167,46 +173,46 @@ module _ (calls : List Call) (inside : Ior → Option ℕ) (words : List ℕ) (f
 
   -- one that comes to a new one has the answer of its questions
   pub new-tree : (a : SubAnswer) → visited (map head_of calls) k.target k.root serial ≡ false
-      → Asked calls inside c Sub words k a (local t hops) → IsTree (suc f) calls inside words c a
+      → Asked calls inside c Sub words k a (local t hops card) → IsTree (suc f) calls inside words c a
   new-tree a before questions =
       by-visit a true before (subst (λ (l : Local). Asked calls inside c Sub words k a l) (sym at-search) questions)
 
   -- no question
   pub none-tree : (a : SubAnswer) → visited (map head_of calls) k.target k.root serial ≡ false → k.steps ≡ []
-      → next_of (local t hops) [] ≡ Done → IsAnswer (local t hops) [] (words_from words k.drawn) a
+      → next_of (local t hops card) [] ≡ Done → IsAnswer (local t hops card) [] (words_from words k.drawn) a
       → IsTree (suc f) calls inside words c a
   none-tree a before steps done gives =
       new-tree a before
       (record {
         answers = [];
-        told = subst (λ (ss : List Step). Told calls inside c (local t hops) Sub [] ss) (sym steps) nothing_yet;
+        told = subst (λ (ss : List Step). Told calls inside c (local t hops card) Sub [] ss) (sym steps) nothing_yet;
         none_left = done;
         is_answer = gives;
       })
 
   -- what came of the first question
   abbrev pub FirstTold : Step → StepAnswer → Type 0
-  FirstTold s r = Told calls inside c (local t hops) Sub (r ∷ []) (s ∷ [])
+  FirstTold s r = Told calls inside c (local t hops card) Sub (r ∷ []) (s ∷ [])
 
   pub first-given : (d place : ℕ) (other : Ior) (q : Query) (b : SubAnswer)
-      → next_of (local t hops) [] ≡ Forward other q → inside other ≡ Some place → Opened calls c place q d
+      → next_of (local t hops card) [] ≡ Forward other q → inside other ≡ Some place → Opened calls c place q d
       → IsTree f calls inside words d b → FirstTold (step.Given d) (answer.Offers b)
   first-given d place other q b asks_other within opened tree = given nothing_yet asks_other within opened tree
 
-  pub first-lost : (d place : ℕ) (other : Ior) (q : Query) → next_of (local t hops) [] ≡ Forward other q
+  pub first-lost : (d place : ℕ) (other : Ior) (q : Query) → next_of (local t hops card) [] ≡ Forward other q
       → inside other ≡ Some place → Opened calls c place q d → FirstTold (step.Lost d) answer.Failed
   first-lost d place other q asks_other within opened = lost nothing_yet asks_other within opened
 
   -- one question
   pub once-tree : (a : SubAnswer) (s : Step) (r : StepAnswer)
       → visited (map head_of calls) k.target k.root serial ≡ false → k.steps ≡ s ∷ [] → FirstTold s r
-      → next_of (local t hops) (r ∷ []) ≡ Done → IsAnswer (local t hops) (r ∷ []) (words_from words k.drawn) a
+      → next_of (local t hops card) (r ∷ []) ≡ Done → IsAnswer (local t hops card) (r ∷ []) (words_from words k.drawn) a
       → IsTree (suc f) calls inside words c a
   once-tree a s r before steps told done gives =
       new-tree a before
       (record {
         answers = r ∷ [];
-        told = subst (λ (ss : List Step). Told calls inside c (local t hops) Sub (r ∷ []) ss) (sym steps) told;
+        told = subst (λ (ss : List Step). Told calls inside c (local t hops card) Sub (r ∷ []) ss) (sym steps) told;
         none_left = done;
         is_answer = gives;
       })
@@ -214,18 +220,18 @@ module _ (calls : List Call) (inside : Ior → Option ℕ) (words : List ℕ) (f
   -- two questions
   pub twice-tree : (a : SubAnswer) (s : Step) (r : StepAnswer) (d place : ℕ) (other : Ior) (q : Query) (b : SubAnswer)
       → visited (map head_of calls) k.target k.root serial ≡ false → k.steps ≡ s ∷ step.Given d ∷ []
-      → FirstTold s r → next_of (local t hops) (r ∷ []) ≡ Forward other q → inside other ≡ Some place
+      → FirstTold s r → next_of (local t hops card) (r ∷ []) ≡ Forward other q → inside other ≡ Some place
       → Opened calls c place q d → IsTree f calls inside words d b
-      → next_of (local t hops) (r ∷ answer.Offers b ∷ []) ≡ Done
-      → IsAnswer (local t hops) (r ∷ answer.Offers b ∷ []) (words_from words k.drawn) a
+      → next_of (local t hops card) (r ∷ answer.Offers b ∷ []) ≡ Done
+      → IsAnswer (local t hops card) (r ∷ answer.Offers b ∷ []) (words_from words k.drawn) a
       → IsTree (suc f) calls inside words c a
   twice-tree a s r d place other q b before steps told asks_other within opened tree done gives =
-      let both : Told calls inside c (local t hops) Sub (r ∷ answer.Offers b ∷ []) (s ∷ step.Given d ∷ []) =
+      let both : Told calls inside c (local t hops card) Sub (r ∷ answer.Offers b ∷ []) (s ∷ step.Given d ∷ []) =
       given told asks_other within opened tree in
       new-tree a before
       (record {
         answers = r ∷ answer.Offers b ∷ [];
-        told = subst (λ (ss : List Step). Told calls inside c (local t hops) Sub (r ∷ answer.Offers b ∷ []) ss)
+        told = subst (λ (ss : List Step). Told calls inside c (local t hops card) Sub (r ∷ answer.Offers b ∷ []) ss)
             (sym steps) both;
         none_left = done;
         is_answer = gives;

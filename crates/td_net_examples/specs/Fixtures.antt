@@ -19,7 +19,7 @@ use Rattle.td_trader.specs.PlainTraders.{PlainTrader, after_change, opened}
 use Rattle.td_value.specs.declared.enumerations.FollowOption.TheVariants.{Always}
 use Rattle.td_value.specs.declared.structures.Offer.{Offer}
 use Rattle.td_value.specs.declared.unions.SpecifiedProps.TheVariants as props
-use Rattle.td_walk.specs.Passing.{follow_policy, hop_policy, identifier_policy}
+use Rattle.td_walk.specs.Passing.{card_policy, follow_policy, hop_policy, identifier_policy}
 use Rattle.td_walk.specs.declared.answer.SubAnswer.{SubAnswer}
 use Rattle.td_walk.specs.declared.trace.Visit.TheVariants as visit
 
@@ -79,19 +79,19 @@ searched identifier t = record t { marks = marked t.marks identifier 0 }
 
 -- ---- queries
 
--- for all offers of Printer, over so many hops, under this identifier
-abbrev pub asks_under : (identifier : List ℕ) → (hops : ℕ) → Query
-asks_under identifier hops = record {
+-- for so many offers of Printer, over so many hops, under this identifier
+abbrev pub asks_under : (identifier : List ℕ) → (hops card : ℕ) → Query
+asks_under identifier hops card = record {
   service_type = printer;
   constraint = [];
   preference = [];
-  policies = hop_policy hops ∷ follow_policy Always ∷ identifier_policy identifier ∷ [];
+  policies = hop_policy hops ∷ follow_policy Always ∷ identifier_policy identifier ∷ card_policy card ∷ [];
   desired = props.All;
   how_many = 1000;
 }
 
-abbrev pub asks : (hops : ℕ) → Query
-asks hops = asks_under (codes "q") hops
+abbrev pub asks : (hops card : ℕ) → Query
+asks hops card = asks_under (codes "q") hops card
 
 -- ---- answers
 
@@ -113,8 +113,8 @@ repeated = Ended (visit.Answered (found []) 0)
 
 -- A call of the Ask of call 0, which was delivered behind so many others to this trader, with what came of its
 -- questions, and where it stands. A caller was handed what it ended with, or that it was lost.
-abbrev pub call : (target hops : ℕ) → (caller : Option ℕ) → (serial : ℕ) → PlainTrader → List Step → Stage → Call
-call target hops caller serial t steps stage = record (sent target (asks hops) 0 caller) {
+abbrev pub call : (target hops card : ℕ) → (caller : Option ℕ) → (serial : ℕ) → PlainTrader → List Step → Stage → Call
+call target hops card caller serial t steps stage = record (sent target (asks hops card) 0 caller) {
   handed = is_some caller;
   stage = stage;
   delivery = Some (delivery_of serial t);

@@ -14,10 +14,10 @@ ring to =
     let a = linked to (codes "A") (codes "a") (codes "B") in
     let b = linked to (codes "B") (codes "b") (codes "C") in
     let c = linked to (codes "C") (codes "c") (codes "A") in
-    call 0 3 None 0 a (Given 1 ∷ []) (answered (codes "abc"))
-    ∷ call 1 2 (Some 0) 1 b (Given 2 ∷ []) (answered (codes "bc"))
-    ∷ call 2 1 (Some 1) 2 c (Given 3 ∷ []) (answered (codes "c"))
-    ∷ call 0 0 (Some 2) 3 (searched (codes "q") a) [] repeated
+    call 0 3 9 None 0 a (Given 1 ∷ []) (answered (codes "abc"))
+    ∷ call 1 2 8 (Some 0) 1 b (Given 2 ∷ []) (answered (codes "bc"))
+    ∷ call 2 1 7 (Some 1) 2 c (Given 3 ∷ []) (answered (codes "c"))
+    ∷ call 0 0 6 (Some 2) 3 (searched (codes "q") a) [] repeated
     ∷ []
 
 pub record WorkedRing (to : List ℕ → Ior) (inside : Ior → Option ℕ) (words : List ℕ) : Type 0 where
@@ -25,6 +25,18 @@ pub record WorkedRing (to : List ℕ → Ior) (inside : Ior → Option ℕ) (wor
   pub at_b : HasTree (ring to) inside words 1 (found (codes "bc"))
   pub at_c : HasTree (ring to) inside words 2 (found (codes "c"))
   pub again_at_a : HasTree (ring to) inside words 3 (found [])
+
+-- two offers are wanted: B gives the second one, and asks nobody
+
+abbrev pub stopped : (to : List ℕ → Ior) → List Call
+stopped to =
+    call 0 3 2 None 0 (linked to (codes "A") (codes "a") (codes "B")) (Given 1 ∷ []) (answered (codes "ab"))
+    ∷ call 1 2 1 (Some 0) 1 (linked to (codes "B") (codes "b") (codes "C")) [] (answered (codes "b"))
+    ∷ []
+
+pub record WorkedStop (to : List ℕ → Ior) (inside : Ior → Option ℕ) (words : List ℕ) : Type 0 where
+  pub at_a : HasTree (stopped to) inside words 0 (found (codes "ab"))
+  pub at_b : HasTree (stopped to) inside words 1 (found (codes "b"))
 
 -- ---- a diamond: A has links to B and C, and each of these has one to D
 
@@ -43,31 +55,31 @@ bottom = unlinked (codes "D") (kept 1 (codes "d") ∷ [])
 -- one after the other: B's answer comes before C is asked
 abbrev pub in_turn : (to : List ℕ → Ior) → List Call
 in_turn to =
-    call 0 3 None 0 (top to) (Given 1 ∷ Given 3 ∷ []) (answered (codes "abdc"))
-    ∷ call 1 2 (Some 0) 1 (left to) (Given 2 ∷ []) (answered (codes "bd"))
-    ∷ call 3 1 (Some 1) 2 bottom [] (answered (codes "d"))
-    ∷ call 2 2 (Some 0) 3 (right to) (Given 4 ∷ []) (answered (codes "c"))
-    ∷ call 3 1 (Some 3) 4 (searched (codes "q") bottom) [] repeated
+    call 0 3 9 None 0 (top to) (Given 1 ∷ Given 3 ∷ []) (answered (codes "abdc"))
+    ∷ call 1 2 8 (Some 0) 1 (left to) (Given 2 ∷ []) (answered (codes "bd"))
+    ∷ call 3 1 7 (Some 1) 2 bottom [] (answered (codes "d"))
+    ∷ call 2 2 6 (Some 0) 3 (right to) (Given 4 ∷ []) (answered (codes "c"))
+    ∷ call 3 1 5 (Some 3) 4 (searched (codes "q") bottom) [] repeated
     ∷ []
 
 -- B's answer is lost, and C's question comes to D before B's
 abbrev pub right_first : (to : List ℕ → Ior) → List Call
 right_first to =
-    call 0 3 None 0 (top to) (Lost 1 ∷ Given 3 ∷ []) (answered (codes "acd"))
-    ∷ call 1 2 (Some 0) 1 (left to) (Given 2 ∷ []) (answered (codes "b"))
-    ∷ call 3 1 (Some 1) 4 (searched (codes "q") bottom) [] repeated
-    ∷ call 2 2 (Some 0) 2 (right to) (Given 4 ∷ []) (answered (codes "cd"))
-    ∷ call 3 1 (Some 3) 3 bottom [] (answered (codes "d"))
+    call 0 3 9 None 0 (top to) (Lost 1 ∷ Given 3 ∷ []) (answered (codes "acd"))
+    ∷ call 1 2 8 (Some 0) 1 (left to) (Given 2 ∷ []) (answered (codes "b"))
+    ∷ call 3 1 7 (Some 1) 4 (searched (codes "q") bottom) [] repeated
+    ∷ call 2 2 8 (Some 0) 2 (right to) (Given 4 ∷ []) (answered (codes "cd"))
+    ∷ call 3 1 7 (Some 3) 3 bottom [] (answered (codes "d"))
     ∷ []
 
 -- it is lost, and B's question comes to D first
 abbrev pub left_first : (to : List ℕ → Ior) → List Call
 left_first to =
-    call 0 3 None 0 (top to) (Lost 1 ∷ Given 3 ∷ []) (answered (codes "ac"))
-    ∷ call 1 2 (Some 0) 1 (left to) (Given 2 ∷ []) (answered (codes "bd"))
-    ∷ call 3 1 (Some 1) 3 bottom [] (answered (codes "d"))
-    ∷ call 2 2 (Some 0) 2 (right to) (Given 4 ∷ []) (answered (codes "c"))
-    ∷ call 3 1 (Some 3) 4 (searched (codes "q") bottom) [] repeated
+    call 0 3 9 None 0 (top to) (Lost 1 ∷ Given 3 ∷ []) (answered (codes "ac"))
+    ∷ call 1 2 8 (Some 0) 1 (left to) (Given 2 ∷ []) (answered (codes "bd"))
+    ∷ call 3 1 7 (Some 1) 3 bottom [] (answered (codes "d"))
+    ∷ call 2 2 8 (Some 0) 2 (right to) (Given 4 ∷ []) (answered (codes "c"))
+    ∷ call 3 1 7 (Some 3) 4 (searched (codes "q") bottom) [] repeated
     ∷ []
 
 pub record WorkedDiamond (to : List ℕ → Ior) (inside : Ior → Option ℕ) (words : List ℕ) : Type 0 where
@@ -89,9 +101,9 @@ abbrev pub changed : (to : List ℕ → Ior) → List Call
 changed to =
     let b = unlinked (codes "B") (kept 1 (codes "b") ∷ []) in
     let c = unlinked (codes "C") (kept 1 (codes "c") ∷ kept 2 (codes "e") ∷ []) in
-    call 0 3 None 0 (top to) (Given 1 ∷ Given 2 ∷ []) (answered (codes "abe"))
-    ∷ call 1 2 (Some 0) 1 b [] (answered (codes "b"))
-    ∷ call 2 2 (Some 0) 2 (without_first c) [] (answered (codes "e"))
+    call 0 3 9 None 0 (top to) (Given 1 ∷ Given 2 ∷ []) (answered (codes "abe"))
+    ∷ call 1 2 8 (Some 0) 1 b [] (answered (codes "b"))
+    ∷ call 2 2 7 (Some 0) 2 (without_first c) [] (answered (codes "e"))
     ∷ []
 
 pub record WorkedChanges (to : List ℕ → Ior) (inside : Ior → Option ℕ) (words : List ℕ) : Type 0 where
@@ -105,9 +117,9 @@ abbrev pub returned : (to : List ℕ → Ior) → List Call
 returned to =
     let a = linked to (codes "A") (codes "a") (codes "B") in
     let b = linked to (codes "B") (codes "b") (codes "A") in
-    call 0 3 None 0 a (Given 1 ∷ []) (answered (codes "ab"))
-    ∷ call 1 2 (Some 0) 1 b (Given 2 ∷ []) (answered (codes "b"))
-    ∷ call 0 1 (Some 1) 2 (without_first (searched (codes "q") a)) [] repeated
+    call 0 3 9 None 0 a (Given 1 ∷ []) (answered (codes "ab"))
+    ∷ call 1 2 8 (Some 0) 1 b (Given 2 ∷ []) (answered (codes "b"))
+    ∷ call 0 1 7 (Some 1) 2 (without_first (searched (codes "q") a)) [] repeated
     ∷ []
 
 pub record WorkedReturn (to : List ℕ → Ior) (inside : Ior → Option ℕ) (words : List ℕ) : Type 0 where

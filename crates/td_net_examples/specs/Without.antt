@@ -50,10 +50,10 @@ abbrev pub remembering : PlainTrader
 remembering = searched (codes "q") (unlinked (codes "A") (kept 1 (codes "a") ∷ []))
 
 abbrev pub unfresh : List Call
-unfresh = call_of 0 (asks 1) 0 None 0 remembering repeated ∷ []
+unfresh = call_of 0 (asks 1 9) 0 None 0 remembering repeated ∷ []
 
 pub record WithoutFresh (home : Address) (words : List ℕ) : Type 0 where
-  pub run : Run (start (remembering ∷ []) home words) (Ask 0 (asks 1) ∷ [])
+  pub run : Run (start (remembering ∷ []) home words) (Ask 0 (asks 1 9) ∷ [])
       (world (remembering ∷ []) home unfresh 1 words 0)
   pub not_fresh : IsFresh (remembering ∷ []) 0 (map head_of unfresh) → ⊥
   pub tree : HasTree unfresh (inside (remembering ∷ []) home) words 0 (found (codes "a"))
@@ -69,13 +69,13 @@ asked = unlinked (codes "B") (kept 1 (codes "b") ∷ [])
 
 abbrev pub shared : (to : List ℕ → Ior) → List Call
 shared to =
-    call_of 0 (asks 1) 0 None 0 (asking to) (waits_at (asking to) (asks 1) 1)
-    ∷ call_of 1 (asks 0) 0 (Some 0) 2 (searched (codes "q") asked) repeated
-    ∷ call_of 1 (asks 1) 2 None 1 asked (answered (codes "b"))
+    call_of 0 (asks 1 9) 0 None 0 (asking to) (waits_at (asking to) (asks 1 9) 1)
+    ∷ call_of 1 (asks 0 8) 0 (Some 0) 2 (searched (codes "q") asked) repeated
+    ∷ call_of 1 (asks 1 9) 2 None 1 asked (answered (codes "b"))
     ∷ []
 
 pub record WithoutAlone (to : List ℕ → Ior) (home : Address) (words : List ℕ) : Type 0 where
-  pub run : Run (start (asking to ∷ asked ∷ []) home words) (Ask 0 (asks 1) ∷ Ask 1 (asks 1) ∷ Deliver 1 ∷ [])
+  pub run : Run (start (asking to ∷ asked ∷ []) home words) (Ask 0 (asks 1 9) ∷ Ask 1 (asks 1 9) ∷ Deliver 1 ∷ [])
       (world (searched (codes "q") (asking to) ∷ searched (codes "q") asked ∷ []) home (shared to) 3 words 0)
   pub not_alone : IsAlone 0 (map head_of (shared to)) → ⊥
   pub tree : HasTree (shared to) (inside (asking to ∷ asked ∷ []) home) words 1 (found (codes "b"))
@@ -92,14 +92,14 @@ forgot to = searched (codes "r") (searched (codes "q") (forgetting to))
 
 abbrev pub forgotten : (to : List ℕ → Ior) → List Call
 forgotten to =
-    call_of 0 (asks 1) 0 None 0 (forgetting to) (waits_at (forgetting to) (asks 1) 1)
-    ∷ call_of 0 (asks 0) 0 (Some 0) 2 (forgot to) (answered (codes "a"))
-    ∷ call_of 0 (asks_under (codes "r") 0) 2 None 1 (searched (codes "q") (forgetting to)) (answered (codes "a"))
+    call_of 0 (asks 1 9) 0 None 0 (forgetting to) (waits_at (forgetting to) (asks 1 9) 1)
+    ∷ call_of 0 (asks 0 8) 0 (Some 0) 2 (forgot to) (answered (codes "a"))
+    ∷ call_of 0 (asks_under (codes "r") 0 9) 2 None 1 (searched (codes "q") (forgetting to)) (answered (codes "a"))
     ∷ []
 
 pub record WithoutRemembered (to : List ℕ → Ior) (home : Address) (words : List ℕ) : Type 0 where
   pub run : Run (start (forgetting to ∷ []) home words)
-      (Ask 0 (asks 1) ∷ Ask 0 (asks_under (codes "r") 0) ∷ Deliver 1 ∷ [])
+      (Ask 0 (asks 1 9) ∷ Ask 0 (asks_under (codes "r") 0 9) ∷ Deliver 1 ∷ [])
       (world (searched (codes "q") (forgot to) ∷ []) home (forgotten to) 3 words 0)
   pub not_remembered : IsRemembered 0 (map head_of (forgotten to)) → ⊥
   pub tree : HasTree (forgotten to) (inside (forgetting to ∷ []) home) words 1 (found [])

@@ -6,5 +6,5 @@
 mod trees;
 mod without;
 
-pub use trees::{worked_changes, worked_diamond, worked_return, worked_ring};
+pub use trees::{worked_changes, worked_diamond, worked_return, worked_ring, worked_stop};
 pub use without::{without_alone, without_fresh, without_remembered};

@@ -3,12 +3,18 @@
 ghost use Rattle.std.specs.Prelude.{ℕ, List, Option};
 ghost use Rattle.td_codes.specs.declared.reference.Ior.{Ior};
 ghost use Rattle.td_net_examples.specs.Fixtures.{AreInside};
-ghost use Rattle.td_net_examples.specs.Trees.{WorkedChanges, WorkedDiamond, WorkedReturn, WorkedRing};
+ghost use Rattle.td_net_examples.specs.Trees.{WorkedChanges, WorkedDiamond, WorkedReturn, WorkedRing, WorkedStop};
 
 /// A ring of three traders: the query that comes back to the first gives nothing.
 pub fn worked_ring()
     ensures { (to : List ℕ → Ior) (inside : Ior → Option ℕ) (words : List ℕ) → AreInside inside to
         → WorkedRing to inside words }
+{}
+
+/// A ring at which gathering stops: two offers are wanted, and the third trader isn't asked.
+pub fn worked_stop()
+    ensures { (to : List ℕ → Ior) (inside : Ior → Option ℕ) (words : List ℕ) → AreInside inside to
+        → WorkedStop to inside words }
 {}
 
 /// A diamond, one after the other, and in two schedules in which an answer is lost.

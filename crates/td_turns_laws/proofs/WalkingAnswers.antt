@@ -22,13 +22,12 @@ use Rattle.td_value.specs.declared.structures.Property.{Property}
 use Rattle.td_value.specs.declared.unions.SpecifiedProps.{SpecifiedProps}
 use Rattle.td_walk.specs.Answers.{AnswersGathered, IsAnswer, joined}
 use Rattle.td_walk.specs.Resolving.{dynamic_named, is_evaluated, may_stand, resolved, value_from}
-use Rattle.td_walk.specs.SubQueries.{path_query}
+use Rattle.td_walk.specs.SubQueries.{wanted_behind}
 use Rattle.td_walk.specs.Visits.{Reads, all_completed, ask, completed, completing, desired_names, evaluated}
 use Rattle.td_walk.specs.Visits.{evaluated_name, evaluated_property, evaluation, forwarded, gathered, if_matching}
 use Rattle.td_walk.specs.Visits.{is_ordinary, matches_all, question_on, searched, steps, sub_answer, tried}
-use Rattle.td_walk.specs.Visits.{visit_by, visit_of}
+use Rattle.td_walk.specs.Visits.{visit_by, visit_of, Step, count_ordinary, less, path_step, stepped}
 use Rattle.td_walk.specs.declared.answer.Next.{Next}
-use Rattle.td_walk.specs.declared.answer.Next.TheVariants.{Forward}
 use Rattle.td_walk.specs.declared.answer.StepAnswer.{StepAnswer}
 use Rattle.td_walk.specs.declared.answer.StepAnswer.TheVariants as answer
 use Rattle.td_walk.specs.declared.answer.SubAnswer.{SubAnswer}
@@ -188,30 +187,44 @@ given-writes answer.Failed h = tt
 abbrev AreGiven : List SubAnswer → Type 0
 AreGiven given = AllByRecursion AreOffers given
 
-forwarded-writes : (questions : List Next) (answers : List StepAnswer) → AreWritableSteps answers
-    → ReadsWritably AreGiven (forwarded questions answers)
-forwarded-writes [] answers k = (tt, k)
-forwarded-writes (question ∷ questions) answers k =
-    and-then IsWritableStep AreGiven (ask question answers)
-    (λ r. forwarded questions r.1 >>= λ s. Ok (sub_answer r.0 ∷ s.0, s.1)) (asked-writes question answers k)
-    (λ a rest p left. and-then AreGiven AreGiven (forwarded questions rest) (λ s. Ok (sub_answer a ∷ s.0, s.1))
-    (forwarded-writes questions rest left) (λ given last g end. ((given-writes a p, g), end)))
+forwarded-writes : (wanted : Option ℕ) (ss : List Step) (answers : List StepAnswer) → AreWritableSteps answers
+    → ReadsWritably AreGiven (forwarded wanted ss answers)
+forwarded-writes wanted [] answers k = (tt, k)
+forwarded-writes wanted (step ∷ ss) answers k =
+    by_step (forwarded-writes wanted ss answers k) (λ a rest left. forwarded-writes (less wanted a) ss rest left)
+    (step wanted)
+  where
+    by_step : ReadsWritably AreGiven (forwarded wanted ss answers)
+        → ((a : SubAnswer) (rest : List StepAnswer) → AreWritableSteps rest
+        → ReadsWritably AreGiven (forwarded (less wanted a) ss rest))
+        → (o : Option Next)
+        → ReadsWritably AreGiven (stepped o (λ a. forwarded (less wanted a) ss) (forwarded wanted ss) answers)
+    by_step skipped asked None = skipped
+    by_step skipped asked (Some question) =
+        and-then IsWritableStep AreGiven (ask question answers)
+        (λ r. forwarded (less wanted (sub_answer r.0)) ss r.1 >>= λ s. Ok (sub_answer r.0 ∷ s.0, s.1))
+        (asked-writes question answers k)
+        (λ a rest p left. and-then AreGiven AreGiven (forwarded (less wanted (sub_answer a)) ss rest)
+        (λ s. Ok (sub_answer a ∷ s.0, s.1)) (asked (sub_answer a) rest left)
+        (λ given last g end. ((given-writes a p, g), end)))
 
 -- ---- the visit
 
-gathered-writes : (found : List Found) (answers : List StepAnswer) (questions : List Next) → AreWritable found
-    → AreWritableSteps answers → ReadsWritably IsWritableGathering (gathered found answers questions)
-gathered-writes found answers questions f k =
-    and-then AreGiven IsWritableGathering (forwarded questions answers)
-    (λ r. Ok (record { found = found; given = r.0 }, r.1)) (forwarded-writes questions answers k)
+gathered-writes : (found : List Found) (answers : List StepAnswer) (wanted : Option ℕ) (ss : List Step)
+    → AreWritable found → AreWritableSteps answers
+    → ReadsWritably IsWritableGathering (gathered found answers wanted ss)
+gathered-writes found answers wanted ss f k =
+    and-then AreGiven IsWritableGathering (forwarded wanted ss answers)
+    (λ r. Ok (record { found = found; given = r.0 }, r.1)) (forwarded-writes wanted ss answers k)
     (λ given rest g left. (record { found = f; given = g }, left))
 
 completing-writes : (l : Local) (found : List Found) (answers : List StepAnswer) → AreWritable found
     → AreWritableSteps answers → ReadsWritably IsWritableGathering (completing l found answers)
 completing-writes l found answers f k =
     and-then AreWritable IsWritableGathering (all_completed l.query.desired [] found answers)
-    (λ r. gathered r.0 r.1 (steps l r.0)) (all-completed l.query.desired [] found answers tt f k)
-    (λ all rest p left. gathered-writes all rest (steps l all) p left)
+    (λ r. gathered r.0 r.1 (wanted_behind l (count_ordinary r.0)) (steps l r.0))
+    (all-completed l.query.desired [] found answers tt f k)
+    (λ all rest p left. gathered-writes all rest (wanted_behind l (count_ordinary all)) (steps l all) p left)
 
 visit-by : (path : Option LinkRecord) (l : Local) (answers : List StepAnswer) → IsWritableLocal l
     → AreWritableSteps answers → ReadsWritably IsWritableGathering (visit_by path l answers)
@@ -219,7 +232,7 @@ visit-by None l answers h k =
     and-then AreWritable IsWritableGathering (searched l l.candidates [] answers) (λ r. completing l r.0 r.1)
     (searched-writes l l.candidates [] answers h.candidates tt k)
     (λ found rest p left. completing-writes l found rest p left)
-visit-by (Some link) l answers h k = gathered-writes [] answers (Forward link.target (path_query l) ∷ []) tt k
+visit-by (Some link) l answers h k = gathered-writes [] answers None (path_step l link ∷ []) tt k
 
 visit-writes : (l : Local) (answers : List StepAnswer) → IsWritableLocal l → AreWritableSteps answers
     → ReadsWritably IsWritableGathering (visit_of l answers)

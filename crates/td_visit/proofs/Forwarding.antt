@@ -1,57 +1,79 @@
--- What comes of questions to other traders.
-use Rattle.std.proofs.Common.{◌≡◌, ℕ, suc, ◌-◌, ◌≤◌, List, [], ◌∷◌, length, take, map, Some, None}
-use Rattle.std.proofs.Common.{Ok, Err, sym, ap, ◌∙◌, arith}
+-- Other traders are asked one after the other, as long as offers are wanted, each time from the place where the last
+-- question stands.
+use Rattle.std.proofs.Common.{◌≡◌, ℕ, zero, suc, ◌+◌, List, [], ◌∷◌, ◌++◌, take, drop, map, Option, Some, None, Ok, Err}
+use Rattle.std.proofs.Common.{refl, sym, ap, ◌∙◌, append_assoc, append-nil, arith}
+use Rattle.std.proofs.lemmas.List.{take-append-drop}
 use Rattle.td_cdr.specs.Format.{◌>>=◌}
-use Rattle.td_walk.specs.Told.{unanswered, answers_behind, Passes}
-use Rattle.td_walk.specs.Visits.{Reads, forwarded, gathered, sub_answer}
+use Rattle.td_visit.specs.Resuming.{GoesOn, behind, given_by}
+use Rattle.td_walk.specs.Visits.{Reads, Step, less, stepped, forwarded, sub_answer}
 use Rattle.td_walk.specs.declared.answer.Next.{Next}
 use Rattle.td_walk.specs.declared.answer.StepAnswer.{StepAnswer}
 use Rattle.td_walk.specs.declared.answer.SubAnswer.{SubAnswer}
-use Rattle.td_walk.specs.declared.found.Found.{Found}
 
--- no more answers are left than there were
-behind-fewer : (qs : List Next) (answers : List StepAnswer) → length (answers_behind qs answers) ≤ length answers
-behind-fewer [] answers = omega arith
-behind-fewer (q ∷ qs) [] = omega arith
-behind-fewer (q ∷ qs) (a ∷ answers) = omega (arith, behind-fewer qs answers)
+-- ---- one answer more
 
-abbrev given_by : List StepAnswer → List StepAnswer → List SubAnswer
-given_by answers after = map sub_answer (take (length answers - length after) answers)
+one-more : (answers ys : List StepAnswer) (n : ℕ) (a : StepAnswer) → drop n answers ≡ a ∷ ys
+    → take (n + 1) answers ≡ take n answers ++ a ∷ []
+one-more [] ys n a e = absurd (none n e)
+  where
+    none : (k : ℕ) → drop k (let xs : List StepAnswer = [] in xs) ≡ a ∷ ys → ⊥
+    none zero e = absurd cc
+    none (suc k) e = absurd cc
+one-more (b ∷ answers) ys zero a e = let same : b ≡ a = cc in ap (λ (x : StepAnswer). x ∷ []) same
+one-more (b ∷ answers) ys (suc n) a e =
+    let more : suc n + 1 ≡ suc (n + 1) = omega arith in
+    ap (λ (k : ℕ). take k (b ∷ answers)) more ∙ ap (λ (xs : List StepAnswer). b ∷ xs) (one-more answers ys n a e)
 
-one-more : (a : StepAnswer) (answers after : List StepAnswer) → length after ≤ length answers
-    → sub_answer a ∷ given_by answers after ≡ given_by (a ∷ answers) after
-one-more a answers after le =
-    let count : suc (length answers - length after) ≡ length (a ∷ answers) - length after = omega (arith, le) in
-    ap (λ (n : ℕ). map sub_answer (take n (a ∷ answers))) count
+told-more : (xs : List StepAnswer) (a : StepAnswer) → map sub_answer (xs ++ a ∷ []) ≡ map sub_answer xs ++ sub_answer a ∷ []
+told-more [] a = refl
+told-more (x ∷ xs) a = ap (λ (gs : List SubAnswer). sub_answer x ∷ gs) (told-more xs a)
 
-done-forwarding : (qs : List Next) (answers : List StepAnswer) → None ≡ unanswered qs answers
-    → forwarded qs answers ≡ Ok (given_by answers (answers_behind qs answers), answers_behind qs answers)
-done-forwarding [] answers e =
-    let none : length answers - length answers ≡ 0 = omega arith in
-    ap (λ (n : ℕ). Ok (map sub_answer (take n answers), answers)) (sym none)
-done-forwarding (q ∷ qs) [] e = absurd cc
-done-forwarding (q ∷ qs) (a ∷ answers) e =
-    ap (λ (r : Reads (List SubAnswer)). r >>= λ s. Ok (sub_answer a ∷ s.0, s.1)) (done-forwarding qs answers e)
-    ∙ ap (λ (given : List SubAnswer). Ok (given, answers_behind qs answers))
-    (one-more a answers (answers_behind qs answers) (behind-fewer qs answers))
+behind-more : (given : List SubAnswer) (a : SubAnswer) (r : Reads (List SubAnswer))
+    → behind given (r >>= λ s. Ok (a ∷ s.0, s.1)) ≡ behind (given ++ a ∷ []) r
+behind-more given a (Ok s) =
+    ap (λ (gs : List SubAnswer). let r : Reads (List SubAnswer) = Ok (gs, s.1) in r)
+    (sym (append_assoc given (a ∷ []) s.0))
+behind-more given a (Err q) = refl
 
-stops-forwarding : (qs : List Next) (answers : List StepAnswer) (q : Next) → Some q ≡ unanswered qs answers
-    → forwarded qs answers ≡ Err q
-stops-forwarding [] answers q e = absurd cc
-stops-forwarding (p ∷ qs) [] q e = let same : q ≡ p = cc in ap (λ (x : Next). Err x) (sym same)
-stops-forwarding (p ∷ qs) (a ∷ answers) q e =
-    ap (λ (r : Reads (List SubAnswer)). r >>= λ s. Ok (sub_answer a ∷ s.0, s.1)) (stops-forwarding qs answers q e)
+-- ---- one step
 
-pub asks : (found : List Found) (qs : List Next) (answers after : List StepAnswer) (q : Next)
-    → Passes qs answers (Some q) after → gathered found answers qs ≡ Err q
-asks found qs answers after q h =
-    ap (λ (r : Reads (List SubAnswer)). r >>= λ s. Ok (record { found = found; given = s.0 }, s.1))
-    (stops-forwarding qs answers q h.next)
+module _ (first : Option ℕ) (all : List Step) (answers : List StepAnswer) (given : ℕ) (wanted : Option ℕ) (step : Step)
+    (left : List Step) (h : GoesOn first all answers given wanted (step ∷ left)) where
+  abbrev goes : Option Next → List StepAnswer → Reads (List SubAnswer)
+  goes o rest = stepped o (λ a. forwarded (less wanted a) left) (forwarded wanted left) rest
 
-pub ends : (found : List Found) (qs : List Next) (answers after : List StepAnswer) → Passes qs answers None after
-    → gathered found answers qs
-    ≡ Ok (record { found = found; given = map sub_answer (take (length answers - length after) answers) }, after)
-ends found qs answers after h =
-    ap (λ (r : Reads (List SubAnswer)). r >>= λ s. Ok (record { found = found; given = s.0 }, s.1))
-    (done-forwarding qs answers h.next)
-    ∙ ap (λ (rest : List StepAnswer). Ok (record { found = found; given = given_by answers rest }, rest)) (sym h.left)
+  -- it asks nobody
+  pub skips : step wanted ≡ None → GoesOn first all answers given wanted left
+  skips none rest = h rest ∙ ap (λ (o : Option Next). behind (given_by given answers) (goes o rest)) none
+
+  -- its answer is there
+  pub passes : (q : Next) (a : StepAnswer) (ys : List StepAnswer) → step wanted ≡ Some q → drop given answers ≡ a ∷ ys
+      → GoesOn first all answers (given + 1) (less wanted (sub_answer a)) left
+  passes q a ys some at rest =
+      let more : take (given + 1) answers ≡ take given answers ++ a ∷ [] = one-more answers ys given a at in
+      let told : given_by (given + 1) answers ≡ given_by given answers ++ sub_answer a ∷ [] =
+      ap (map sub_answer) more ∙ told-more (take given answers) a in
+      ap (λ (xs : List StepAnswer). forwarded first all (xs ++ rest)) more
+      ∙ ap (forwarded first all) (append_assoc (take given answers) (a ∷ []) rest)
+      ∙ h (a ∷ rest)
+      ∙ ap (λ (o : Option Next). behind (given_by given answers) (goes o (a ∷ rest))) some
+      ∙ behind-more (given_by given answers) (sub_answer a) (forwarded (less wanted (sub_answer a)) left rest)
+      ∙ sym (ap (λ (gs : List SubAnswer). behind gs (forwarded (less wanted (sub_answer a)) left rest)) told)
+
+  -- its question stands
+  pub stops : (q : Next) → step wanted ≡ Some q → drop given answers ≡ [] → forwarded first all answers ≡ Err q
+  stops q some at =
+      sym (ap (forwarded first all) (take-append-drop given answers))
+      ∙ ap (λ (xs : List StepAnswer). forwarded first all (take given answers ++ xs)) at
+      ∙ h []
+      ∙ ap (λ (o : Option Next). behind (given_by given answers) (goes o [])) some
+
+-- no step is left
+pub ends : (first : Option ℕ) (all : List Step) (answers : List StepAnswer) (given : ℕ) (wanted : Option ℕ)
+    → GoesOn first all answers given wanted []
+    → forwarded first all answers ≡ Ok (given_by given answers, drop given answers)
+ends first all answers given wanted h =
+    sym (ap (forwarded first all) (take-append-drop given answers))
+    ∙ h (drop given answers)
+    ∙ ap (λ (gs : List SubAnswer). let r : Reads (List SubAnswer) = Ok (gs, drop given answers) in r)
+    (append-nil (given_by given answers))

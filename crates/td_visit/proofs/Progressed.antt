@@ -1,10 +1,9 @@
 -- A visit stands where its progress says, at the beginning and after each step.
-use Rattle.std.proofs.Common.{◌≡◌, ℕ, ◌+◌, ◌-◌, ◌≤◌, Bool, true, false, List, [], ◌∷◌, ◌++◌, length, take, drop, map}
+use Rattle.std.proofs.Common.{◌≡◌, ℕ, ◌+◌, ◌-◌, ◌≤◌, Bool, true, false, List, [], ◌∷◌, ◌++◌, length, take, drop}
 use Rattle.std.proofs.Common.{Option, Some, None, Result, Ok, Err, is_some, refl, sym, ap, subst, ◌∙◌, arith}
 use Rattle.std.proofs.Common.{if◌then◌else◌, IfOk, OnOk, OnErr, unwrap_or, nat_le}
 use Rattle.std.proofs.lemmas.List.{append_assoc, append-nil, length-append, length-drop, take-append-drop, drop-drop}
-use Rattle.std.proofs.lemmas.List.{take_at, take-append-le}
-use Rattle.std.specs.List.{list_any}
+use Rattle.std.proofs.lemmas.List.{take_at, take-append-le, drop-append-le}
 use Rattle.td_cdr.specs.Format.{◌>>=◌}
 use Rattle.td_cdr.specs.declared.memory.Memory.{Memory}
 use Rattle.td_store.specs.declared.local.Local.{Local}
@@ -12,16 +11,16 @@ use Rattle.td_store.specs.declared.record.LinkRecord.{LinkRecord}
 use Rattle.td_store.specs.declared.record.OfferRecord.{OfferRecord}
 use Rattle.td_visit.proofs.Again.{search-again, within-all, all-again, all-ends}
 use Rattle.td_visit.proofs.Never.{asked}
-use Rattle.td_visit.proofs.Forwarding.{asks, ends}
 use Rattle.td_visit.proofs.Readings.{reading-searched, reading-all}
-use Rattle.td_visit.proofs.Turns.{begins_asking}
+use Rattle.td_visit.proofs.Turns.{begins_asking, longer_place}
 use Rattle.td_walk.specs.Answers.{IsRankedAnswer, IsAnswer, AnswersGathered, HasDrawn, DrawsGathered, drawn_by}
-use Rattle.td_visit.specs.Resuming.{tried_on, searched_on, searched_up_to, completed_up_to, questions, completed_on}
-use Rattle.td_visit.specs.Resuming.{searching_on, resumed_by, resumed, start, none_asked, IsPlace, Stands}
+use Rattle.td_visit.specs.Resuming.{tried_on, searched_on, searched_up_to, completed_up_to, completed_on}
+use Rattle.td_visit.specs.Resuming.{searching_on, resumed_by, resumed, start, asks_first, IsPlaceBy, IsPlace, Stands}
+use Rattle.td_visit.specs.Resuming.{steps_by, wanted_by, given_by, ForwardsBy}
 use Rattle.td_visit.specs.Resuming.{answers_left, gathering, IsEnd, IsAsked, CompletesTo, ComesTo}
-use Rattle.td_walk.specs.Told.{Passes, Tells}
+use Rattle.td_walk.specs.Told.{Tells}
 use Rattle.td_walk.specs.Visits.{Reads, searched, completing, visit_by, visit_of, all_completed}
-use Rattle.td_walk.specs.Visits.{gathered, is_ordinary, sub_answer, next_of, question_of}
+use Rattle.td_walk.specs.Visits.{forwarded, gathered, next_of, question_of}
 use Rattle.td_walk.specs.declared.answer.Next.{Next}
 use Rattle.td_walk.specs.declared.answer.Next.TheVariants.{Done}
 use Rattle.td_walk.specs.declared.answer.StepAnswer.{StepAnswer}
@@ -82,8 +81,10 @@ taken l answers more a p e h =
           record {
             searched = others.searched;
             complete = others.complete;
-            given = omega (arith, others.given, long);
-            place = others.place;
+            place =
+                subst (λ (xs : List StepAnswer). IsPlace l p.completion.complete xs p.others)
+                (sym (ap (drop p.read) e ∙ drop-append-le p.read answers (a ∷ []) h.within))
+                (longer_place l.path l p.completion.complete (drop p.read answers) (a ∷ []) p.others others.place);
           };
     }
 
@@ -289,6 +290,22 @@ search_done l answers behind ys p next s question h search left none told stoppe
     (ap (searched_from l p) (sym left) ∙ told-none (searched_from l p behind) question s.found ys none told)
     (stopped ∙ ap (scanned l p) left) refl)
 
+pub search_stood : (l : Local) (answers behind ys : List StepAnswer) (p : Progress) (s : Scan)
+    (question : Option Next) (q : Next) → Stands l answers p → p.searched ≡ false → behind ≡ answers_left answers p
+    → question ≡ Some q → Tells (searched_from l p behind) question s.found ys → s ≡ scanned l p behind
+    → Stands l answers (record {
+      read = length answers;
+      searched = p.searched;
+      completed = p.completed;
+      scan = s;
+      completion = p.completion;
+      others = p.others;
+    })
+search_stood l answers behind ys p s question q h search left some told stopped =
+    search_stops l answers p s q h search
+    (ap (searched_from l p) (sym left) ∙ told-some (searched_from l p behind) question q s.found ys some told)
+    (stopped ∙ ap (scanned l p) left)
+
 -- ---- desired properties
 
 abbrev completed_from : Local → Progress → List StepAnswer → Reads (List Found)
@@ -303,7 +320,7 @@ complete_asks l answers p q h search e = record {
   comes =
       visits l answers p h
       ∙ (finishing l p (answers_left answers p) search
-      ∙ ap (λ (r : Reads (List Found)). r >>= λ x. gathered x.0 x.1 (questions l x.0)) e);
+      ∙ ap (λ (r : Reads (List Found)). r >>= λ x. gathered x.0 x.1 (wanted_by l.path l x.0) (steps_by l.path l x.0)) e);
   asks =
       (reading-all l.query.desired p.completion.complete p.completion.waiting).asks (answers_left answers p) q e;
 }
@@ -335,7 +352,7 @@ complete_stops l answers p c q h search going e is =
       goes_on = λ rest.
           moved l answers p xs [] rest (length answers) h (sym (append-nil xs)) (omega arith)
           ∙ (finishing l p (xs ++ rest) search
-          ∙ (ap (λ (r : Reads (List Found)). r >>= λ x. gathered x.0 x.1 (questions l x.0))
+          ∙ (ap (λ (r : Reads (List Found)). r >>= λ x. gathered x.0 x.1 (wanted_by l.path l x.0) (steps_by l.path l x.0))
           (all-again l.query.desired p.completion.complete p.completion.waiting xs q rest e
           ∙ ap (λ (d : Completion). all_completed l.query.desired d.complete d.waiting rest) (sym is))
           ∙ sym (finishing l next rest search)));
@@ -366,7 +383,7 @@ pub complete_ends : (l : Local) (answers : List StepAnswer) (p : Progress) (c : 
       completed = true;
       scan = p.scan;
       completion = c;
-      others = none_asked (list_any (λ (f : Found). is_ordinary f.offer) c.complete);
+      others = asks_first l c.complete;
     })
 complete_ends l answers p c all ys n h search e is read =
     let xs : List StepAnswer = answers_left answers p in
@@ -376,7 +393,7 @@ complete_ends l answers p c all ys n h search e is read =
       completed = true;
       scan = p.scan;
       completion = c;
-      others = none_asked (list_any (λ (f : Found). is_ordinary f.offer) c.complete);
+      others = asks_first l c.complete;
     } in
     let t =
     (reading-all l.query.desired p.completion.complete p.completion.waiting).takes xs all ys e in
@@ -388,14 +405,13 @@ complete_ends l answers p c all ys n h search e is read =
       goes_on = λ rest.
           moved l answers p t.front ys rest n h t.whole (omega (arith, count, read))
           ∙ (finishing l p (t.front ++ rest) search
-          ∙ (ap (λ (r : Reads (List Found)). r >>= λ x. gathered x.0 x.1 (questions l x.0)) (t.goes rest)
+          ∙ (ap (λ (r : Reads (List Found)). r >>= λ x. gathered x.0 x.1 (wanted_by l.path l x.0) (steps_by l.path l x.0)) (t.goes rest)
           ∙ (sym (ap (λ (d : Completion). completed_on l.path l d.complete d.waiting rest) none)
           ∙ sym (finishing l next rest search))));
       asks = λ done. record {
         searched = search;
         complete = ap (λ (d : Completion). d.waiting) none;
-        given = omega arith;
-        place = begins_asking l c.complete;
+        place = begins_asking l c.complete (drop n answers);
       };
     }
 
@@ -426,7 +442,7 @@ pub complete_done : (l : Local) (answers behind ys : List StepAnswer) (p next : 
       completed = true;
       scan = p.scan;
       completion = c;
-      others = none_asked (list_any (λ (f : Found). is_ordinary f.offer) c.complete);
+      others = asks_first l c.complete;
     } → Stands l answers next
 complete_done l answers behind ys p next c question h search left none told stopped is =
     subst (Stands l answers) (sym is)
@@ -446,94 +462,93 @@ with_others p others = record {
   others = others;
 }
 
-pub place_of : (l : Local) (answers : List StepAnswer) (p : Progress) (found : List Found) → Stands l answers p
-    → CompletesTo l answers p None → found ≡ p.completion.complete → IsPlace l found p.others
-place_of l answers p found h done all =
-    subst (λ (fs : List Found). IsPlace l fs p.others) (sym all) ((h.asks done).place)
-
-pub given_of : (l : Local) (answers behind : List StepAnswer) (p : Progress) → Stands l answers p
-    → CompletesTo l answers p None → behind ≡ answers_left answers p → p.others.given ≤ length behind
-given_of l answers behind p h done left =
-    omega (arith, (h.asks done).given, ap length left, length-drop p.read answers)
+pub place_of : (l : Local) (answers behind : List StepAnswer) (p : Progress) (found : List Found) → Stands l answers p
+    → CompletesTo l answers p None → found ≡ p.completion.complete → behind ≡ answers_left answers p
+    → IsPlace l found behind p.others
+place_of l answers behind p found h done all left =
+    subst (λ (xs : List StepAnswer). IsPlace l found xs p.others) (sym left)
+    (subst (λ (fs : List Found). IsPlace l fs (answers_left answers p) p.others) (sym all) ((h.asks done).place))
 
 others-stand : (l : Local) (answers behind : List StepAnswer) (p : Progress) (found : List Found) (others : Others)
     → Stands l answers p → CompletesTo l answers p None → found ≡ p.completion.complete
-    → behind ≡ answers_left answers p → IsPlace l found others → others.given ≤ length behind
-    → Stands l answers (with_others p others)
+    → behind ≡ answers_left answers p → IsPlace l found behind others → Stands l answers (with_others p others)
 unfolding resumed
-others-stand l answers behind p found others h done all left place within = record {
+others-stand l answers behind p found others h done all left place = record {
   within = h.within;
   tries = h.tries;
   goes_on = h.goes_on;
   asks = λ same. record {
     searched = (h.asks done).searched;
     complete = (h.asks done).complete;
-    given = omega (arith, within, ap length left, length-drop p.read answers);
-    place = subst (λ (fs : List Found). IsPlace l fs others) all place;
+    place =
+        subst (λ (xs : List StepAnswer). IsPlace l p.completion.complete xs others) left
+        (subst (λ (fs : List Found). IsPlace l fs behind others) all place);
   };
 }
 
 pub asked_stands : (l : Local) (answers behind : List StepAnswer) (p : Progress) (found : List Found)
     (others : Others) (r : Result (Option Next) Memory) → Stands l answers p → CompletesTo l answers p None
-    → found ≡ p.completion.complete → behind ≡ answers_left answers p → OnOk r (IsPlace l found others)
-    → OnOk r (others.given ≤ length behind) → OnOk r (Stands l answers (with_others p others))
-asked_stands l answers behind p found others (Ok question) h done all left place within =
-    others-stand l answers behind p found others h done all left place within
-asked_stands l answers behind p found others (Err e) h done all left place within = tt
+    → found ≡ p.completion.complete → behind ≡ answers_left answers p → OnOk r (IsPlace l found behind others)
+    → OnOk r (Stands l answers (with_others p others))
+asked_stands l answers behind p found others (Ok question) h done all left place =
+    others-stand l answers behind p found others h done all left place
+asked_stands l answers behind p found others (Err e) h done all left place = tt
+
+abbrev asked_on : Local → Progress → Reads (List SubAnswer) → Reads Gathered
+asked_on l p r = r >>= λ s. Ok (record { found = p.completion.complete; given = s.0 }, s.1)
 
 asking : (l : Local) (answers : List StepAnswer) (p : Progress) → Stands l answers p → CompletesTo l answers p None
     → visit_of l answers
-    ≡ gathered p.completion.complete (answers_left answers p) (questions l p.completion.complete)
+    ≡ asked_on l p (forwarded (wanted_by l.path l p.completion.complete) (steps_by l.path l p.completion.complete)
+    (answers_left answers p))
 asking l answers p h done =
     visits l answers p h
     ∙ (finishing l p (answers_left answers p) ((h.asks done).searched)
     ∙ ap (λ (fs : List Found). completed_on l.path l p.completion.complete fs (answers_left answers p))
     ((h.asks done).complete))
 
-others-asked : (l : Local) (answers after : List StepAnswer) (p : Progress) (q : Next) → Stands l answers p
+others-asked : (l : Local) (answers : List StepAnswer) (p : Progress) (q : Next) → Stands l answers p
     → CompletesTo l answers p None
-    → Passes (questions l p.completion.complete) (answers_left answers p) (Some q) after → IsAsked l answers q
-others-asked l answers after p q h done passes = record {
-  comes =
-      asking l answers p h done
-      ∙ asks p.completion.complete (questions l p.completion.complete) (answers_left answers p) after q passes;
-  asks = asked l.path l p.completion.complete (answers_left answers p) q passes.next;
+    → forwarded (wanted_by l.path l p.completion.complete) (steps_by l.path l p.completion.complete)
+    (answers_left answers p) ≡ Err q → IsAsked l answers q
+others-asked l answers p q h done e = record {
+  comes = asking l answers p h done ∙ ap (asked_on l p) e;
+  asks = asked l.path l p.completion.complete (answers_left answers p) q e;
 }
+
+given-within : (path : Option LinkRecord) (l : Local) (found : List Found) (answers : List StepAnswer)
+    (others : Others) → IsPlaceBy path l found answers others → others.given ≤ length answers
+given-within None l found answers others h = h.given
+given-within (Some link) l found answers others h = h.given
 
 others-end : (l : Local) (answers : List StepAnswer) (p : Progress) (others : Others) → Stands l answers p
     → CompletesTo l answers p None → others.given ≤ length (answers_left answers p)
-    → Passes (questions l p.completion.complete) (answers_left answers p) None
-    (drop others.given (answers_left answers p)) → IsEnd l answers (with_others p others)
-others-end l answers p others h done within passes =
-    let left : List StepAnswer = answers_left answers p in
-    let after : List StepAnswer = drop others.given left in
-    let count : length left - length after ≡ others.given = omega (arith, within, length-drop others.given left) in
-    record {
-      within = omega (arith, h.within, length-drop p.read answers, within);
-      after = after;
-      comes =
-          asking l answers p h done
-          ∙ (ends p.completion.complete (questions l p.completion.complete) left after passes
-          ∙ ap (λ (m : ℕ). let r : Reads Gathered = Ok (
-            record { found = p.completion.complete; given = map sub_answer (take m left) },
-            after,
-          ) in r) count);
-    }
+    → forwarded (wanted_by l.path l p.completion.complete) (steps_by l.path l p.completion.complete)
+    (answers_left answers p)
+    ≡ Ok (given_by others.given (answers_left answers p), drop others.given (answers_left answers p))
+    → IsEnd l answers (with_others p others)
+others-end l answers p others h done within e = record {
+  within = omega (arith, h.within, length-drop p.read answers, within);
+  after = drop others.given (answers_left answers p);
+  comes = asking l answers p h done ∙ ap (asked_on l p) e;
+}
 
 pub asked_comes : (l : Local) (answers behind : List StepAnswer) (p : Progress) (found : List Found)
     (others : Others) (r : Result (Option Next) Memory) → Stands l answers p → CompletesTo l answers p None
-    → found ≡ p.completion.complete → behind ≡ answers_left answers p → OnOk r (others.given ≤ length behind)
-    → IfOk r (λ question. Passes (questions l found) behind question (drop others.given behind))
+    → found ≡ p.completion.complete → behind ≡ answers_left answers p → OnOk r (IsPlace l found behind others)
+    → IfOk r (λ question. ForwardsBy l.path l found behind others.given question)
     → IfOk r (λ question. ComesTo l answers (with_others p others) question)
-asked_comes l answers behind p found others (Ok None) h done all left within passes =
-    others-end l answers p others h done (subst (λ (xs : List StepAnswer). others.given ≤ length xs) left within)
-    (subst (λ (xs : List StepAnswer). Passes (questions l p.completion.complete) xs None (drop others.given xs)) left
-    (subst (λ (fs : List Found). Passes (questions l fs) behind None (drop others.given behind)) all passes))
-asked_comes l answers behind p found others (Ok (Some q)) h done all left within passes =
-    others-asked l answers (drop others.given (answers_left answers p)) p q h done
-    (subst (λ (xs : List StepAnswer). Passes (questions l p.completion.complete) xs (Some q) (drop others.given xs))
-    left (subst (λ (fs : List Found). Passes (questions l fs) behind (Some q) (drop others.given behind)) all passes))
-asked_comes l answers behind p found others (Err e) h done all left within passes = tt
+asked_comes l answers behind p found others (Ok None) h done all left place comes =
+    others-end l answers p others h done
+    (subst (λ (xs : List StepAnswer). others.given ≤ length xs) left
+    (given-within l.path l found behind others place))
+    (subst (λ (xs : List StepAnswer). ForwardsBy l.path l p.completion.complete xs others.given None) left
+    (subst (λ (fs : List Found). ForwardsBy l.path l fs behind others.given None) all comes))
+asked_comes l answers behind p found others (Ok (Some q)) h done all left place comes =
+    others-asked l answers p q h done
+    (subst (λ (xs : List StepAnswer). ForwardsBy l.path l p.completion.complete xs others.given (Some q)) left
+    (subst (λ (fs : List Found). ForwardsBy l.path l fs behind others.given (Some q)) all comes))
+asked_comes l answers behind p found others (Err e) h done all left place comes = tt
 
 -- ---- the question, and the answer
 

@@ -1,27 +1,29 @@
--- Questions to other traders that are asked one after the other, each time from the place where the last one stands.
-use Rattle.std.proofs.Common.{◌≡◌, ℕ, suc, ◌+◌, ◌<◌, ◌≤◌, true, List, [], ◌∷◌, ◌++◌, length, get_or, drop, Option}
-use Rattle.std.proofs.Common.{Some, None, false, is_some, refl, sym, ap, subst, ◌∙◌, arith}
-use Rattle.std.proofs.lemmas.List.{drop-drop, drop_all, drop_more, length-drop}
-use Rattle.std.specs.List.{filter_map, cons_option, list_any}
+-- How far the other traders were asked, at the beginning and behind each step.
+use Rattle.std.proofs.Common.{◌≡◌, ℕ, suc, ◌+◌, ◌<◌, ◌≤◌, true, List, [], ◌∷◌, ◌++◌, length, get_or, take, drop, map}
+use Rattle.std.proofs.Common.{Option, Some, None, Ok, Err, false, is_some, option_map, ◌-◌, refl, sym, ap, subst, ◌∙◌, arith}
+use Rattle.std.proofs.lemmas.List.{drop-drop, drop_all, drop_more, length-append, length-drop, take-append-le}
 use Rattle.td_store.specs.declared.local.Local.{Local}
 use Rattle.td_store.specs.declared.record.LinkRecord.{LinkRecord}
-use Rattle.td_visit.specs.Resuming.{none_asked, steps_left, IsPlaceInSearch, IsPlaceBy, IsPlace, StepsTo, CallsTo}
+use Rattle.td_visit.proofs.Forwarding.{skips, passes, stops, ends}
+use Rattle.td_visit.specs.Resuming.{asks_first, first_wanted, steps_left, behind, GoesOn, IsPlaceInSearch}
+use Rattle.td_visit.specs.Resuming.{IsPlaceOnPath, IsPlaceBy, IsPlace, step_asks, passed_by, Forwards, ForwardsBy}
+use Rattle.td_visit.specs.Resuming.{CallsTo}
 use Rattle.td_visit.specs.declared.progress.Others.{Others}
-use Rattle.td_walk.specs.SubQueries.{link_step, proxy_step}
-use Rattle.td_walk.specs.Told.{Passes}
-use Rattle.td_walk.specs.Visits.{is_ordinary, steps}
+use Rattle.td_walk.specs.SubQueries.{link_step, path_query, proxy_step}
+use Rattle.td_walk.specs.Visits.{Reads, Step, forwarded, less, path_step, steps, sub_answer}
 use Rattle.td_walk.specs.declared.answer.Next.{Next}
+use Rattle.td_walk.specs.declared.answer.Next.TheVariants.{Forward}
 use Rattle.td_walk.specs.declared.answer.StepAnswer.{StepAnswer}
+use Rattle.td_walk.specs.declared.answer.SubAnswer.{SubAnswer}
 use Rattle.td_walk.specs.declared.found.Found.{Found}
 
 -- ---- lists
 
 -- one more is left out
-one-less : {X : Type 0} (xs : List X) (n : ℕ) (y : X) (ys : List X) → drop n xs ≡ y ∷ ys
-    → (n + 1 ≤ length xs) × (drop (n + 1) xs ≡ ys)
+one-less : {X : Type 0} (xs : List X) (n : ℕ) (y : X) (ys : List X) → drop n xs ≡ y ∷ ys → n + 1 ≤ length xs
 one-less xs n y ys e =
     let long : length (drop n xs) ≡ suc (length ys) = ap length e in
-    (omega (arith, long, length-drop n xs), sym (drop-drop 1 n xs) ∙ ap (drop 1) e)
+    omega (arith, long, length-drop n xs)
 
 -- an item of what is left, at its place among all
 pub at_item : {X : Type 0} (xs rest : List X) (skipped i n : ℕ) (x : X) → rest ≡ drop skipped xs → n ≡ skipped + i
@@ -36,103 +38,43 @@ at_item {X} xs rest skipped i n x back count within is =
     ap (drop (i + 1)) back ∙ (drop-drop (i + 1) skipped xs ∙ ap (λ (k : ℕ). drop k xs) more) in
     sym one ∙ (here ∙ ap (λ (ys : List X). x ∷ ys) two)
 
--- ---- one step of many
-
--- its answer is passed by
-moved-on : (qs rest : List Next) (step : Option Next) (answers given new : ℕ) → given ≤ length qs
-    → drop given qs ≡ cons_option step rest → StepsTo step answers given new None
-    → (new ≤ length qs) × (drop new qs ≡ rest)
-moved-on qs rest None answers given new within left h = (
-  subst (λ (n : ℕ). n ≤ length qs) (sym h.1) within,
-  subst (λ (n : ℕ). drop n qs ≡ rest) (sym h.1) left,
-)
-moved-on qs rest (Some q) answers given new within left h =
-    let less = one-less qs given q rest left in (
-      subst (λ (n : ℕ). n ≤ length qs) (sym h.1) less.0,
-      subst (λ (n : ℕ). drop n qs ≡ rest) (sym h.1) less.1,
-    )
-
-stops-at : (qs rest : List Next) (answers : List StepAnswer) (q : Next) → drop (length answers) qs ≡ q ∷ rest
-    → Passes qs answers (Some q) (drop (length answers) answers)
-stops-at [] rest [] q e = absurd cc
-stops-at [] rest (a ∷ answers) q e = absurd cc
-stops-at (p ∷ qs) rest [] q e =
-    let same : p ≡ q = cc in record { next = ap (λ (x : Next). Some x) (sym same); left = refl }
-stops-at (p ∷ qs) rest (a ∷ answers) q e =
-    let h = stops-at qs rest answers q e in record { next = h.next; left = h.left }
-
--- its question stands
-stands-there : (qs rest : List Next) (step : Option Next) (answers : List StepAnswer) (given new : ℕ) (q : Next)
-    → drop given qs ≡ cons_option step rest → StepsTo step (length answers) given new (Some q)
-    → (new ≡ given) × Passes qs answers (Some q) (drop new answers)
-stands-there qs rest None answers given new q left h = let e : Some q ≡ None = h.0 in absurd cc
-stands-there qs rest (Some p) answers given new q left h =
-    let at : drop (length answers) qs ≡ p ∷ rest = subst (λ (n : ℕ). drop n qs ≡ p ∷ rest) h.1 left in
-    let place : new ≡ length answers = h.2 ∙ h.1 in
-    let all : Passes qs answers (Some p) (drop (length answers) answers) = stops-at qs rest answers p at in (
-      h.2,
-      subst (λ (n : ℕ). Passes qs answers (Some q) (drop n answers)) (sym place)
-          (subst (λ (x : Next). Passes qs answers (Some x) (drop (length answers) answers)) (sym h.0) all),
-    )
-
-passed-all : (qs : List Next) (answers : List StepAnswer) → length qs ≤ length answers
-    → Passes qs answers None (drop (length qs) answers)
-passed-all [] answers le = record { next = refl; left = refl }
-passed-all (q ∷ qs) [] le = absurd (omega arith)
-passed-all (q ∷ qs) (a ∷ answers) le =
-    let h = passed-all qs answers (omega (arith, le)) in record { next = h.next; left = h.left }
-
--- no more answers are given than there are
-pub given_within : (step question : Option Next) (answers given new : ℕ) → given ≤ answers
-    → StepsTo step answers given new question → new ≤ answers
-given_within None question answers given new le h = omega (arith, le, h.1)
-given_within (Some q) None answers given new le h = omega (arith, h.0, h.1)
-given_within (Some q) (Some p) answers given new le h = omega (arith, le, h.2)
-
 -- ---- the steps of a search
 
-first-of-both : (step : Option Next) (qs rs : List Next) → cons_option step qs ++ rs ≡ cons_option step (qs ++ rs)
-first-of-both None qs rs = refl
-first-of-both (Some q) qs rs = refl
+abbrev calls : Local → List Found → List Step
+calls l found = map (λ (f : Found) (wanted : Option ℕ). proxy_step l wanted f.offer) found
 
-abbrev calls : Local → List Found → List Next
-calls l found = filter_map (λ (f : Found). proxy_step l f.offer) found
+abbrev follows_in : Local → Others → List LinkRecord → List Step
+follows_in l others links = map (λ (link : LinkRecord) (wanted : Option ℕ). link_step l wanted others.local_match link) links
 
-abbrev follows_in : Local → Others → List LinkRecord → List Next
-follows_in l others links = filter_map (link_step l others.local_match) links
-
-abbrev pub an_offer_more : Others → (new : ℕ) → Others
-an_offer_more others new = record {
+abbrev pub an_offer_more : Others → Others
+an_offer_more others = record {
   local_match = others.local_match;
+  wanted = others.wanted;
   offers = others.offers + 1;
   links = others.links;
-  given = new;
+  given = others.given;
 }
 
-abbrev pub a_link_more : Others → (new : ℕ) → Others
-a_link_more others new = record {
+abbrev pub a_link_more : Others → Others
+a_link_more others = record {
   local_match = others.local_match;
+  wanted = others.wanted;
   offers = others.offers;
   links = others.links + 1;
-  given = new;
+  given = others.given;
 }
 
-abbrev pub with_given : Others → (new : ℕ) → Others
-with_given others new = record {
-  local_match = others.local_match;
-  offers = others.offers;
-  links = others.links;
-  given = new;
-}
+abbrev call : Local → Found → Step
+call l f wanted = proxy_step l wanted f.offer
+
+abbrev follow : Local → Others → LinkRecord → Step
+follow l others link wanted = link_step l wanted others.local_match link
 
 offer-first : (l : Local) (found : List Found) (others : Others) (f : Found)
     → drop others.offers found ≡ f ∷ drop (others.offers + 1) found
-    → steps_left l found others
-    ≡ cons_option (proxy_step l f.offer) (steps_left l found (an_offer_more others others.given))
+    → steps_left l found others ≡ call l f ∷ steps_left l found (an_offer_more others)
 offer-first l found others f at =
     ap (λ (fs : List Found). calls l fs ++ follows_in l others (drop others.links l.links)) at
-    ∙ first-of-both (proxy_step l f.offer) (calls l (drop (others.offers + 1) found))
-    (follows_in l others (drop others.links l.links))
 
 none-called : (l : Local) (found : List Found) (others : Others) → others.offers ≡ length found
     → steps_left l found others ≡ follows_in l others (drop others.links l.links)
@@ -142,173 +84,320 @@ none-called l found others all =
 
 link-first : (l : Local) (found : List Found) (others : Others) (link : LinkRecord) → others.offers ≡ length found
     → drop others.links l.links ≡ link ∷ drop (others.links + 1) l.links
-    → steps_left l found others
-    ≡ cons_option (link_step l others.local_match link) (steps_left l found (a_link_more others others.given))
+    → steps_left l found others ≡ follow l others link ∷ steps_left l found (a_link_more others)
 link-first l found others link all at =
     none-called l found others all
     ∙ (ap (follows_in l others) at
-    ∙ ap (cons_option (link_step l others.local_match link))
-    (sym (none-called l found (a_link_more others others.given) all)))
+    ∙ ap (λ (ss : List Step). follow l others link ∷ ss) (sym (none-called l found (a_link_more others) all)))
 
--- ---- the place after a step
+-- ---- a step that is behind
 
-pub offer_passed : (l : Local) (found : List Found) (others : Others) (answers new : ℕ) (f : Found)
-    (step question : Option Next) → is_some question ≡ false
-    → drop others.offers found ≡ f ∷ drop (others.offers + 1) found → step ≡ proxy_step l f.offer
-    → StepsTo step answers others.given new question → IsPlaceInSearch l found others
-    → IsPlaceInSearch l found (an_offer_more others new)
-offer_passed l found others answers new f step (Some q) none at same h place = absurd cc
-offer_passed l found others answers new f step None none at same h place =
-    let first : drop others.given (steps l found)
-    ≡ cons_option step (steps_left l found (an_offer_more others new)) =
-    place.left ∙ (offer-first l found others f at
-    ∙ ap (λ (o : Option Next). cons_option o (steps_left l found (an_offer_more others new))) (sym same)) in
-    let moved =
-    moved-on (steps l found) (steps_left l found (an_offer_more others new)) step answers others.given new
-    place.given first h in
-    let one = one-less found others.offers f (drop (others.offers + 1) found) at in
-    record { offers = one.0; links = place.links; given = moved.0; left = moved.1 }
+-- what is left behind it, and what it leaves as it was
+record IsBehind (first : Option ℕ) (all : List Step) (answers : List StepAnswer) (left : List Step) (old new : Others)
+    : Type 0 where
+  given : new.given ≤ length answers
+  goes : GoesOn first all answers new.given new.wanted left
+  same_match : new.local_match ≡ old.local_match
+  same_offers : new.offers ≡ old.offers
+  same_links : new.links ≡ old.links
 
-pub link_passed : (l : Local) (found : List Found) (others : Others) (answers new : ℕ) (link : LinkRecord)
-    (step question : Option Next) → is_some question ≡ false → others.offers ≡ length found
-    → drop others.links l.links ≡ link ∷ drop (others.links + 1) l.links
-    → step ≡ link_step l others.local_match link → StepsTo step answers others.given new question
-    → IsPlaceInSearch l found others → IsPlaceInSearch l found (a_link_more others new)
-link_passed l found others answers new link step (Some q) none all at same h place = absurd cc
-link_passed l found others answers new link step None none all at same h place =
-    let first : drop others.given (steps l found) ≡ cons_option step (steps_left l found (a_link_more others new)) =
-    place.left ∙ (link-first l found others link all at
-    ∙ ap (λ (o : Option Next). cons_option o (steps_left l found (a_link_more others new))) (sym same)) in
-    let moved =
-    moved-on (steps l found) (steps_left l found (a_link_more others new)) step answers others.given new place.given
-    first h in
-    let one = one-less l.links others.links link (drop (others.links + 1) l.links) at in
-    record { offers = place.offers; links = one.0; given = moved.0; left = moved.1 }
+behind-step : (first : Option ℕ) (all : List Step) (answers : List StepAnswer) (step : Step) (left : List Step)
+    (old new : Others) (asked question : Option Next) → old.given ≤ length answers
+    → GoesOn first all answers old.given old.wanted (step ∷ left) → asked ≡ step old.wanted
+    → question ≡ step_asks asked (drop old.given answers) → new ≡ passed_by asked (drop old.given answers) old
+    → is_some question ≡ false → IsBehind first all answers left old new
+behind-step first all answers step left old new asked question within h same asks is none =
+    by_left asked (drop old.given answers) refl (sym same) asks is
+  where
+    by_left : (o : Option Next) (ys : List StepAnswer) → drop old.given answers ≡ ys → step old.wanted ≡ o
+        → question ≡ step_asks o ys → new ≡ passed_by o ys old → IsBehind first all answers left old new
+    by_left None ys at some asks is =
+        subst (IsBehind first all answers left old) (sym is)
+        (record {
+          given = within;
+          goes = skips first all answers old.given old.wanted step left h some;
+          same_match = refl;
+          same_offers = refl;
+          same_links = refl;
+        })
+    by_left (Some q) [] at some asks is =
+        let bad : is_some (let o : Option Next = Some q in o) ≡ false = sym (ap is_some asks) ∙ none in absurd cc
+    by_left (Some q) (a ∷ ys) at some asks is =
+        subst (IsBehind first all answers left old) (sym is)
+        (record {
+          given = one-less answers old.given a ys at;
+          goes = passes first all answers old.given old.wanted step left h q a ys some at;
+          same_match = refl;
+          same_offers = refl;
+          same_links = refl;
+        })
 
-same-place : (l : Local) (found : List Found) (others : Others) (new : ℕ) → new ≡ others.given
-    → IsPlaceInSearch l found others → IsPlaceInSearch l found (with_given others new)
-same-place l found others new e place = record {
-  offers = place.offers;
-  links = place.links;
-  given = subst (λ (n : ℕ). n ≤ length (steps l found)) (sym e) place.given;
-  left = subst (λ (n : ℕ). drop n (steps l found) ≡ steps_left l found others) (sym e) place.left;
-}
+-- its question stands
+asks-there : (first : Option ℕ) (all : List Step) (answers : List StepAnswer) (step : Step) (left : List Step)
+    (old new : Others) (asked question : Option Next)
+    → GoesOn first all answers old.given old.wanted (step ∷ left) → asked ≡ step old.wanted
+    → question ≡ step_asks asked (drop old.given answers) → new ≡ passed_by asked (drop old.given answers) old
+    → is_some question ≡ true
+    → (q : Next) × (question ≡ Some q) × (forwarded first all answers ≡ Err q) × (new ≡ old)
+asks-there first all answers step left old new asked question h same asks is some =
+    by_left asked (drop old.given answers) refl (sym same) asks is
+  where
+    by_left : (o : Option Next) (ys : List StepAnswer) → drop old.given answers ≡ ys → step old.wanted ≡ o
+        → question ≡ step_asks o ys → new ≡ passed_by o ys old
+        → (q : Next) × (question ≡ Some q) × (forwarded first all answers ≡ Err q) × (new ≡ old)
+    by_left None ys at so asks is =
+        let bad : is_some (let o : Option Next = None in o) ≡ true = sym (ap is_some asks) ∙ some in absurd cc
+    by_left (Some q) [] at so asks is =
+        (q, asks, stops first all answers old.given old.wanted step left h q so at, is)
+    by_left (Some q) (a ∷ ys) at so asks is =
+        let bad : is_some (let o : Option Next = None in o) ≡ true = sym (ap is_some asks) ∙ some in absurd cc
 
--- ---- the step at which a question stands
+-- ---- the place behind a step
 
--- the same place, and the question that stands there
-pub record HasStopped (l : Local) (found : List Found) (answers : List StepAnswer) (others : Others)
-    (question : Option Next) : Type 0 where
-  pub place : IsPlaceInSearch l found others
-  pub passes : Passes (steps l found) answers question (drop others.given answers)
+module _ (l : Local) (found : List Found) (answers : List StepAnswer) where
+  abbrev AllSteps : Others → List Step → Type 0
+  AllSteps others left = GoesOn (first_wanted l found) (steps l found) answers others.given others.wanted left
 
-pub offer_asks : (l : Local) (found : List Found) (others : Others) (answers : List StepAnswer) (new : ℕ) (f : Found)
-    (step question : Option Next) → is_some question ≡ true
-    → drop others.offers found ≡ f ∷ drop (others.offers + 1) found → step ≡ proxy_step l f.offer
-    → StepsTo step (length answers) others.given new question → IsPlaceInSearch l found others
-    → HasStopped l found answers (with_given others new) question
-offer_asks l found others answers new f step None some at same h place = absurd cc
-offer_asks l found others answers new f step (Some q) some at same h place =
-    let first : drop others.given (steps l found)
-    ≡ cons_option step (steps_left l found (an_offer_more others new)) =
-    place.left ∙ (offer-first l found others f at
-    ∙ ap (λ (o : Option Next). cons_option o (steps_left l found (an_offer_more others new))) (sym same)) in
-    let stop =
-    stands-there (steps l found) (steps_left l found (an_offer_more others new)) step answers others.given new q
-    first h in
-    record { place = same-place l found others new stop.0 place; passes = stop.1 }
+  pub offer_passed : (old new : Others) (f : Found) (asked question : Option Next) → is_some question ≡ false
+      → drop old.offers found ≡ f ∷ drop (old.offers + 1) found → asked ≡ proxy_step l old.wanted f.offer
+      → question ≡ step_asks asked (drop old.given answers) → new ≡ passed_by asked (drop old.given answers) old
+      → IsPlaceInSearch l found answers old
+      → (new.offers ≡ old.offers) × IsPlaceInSearch l found answers (an_offer_more new)
+  offer_passed old new f asked question none at same asks is place =
+      let h : AllSteps old (call l f ∷ steps_left l found (an_offer_more old)) =
+      subst (AllSteps old) (offer-first l found old f at) place.left in
+      let b =
+      behind-step (first_wanted l found) (steps l found) answers (call l f)
+      (steps_left l found (an_offer_more old)) old new asked question place.given h same asks is none in
+      let kept : steps_left l found (an_offer_more old) ≡ steps_left l found (an_offer_more new) =
+      sym (rw (b.same_match, b.same_offers, b.same_links) refl) in (
+        b.same_offers,
+        record {
+          offers = omega (arith, one-less found old.offers f (drop (old.offers + 1) found) at, b.same_offers);
+          links = omega (arith, place.links, b.same_links);
+          given = b.given;
+          left = subst (AllSteps new) kept b.goes;
+        },
+      )
 
-pub link_asks : (l : Local) (found : List Found) (others : Others) (answers : List StepAnswer) (new : ℕ)
-    (link : LinkRecord) (step question : Option Next) → is_some question ≡ true → others.offers ≡ length found
-    → drop others.links l.links ≡ link ∷ drop (others.links + 1) l.links
-    → step ≡ link_step l others.local_match link → StepsTo step (length answers) others.given new question
-    → IsPlaceInSearch l found others → HasStopped l found answers (with_given others new) question
-link_asks l found others answers new link step None some all at same h place = absurd cc
-link_asks l found others answers new link step (Some q) some all at same h place =
-    let first : drop others.given (steps l found) ≡ cons_option step (steps_left l found (a_link_more others new)) =
-    place.left ∙ (link-first l found others link all at
-    ∙ ap (λ (o : Option Next). cons_option o (steps_left l found (a_link_more others new))) (sym same)) in
-    let stop =
-    stands-there (steps l found) (steps_left l found (a_link_more others new)) step answers others.given new q first
-    h in
-    record { place = same-place l found others new stop.0 place; passes = stop.1 }
+  pub link_passed : (old new : Others) (link : LinkRecord) (asked question : Option Next) → is_some question ≡ false
+      → old.offers ≡ length found → drop old.links l.links ≡ link ∷ drop (old.links + 1) l.links
+      → asked ≡ link_step l old.wanted old.local_match link → question ≡ step_asks asked (drop old.given answers)
+      → new ≡ passed_by asked (drop old.given answers) old → IsPlaceInSearch l found answers old
+      → (new.offers ≡ length found) × (new.links ≡ old.links) × IsPlaceInSearch l found answers (a_link_more new)
+  link_passed old new link asked question none all at same asks is place =
+      let h : AllSteps old (follow l old link ∷ steps_left l found (a_link_more old)) =
+      subst (AllSteps old) (link-first l found old link all at) place.left in
+      let b =
+      behind-step (first_wanted l found) (steps l found) answers (follow l old link)
+      (steps_left l found (a_link_more old)) old new asked question place.given h same asks is none in
+      let kept : steps_left l found (a_link_more old) ≡ steps_left l found (a_link_more new) =
+      sym (rw (b.same_match, b.same_offers, b.same_links) refl) in (
+        b.same_offers ∙ all,
+        b.same_links,
+        record {
+          offers = omega (arith, place.offers, b.same_offers);
+          links = omega (arith, one-less l.links old.links link (drop (old.links + 1) l.links) at, b.same_links);
+          given = b.given;
+          left = subst (AllSteps new) kept b.goes;
+        },
+      )
 
-pub call_asks : (l : Local) (found : List Found) (others : Others) (answers : List StepAnswer) (question : Option Next)
-    → is_some question ≡ true → HasStopped l found answers others question
-    → CallsTo l found answers others question
-call_asks l found others answers None some h = absurd cc
-call_asks l found others answers (Some q) some h = h.passes
+  -- ---- the step at which a question stands
 
-pub call_asked : (l : Local) (found : List Found) (others : Others) (answers : List StepAnswer)
-    (question : Option Next) → is_some question ≡ true → CallsTo l found answers others question
-    → Passes (steps l found) answers question (drop others.given answers)
-call_asked l found others answers None some h = absurd cc
-call_asked l found others answers (Some q) some h = h
+  -- the same place, and the question that stands there
+  pub record HasStopped (others : Others) (question : Option Next) : Type 0 where
+    pub place : IsPlaceInSearch l found answers others
+    pub asked : Next
+    pub is : question ≡ Some asked
+    pub stops : forwarded (first_wanted l found) (steps l found) answers ≡ Err asked
 
-pub all_called : (l : Local) (found : List Found) (others : Others) (answers : List StepAnswer)
-    (question : Option Next) → is_some question ≡ false → CallsTo l found answers others question
-    → others.offers ≡ length found
-all_called l found others answers None none h = h
-all_called l found others answers (Some q) none h = absurd cc
+  pub offer_asks : (old new : Others) (f : Found) (asked question : Option Next) → is_some question ≡ true
+      → drop old.offers found ≡ f ∷ drop (old.offers + 1) found → asked ≡ proxy_step l old.wanted f.offer
+      → question ≡ step_asks asked (drop old.given answers) → new ≡ passed_by asked (drop old.given answers) old
+      → IsPlaceInSearch l found answers old → HasStopped new question
+  offer_asks old new f asked question some at same asks is place =
+      let h : AllSteps old (call l f ∷ steps_left l found (an_offer_more old)) =
+      subst (AllSteps old) (offer-first l found old f at) place.left in
+      let s =
+      asks-there (first_wanted l found) (steps l found) answers (call l f) (steps_left l found (an_offer_more old))
+      old new asked question h same asks is some in
+      record { place = subst (IsPlaceInSearch l found answers) (sym s.3) place; asked = s.0; is = s.1; stops = s.2 }
 
--- ---- the beginning, and the end
+  pub link_asks : (old new : Others) (link : LinkRecord) (asked question : Option Next) → is_some question ≡ true
+      → old.offers ≡ length found → drop old.links l.links ≡ link ∷ drop (old.links + 1) l.links
+      → asked ≡ link_step l old.wanted old.local_match link → question ≡ step_asks asked (drop old.given answers)
+      → new ≡ passed_by asked (drop old.given answers) old → IsPlaceInSearch l found answers old
+      → HasStopped new question
+  link_asks old new link asked question some all at same asks is place =
+      let h : AllSteps old (follow l old link ∷ steps_left l found (a_link_more old)) =
+      subst (AllSteps old) (link-first l found old link all at) place.left in
+      let s =
+      asks-there (first_wanted l found) (steps l found) answers (follow l old link)
+      (steps_left l found (a_link_more old)) old new asked question h same asks is some in
+      record { place = subst (IsPlaceInSearch l found answers) (sym s.3) place; asked = s.0; is = s.1; stops = s.2 }
 
-pub all_asked : (l : Local) (found : List Found) (others : Others) (answers : List StepAnswer)
-    → others.offers ≡ length found → others.links ≡ length l.links → others.given ≤ length answers
-    → IsPlaceInSearch l found others → Passes (steps l found) answers None (drop others.given answers)
-all_asked l found others answers offers links within place =
-    let none : drop others.given (steps l found) ≡ [] =
-    place.left ∙ (none-called l found others offers
-    ∙ ap (follows_in l others) (drop_all others.links l.links (omega (arith, links)))) in
-    let long : length (drop others.given (steps l found)) ≡ 0 = ap length none in
-    let count : length (steps l found) ≡ others.given =
-    omega (arith, long, length-drop others.given (steps l found), place.given) in
-    subst (λ (n : ℕ). Passes (steps l found) answers None (drop n answers)) count
-    (passed-all (steps l found) answers (omega (arith, count, within)))
+  pub call_asks : (others : Others) (question : Option Next) → HasStopped others question
+      → CallsTo l found answers others question
+  call_asks others question h = subst (CallsTo l found answers others) (sym h.is) h.stops
 
-begins-by : (path : Option LinkRecord) (l : Local) (found : List Found)
-    → IsPlaceBy path l found (none_asked (list_any (λ (f : Found). is_ordinary f.offer) found))
+  pub forwards : (others : Others) (question : Option Next) → HasStopped others question
+      → Forwards (first_wanted l found) (steps l found) answers others.given question
+  forwards others question h =
+      subst (Forwards (first_wanted l found) (steps l found) answers others.given) (sym h.is) h.stops
+
+  pub call_asked : (others : Others) (question : Option Next) → is_some question ≡ true
+      → CallsTo l found answers others question
+      → Forwards (first_wanted l found) (steps l found) answers others.given question
+  call_asked others None some h = absurd cc
+  call_asked others (Some q) some h = h
+
+  pub all_called : (others : Others) (question : Option Next) → is_some question ≡ false
+      → CallsTo l found answers others question → others.offers ≡ length found
+  all_called others None none h = h
+  all_called others (Some q) none h = absurd cc
+
+  -- ---- the beginning, and the end
+
+  pub all_asked : (others : Others) → others.offers ≡ length found → others.links ≡ length l.links
+      → IsPlaceInSearch l found answers others
+      → Forwards (first_wanted l found) (steps l found) answers others.given None
+  all_asked others offers links place =
+      let none : steps_left l found others ≡ [] =
+      none-called l found others offers
+      ∙ ap (follows_in l others) (drop_all others.links l.links (omega (arith, links))) in
+      ends (first_wanted l found) (steps l found) answers others.given others.wanted
+      (subst (AllSteps others) none place.left)
+
+behind-none : (r : Reads (List SubAnswer)) → r ≡ behind [] r
+behind-none (Ok s) = refl
+behind-none (Err q) = refl
+
+begins-by : (path : Option LinkRecord) (l : Local) (found : List Found) (answers : List StepAnswer)
+    → IsPlaceBy path l found answers (asks_first l found)
 unfolding steps
-begins-by None l found = record { offers = omega arith; links = omega arith; given = omega arith; left = refl }
-begins-by (Some link) l found = omega arith
+begins-by None l found answers = record {
+  offers = omega arith;
+  links = omega arith;
+  given = omega arith;
+  left = λ rest. behind-none (forwarded (first_wanted l found) (steps l found) rest);
+}
+begins-by (Some link) l found answers = record { given = omega arith; one = omega arith }
 
 -- no question was asked yet
-pub begins_asking : (l : Local) (found : List Found)
-    → IsPlace l found (none_asked (list_any (λ (f : Found). is_ordinary f.offer) found))
-begins_asking l found = begins-by l.path l found
+pub begins_asking : (l : Local) (found : List Found) (answers : List StepAnswer)
+    → IsPlace l found answers (asks_first l found)
+begins_asking l found answers = begins-by l.path l found answers
+
+-- ---- with more answers
+
+pub longer_place : (path : Option LinkRecord) (l : Local) (found : List Found) (answers more : List StepAnswer)
+    (others : Others) → IsPlaceBy path l found answers others → IsPlaceBy path l found (answers ++ more) others
+longer_place None l found answers more others h =
+    let longer : length (answers ++ more) ≡ length answers + length more = length-append answers more in
+    record {
+      offers = h.offers;
+      links = h.links;
+      given = omega (arith, h.given, longer);
+      left = λ rest.
+          let same : take others.given (answers ++ more) ≡ take others.given answers =
+          take-append-le others.given answers more h.given in
+          ap (λ (xs : List StepAnswer). forwarded (first_wanted l found) (steps l found) (xs ++ rest)) same
+          ∙ h.left rest
+          ∙ sym (ap (λ (xs : List StepAnswer). behind (map sub_answer xs)
+          (forwarded others.wanted (steps_left l found others) rest)) same);
+    }
+longer_place (Some link) l found answers more others h =
+    let longer : length (answers ++ more) ≡ length answers + length more = length-append answers more in
+    record { given = omega (arith, h.given, longer); one = h.one }
 
 -- ---- by the path
 
-pub in_search : (l : Local) (found : List Found) (others : Others) → l.path ≡ None → IsPlace l found others
-    → IsPlaceInSearch l found others
-in_search l found others e place = subst (λ (p : Option LinkRecord). IsPlaceBy p l found others) e place
+pub in_search : (l : Local) (found : List Found) (answers : List StepAnswer) (others : Others) → l.path ≡ None
+    → IsPlace l found answers others → IsPlaceInSearch l found answers others
+in_search l found answers others e place =
+    subst (λ (p : Option LinkRecord). IsPlaceBy p l found answers others) e place
 
-pub search_place : (l : Local) (found : List Found) (others : Others) → l.path ≡ None
-    → IsPlaceInSearch l found others → IsPlace l found others
-search_place l found others e place = subst (λ (p : Option LinkRecord). IsPlaceBy p l found others) (sym e) place
+pub search_place : (l : Local) (found : List Found) (answers : List StepAnswer) (others : Others) → l.path ≡ None
+    → IsPlaceInSearch l found answers others → IsPlace l found answers others
+search_place l found answers others e place =
+    subst (λ (p : Option LinkRecord). IsPlaceBy p l found answers others) (sym e) place
 
-pub path_place : (l : Local) (found : List Found) (others : Others) (link : LinkRecord) → l.path ≡ Some link
-    → others.given ≤ 1 → IsPlace l found others
-path_place l found others link e one = subst (λ (p : Option LinkRecord). IsPlaceBy p l found others) (sym e) one
+pub on_path : (l : Local) (found : List Found) (answers : List StepAnswer) (others : Others) (link : LinkRecord)
+    → l.path ≡ Some link → IsPlace l found answers others → IsPlaceOnPath answers others
+on_path l found answers others link e place =
+    subst (λ (p : Option LinkRecord). IsPlaceBy p l found answers others) e place
+
+pub path_place : (l : Local) (found : List Found) (answers : List StepAnswer) (others : Others) (link : LinkRecord)
+    → l.path ≡ Some link → IsPlaceOnPath answers others → IsPlace l found answers others
+path_place l found answers others link e place =
+    subst (λ (p : Option LinkRecord). IsPlaceBy p l found answers others) (sym e) place
+
+pub search_forwards : (l : Local) (found : List Found) (answers : List StepAnswer) (given : ℕ) (question : Option Next)
+    → l.path ≡ None → Forwards (first_wanted l found) (steps l found) answers given question
+    → ForwardsBy l.path l found answers given question
+search_forwards l found answers given question e h =
+    subst (λ (p : Option LinkRecord). ForwardsBy p l found answers given question) (sym e) h
+
+pub path_forwards : (l : Local) (found : List Found) (answers : List StepAnswer) (given : ℕ) (question : Option Next)
+    (link : LinkRecord) → l.path ≡ Some link → Forwards None (path_step l link ∷ []) answers given question
+    → ForwardsBy l.path l found answers given question
+path_forwards l found answers given question link e h =
+    subst (λ (p : Option LinkRecord). ForwardsBy p l found answers given question) (sym e) h
 
 -- the one question along a path
-pub path_asks : (asked question : Next) (answers : List StepAnswer) (given : ℕ) → answers ≡ []
-    → given ≤ length answers → question ≡ asked
-    → Passes (asked ∷ []) answers (Some question) (drop given answers)
-path_asks asked question [] given none within same =
-    let zero : 0 ≡ given = omega (arith, within) in
-    let first : Passes (asked ∷ []) [] (Some question) [] =
-    record { next = ap (λ (q : Next). Some q) same; left = refl } in
-    subst (λ (n : ℕ). Passes (asked ∷ []) [] (Some question) (drop n [])) zero first
-path_asks asked question (a ∷ answers) given none within same = absurd cc
+pub path_asks : (l : Local) (link : LinkRecord) (question : Next) (answers : List StepAnswer) (given : ℕ)
+    → answers ≡ [] → question ≡ Forward link.target (path_query l)
+    → Forwards None (path_step l link ∷ []) answers given (Some question)
+path_asks l link question [] given none same =
+    ap (λ (q : Next). let r : Reads (List SubAnswer) = Err q in r) (sym same)
+path_asks l link question (a ∷ answers) given none same = absurd cc
 
-pub path_passes : (asked : Next) (answers rest : List StepAnswer) (a : StepAnswer) → answers ≡ a ∷ rest
-    → Passes (asked ∷ []) answers None (drop 1 answers)
-path_passes asked [] rest a e = absurd cc
-path_passes asked (b ∷ answers) rest a e = record { next = refl; left = refl }
+pub path_passes : (l : Local) (link : LinkRecord) (answers rest : List StepAnswer) (a : StepAnswer)
+    → answers ≡ a ∷ rest → Forwards None (path_step l link ∷ []) answers 1 None
+path_passes l link [] rest a e = absurd cc
+path_passes l link (b ∷ answers) rest a e = refl
+
+pub path_given : (answers rest : List StepAnswer) (a : StepAnswer) (others : Others) → answers ≡ a ∷ rest
+    → others.given ≡ 1 → IsPlaceOnPath answers others
+path_given answers rest a others e one =
+    let long : length answers ≡ suc (length rest) = ap length e in
+    record { given = omega (arith, long, one); one = omega (arith, one) }
+
+-- ---- one step of the code
+
+pub fewer : (wanted now : Option ℕ) (count : ℕ) (a : SubAnswer) → count ≡ length a.offers
+    → now ≡ option_map (λ n. n - count) wanted → now ≡ less wanted a
+fewer None now count a e h = h
+fewer (Some n) now count a e h = h ∙ ap (λ (k : ℕ). let o : Option ℕ = Some (n - k) in o) e
+
+pub asks_none : (step : Option Next) (q : Next) (xs left : List StepAnswer) → step ≡ Some q → left ≡ xs → left ≡ []
+    → Some q ≡ step_asks step xs
+asks_none step q xs left some at none = rw (some, sym at ∙ none) refl
+
+pub asks_some : (step : Option Next) (q : Next) (xs left ys : List StepAnswer) (a : StepAnswer) → step ≡ Some q
+    → left ≡ xs → left ≡ a ∷ ys → None ≡ step_asks step xs
+asks_some step q xs left ys a some at more = rw (some, sym at ∙ more) refl
+
+pub passes_none : (step : Option Next) (q : Next) (xs left : List StepAnswer) (others : Others) → step ≡ Some q
+    → left ≡ xs → left ≡ [] → others ≡ passed_by step xs others
+passes_none step q xs left others some at none = rw (some, sym at ∙ none) refl
+
+pub passes_some : (step : Option Next) (q : Next) (xs left ys : List StepAnswer) (a : StepAnswer) (others : Others)
+    (wanted : Option ℕ) → step ≡ Some q → left ≡ xs → left ≡ a ∷ ys → wanted ≡ less others.wanted (sub_answer a)
+    → record {
+      local_match = others.local_match;
+      wanted = wanted;
+      offers = others.offers;
+      links = others.links;
+      given = others.given + 1;
+    } ≡ passed_by step xs others
+passes_some step q xs left ys a others wanted some at more is = rw (some, sym at ∙ more, is) refl
+
+pub ruleset pass_steps = (asks_none, asks_some, passes_none, passes_some)
 
 pub ruleset called = (call_asked, all_called)
 
-pub ruleset along = (path_asks, path_passes)
+pub ruleset along = (path_asks, path_passes, path_given)
 
-pub ruleset by_path = (in_search, search_place, path_place)
+pub ruleset by_path = (in_search, search_place, on_path, path_place, search_forwards, path_forwards)

@@ -1,20 +1,22 @@
 -- Where a visit stands that waits for the answer to its question, and how it goes on from there.
-use Rattle.std.specs.Prelude.{◌≡◌, ℕ, ◌+◌, ◌-◌, ◌<◌, ◌≤◌, nat_le, Bool, true, false, if◌then◌else◌, List, [], ◌∷◌}
+use Rattle.std.specs.Prelude.{◌≡◌, ℕ, ◌+◌, ◌≤◌, nat_le, Bool, true, false, if◌then◌else◌, List, [], ◌∷◌}
 use Rattle.std.specs.Prelude.{◌++◌, length, take, drop, map, Option, None, Some, Ok, Err}
-use Rattle.std.specs.List.{filter_map}
+use Rattle.std.specs.List.{list_any}
 use Rattle.td_cdr.specs.Format.{◌>>=◌}
 use Rattle.td_eval.specs.Mentioning.{names_asked}
 use Rattle.td_store.specs.declared.local.Local.{Local}
 use Rattle.td_store.specs.declared.record.LinkRecord.{LinkRecord}
 use Rattle.td_store.specs.declared.record.OfferRecord.{OfferRecord}
 use Rattle.td_value.specs.declared.unions.SpecifiedProps.{SpecifiedProps}
-use Rattle.td_walk.specs.SubQueries.{link_step, path_query, proxy_step}
-use Rattle.td_walk.specs.Told.{Passes, comes_to, made_up_to}
+use Rattle.td_walk.specs.SubQueries.{link_step, proxy_step, wanted_behind}
+use Rattle.td_walk.specs.Told.{Tells, comes_to, made_up_to}
 use Rattle.td_walk.specs.Visits.{Reads, evaluated, matches_all, if_matching, desired_names, is_ordinary}
-use Rattle.td_walk.specs.Visits.{completed, all_completed, sub_answer, steps, gathered, visit_of}
+use Rattle.td_walk.specs.Visits.{completed, all_completed, sub_answer, Step, less, forwarded, steps, count_ordinary}
+use Rattle.td_walk.specs.Visits.{path_step, gathered, visit_of}
 use Rattle.td_walk.specs.declared.answer.Next.{Next}
-use Rattle.td_walk.specs.declared.answer.Next.TheVariants.{Done, Forward}
+use Rattle.td_walk.specs.declared.answer.Next.TheVariants.{Done}
 use Rattle.td_walk.specs.declared.answer.StepAnswer.{StepAnswer}
+use Rattle.td_walk.specs.declared.answer.SubAnswer.{SubAnswer}
 use Rattle.td_walk.specs.declared.evaluation.Evaluation.{Evaluation}
 use Rattle.td_walk.specs.declared.found.Found.{Found}
 use Rattle.td_walk.specs.declared.gathering.Gathered.{Gathered}
@@ -70,60 +72,116 @@ completed_up_to desired before (f ∷ fs) answers =
       complete = before;
     })
 
--- ---- which questions to other traders are left
+-- ---- which other traders are left
+
+-- how many offers are wanted of other traders at first
+abbrev pub first_wanted : Local → List Found → Option ℕ
+first_wanted l found = wanted_behind l (count_ordinary found)
 
 -- none was asked yet
-abbrev pub none_asked : (local_match : Bool) → Others
-none_asked local_match = record { local_match = local_match; offers = 0; links = 0; given = 0 }
+abbrev pub none_asked : (local_match : Bool) → (wanted : Option ℕ) → Others
+none_asked local_match wanted =
+    record { local_match = local_match; wanted = wanted; offers = 0; links = 0; given = 0 }
+
+abbrev pub asks_first : Local → List Found → Others
+asks_first l found = none_asked (list_any (λ f. is_ordinary f.offer) found) (first_wanted l found)
 
 -- those of the offers and of the links that weren't passed by
-abbrev pub steps_left : Local → List Found → Others → List Next
+abbrev pub steps_left : Local → List Found → Others → List Step
 steps_left l found others =
-    filter_map (λ f. proxy_step l f.offer) (drop others.offers found)
-    ++ filter_map (link_step l others.local_match) (drop others.links l.links)
+    map (λ f wanted. proxy_step l wanted f.offer) (drop others.offers found)
+    ++ map (λ link wanted. link_step l wanted others.local_match link) (drop others.links l.links)
 
--- So many questions of a search have their answers, and what wasn't passed by asks the others.
-pub record IsPlaceInSearch (l : Local) (found : List Found) (others : Others) : Type 0 where
+-- what so many answers give
+abbrev pub given_by : (count : ℕ) → List StepAnswer → List SubAnswer
+given_by count answers = map sub_answer (take count answers)
+
+-- what is read behind what was given
+abbrev pub behind : List SubAnswer → Reads (List SubAnswer) → Reads (List SubAnswer)
+behind given r = r >>= λ s. Ok (given ++ s.0, s.1)
+
+-- So many of the steps have their answers: whatever comes behind these, from there the steps that are left are taken.
+abbrev pub GoesOn : (first : Option ℕ) → (all : List Step) → List StepAnswer → (given : ℕ) → (wanted : Option ℕ)
+    → (left : List Step) → Type 0
+GoesOn first all answers given wanted left =
+    (rest : List StepAnswer) → forwarded first all (take given answers ++ rest)
+    ≡ behind (given_by given answers) (forwarded wanted left rest)
+
+-- So far a search has come.
+pub record IsPlaceInSearch (l : Local) (found : List Found) (answers : List StepAnswer) (others : Others) : Type 0 where
   pub offers : others.offers ≤ length found
   pub links : others.links ≤ length l.links
-  pub given : others.given ≤ length (steps l found)
-  pub left : drop others.given (steps l found) ≡ steps_left l found others
+  pub given : others.given ≤ length answers
+  pub left : GoesOn (first_wanted l found) (steps l found) answers others.given others.wanted
+      (steps_left l found others)
 
 -- along a path there is one question
-abbrev pub IsPlaceBy : Option LinkRecord → Local → List Found → Others → Type 0
-IsPlaceBy None l found others = IsPlaceInSearch l found others
-IsPlaceBy (Some link) l found others = others.given ≤ 1
+pub record IsPlaceOnPath (answers : List StepAnswer) (others : Others) : Type 0 where
+  pub given : others.given ≤ length answers
+  pub one : others.given ≤ 1
 
-abbrev pub IsPlace : Local → List Found → Others → Type 0
-IsPlace l found others = IsPlaceBy l.path l found others
+abbrev pub IsPlaceBy : Option LinkRecord → Local → List Found → List StepAnswer → Others → Type 0
+IsPlaceBy None l found answers others = IsPlaceInSearch l found answers others
+IsPlaceBy (Some link) l found answers others = IsPlaceOnPath answers others
 
--- a step comes to its question where that has no answer; else one answer more is given
-abbrev pub StepsTo : (step : Option Next) → (answers given new : ℕ) → Option Next → Type 0
-StepsTo None answers given new question = (question ≡ None) × (new ≡ given)
-StepsTo (Some asked) answers given new None = (given < answers) × (new ≡ given + 1)
-StepsTo (Some asked) answers given new (Some question) = (question ≡ asked) × (given ≡ answers) × (new ≡ given)
+abbrev pub IsPlace : Local → List Found → List StepAnswer → Others → Type 0
+IsPlace l found answers others = IsPlaceBy l.path l found answers others
+
+-- ---- one step
+
+-- one answer more is given, and as many fewer offers are wanted
+abbrev pub with_answer : Others → SubAnswer → Others
+with_answer others a = record {
+  local_match = others.local_match;
+  wanted = less others.wanted a;
+  offers = others.offers;
+  links = others.links;
+  given = others.given + 1;
+}
+
+-- a step comes to its question where that has no answer
+abbrev pub step_asks : (step : Option Next) → (left : List StepAnswer) → Option Next
+step_asks None left = None
+step_asks (Some question) [] = Some question
+step_asks (Some question) (a ∷ left) = None
+
+-- else its answer is passed by
+abbrev pub passed_by : (step : Option Next) → (left : List StepAnswer) → Others → Others
+passed_by None left others = others
+passed_by (Some question) [] others = others
+passed_by (Some question) (a ∷ left) others = with_answer others (sub_answer a)
+
+-- ---- how a visit goes on
+
+-- the steps to other traders
+abbrev pub steps_by : Option LinkRecord → Local → List Found → List Step
+steps_by None l found = steps l found
+steps_by (Some link) l found = path_step l link ∷ []
+
+abbrev pub wanted_by : Option LinkRecord → Local → List Found → Option ℕ
+wanted_by None l found = first_wanted l found
+wanted_by (Some link) l found = None
+
+-- with these steps all answers are read, or a question stands to which there is none
+abbrev pub Forwards : (first : Option ℕ) → List Step → List StepAnswer → (given : ℕ) → Option Next → Type 0
+Forwards first all answers given question =
+    Tells (forwarded first all answers) question (given_by given answers) (drop given answers)
+
+abbrev pub ForwardsBy : Option LinkRecord → Local → List Found → List StepAnswer → (given : ℕ) → Option Next → Type 0
+ForwardsBy path l found answers given question =
+    Forwards (wanted_by path l found) (steps_by path l found) answers given question
 
 -- the offers come to a question that has no answer, or all are passed by
 abbrev pub CallsTo : Local → List Found → List StepAnswer → Others → Option Next → Type 0
 CallsTo l found answers others None = others.offers ≡ length found
-CallsTo l found answers others (Some question) =
-    Passes (steps l found) answers (Some question) (drop others.given answers)
-
--- ---- how a visit goes on
-
--- the questions to other traders
-abbrev pub questions_by : Option LinkRecord → Local → List Found → List Next
-questions_by None l found = steps l found
-questions_by (Some link) l found = Forward link.target (path_query l) ∷ []
-
-abbrev pub questions : Local → List Found → List Next
-questions l found = questions_by l.path l found
+CallsTo l found answers others (Some question) = forwarded (first_wanted l found) (steps l found) answers ≡ Err question
 
 -- once the candidates were searched
 abbrev pub completed_on : Option LinkRecord → Local → (complete : List Found) → (waiting : List Found) →
     List StepAnswer → Reads Gathered
 completed_on path l complete waiting answers =
-    all_completed l.query.desired complete waiting answers >>= λ r. gathered r.0 r.1 (questions_by path l r.0)
+    all_completed l.query.desired complete waiting answers
+    >>= λ r. gathered r.0 r.1 (wanted_by path l r.0) (steps_by path l r.0)
 
 abbrev pub searching_on : Option LinkRecord → Local → Scan → List StepAnswer → Reads Gathered
 searching_on path l s answers =
@@ -145,15 +203,14 @@ start along = record {
   completed = false;
   scan = record { tried = 0; made = []; found = [] };
   completion = record { waiting = []; complete = [] };
-  others = none_asked false;
+  others = none_asked false None;
 }
 
 -- Where no offer waits any more, this is how far the other traders were asked.
 pub record AsksOthers (l : Local) (answers : List StepAnswer) (p : Progress) : Type 0 where
   pub searched : p.searched ≡ true
   pub complete : p.completion.waiting ≡ []
-  pub given : p.others.given ≤ length answers - p.read
-  pub place : IsPlace l p.completion.complete p.others
+  pub place : IsPlace l p.completion.complete (drop p.read answers) p.others
 
 -- This is how far the visit has come with the first answers, whatever comes behind them.
 pub record Stands (l : Local) (answers : List StepAnswer) (p : Progress) : Type 0 where
@@ -170,7 +227,7 @@ answers_left answers p = drop p.read answers
 -- the visit is at its end, and this is what it comes to
 abbrev pub gathering : List StepAnswer → Progress → Gathered
 gathering answers p =
-    record { found = p.completion.complete; given = map sub_answer (take p.others.given (answers_left answers p)) }
+    record { found = p.completion.complete; given = given_by p.others.given (answers_left answers p) }
 
 pub record IsEnd (l : Local) (answers : List StepAnswer) (p : Progress) : Type 0 where
   pub within : p.read + p.others.given ≤ length answers

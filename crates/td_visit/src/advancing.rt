@@ -1,12 +1,11 @@
 //! How far a visit comes with the answers that there are. What was done before isn't done again.
 
 ghost use Rattle.std.specs.Prelude.{◌≡◌, ◌-◌, [], true, unwrap_or, IfOk, OnOk};
-ghost use Rattle.std.specs.List.{list_any};
-ghost use Rattle.td_visit.specs.Resuming.{start, none_asked, Stands, SearchesTo, CompletesTo, ComesTo, IsEnd};
-ghost use Rattle.td_walk.specs.Visits.{is_ordinary, next_of};
+ghost use Rattle.td_visit.specs.Resuming.{start, asks_first, Stands, SearchesTo, CompletesTo, ComesTo, IsEnd};
+ghost use Rattle.td_walk.specs.Visits.{next_of};
 ghost use Rattle.td_walk.specs.declared.answer.Next.TheVariants.{Done};
 
-use crate::asking::{ask, has_ordinary, none_asked};
+use crate::asking::{ask, asks_first, none_asked};
 use crate::progress::{Completion, Progress, Scan};
 use crate::queue::Queue;
 use crate::searching::{complete_all, search};
@@ -33,7 +32,7 @@ fn start(alloc: Global, along: bool) -> Progress
             waiting: Queue::new(alloc),
             complete: List::new(alloc),
         },
-        others: none_asked(false),
+        others: none_asked(false, None),
     }
 }
 
@@ -102,18 +101,18 @@ fn search_on(
 }
 
 /// All offers that matched are complete: other traders are asked, where there are any to ask.
-fn end_completion(progress: &mut Progress, read: usize)
+fn end_completion(local: &Local, progress: &mut Progress, read: usize)
     ensures { progress.new ≡ record {
       read = read;
       searched = progress.old.searched;
       completed = true;
       scan = progress.old.scan;
       completion = progress.old.completion;
-      others = none_asked (list_any (λ f. is_ordinary f.offer) progress.old.completion.complete);
+      others = asks_first local.now progress.old.completion.complete;
     } }
 {
     let complete = progress.completion.complete.as_slice();
-    progress.others = none_asked(has_ordinary(complete));
+    progress.others = asks_first(local, complete);
     progress.completed = true;
     progress.read = read;
 }
@@ -143,7 +142,7 @@ fn complete_on(
             Ok(Some(question))
         }
         None => {
-            end_completion(progress, answers.len() - left.answers.len());
+            end_completion(local, progress, answers.len() - left.answers.len());
             Ok(None)
         }
     }

@@ -1,11 +1,11 @@
 //! Which other traders are asked, in order (OMG's Trading Object Service, "Link Follow Behavior" and interface Proxy).
 
-ghost use Rattle.std.specs.Prelude.{◌≡◌, ◌≤◌, ◌∷◌, [], drop, length, IfOk, OnOk};
+ghost use Rattle.std.specs.Prelude.{◌≡◌, ◌+◌, ◌^◌, ◌<◌, ◌≤◌, ◌∷◌, [], None, cond, drop, length, IfOk, OnOk};
 ghost use Rattle.std.specs.List.{list_any};
-ghost use Rattle.td_visit.specs.Resuming.{none_asked, questions, IsPlaceInSearch, IsPlace, StepsTo, CallsTo};
+ghost use Rattle.td_visit.specs.Resuming.{none_asked, asks_first, first_wanted, step_asks, passed_by};
+ghost use Rattle.td_visit.specs.Resuming.{IsPlaceInSearch, IsPlaceOnPath, IsPlace, CallsTo, Forwards, ForwardsBy};
 ghost use Rattle.td_walk.specs.SubQueries.{link_step, call_of, proxy_step, path_query};
-ghost use Rattle.td_walk.specs.Told.{Passes};
-ghost use Rattle.td_walk.specs.Visits.{is_ordinary, steps};
+ghost use Rattle.td_walk.specs.Visits.{count_ordinary, is_ordinary, less, path_step, steps, sub_answer};
 ghost use Rattle.td_walk.specs.declared.answer.Next.TheVariants.{Forward};
 
 use crate::progress::Others;
@@ -16,16 +16,17 @@ use td_ops::Query;
 use td_store::{LinkRecord, Local, OfferRecord, ProxyPart};
 use td_value::Ior;
 use td_walk::{
-    Found, Next, StepAnswer, follows, has_hops, sub_query_for_link, sub_query_for_path,
-    sub_query_for_proxy,
+    Found, Next, StepAnswer, fewer_wanted, follows, has_hops, is_full, sub_query_for_link,
+    sub_query_for_path, sub_query_for_proxy, wanted_behind,
 };
 
 /// No other trader was asked yet.
-pub(crate) fn none_asked(local_match: bool) -> Others
-    ensures { result ≡ none_asked local_match }
+pub(crate) fn none_asked(local_match: bool, wanted: Option<u32>) -> Others
+    ensures { result ≡ none_asked local_match wanted }
 {
     Others {
         local_match,
+        wanted,
         offers: 0,
         links: 0,
         given: 0,
@@ -33,10 +34,43 @@ pub(crate) fn none_asked(local_match: bool) -> Others
 }
 
 /// Whether an ordinary offer matched.
-pub(crate) fn has_ordinary(found: &[Found]) -> bool
+fn has_ordinary(found: &[Found]) -> bool
     ensures { result ≡ list_any (λ f. is_ordinary f.offer) found.now }
 {
     found.iter().any(|one| one.offer.proxy.is_none())
+}
+
+/// One more, where the offer is an ordinary one.
+fn counted(count: usize, one: &Found) -> usize
+    requires { count < 2 ^ 63 }
+    ensures { result ≡ count + cond (is_ordinary one.now.offer) 1 0 }
+{
+    if one.offer.proxy.is_none() {
+        count + 1
+    } else {
+        count
+    }
+}
+
+/// How many ordinary offers matched.
+fn count_ordinary(found: &[Found]) -> usize
+    ensures { result ≡ count_ordinary found.now }
+{
+    let mut count: usize = 0;
+    for one in found {
+        count = counted(count, one);
+    }
+    count
+}
+
+/// Other traders are asked, of which none was asked yet: for what is wanted behind the offers that matched here.
+pub(crate) fn asks_first(local: &Local, found: &[Found]) -> Others
+    ensures { result ≡ asks_first local.now found.now }
+{
+    none_asked(
+        has_ordinary(found),
+        wanted_behind(local, count_ordinary(found)),
+    )
 }
 
 /// The question to another trader.
@@ -60,60 +94,93 @@ fn path_question(alloc: Global, local: &Local, link: &LinkRecord) -> Result<Next
 fn link_step(
     alloc: Global,
     local: &Local,
+    wanted: Option<u32>,
     local_match: bool,
     link: &LinkRecord,
 ) -> Result<Option<Next>, Memory>
-    ensures { IfOk result (λ step. step ≡ link_step local.now local_match link.now) }
+    ensures { IfOk result (λ step. step ≡ link_step local.now wanted local_match link.now) }
 {
-    if !follows(local, local_match, link) {
+    if is_full(wanted) || !follows(local, local_match, link) {
         return Ok(None);
     }
-    let query = sub_query_for_link(alloc, local, link)?;
+    let query = sub_query_for_link(alloc, local, wanted, link)?;
     Ok(Some(forward(alloc, &link.target, query)?))
 }
 
 fn call_of(
     alloc: Global,
     local: &Local,
+    wanted: Option<u32>,
     offer: &OfferRecord,
     part: &ProxyPart,
 ) -> Result<Option<Next>, Memory>
-    ensures { IfOk result (λ step. step ≡ call_of local.now offer.now part.now) }
+    ensures { IfOk result (λ step. step ≡ call_of local.now wanted offer.now part.now) }
 {
-    if !has_hops(local) {
+    if is_full(wanted) || !has_hops(local) {
         return Ok(None);
     }
     match expanded(alloc, &local.query.constraint, offer, part)? {
         None => Ok(None),
         Some(constraint) => {
-            let query = sub_query_for_proxy(alloc, local, part, constraint)?;
+            let query = sub_query_for_proxy(alloc, local, wanted, part, constraint)?;
             Ok(Some(forward(alloc, &offer.reference, query)?))
         }
     }
 }
 
 #[tactic(auto, unfolding(td_walk::specs::SubQueries::proxy_step))]
-fn proxy_step(alloc: Global, local: &Local, offer: &OfferRecord) -> Result<Option<Next>, Memory>
-    ensures { IfOk result (λ step. step ≡ proxy_step local.now offer.now) }
+fn proxy_step(
+    alloc: Global,
+    local: &Local,
+    wanted: Option<u32>,
+    offer: &OfferRecord,
+) -> Result<Option<Next>, Memory>
+    ensures { IfOk result (λ step. step ≡ proxy_step local.now wanted offer.now) }
 {
     match &offer.proxy {
         None => Ok(None),
-        Some(part) => call_of(alloc, local, offer, part),
+        Some(part) => call_of(alloc, local, wanted, offer, part),
     }
 }
 
-/// What is asked at this step: its question, where there is no answer to it; an answer is passed by.
-fn pass(step: Option<Next>, answers: &[StepAnswer], given: &mut usize) -> Option<Next>
-    requires { given.old ≤ length answers.now }
-    ensures { StepsTo step (length answers.now) given.old given.new result }
+/// How many offers an answer gives.
+fn count_offers(answer: &StepAnswer) -> usize
+    ensures { result ≡ length (sub_answer answer.now).offers }
+{
+    match answer {
+        StepAnswer::Offers(given) => given.offers.len(),
+        StepAnswer::Evaluated(_) => 0,
+        StepAnswer::Failed => 0,
+    }
+}
+
+/// How many offers are still wanted behind an answer.
+#[tactic(auto, using(crate::proofs::Turns::fewer))]
+fn less(wanted: Option<u32>, answer: &StepAnswer) -> Option<u32>
+    ensures { result ≡ less wanted (sub_answer answer.now) }
+{
+    fewer_wanted(wanted, count_offers(answer))
+}
+
+/// What is asked at this step: its question, where there is no answer to it; an answer is passed by, and its offers
+/// are wanted no more.
+#[tactic(auto, using(crate::proofs::Turns::pass_steps))]
+fn pass(step: Option<Next>, answers: &[StepAnswer], others: &mut Others) -> Option<Next>
+    requires { others.old.given ≤ length answers.now }
+    ensures asks { result ≡ step_asks step (drop others.old.given answers.now) }
+    ensures passes { others.new ≡ passed_by step (drop others.old.given answers.now) others.old }
 {
     let question = step?;
-    if *given == answers.len() {
-        return Some(question);
+    let (_given, left) = answers.split_at(others.given);
+    match left.split_first() {
+        None => Some(question),
+        Some((answer, _left)) => {
+            drop(question);
+            others.wanted = less(others.wanted, answer);
+            others.given += 1;
+            None
+        }
     }
-    drop(question);
-    *given += 1;
-    None
 }
 
 /// Goes on with the proxy offers that matched, by number: calls their traders, as far as there are answers.
@@ -124,16 +191,14 @@ fn call_proxies(
     answers: &[StepAnswer],
     others: &mut Others,
 ) -> Result<Option<Next>, Memory>
-    requires place { IsPlaceInSearch local.now found.now others.old }
-    requires within { others.old.given ≤ length answers.now }
-    ensures place { OnOk result (IsPlaceInSearch local.now found.now others.new) }
-    ensures within { OnOk result (others.new.given ≤ length answers.now) }
+    requires { IsPlaceInSearch local.now found.now answers.now others.old }
+    ensures place { OnOk result (IsPlaceInSearch local.now found.now answers.now others.new) }
     ensures calls { IfOk result (λ question. CallsTo local.now found.now answers.now others.new question) }
 {
     let (_passed, matched) = found.split_at(others.offers);
     for one in matched {
-        let step = proxy_step(alloc, local, &one.offer)?;
-        let question = pass(step, answers, &mut others.given);
+        let step = proxy_step(alloc, local, others.wanted, &one.offer)?;
+        let question = pass(step, answers, others);
         if question.is_some() {
             return Ok(question);
         }
@@ -151,12 +216,10 @@ fn ask_others(
     answers: &[StepAnswer],
     others: &mut Others,
 ) -> Result<Option<Next>, Memory>
-    requires place { IsPlaceInSearch local.now found.now others.old }
-    requires within { others.old.given ≤ length answers.now }
-    ensures place { OnOk result (IsPlaceInSearch local.now found.now others.new) }
-    ensures within { OnOk result (others.new.given ≤ length answers.now) }
-    ensures passes { IfOk result (λ question.
-        Passes (steps local.now found.now) answers.now question (drop others.new.given answers.now)) }
+    requires { IsPlaceInSearch local.now found.now answers.now others.old }
+    ensures place { OnOk result (IsPlaceInSearch local.now found.now answers.now others.new) }
+    ensures asks { IfOk result (λ question.
+        Forwards (first_wanted local.now found.now) (steps local.now found.now) answers.now others.new.given question) }
 {
     let called = call_proxies(alloc, local, found, answers, others)?;
     if called.is_some() {
@@ -164,8 +227,8 @@ fn ask_others(
     }
     let (_passed, links) = local.links.as_slice().split_at(others.links);
     for link in links {
-        let step = link_step(alloc, local, others.local_match, link)?;
-        let question = pass(step, answers, &mut others.given);
+        let step = link_step(alloc, local, others.wanted, others.local_match, link)?;
+        let question = pass(step, answers, others);
         if question.is_some() {
             return Ok(question);
         }
@@ -181,19 +244,17 @@ fn ask_along(
     local: &Local,
     link: &LinkRecord,
     answers: &[StepAnswer],
-    given: &mut usize,
+    others: &mut Others,
 ) -> Result<Option<Next>, Memory>
-    requires { given.old ≤ length answers.now }
-    ensures one { OnOk result (given.new ≤ 1) }
-    ensures within { OnOk result (given.new ≤ length answers.now) }
-    ensures passes { IfOk result (λ question.
-        Passes (Forward link.now.target (path_query local.now) ∷ []) answers.now question
-        (drop given.new answers.now)) }
+    requires { IsPlaceOnPath answers.now others.old }
+    ensures place { OnOk result (IsPlaceOnPath answers.now others.new) }
+    ensures asks { IfOk result (λ question.
+        Forwards None (path_step local.now link.now ∷ []) answers.now others.new.given question) }
 {
     match answers.split_first() {
         None => Ok(Some(path_question(alloc, local, link)?)),
         Some(_) => {
-            *given = 1;
+            others.given = 1;
             Ok(None)
         }
     }
@@ -212,15 +273,13 @@ pub(crate) fn ask(
     answers: &[StepAnswer],
     others: &mut Others,
 ) -> Result<Option<Next>, Memory>
-    requires place { IsPlace local.now found.now others.old }
-    requires within { others.old.given ≤ length answers.now }
-    ensures place { OnOk result (IsPlace local.now found.now others.new) }
-    ensures within { OnOk result (others.new.given ≤ length answers.now) }
-    ensures passes { IfOk result (λ question.
-        Passes (questions local.now found.now) answers.now question (drop others.new.given answers.now)) }
+    requires { IsPlace local.now found.now answers.now others.old }
+    ensures place { OnOk result (IsPlace local.now found.now answers.now others.new) }
+    ensures asks { IfOk result (λ question.
+        ForwardsBy local.now.path local.now found.now answers.now others.new.given question) }
 {
     match &local.path {
         None => ask_others(alloc, local, found, answers, others),
-        Some(link) => ask_along(alloc, local, link, answers, &mut others.given),
+        Some(link) => ask_along(alloc, local, link, answers, others),
     }
 }

@@ -28,6 +28,8 @@ pub(crate) struct Completion {
 pub(crate) struct Others {
     /// Whether an ordinary offer matched here.
     pub(crate) local_match: bool,
+    /// How many offers are still wanted, where that is limited.
+    pub(crate) wanted: Option<u32>,
     /// How many of the offers that matched were passed by: they ask nobody, or have their answer.
     pub(crate) offers: usize,
     /// How many of the links were.

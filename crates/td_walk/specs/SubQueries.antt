@@ -1,7 +1,8 @@
 -- The queries that a trader passes on: along a path, over a link, and to a proxy offer's trader (OMG's Trading Object
 -- Service, "Link Follow Behavior", starting_trader and interface Proxy).
-use Rattle.std.specs.Prelude.{ℕ, zero, suc, nat_le, nat_lt, Bool, true, false, ◌&&◌, if◌then◌else◌, List, [], ◌∷◌}
-use Rattle.std.specs.Prelude.{length, drop, Option, None, Some, option_map, option_and_then, codes}
+use Rattle.std.specs.Prelude.{ℕ, zero, suc, ◌-◌, nat_le, nat_lt, Bool, true, false, ◌&&◌, not, if◌then◌else◌}
+use Rattle.std.specs.Prelude.{List, [], ◌∷◌, length, drop, Option, None, Some, is_some, option_map, option_and_then}
+use Rattle.std.specs.Prelude.{codes}
 use Rattle.td_eval.specs.Expansion.{expansion}
 use Rattle.td_lang.specs.Recipes.{recipe_of}
 use Rattle.td_lang.specs.declared.expr.Preference.{Preference}
@@ -56,13 +57,31 @@ path_left (Some names) = rest_of names
 unfoldable pub path_query : Local → Query
 path_query l = passed l l.query.constraint (along_path (path_left l.stated.start) l.query.policies)
 
+-- ---- how many offers are still wanted
+
+-- the offers are in the order in which they are gathered
+abbrev pub keeps_order : Preference → Bool
+keeps_order preference.Empty = true
+keeps_order preference.First = true
+keeps_order other = false
+
+-- So many, once these are gathered. Where the offers get another order, all that there are.
+abbrev pub wanted_behind : Local → (gathered : ℕ) → Option ℕ
+wanted_behind l gathered = if keeps_order l.preference then Some (l.effective.return_card - gathered) else None
+
+-- enough offers are there
+abbrev pub is_full : (wanted : Option ℕ) → Bool
+is_full None = false
+is_full (Some zero) = true
+is_full (Some (suc n)) = false
+
 -- ---- over a link
 
-unfoldable pub link_query : Local → LinkRecord → Query
-link_query l link =
+unfoldable pub link_query : Local → (wanted : Option ℕ) → LinkRecord → Query
+link_query l wanted link =
     passed l l.query.constraint
     (replaced l.effective.hops (Some (pass_on l.stated l.attributes link.limiting link.def_pass_on)) l.identifier
-    l.query.policies)
+    wanted l.query.policies)
 
 -- a link's rule lets it be followed
 abbrev pub lets_follow : (local_match : Bool) → FollowOption → Bool
@@ -78,9 +97,11 @@ has_hops l = nat_lt 0 l.effective.hops
 abbrev pub follows : Local → (local_match : Bool) → LinkRecord → Bool
 follows l local_match link = has_hops l && lets_follow local_match (follow l.stated l.attributes link.limiting)
 
-unfoldable pub link_step : Local → (local_match : Bool) → LinkRecord → Option Next
-link_step l local_match link =
-    if follows l local_match link then Some (Forward link.target (link_query l link)) else None
+-- and while offers are wanted
+unfoldable pub link_step : Local → (wanted : Option ℕ) → (local_match : Bool) → LinkRecord → Option Next
+link_step l wanted local_match link =
+    if not (is_full wanted) && follows l local_match link then Some (Forward link.target (link_query l wanted link))
+    else None
 
 -- ---- to a proxy offer's trader
 
@@ -92,23 +113,23 @@ expanded constraint o part = option_and_then (expansion constraint o.properties)
 abbrev pub stated_rule : Option FollowOption → (maximum : FollowOption) → Option FollowOption
 stated_rule stated maximum = option_map (λ r. lesser r maximum) stated
 
-unfoldable pub proxy_query : Local → ProxyPart → (constraint : List ℕ) → Query
-proxy_query l part constraint =
+unfoldable pub proxy_query : Local → (wanted : Option ℕ) → ProxyPart → (constraint : List ℕ) → Query
+proxy_query l wanted part constraint =
     passed l constraint
-    (with_all_passed part.policies
-    (replaced l.effective.hops (stated_rule l.stated.follow l.attributes.max_follow_policy) l.identifier
+    (with_all_passed (is_some wanted) part.policies
+    (replaced l.effective.hops (stated_rule l.stated.follow l.attributes.max_follow_policy) l.identifier wanted
     l.query.policies))
 
-abbrev pub call_of : Local → OfferRecord → ProxyPart → Option Next
-call_of l o part =
-    if has_hops l then
-    option_map (λ text. Forward o.reference (proxy_query l part text)) (expanded l.query.constraint o part)
+abbrev pub call_of : Local → (wanted : Option ℕ) → OfferRecord → ProxyPart → Option Next
+call_of l wanted o part =
+    if not (is_full wanted) && has_hops l then
+    option_map (λ text. Forward o.reference (proxy_query l wanted part text)) (expanded l.query.constraint o part)
     else None
 
--- a proxy offer that matched is called where there are hops and its recipe expands
-abbrev pub proxy_call : Local → OfferRecord → Option ProxyPart → Option Next
-proxy_call l o None = None
-proxy_call l o (Some part) = call_of l o part
+-- a proxy offer that matched is called while offers are wanted, where there are hops and its recipe expands
+abbrev pub proxy_call : Local → (wanted : Option ℕ) → OfferRecord → Option ProxyPart → Option Next
+proxy_call l wanted o None = None
+proxy_call l wanted o (Some part) = call_of l wanted o part
 
-unfoldable pub proxy_step : Local → OfferRecord → Option Next
-proxy_step l o = proxy_call l o o.proxy
+unfoldable pub proxy_step : Local → (wanted : Option ℕ) → OfferRecord → Option Next
+proxy_step l wanted o = proxy_call l wanted o o.proxy

@@ -35,23 +35,3 @@ abbrev pub made_up_to : List Property → List Evaluation → Names → List Ste
 made_up_to properties made [] answers = made
 made_up_to properties made (name ∷ names) answers =
     comes_to (evaluated_name properties made name answers) (λ r. made_up_to properties r.0 names r.1) made
-
--- ---- questions that need no look at an answer
-
--- the first question without an answer
-abbrev pub unanswered : List Next → List StepAnswer → Option Next
-unanswered [] answers = None
-unanswered (question ∷ questions) [] = Some question
-unanswered (question ∷ questions) (a ∷ answers) = unanswered questions answers
-
--- the answers that are left behind those to these questions
-abbrev pub answers_behind : List Next → List StepAnswer → List StepAnswer
-answers_behind [] answers = answers
-answers_behind (question ∷ questions) [] = []
-answers_behind (question ∷ questions) (a ∷ answers) = answers_behind questions answers
-
--- these questions were asked as far as there are answers
-pub record Passes (questions : List Next) (before : List StepAnswer) (question : Option Next) (after : List StepAnswer)
-    : Type 0 where
-  pub next : question ≡ unanswered questions before
-  pub left : after ≡ answers_behind questions before

@@ -1,9 +1,10 @@
 -- The questions of one visit of a query, and in which order they are asked (OMG's Trading Object Service, interface
 -- Lookup, query, "Policies" and "Link Follow Behavior").
-use Rattle.std.specs.Prelude.{ℕ, nat_le, Bool, false, if◌then◌else◌, List, [], ◌∷◌, ◌++◌, length, map, Option}
+use Rattle.std.specs.Prelude.{ℕ, ◌-◌, nat_le, Bool, false, if◌then◌else◌, List, [], ◌∷◌, ◌++◌, length, map}
+use Rattle.std.specs.Prelude.{Option}
 use Rattle.std.specs.Prelude.{None}
 use Rattle.std.specs.Prelude.{Some, Result, Ok, Err, is_none}
-use Rattle.std.specs.List.{filter_map, list_any}
+use Rattle.std.specs.List.{count_by, list_any}
 use Rattle.td_cdr.specs.Format.{◌>>=◌}
 use Rattle.td_eval.specs.Mentioning.{Names, names_asked}
 use Rattle.td_eval.specs.Values.{matching}
@@ -16,7 +17,7 @@ use Rattle.td_value.specs.declared.structures.Property.{Property}
 use Rattle.td_value.specs.declared.unions.SpecifiedProps.{SpecifiedProps}
 use Rattle.td_value.specs.declared.unions.SpecifiedProps.TheVariants as props
 use Rattle.td_walk.specs.Resolving.{dynamic_named, is_evaluated, resolved, value_from}
-use Rattle.td_walk.specs.SubQueries.{path_query, link_step, proxy_step}
+use Rattle.td_walk.specs.SubQueries.{path_query, link_step, proxy_step, wanted_behind}
 use Rattle.td_walk.specs.declared.answer.Next.{Next}
 use Rattle.td_walk.specs.declared.answer.Next.TheVariants.{Done, Evaluate, Forward}
 use Rattle.td_walk.specs.declared.answer.StepAnswer.{StepAnswer}
@@ -118,33 +119,59 @@ abbrev pub sub_answer : StepAnswer → SubAnswer
 sub_answer (answer.Offers a) = a
 sub_answer other = record { offers = []; limits = [] }
 
--- the other traders are asked in order, and each gives its answer
-abbrev pub forwarded : List Next → List StepAnswer → Reads (List SubAnswer)
-forwarded [] answers = Ok ([], answers)
-forwarded (question ∷ questions) answers =
-    ask question answers >>= λ r. forwarded questions r.1 >>= λ s. Ok (sub_answer r.0 ∷ s.0, s.1)
+-- another trader's question, if there is one where so many offers are still wanted
+abbrev pub Step : Type 0
+Step = (wanted : Option ℕ) → Option Next
+
+-- how many are still wanted behind an answer
+abbrev pub less : (wanted : Option ℕ) → SubAnswer → Option ℕ
+less None a = None
+less (Some n) a = Some (n - length a.offers)
+
+-- one step, and then the next ones
+abbrev pub stepped : Option Next → (asked : SubAnswer → List StepAnswer → Reads (List SubAnswer))
+    → (skipped : List StepAnswer → Reads (List SubAnswer)) → List StepAnswer → Reads (List SubAnswer)
+stepped None asked skipped answers = skipped answers
+stepped (Some question) asked skipped answers =
+    ask question answers
+    >>= λ r. asked (sub_answer r.0) r.1
+    >>= λ s. Ok (sub_answer r.0 ∷ s.0, s.1)
+
+-- the other traders are asked in order, as long as offers are wanted, and each gives its answer
+abbrev pub forwarded : (wanted : Option ℕ) → List Step → List StepAnswer → Reads (List SubAnswer)
+forwarded wanted [] answers = Ok ([], answers)
+forwarded wanted (step ∷ steps) answers =
+    stepped (step wanted) (λ a. forwarded (less wanted a) steps) (forwarded wanted steps) answers
 
 -- matched proxy offers by number, and then links in the order of adding
-unfoldable pub steps : Local → List Found → List Next
+unfoldable pub steps : Local → List Found → List Step
 steps l found =
-    filter_map (λ f. proxy_step l f.offer) found
-    ++ filter_map (link_step l (list_any (λ f. is_ordinary f.offer) found)) l.links
+    map (λ f wanted. proxy_step l wanted f.offer) found
+    ++ map (λ link wanted. link_step l wanted (list_any (λ f. is_ordinary f.offer) found) link) l.links
+
+-- how many ordinary offers matched
+abbrev pub count_ordinary : List Found → ℕ
+count_ordinary found = count_by (λ f. is_ordinary f.offer) found
 
 -- ---- the visit
 
 -- what a visit comes to before it is ranked: the offers that matched, and the answers of others
-abbrev pub gathered : List Found → List StepAnswer → List Next → Reads Gathered
-gathered found answers questions =
-    forwarded questions answers >>= λ r. Ok (record { found = found; given = r.0 }, r.1)
+abbrev pub gathered : List Found → List StepAnswer → (wanted : Option ℕ) → List Step → Reads Gathered
+gathered found answers wanted steps =
+    forwarded wanted steps answers >>= λ r. Ok (record { found = found; given = r.0 }, r.1)
 
--- along a path the one trader is asked
+-- along a path the one trader is asked, however many offers are wanted
+abbrev pub path_step : Local → LinkRecord → Step
+path_step l link wanted = Some (Forward link.target (path_query l))
+
 abbrev pub along : Local → LinkRecord → List StepAnswer → Reads Gathered
-along l link answers = gathered [] answers (Forward link.target (path_query l) ∷ [])
+along l link answers = gathered [] answers None (path_step l link ∷ [])
 
 -- once the candidates were searched
 abbrev pub completing : Local → (found : List Found) → List StepAnswer → Reads Gathered
 completing l found answers =
-    all_completed l.query.desired [] found answers >>= λ r. gathered r.0 r.1 (steps l r.0)
+    all_completed l.query.desired [] found answers
+    >>= λ r. gathered r.0 r.1 (wanted_behind l (count_ordinary r.0)) (steps l r.0)
 
 abbrev pub search_of : Local → List StepAnswer → Reads Gathered
 search_of l answers = searched l l.candidates [] answers >>= λ r. completing l r.0 r.1

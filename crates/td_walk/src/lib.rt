@@ -29,6 +29,7 @@ pub use left::Left;
 pub use peers::Peers;
 pub use resolving::resolved;
 pub use sub_query::{
-    follows, has_hops, sub_query_for_link, sub_query_for_path, sub_query_for_proxy,
+    fewer_wanted, follows, has_hops, is_full, sub_query_for_link, sub_query_for_path,
+    sub_query_for_proxy, wanted_behind,
 };
 pub use trace::{Address, Trace, TraceItem, Visit};

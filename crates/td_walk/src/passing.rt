@@ -6,9 +6,9 @@ ghost use Rattle.std.specs.List.{position};
 ghost use Rattle.td_value.specs.Enumerations.{follow_option_number};
 ghost use Rattle.td_policy.specs.Values.{rule, rule_numbered};
 ghost use Rattle.td_walk.specs.Passing.{is_named, policy_named, with_policy, with_optional, without_policy};
-ghost use Rattle.td_walk.specs.Passing.{follow_policy, identifier_policy, replaced};
+ghost use Rattle.td_walk.specs.Passing.{follow_policy, identifier_policy, card_policy, replaced};
 ghost use Rattle.td_walk.specs.Passing.{along_path};
-ghost use Rattle.td_walk.specs.Passing.{hops_in, follow_in, is_less, states_less, stands, with_passed};
+ghost use Rattle.td_walk.specs.Passing.{number_in, follow_in, is_less, states_less, stands, with_passed};
 ghost use Rattle.td_walk.specs.Passing.{with_all_passed};
 
 use std::alloc::Global;
@@ -92,8 +92,18 @@ fn put_identifier(
     }
 }
 
+fn put_card(alloc: Global, policies: &mut Vec<Policy>, wanted: Option<u32>) -> Result<(), Memory>
+    ensures { OnOk result (policies.new.items ≡ with_optional (option_map card_policy wanted) policies.old.items) }
+{
+    match wanted {
+        None => Ok(()),
+        Some(offers) => put(policies, number_policy(alloc, b"return_card", offers)?),
+    }
+}
+
 /// The policies that go over a link or to a proxy offer's trader: one hop is taken, a rule is stated where there is
-/// one, and the identifier is the search's. A start elsewhere isn't passed on.
+/// one, the identifier is the search's, and where so many offers are still wanted, no more are to be returned. A start
+/// elsewhere isn't passed on.
 ///
 /// # Errors
 ///
@@ -103,9 +113,10 @@ pub(crate) fn replaced(
     hops: u32,
     follow: Option<FollowOption>,
     identifier: &Option<Octets>,
+    wanted: Option<u32>,
     policies: &[Policy],
 ) -> Result<Vec<Policy>, Memory>
-    ensures { IfOk result (λ passed. passed.items ≡ replaced hops follow identifier.now policies.now) }
+    ensures { IfOk result (λ passed. passed.items ≡ replaced hops follow identifier.now wanted policies.now) }
 {
     let mut passed = copies_without(alloc, policies, b"starting_trader")?;
     put(
@@ -114,6 +125,7 @@ pub(crate) fn replaced(
     )?;
     put_follow(alloc, &mut passed, follow)?;
     put_identifier(alloc, &mut passed, identifier)?;
+    put_card(alloc, &mut passed, wanted)?;
     Ok(passed)
 }
 
@@ -137,8 +149,8 @@ pub(crate) fn along_path(
     Ok(passed)
 }
 
-fn hops_in(policy: &Policy) -> Option<u32>
-    ensures { result ≡ hops_in policy.now }
+fn number_in(policy: &Policy) -> Option<u32>
+    ensures { result ≡ number_in policy.now }
 {
     if !same_type(&policy.value.code, &TypeCode::ULong) {
         return None;
@@ -198,11 +210,21 @@ fn policy_named<'a>(policies: &'a [Policy], name: &[u8]) -> Option<&'a Policy>
 
 /// Whether a hop count stands that is less than this policy's.
 fn has_fewer_hops(policies: &[Policy], policy: &Policy) -> bool
-    ensures { result ≡ states_less hops_in (policy_named policies.now (codes "hop_count")) policy.now }
+    ensures { result ≡ states_less number_in (policy_named policies.now (codes "hop_count")) policy.now }
 {
     match policy_named(policies, b"hop_count") {
         None => false,
-        Some(earlier) => is_less(hops_in(earlier), hops_in(policy)),
+        Some(earlier) => is_less(number_in(earlier), number_in(policy)),
+    }
+}
+
+/// Whether fewer offers are wanted than this policy states.
+fn wants_fewer(policies: &[Policy], policy: &Policy) -> bool
+    ensures { result ≡ states_less number_in (policy_named policies.now (codes "return_card")) policy.now }
+{
+    match policy_named(policies, b"return_card") {
+        None => false,
+        Some(earlier) => is_less(number_in(earlier), number_in(policy)),
     }
 }
 
@@ -218,8 +240,13 @@ fn follows_less(alloc: Global, policies: &[Policy], policy: &Policy) -> Result<b
 }
 
 /// Whether the policy is left out, since one stands that it may not replace.
-fn stands(alloc: Global, policies: &[Policy], policy: &Policy) -> Result<bool, Memory>
-    ensures { IfOk result (λ so. so ≡ stands policies.now policy.now) }
+fn stands(
+    alloc: Global,
+    limited: bool,
+    policies: &[Policy],
+    policy: &Policy,
+) -> Result<bool, Memory>
+    ensures { IfOk result (λ so. so ≡ stands limited policies.now policy.now) }
 {
     if is_named(policy, b"request_id") {
         Ok(true)
@@ -227,34 +254,43 @@ fn stands(alloc: Global, policies: &[Policy], policy: &Policy) -> Result<bool, M
         Ok(has_fewer_hops(policies, policy))
     } else if is_named(policy, b"link_follow_rule") {
         follows_less(alloc, policies, policy)
+    } else if limited && is_named(policy, b"return_card") {
+        Ok(wants_fewer(policies, policy))
     } else {
         Ok(false)
     }
 }
 
-fn put_passed(alloc: Global, policies: &mut Vec<Policy>, policy: &Policy) -> Result<(), Memory>
-    ensures { OnOk result (policies.new.items ≡ with_passed policies.old.items policy.now) }
+fn put_passed(
+    alloc: Global,
+    limited: bool,
+    policies: &mut Vec<Policy>,
+    policy: &Policy,
+) -> Result<(), Memory>
+    ensures { OnOk result (policies.new.items ≡ with_passed limited policies.old.items policy.now) }
 {
-    if stands(alloc, policies.as_slice(), policy)? {
+    if stands(alloc, limited, policies.as_slice(), policy)? {
         return Ok(());
     }
     put(policies, policy.copy(alloc)?)
 }
 
-/// Puts a proxy offer's policies to those of a sub-query.
+/// Puts a proxy offer's policies to those of a sub-query; where the offers that are wanted are limited, that limit may
+/// only fall.
 ///
 /// # Errors
 ///
 /// `Memory` for want of memory alone.
 pub(crate) fn put_all_passed(
     alloc: Global,
+    limited: bool,
     policies: &mut Vec<Policy>,
     passed: &[Policy],
 ) -> Result<(), Memory>
-    ensures { OnOk result (policies.new.items ≡ with_all_passed passed.now policies.old.items) }
+    ensures { OnOk result (policies.new.items ≡ with_all_passed limited passed.now policies.old.items) }
 {
     for policy in passed {
-        put_passed(alloc, policies, policy)?;
+        put_passed(alloc, limited, policies, policy)?;
     }
     Ok(())
 }

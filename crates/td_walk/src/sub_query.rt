@@ -1,10 +1,11 @@
 //! The queries that a trader passes on (OMG's Trading Object Service, "Link Follow Behavior", starting_trader and
 //! interface Proxy).
 
-ghost use Rattle.std.specs.Prelude.{◌≡◌, IfOk};
+ghost use Rattle.std.specs.Prelude.{◌≡◌, ℕ, ◌-◌, None, Some, option_map, IfOk};
 ghost use Rattle.td_walk.specs.Passing.{along_path};
 ghost use Rattle.td_walk.specs.SubQueries.{passed_preference, passed, path_left, path_query, link_query, lets_follow};
 ghost use Rattle.td_walk.specs.SubQueries.{has_hops, follows, stated_rule, proxy_query};
+ghost use Rattle.td_walk.specs.SubQueries.{keeps_order, wanted_behind, is_full};
 
 use crate::passing::{along_path, copies_without, put_all_passed, replaced};
 use std::alloc::Global;
@@ -81,14 +82,66 @@ pub fn sub_query_for_path(alloc: Global, local: &Local) -> Result<Query, Memory>
     passed(alloc, local, constraint, policies)
 }
 
-/// The query that goes over a link: with one hop less, the rule that is passed on and the search's identifier.
+/// Whether the offers are in the order in which they are gathered.
+fn keeps_order(preference: &Preference) -> bool
+    ensures { result ≡ keeps_order preference.now }
+{
+    matches!(preference, Preference::Empty | Preference::First)
+}
+
+/// What is left of a number of offers behind so many.
+fn left_of(most: u32, offers: usize) -> u32
+    ensures { result ≡ most - offers }
+{
+    match u32::try_from(offers) {
+        Ok(offers) => most.saturating_sub(offers),
+        Err(_) => 0,
+    }
+}
+
+/// How many offers are still wanted once so many are gathered; where they get another order than that of gathering, all
+/// that there are. Takes no memory.
+pub fn wanted_behind(local: &Local, gathered: usize) -> Option<u32>
+    ensures { result ≡ wanted_behind local.now gathered }
+{
+    if keeps_order(&local.preference) {
+        Some(left_of(local.effective.return_card, gathered))
+    } else {
+        None
+    }
+}
+
+/// How many offers are still wanted behind so many more. Takes no memory.
+pub fn fewer_wanted(wanted: Option<u32>, offers: usize) -> Option<u32>
+    ensures { result ≡ option_map (λ n. n - offers) wanted }
+{
+    match wanted {
+        None => None,
+        Some(most) => Some(left_of(most, offers)),
+    }
+}
+
+/// Whether enough offers are there.
+pub fn is_full(wanted: Option<u32>) -> bool
+    ensures { result ≡ is_full wanted }
+{
+    wanted == Some(0)
+}
+
+/// The query that goes over a link: with one hop less, the rule that is passed on, the search's identifier, and the
+/// number of offers that are still wanted, where that is limited.
 ///
 /// # Errors
 ///
 /// `Memory` for want of memory alone.
 #[tactic(auto, unfolding(crate::specs::SubQueries::link_query))]
-pub fn sub_query_for_link(alloc: Global, local: &Local, link: &LinkRecord) -> Result<Query, Memory>
-    ensures { IfOk result (λ query. query ≡ link_query local.now link.now) }
+pub fn sub_query_for_link(
+    alloc: Global,
+    local: &Local,
+    wanted: Option<u32>,
+    link: &LinkRecord,
+) -> Result<Query, Memory>
+    ensures { IfOk result (λ query. query ≡ link_query local.now wanted link.now) }
 {
     let rule = pass_on(
         &local.stated,
@@ -101,6 +154,7 @@ pub fn sub_query_for_link(alloc: Global, local: &Local, link: &LinkRecord) -> Re
         local.effective.hops,
         Some(rule),
         &local.identifier,
+        wanted,
         local.query.policies.as_slice(),
     )?;
     let constraint = local.query.constraint.copy(alloc)?;
@@ -118,7 +172,8 @@ fn stated_rule(stated: Option<FollowOption>, maximum: FollowOption) -> Option<Fo
 }
 
 /// The query that goes to a proxy offer's trader, with the constraint that the recipe made: with one hop less, a
-/// rule where one is stated, the search's identifier, and what the proxy offer passes on.
+/// rule where one is stated, the search's identifier, the number of offers that are still wanted, where that is
+/// limited, and what the proxy offer passes on.
 ///
 /// # Errors
 ///
@@ -127,10 +182,11 @@ fn stated_rule(stated: Option<FollowOption>, maximum: FollowOption) -> Option<Fo
 pub fn sub_query_for_proxy(
     alloc: Global,
     local: &Local,
+    wanted: Option<u32>,
     part: &ProxyPart,
     constraint: Text,
 ) -> Result<Query, Memory>
-    ensures { IfOk result (λ query. query ≡ proxy_query local.now part.now constraint) }
+    ensures { IfOk result (λ query. query ≡ proxy_query local.now wanted part.now constraint) }
 {
     let rule = stated_rule(local.stated.follow, local.attributes.max_follow_policy);
     let mut policies = replaced(
@@ -138,9 +194,15 @@ pub fn sub_query_for_proxy(
         local.effective.hops,
         rule,
         &local.identifier,
+        wanted,
         local.query.policies.as_slice(),
     )?;
-    put_all_passed(alloc, &mut policies, part.policies.as_slice())?;
+    put_all_passed(
+        alloc,
+        wanted.is_some(),
+        &mut policies,
+        part.policies.as_slice(),
+    )?;
     passed(alloc, local, constraint, policies)
 }
 

@@ -1,16 +1,15 @@
 -- Worked walks that wanted memory on their way.
 use Rattle.std.proofs.Common.{◌≡◌, ℕ, zero, suc, List, [], ◌∷◌, refl, sym, ap, subst}
-use Rattle.std.specs.Prelude.{Option}
+use Rattle.std.specs.Prelude.{Option, Some}
 use Rattle.td_codes.specs.declared.reference.Ior.{Ior}
 use Rattle.td_ops.specs.declared.call.Query.{Query}
 use Rattle.td_store.specs.declared.local.Local.{Local}
 use Rattle.td_value.specs.declared.enumerations.FollowOption.TheVariants.{Always}
-use Rattle.td_walk.specs.Peering.{Exchange, Querying}
+use Rattle.td_walk.specs.Peering.{Querying}
 use Rattle.td_walk.specs.Peering.{Answered as Replied}
 use Rattle.td_walk.specs.SubQueries.{link_query, path_query}
 use Rattle.td_walk.specs.Visits.{next_of}
 use Rattle.td_walk.specs.declared.answer.Next.{Next}
-use Rattle.td_walk.specs.declared.answer.Next.TheVariants.{Forward}
 use Rattle.td_walk.specs.declared.answer.StepAnswer.TheVariants as answer
 use Rattle.td_walk.specs.declared.trace.TraceItem.{TraceItem}
 use Rattle.td_walk.specs.declared.trace.TraceItem.TheVariants as item
@@ -22,7 +21,7 @@ use Rattle.td_walk_laws.specs.Beginnings.{visiting}
 use Rattle.td_walk_laws.specs.Examples.{along, asked as whole_query, elsewhere, given_there, link, over, search}
 use Rattle.td_walk_laws.specs.WalkExamples.{alike, at_second, begins_so, course, group, nowhere, one_call}
 use Rattle.td_walk_laws.specs.WalkLaws.{BeginsIn, Group}
-use Rattle.td_walk_laws.specs.Walks.{Course, Opens, Refused, Repeat, Search, Path, Start, Step, Walk}
+use Rattle.td_walk_laws.specs.Walks.{Course, Opens, Repeat, Search, Path, Start, Step, Walk}
 use Rattle.td_walk_laws.specs.Walks.{searching, passing, refused, repeat, asking, outside}
 
 -- ---- how far some came
@@ -56,7 +55,7 @@ within word =
     let none : StepsBegin (BeginsIn g) Alone at_second (course word 2 []) (search [] []) [] [] (course word 2 []) =
     no_more in
     let inner : WalkBegins (BeginsIn g) Alone at_second (course word 1 []) 1
-    (link_query (over Always []) (link Always)) (item.Search 1 0 1 ∷ []) (course word 2 []) =
+    (link_query (over Always []) (Some 1000) (link Always)) (item.Search 1 0 1 ∷ []) (course word 2 []) =
     unended refl searching none in
     let steps : StepsBegin (BeginsIn g) Alone at_second (course word 1 []) (over Always []) [] (item.Search 1 0 1 ∷ [])
     (course word 2 []) = visiting next-over-none refl inner in

@@ -1,5 +1,5 @@
 -- Each query that a search passes on carries the search's identifier, and states it where its policies can be read.
-use Rattle.std.proofs.Common.{◌≡◌, ℕ, List, Option, Some, None, refl, ◌∙◌, codes}
+use Rattle.std.proofs.Common.{◌≡◌, ℕ, List, Option, Some, None, is_some, refl, ◌∙◌, codes}
 use Rattle.td_codes.specs.declared.reference.Ior.{Ior}
 use Rattle.td_ops.specs.declared.call.Query.{Query}
 use Rattle.td_policy.specs.Rules.{pass_on}
@@ -7,7 +7,7 @@ use Rattle.td_store.specs.declared.local.Local.{Local}
 use Rattle.td_store.specs.declared.record.LinkRecord.{LinkRecord}
 use Rattle.td_store.specs.declared.record.ProxyPart.{ProxyPart}
 use Rattle.td_walk.specs.Passing.{replaced}
-use Rattle.td_walk.specs.SubQueries.{link_query, proxy_query, path_query, path_left, stated_rule}
+use Rattle.td_walk.specs.SubQueries.{link_query, proxy_query, path_query, path_left, stated_rule, wanted_behind}
 use Rattle.td_walk.specs.Visits.{next_of}
 use Rattle.td_walk.specs.declared.answer.Next.TheVariants.{Forward}
 use Rattle.td_walk.specs.declared.answer.StepAnswer.{StepAnswer}
@@ -17,20 +17,21 @@ use Rattle.td_walk_laws.proofs.Passed.{along_a_path as states_along, identifier-
 use Rattle.td_walk_laws.proofs.Questions.{only_passed}
 use Rattle.td_walk_laws.proofs.Replaced.{identifier-there, path-stays}
 
-over-a-link : (l : Local) (link : LinkRecord) → CarriesIdentifier None l (link_query l link)
+over-a-link : (l : Local) (wanted : Option ℕ) (link : LinkRecord) → CarriesIdentifier None l (link_query l wanted link)
 unfolding link_query
-over-a-link l link id is =
+over-a-link l wanted link id is =
     rw is
     (identifier-there l.effective.hops (Some (pass_on l.stated l.attributes link.limiting link.def_pass_on)) id
-    l.query.policies)
+    wanted l.query.policies)
 
-to-a-proxy : (l : Local) (part : ProxyPart) (constraint : List ℕ)
-    → CarriesIdentifier None l (proxy_query l part constraint)
+to-a-proxy : (l : Local) (wanted : Option ℕ) (part : ProxyPart) (constraint : List ℕ)
+    → CarriesIdentifier None l (proxy_query l wanted part constraint)
 unfolding proxy_query
-to-a-proxy l part constraint id is =
+to-a-proxy l wanted part constraint id is =
     let r = stated_rule l.stated.follow l.attributes.max_follow_policy in
-    identifier-kept part.policies (replaced l.effective.hops r l.identifier l.query.policies)
-    ∙ rw is (identifier-there l.effective.hops r id l.query.policies)
+    identifier-kept (is_some wanted) part.policies
+    (replaced l.effective.hops r l.identifier wanted l.query.policies)
+    ∙ rw is (identifier-there l.effective.hops r id wanted l.query.policies)
 
 along-a-path : (l : Local) (link : LinkRecord) → CarriesIdentifier (Some link) l (path_query l)
 unfolding path_query
@@ -38,11 +39,12 @@ along-a-path l link = path-stays (codes "request_id") (path_left l.stated.start)
 
 carries : (l : Local) (target : Ior) (sub : Query) (p : Option LinkRecord) → l.path ≡ p → IsPassed l target sub
     → CarriesIdentifier p l sub
-carries l target sub None is (over_link link none hops) = over-a-link l link
-carries l target sub None is (to_proxy o part constraint none hops) = to-a-proxy l part constraint
+carries l target sub None is (over_link link gathered none hops some) = over-a-link l (wanted_behind l gathered) link
+carries l target sub None is (to_proxy o part constraint gathered none hops some) =
+    to-a-proxy l (wanted_behind l gathered) part constraint
 carries l target sub None is (along_path link other) = absurd cc
-carries l target sub (Some link) is (over_link other none hops) = absurd cc
-carries l target sub (Some link) is (to_proxy o part constraint none hops) = absurd cc
+carries l target sub (Some link) is (over_link other gathered none hops some) = absurd cc
+carries l target sub (Some link) is (to_proxy o part constraint gathered none hops some) = absurd cc
 carries l target sub (Some link) is (along_path other at) = along-a-path l link
 
 pub carry : (l : Local) (answers : List StepAnswer) (target : Ior) (sub : Query)
@@ -54,13 +56,13 @@ carry l answers target sub asked = carries l target sub l.path refl (only_passed
 states : (l : Local) (target : Ior) (sub : Query) (p : Option LinkRecord) → l.path ≡ p → IsPassed l target sub
     → StatesIdentifier p l sub
 unfolding path_query
-states l target sub None is (over_link link none hops) = λ id s named read.
-    (over_a_link l link s read).identifier id named
-states l target sub None is (to_proxy o part constraint none hops) = λ id s named read.
-    (to_a_proxy l part constraint s read).identifier id named
+states l target sub None is (over_link link gathered none hops some) = λ id s named read.
+    (over_a_link l (wanted_behind l gathered) link s read).identifier id named
+states l target sub None is (to_proxy o part constraint gathered none hops some) = λ id s named read.
+    (to_a_proxy l (wanted_behind l gathered) part constraint s read).identifier id named
 states l target sub None is (along_path link other) = absurd cc
-states l target sub (Some link) is (over_link other none hops) = absurd cc
-states l target sub (Some link) is (to_proxy o part constraint none hops) = absurd cc
+states l target sub (Some link) is (over_link other gathered none hops some) = absurd cc
+states l target sub (Some link) is (to_proxy o part constraint gathered none hops some) = absurd cc
 states l target sub (Some link) is (along_path other at) = λ own s stated_so read.
     (states_along (path_left l.stated.start) l.query.policies own s stated_so read).identifier
 

@@ -3,6 +3,7 @@ pub mod Beginning
 pub mod Carrying
 pub mod Counting
 pub mod Fields
+pub mod Full
 pub mod Named
 pub mod Ordering
 pub mod Passed

@@ -1,10 +1,10 @@
 -- The questions of a search stand in order.
 use Rattle.std.proofs.Common.{◌≡◌, ℕ, suc, ◌+◌, ◌<◌, ◌≤◌, nat_le, Bool, true, false, ◌||◌, List, [], ◌∷◌, ◌++◌, length}
 use Rattle.std.proofs.Common.{map, Option, Some, None, Ok, Err, refl, sym, ap, ◌∙◌, subst, append_assoc, append-nil}
-use Rattle.std.proofs.Common.{if◌then◌else◌}
+use Rattle.std.proofs.Common.{if◌then◌else◌, cond, fold}
 use Rattle.std.proofs.lemmas.Bool.{leb-false, leb-true}
 use Rattle.std.proofs.lemmas.List.{length-append}
-use Rattle.std.specs.List.{filter_map, find, list_any, cons_option}
+use Rattle.std.specs.List.{count_by, find, list_any}
 use Rattle.std.specs.Prelude.{is_some}
 use Rattle.std.specs.Str.{bytes_eq}
 use Rattle.td_cdr.specs.Format.{◌>>=◌}
@@ -17,11 +17,11 @@ use Rattle.td_value.specs.declared.structures.DynamicProp.{DynamicProp}
 use Rattle.td_value.specs.declared.structures.Property.{Property}
 use Rattle.td_value.specs.declared.unions.SpecifiedProps.{SpecifiedProps}
 use Rattle.td_walk.specs.Resolving.{dynamic_named, is_evaluated, resolved}
-use Rattle.td_walk.specs.SubQueries.{link_step, path_query, proxy_step}
+use Rattle.td_walk.specs.SubQueries.{link_step, path_query, proxy_step, wanted_behind}
 use Rattle.td_walk.specs.Visits.{Reads, all_completed, ask, completed, completing, desired_names, evaluated, evaluation}
 use Rattle.td_walk.specs.Visits.{evaluated_property, forwarded, gathered, if_matching, is_ordinary}
 use Rattle.td_walk.specs.Visits.{matches_all, next_of, question_of, question_on, search_of, searched, steps, sub_answer}
-use Rattle.td_walk.specs.Visits.{tried, visit_by, visit_of}
+use Rattle.td_walk.specs.Visits.{tried, visit_by, visit_of, Step, count_ordinary, less, path_step, stepped}
 use Rattle.td_walk.specs.declared.answer.Next.{Next}
 use Rattle.td_walk.specs.declared.answer.Next.TheVariants.{Done, Forward}
 use Rattle.td_walk.specs.declared.answer.StepAnswer.{StepAnswer}
@@ -32,6 +32,7 @@ use Rattle.td_walk.specs.declared.gathering.Gathered.{Gathered}
 use Rattle.td_walk_laws.proofs.Questions.{never_done}
 use Rattle.td_walk_laws.proofs.Readings.{Reading, Stops, Takes, takes-none, takes-ask, takes-then, takes-map, Parted}
 use Rattle.td_walk_laws.proofs.Readings.{parted, is-read}
+use Rattle.td_walk_laws.specs.SearchOrder.{Calls, called, left_out, no_step_left}
 use Rattle.td_walk_laws.specs.SearchOrder.{Asks, Dynamics, IsInOrder, Tries, completions, dynamics, enough, evaluations}
 use Rattle.td_walk_laws.specs.SearchOrder.{is_among, link_calls, matched, names_of, none_left, proxy_calls, questions_on}
 use Rattle.td_walk_laws.specs.SearchOrder.{to_be_completed, to_be_tried, tries, with_dynamic}
@@ -363,93 +364,149 @@ module _ (desired : SpecifiedProps) where
 
 -- ---- other traders
 
-record AreForwarded (qs : List Next) (answers : List StepAnswer) (z : List SubAnswer × List StepAnswer) : Type 0 where
+record AreForwarded (wanted : Option ℕ) (ss : List Step) (answers : List StepAnswer)
+    (z : List SubAnswer × List StepAnswer) : Type 0 where
   here : List StepAnswer
+  qs : List Next
   whole : answers ≡ here ++ z.1
-  takes : Takes (λ (a : List StepAnswer). forwarded qs a) qs here z.0
+  calls : Calls wanted ss qs here
+  takes : Takes (λ (a : List StepAnswer). forwarded wanted ss a) qs here z.0
 
-forwarded-takes : (qs : List Next) (answers : List StepAnswer) (z : List SubAnswer × List StepAnswer)
-    → forwarded qs answers ≡ Ok z → AreForwarded qs answers z
-forwarded-takes [] answers z e =
+forwarded-takes : (wanted : Option ℕ) (ss : List Step) (answers : List StepAnswer)
+    (z : List SubAnswer × List StepAnswer) → forwarded wanted ss answers ≡ Ok z → AreForwarded wanted ss answers z
+forwarded-takes wanted [] answers z e =
     let none : List SubAnswer = [] in
     let p = is-read none answers z e in
     record {
       here = [];
+      qs = [];
       whole = p.1;
-      takes = subst (λ (g : List SubAnswer). Takes (λ (a : List StepAnswer). forwarded [] a) [] [] g) p.0
+      calls = no_step_left wanted;
+      takes = subst (λ (g : List SubAnswer). Takes (λ (a : List StepAnswer). forwarded wanted [] a) [] [] g) p.0
           (takes-none none);
     }
-forwarded-takes (q ∷ qs) [] z e = absurd cc
-forwarded-takes (q ∷ qs) (a ∷ answers) z e =
-    let add : List SubAnswer → List SubAnswer = λ given. sub_answer a ∷ given in
-    let r : Parted (forwarded qs answers)
-    (λ (s : List SubAnswer × List StepAnswer).
-    let t : Reads (List SubAnswer) = Ok (sub_answer a ∷ s.0, s.1) in t) z = parted (forwarded qs answers) _ z e in
-    let p = is-read (add r.part.0) r.part.1 z r.second in
-    let later = forwarded-takes qs answers r.part r.first in
-    let all : Takes (λ (later : List StepAnswer). forwarded (q ∷ qs) later) (q ∷ qs) (a ∷ later.here) (add r.part.0) =
-    takes-then (λ (later : List StepAnswer). ask q later)
-    (λ (b : StepAnswer) (later : List StepAnswer). forwarded qs later >>= λ s.
-    let t : Reads (List SubAnswer) = Ok (sub_answer b ∷ s.0, s.1) in t)
-    (q ∷ []) (a ∷ []) a qs later.here (add r.part.0) (takes-ask q a)
-    (takes-map (λ (later : List StepAnswer). forwarded qs later) add qs later.here r.part.0 later.takes) in
-    record {
-      here = a ∷ later.here;
-      whole = ap (λ (later : List StepAnswer). a ∷ later)
-          (later.whole ∙ ap (λ (left : List StepAnswer). later.here ++ left) p.1);
-      takes = subst (λ (g : List SubAnswer). Takes (λ (later : List StepAnswer). forwarded (q ∷ qs) later) (q ∷ qs)
-          (a ∷ later.here) g) p.0 all;
-    }
+forwarded-takes wanted (step ∷ ss) answers z e =
+    by_step (λ w xs y i. forwarded-takes w ss xs y i) (step wanted) refl answers e
+  where
+    goes : Option Next → List StepAnswer → Reads (List SubAnswer)
+    goes o xs = stepped o (λ a. forwarded (less wanted a) ss) (forwarded wanted ss) xs
 
-record AreGathered (found : List Found) (qs : List Next) (answers : List StepAnswer)
+    by_step : ((w : Option ℕ) (xs : List StepAnswer) (y : List SubAnswer × List StepAnswer)
+        → forwarded w ss xs ≡ Ok y → AreForwarded w ss xs y)
+        → (o : Option Next) → step wanted ≡ o → (xs : List StepAnswer) → goes o xs ≡ Ok z
+        → AreForwarded wanted (step ∷ ss) xs z
+    by_step below None is xs e =
+        let later = below wanted xs z e in
+        record {
+          here = later.here;
+          qs = later.qs;
+          whole = later.whole;
+          calls = left_out wanted step ss later.qs later.here is later.calls;
+          takes = subst (λ (o : Option Next). Takes (λ (a : List StepAnswer). goes o a) later.qs later.here z.0)
+              (sym is) later.takes;
+        }
+    by_step below (Some q) is [] e = absurd cc
+    by_step below (Some q) is (a ∷ xs) e =
+        let left : Option ℕ = less wanted (sub_answer a) in
+        let add : List SubAnswer → List SubAnswer = λ given. sub_answer a ∷ given in
+        let r : Parted (forwarded left ss xs)
+        (λ (s : List SubAnswer × List StepAnswer).
+        let t : Reads (List SubAnswer) = Ok (sub_answer a ∷ s.0, s.1) in t) z = parted (forwarded left ss xs) _ z e in
+        let p = is-read (add r.part.0) r.part.1 z r.second in
+        let later = below left xs r.part r.first in
+        let all : Takes (λ (more : List StepAnswer). goes (Some q) more) (q ∷ later.qs) (a ∷ later.here)
+        (add r.part.0) =
+        takes-then (λ (more : List StepAnswer). ask q more)
+        (λ (b : StepAnswer) (more : List StepAnswer). forwarded (less wanted (sub_answer b)) ss more >>= λ s.
+        let t : Reads (List SubAnswer) = Ok (sub_answer b ∷ s.0, s.1) in t)
+        (q ∷ []) (a ∷ []) a later.qs later.here (add r.part.0) (takes-ask q a)
+        (takes-map (λ (more : List StepAnswer). forwarded left ss more) add later.qs later.here r.part.0
+        later.takes) in
+        record {
+          here = a ∷ later.here;
+          qs = q ∷ later.qs;
+          whole = ap (λ (more : List StepAnswer). a ∷ more)
+              (later.whole ∙ ap (λ (more : List StepAnswer). later.here ++ more) p.1);
+          calls = called wanted step ss later.qs later.here q a is later.calls;
+          takes = subst (λ (o : Option Next). Takes (λ (more : List StepAnswer). goes o more) (q ∷ later.qs)
+              (a ∷ later.here) z.0) (sym is)
+              (subst (λ (g : List SubAnswer). Takes (λ (more : List StepAnswer). goes (Some q) more) (q ∷ later.qs)
+              (a ∷ later.here) g) p.0 all);
+        }
+
+record AreGathered (found : List Found) (wanted : Option ℕ) (ss : List Step) (answers : List StepAnswer)
     (z : Gathered × List StepAnswer) : Type 0 where
   here : List StepAnswer
+  qs : List Next
   whole : answers ≡ here ++ z.1
-  takes : Takes (λ (a : List StepAnswer). gathered found a qs) qs here z.0
+  calls : Calls wanted ss qs here
+  takes : Takes (λ (a : List StepAnswer). gathered found a wanted ss) qs here z.0
 
-gathered-takes : (found : List Found) (qs : List Next) (answers : List StepAnswer) (z : Gathered × List StepAnswer)
-    → gathered found answers qs ≡ Ok z → AreGathered found qs answers z
-gathered-takes found qs answers z e =
+gathered-takes : (found : List Found) (wanted : Option ℕ) (ss : List Step) (answers : List StepAnswer)
+    (z : Gathered × List StepAnswer) → gathered found answers wanted ss ≡ Ok z
+    → AreGathered found wanted ss answers z
+gathered-takes found wanted ss answers z e =
     let with_found : List SubAnswer → Gathered = λ given. record { found = found; given = given } in
-    let r : Parted (forwarded qs answers)
+    let r : Parted (forwarded wanted ss answers)
     (λ (s : List SubAnswer × List StepAnswer). let t : Reads Gathered = Ok (with_found s.0, s.1) in t) z =
-    parted (forwarded qs answers) _ z e in
+    parted (forwarded wanted ss answers) _ z e in
     let p = is-read (with_found r.part.0) r.part.1 z r.second in
-    let here = forwarded-takes qs answers r.part r.first in
+    let here = forwarded-takes wanted ss answers r.part r.first in
     record {
       here = here.here;
+      qs = here.qs;
       whole = here.whole ∙ ap (λ (left : List StepAnswer). here.here ++ left) p.1;
-      takes = subst (λ (g : Gathered). Takes (λ (a : List StepAnswer). gathered found a qs) qs here.here g) p.0
-          (takes-map (λ (a : List StepAnswer). forwarded qs a) with_found qs here.here r.part.0 here.takes);
+      calls = here.calls;
+      takes = subst (λ (g : Gathered). Takes (λ (a : List StepAnswer). gathered found a wanted ss) here.qs here.here g)
+          p.0
+          (takes-map (λ (a : List StepAnswer). forwarded wanted ss a) with_found here.qs here.here r.part.0 here.takes);
     }
 
 -- ---- they depend on the offers that matched alone
 
-through-offers : (h : OfferRecord → Option Next) (found : List Found)
-    → filter_map (λ (f : Found). h f.offer) found ≡ filter_map h (offers_of found)
+through-offers : (h : OfferRecord → Step) (found : List Found)
+    → map (λ (f : Found). h f.offer) found ≡ map h (offers_of found)
 through-offers h [] = refl
-through-offers h (f ∷ found) = ap (λ (qs : List Next). cons_option (h f.offer) qs) (through-offers h found)
+through-offers h (f ∷ found) = ap (λ (ss : List Step). h f.offer ∷ ss) (through-offers h found)
+
+counted-from : (p : OfferRecord → Bool) (n : ℕ) (found : List Found)
+    → fold (λ (a : ℕ) (f : Found). a + cond (p f.offer) 1 0) n found
+    ≡ fold (λ (a : ℕ) (o : OfferRecord). a + cond (p o) 1 0) n (offers_of found)
+counted-from p n [] = refl
+counted-from p n (f ∷ found) = counted-from p (n + cond (p f.offer) 1 0) found
+
+same-count : (p : OfferRecord → Bool) (found : List Found)
+    → count_by (λ (f : Found). p f.offer) found ≡ count_by p (offers_of found)
+same-count p found = counted-from p 0 found
 
 some-offer : (p : OfferRecord → Bool) (found : List Found)
     → list_any (λ (f : Found). p f.offer) found ≡ list_any p (offers_of found)
 some-offer p [] = refl
 some-offer p (f ∷ found) = ap (λ (b : Bool). p f.offer || b) (some-offer p found)
 
+abbrev linked_by : Local → Bool → List Step
+linked_by l local_match = map (λ link wanted. link_step l wanted local_match link) l.links
+
 same-calls : (l : Local) (done found : List Found) → offers_of done ≡ offers_of found
     → steps l done ≡ proxy_calls l found ++ link_calls l found
 unfolding steps
 same-calls l done found same =
+    let h : OfferRecord → Step = λ o wanted. proxy_step l wanted o in
     let to_proxies : proxy_calls l done ≡ proxy_calls l found =
-    through-offers (proxy_step l) done ∙ (ap (λ (os : List OfferRecord). filter_map (proxy_step l) os) same
-    ∙ sym (through-offers (proxy_step l) found)) in
+    through-offers h done ∙ (ap (λ (os : List OfferRecord). map h os) same ∙ sym (through-offers h found)) in
     let ordinary : list_any (λ (f : Found). is_ordinary f.offer) done
     ≡ list_any (λ (f : Found). is_ordinary f.offer) found =
     some-offer is_ordinary done ∙ (ap (λ (os : List OfferRecord). list_any is_ordinary os) same
     ∙ sym (some-offer is_ordinary found)) in
-    let over_links : link_calls l done ≡ link_calls l found =
-    ap (λ (b : Bool). filter_map (link_step l b) l.links) ordinary in
-    ap (λ (qs : List Next). qs ++ link_calls l done) to_proxies
-    ∙ ap (λ (qs : List Next). proxy_calls l found ++ qs) over_links
+    let over_links : link_calls l done ≡ link_calls l found = ap (linked_by l) ordinary in
+    ap (λ (ss : List Step). ss ++ link_calls l done) to_proxies
+    ∙ ap (λ (ss : List Step). proxy_calls l found ++ ss) over_links
+
+same-ordinary : (done found : List Found) → offers_of done ≡ offers_of found
+    → count_ordinary done ≡ count_ordinary found
+same-ordinary done found same =
+    same-count is_ordinary done ∙ (ap (λ (os : List OfferRecord). count_by is_ordinary os) same
+    ∙ sym (same-count is_ordinary found))
 
 -- ---- the visit
 
@@ -467,21 +524,22 @@ search-takes l answers z e =
     (λ (s : List Found × List StepAnswer). completing l s.0 s.1) z =
     parted (searched l l.candidates [] answers) _ z e in
     let s : Parted (all_completed l.query.desired [] r.part.0 r.part.1)
-    (λ (t : List Found × List StepAnswer). gathered t.0 t.1 (steps l t.0)) z =
+    (λ (t : List Found × List StepAnswer). gathered t.0 t.1 (wanted_behind l (count_ordinary t.0)) (steps l t.0)) z =
     parted (all_completed l.query.desired [] r.part.0 r.part.1) _ z r.second in
     let found = r.part.0 in
     let trials = searched-takes l l.candidates [] answers r.part r.first in
     let done = all-completed-takes l.query.desired found [] r.part.1 s.part s.first in
-    let calls = gathered-takes s.part.0 (steps l s.part.0) s.part.1 z s.second in
+    let calls =
+    gathered-takes s.part.0 (wanted_behind l (count_ordinary s.part.0)) (steps l s.part.0) s.part.1 z s.second in
     let later : List StepAnswer = done.here ++ calls.here in
-    let others : List Next = steps l s.part.0 in
+    let others : List Next = calls.qs in
     let left : r.part.1 ≡ later ++ z.1 =
     done.whole ∙ (ap (λ (a : List StepAnswer). done.here ++ a) calls.whole
     ∙ sym (append_assoc done.here calls.here z.1)) in
     let rest : Takes (λ (a : List StepAnswer). completing l found a)
     (completions l.query.desired found ++ others) later z.0 =
     takes-then (λ (a : List StepAnswer). all_completed l.query.desired [] found a)
-    (λ (f : List Found) (a : List StepAnswer). gathered f a (steps l f))
+    (λ (f : List Found) (a : List StepAnswer). gathered f a (wanted_behind l (count_ordinary f)) (steps l f))
     (completions l.query.desired found) done.here s.part.0 others calls.here z.0 done.takes calls.takes in
     record {
       here = trials.here ++ later;
@@ -495,11 +553,15 @@ search-takes l answers z e =
         found = found;
         trials = trials.qs;
         first = trials.here;
-        later = later;
+        later = done.here;
         candidates = subst (λ (f : List Found). Tries l 0 l.candidates trials.qs trials.here f) (sym trials.found)
             trials.in_order;
         others = others;
-        called = same-calls l s.part.0 found done.offers;
+        given = calls.here;
+        calls = subst (λ (n : ℕ). Calls (wanted_behind l n) (proxy_calls l found ++ link_calls l found) others calls.here)
+            (same-ordinary s.part.0 found done.offers)
+            (subst (λ (ss : List Step). Calls (wanted_behind l (count_ordinary s.part.0)) ss others calls.here)
+            (same-calls l s.part.0 found done.offers) calls.calls);
         all = refl;
         answered = refl;
       };
@@ -574,20 +636,29 @@ in-order l questions answers searches asks =
     (subst (λ (later : List StepAnswer). IsInOrder l s.questions later) (sym (s.whole ∙ same.1)) s.order)
 
 -- along a path the one question is asked
+one-call : (l : Local) (link : LinkRecord) (qs : List Next) (answers : List StepAnswer)
+    → Calls None (path_step l link ∷ []) qs answers → qs ≡ Forward link.target (path_query l) ∷ []
+one-call l link qs answers (left_out wanted step steps qs2 answers2 none rest) = absurd cc
+one-call l link qs answers (called wanted step steps qs2 answers2 q a some (no_step_left w)) =
+    let same : Forward link.target (path_query l) ≡ q = cc in
+    ap (λ (p : Next). let ps : List Next = p ∷ [] in ps) (sym same)
+
 pub along-path : (l : Local) (link : LinkRecord) (questions : List Next) (answers : List StepAnswer)
     → l.path ≡ Some link → Asks l [] questions answers → questions ≡ Forward link.target (path_query l) ∷ []
 unfolding visit_of
 along-path l link questions answers path asks =
     let read = was-read l answers (at-end l [] questions answers asks) in
-    let only : List Next = Forward link.target (path_query l) ∷ [] in
-    let by_path : visit_of l ≡ (λ (a : List StepAnswer). gathered [] a only) =
+    let only : List Step = path_step l link ∷ [] in
+    let by_path : visit_of l ≡ (λ (a : List StepAnswer). gathered [] a None only) =
     ap (λ (p : Option LinkRecord). let R : Reading Gathered = λ a. visit_by p l a in R) path in
-    let s = gathered-takes [] only answers read.z (ap (λ (R : Reading Gathered). R answers) (sym by_path) ∙ read.is) in
-    let stops : Stops (visit_of l) [] only s.here =
-    subst (λ (R : Reading Gathered). Stops R [] only s.here) (sym by_path) s.takes.stops in
+    let s =
+    gathered-takes [] None only answers read.z (ap (λ (R : Reading Gathered). R answers) (sym by_path) ∙ read.is) in
+    let stops : Stops (visit_of l) [] s.qs s.here =
+    subst (λ (R : Reading Gathered). Stops R [] s.qs s.here) (sym by_path) s.takes.stops in
     let comes : visit_of l s.here ≡ Ok (read.z.0, []) =
     ap (visit_of l) (sym (append-nil s.here)) ∙ (ap (λ (R : Reading Gathered). R (s.here ++ [])) by_path
     ∙ s.takes.comes []) in
     let asks_all : Asks l [] questions (s.here ++ read.z.1) =
     subst (λ (later : List StepAnswer). Asks l [] questions later) s.whole asks in
-    (exact l [] questions only s.here read.z.1 asks_all stops read.z.0 [] comes).0
+    (exact l [] questions s.qs s.here read.z.1 asks_all stops read.z.0 [] comes).0
+    ∙ one-call l link s.qs s.here s.calls

@@ -1,12 +1,12 @@
 -- What the policies of a sub-query state.
 use Rattle.std.proofs.Common.{◌≡◌, ℕ, ◌-◌, ◌≤◌, Bool, true, false, List, [], ◌∷◌, Option, Some, None, Ok}
-use Rattle.std.proofs.Common.{refl, sym, ap, ◌∙◌, subst, arith, codes, if◌then◌else◌}
+use Rattle.std.proofs.Common.{is_some, refl, sym, ap, ◌∙◌, subst, arith, codes, if◌then◌else◌}
 use Rattle.std.specs.Str.{bytes_eq}
 use Rattle.std.proofs.lemmas.Bool.{ltb-false}
 use Rattle.td_policy.proofs.ReadBack.{number_back}
 use Rattle.td_policy.specs.Rules.{pass_on}
 use Rattle.td_policy.specs.Stated.{stated}
-use Rattle.td_policy.specs.Values.{Kind, number, octets, rule, truth}
+use Rattle.td_policy.specs.Values.{Kind, number, octets, policy, rule, truth}
 use Rattle.td_policy.specs.declared.stated.Stated.{Stated}
 use Rattle.td_store.specs.declared.local.Local.{Local}
 use Rattle.td_store.specs.declared.record.LinkRecord.{LinkRecord}
@@ -14,16 +14,16 @@ use Rattle.td_store.specs.declared.record.ProxyPart.{ProxyPart}
 use Rattle.td_value.specs.declared.enumerations.FollowOption.{FollowOption}
 use Rattle.td_value.specs.declared.structures.Policy.{Policy}
 use Rattle.td_walk.proofs.Held.{held}
-use Rattle.td_walk.specs.Passing.{is_named, policy_named, with_policy, replaced, along_path, start_policy, hop_policy}
-use Rattle.td_walk.specs.Passing.{hops_in, is_less, stands, with_passed, with_all_passed}
+use Rattle.td_walk.specs.Passing.{is_named, policy_named, with_policy, replaced, along_path, start_policy}
+use Rattle.td_walk.specs.Passing.{number_in, is_less, states_less, stands, with_passed, with_all_passed}
 use Rattle.td_walk.specs.SubQueries.{link_query, proxy_query, stated_rule}
-use Rattle.td_walk_laws.specs.SubQueryLaws.{KeepsOthers, OverALink, ToAProxy, AlongAPath, some_left}
+use Rattle.td_walk_laws.specs.SubQueryLaws.{KeepsOthers, OverALink, ToAProxy, AlongAPath, in_its_place, some_left}
 use Rattle.td_walk_laws.proofs.Fields.{exact-stated, hops-stated, follow-stated, match_card-stated, return_card-stated}
 use Rattle.td_walk_laws.proofs.Fields.{search_card-stated, use_dynamic-stated, use_modifiable-stated, use_proxy-stated}
 use Rattle.td_walk_laws.proofs.Fields.{request_id-stated}
 use Rattle.td_walk_laws.proofs.Named.{same-name, put-is-named, others-stay, taken-is-gone}
 use Rattle.td_walk_laws.proofs.Replaced.{hops-there, start-gone, replaced-stays, identifier-there, follow-there}
-use Rattle.td_walk_laws.proofs.Replaced.{path-stays}
+use Rattle.td_walk_laws.proofs.Replaced.{path-stays, card-there, card-untouched, states-card}
 use Rattle.td_walk_laws.proofs.Replaced.{there, states-hops, states-follow, states-no-start, states-identifier}
 use Rattle.td_walk_laws.proofs.Replaced.{states-start}
 use Rattle.td_walk_laws.proofs.Stating.{IsStatedBy, some-is, same-stated}
@@ -40,65 +40,77 @@ kept {A} kind name ps qs x y stays before after =
 
 -- where the policies stay that nothing replaces, what they state does
 keeps-others : (ps qs : List Policy) (before s : Stated) → stated ps ≡ Ok before → stated qs ≡ Ok s
-    → ((name : List ℕ) → bytes_eq (codes "request_id") name ≡ false → bytes_eq (codes "link_follow_rule") name ≡ false
-    → bytes_eq (codes "hop_count") name ≡ false → bytes_eq name (codes "starting_trader") ≡ false
+    → ((name : List ℕ) → bytes_eq (codes "return_card") name ≡ false → bytes_eq (codes "request_id") name ≡ false
+    → bytes_eq (codes "link_follow_rule") name ≡ false → bytes_eq (codes "hop_count") name ≡ false → bytes_eq name (codes "starting_trader") ≡ false
     → bytes_eq (codes "starting_trader") name ≡ false → policy_named qs name ≡ policy_named ps name)
     → KeepsOthers before s
 keeps-others ps qs before s d e stays = record {
   exact =
       kept truth (codes "exact_type_match") ps qs before.exact s.exact
-      (stays (codes "exact_type_match") refl refl refl refl refl) (exact-stated ps before d) (exact-stated qs s e);
+      (stays (codes "exact_type_match") refl refl refl refl refl refl) (exact-stated ps before d) (exact-stated qs s e);
   match_card =
       kept number (codes "match_card") ps qs before.match_card s.match_card
-      (stays (codes "match_card") refl refl refl refl refl) (match_card-stated ps before d) (match_card-stated qs s e);
-  return_card =
-      kept number (codes "return_card") ps qs before.return_card s.return_card
-      (stays (codes "return_card") refl refl refl refl refl) (return_card-stated ps before d)
-      (return_card-stated qs s e);
+      (stays (codes "match_card") refl refl refl refl refl refl) (match_card-stated ps before d) (match_card-stated qs s e);
   search_card =
       kept number (codes "search_card") ps qs before.search_card s.search_card
-      (stays (codes "search_card") refl refl refl refl refl) (search_card-stated ps before d)
+      (stays (codes "search_card") refl refl refl refl refl refl) (search_card-stated ps before d)
       (search_card-stated qs s e);
   use_dynamic =
       kept truth (codes "use_dynamic_properties") ps qs before.use_dynamic s.use_dynamic
-      (stays (codes "use_dynamic_properties") refl refl refl refl refl) (use_dynamic-stated ps before d)
+      (stays (codes "use_dynamic_properties") refl refl refl refl refl refl) (use_dynamic-stated ps before d)
       (use_dynamic-stated qs s e);
   use_modifiable =
       kept truth (codes "use_modifiable_properties") ps qs before.use_modifiable s.use_modifiable
-      (stays (codes "use_modifiable_properties") refl refl refl refl refl) (use_modifiable-stated ps before d)
+      (stays (codes "use_modifiable_properties") refl refl refl refl refl refl) (use_modifiable-stated ps before d)
       (use_modifiable-stated qs s e);
   use_proxy =
       kept truth (codes "use_proxy_offers") ps qs before.use_proxy s.use_proxy
-      (stays (codes "use_proxy_offers") refl refl refl refl refl) (use_proxy-stated ps before d)
+      (stays (codes "use_proxy_offers") refl refl refl refl refl refl) (use_proxy-stated ps before d)
       (use_proxy-stated qs s e);
 }
 
 -- ---- over a link
 
-pub over_a_link : (l : Local) (link : LinkRecord) (s : Stated) → stated (link_query l link).policies ≡ Ok s
-    → OverALink l link s
+-- how many offers are to be returned: as many as are still wanted, where that is limited, and else as was stated
+card-in-its-place : (wanted : Option ℕ) (l : Local) (r : Option FollowOption) (s : Stated)
+    → stated (replaced l.effective.hops r l.identifier wanted l.query.policies) ≡ Ok s
+    → stated l.query.policies ≡ Ok l.stated → s.return_card ≡ in_its_place wanted l.stated.return_card
+card-in-its-place None l r s e d =
+    let qs = replaced l.effective.hops r l.identifier None l.query.policies in
+    kept number (codes "return_card") l.query.policies qs l.stated.return_card s.return_card
+    (card-untouched l.effective.hops r l.identifier l.query.policies)
+    (return_card-stated l.query.policies l.stated d) (return_card-stated qs s e)
+card-in-its-place (Some n) l r s e d =
+    states-card n (replaced l.effective.hops r l.identifier (Some n) l.query.policies) s
+    (card-there l.effective.hops r l.identifier n l.query.policies) e
+
+pub over_a_link : (l : Local) (wanted : Option ℕ) (link : LinkRecord) (s : Stated)
+    → stated (link_query l wanted link).policies ≡ Ok s → OverALink l wanted link s
 unfolding link_query
-over_a_link l link s e =
+over_a_link l wanted link s e =
     let r = pass_on l.stated l.attributes link.limiting link.def_pass_on in
-    let ps = replaced l.effective.hops (Some r) l.identifier l.query.policies in
+    let ps = replaced l.effective.hops (Some r) l.identifier wanted l.query.policies in
     record {
       hops =
           states-hops (l.effective.hops - 1) ps s
-          (hops-there l.effective.hops (Some r) l.identifier l.query.policies) e;
-      rule = states-follow r ps s (follow-there l.effective.hops r l.identifier l.query.policies) e;
-      start = states-no-start ps s (start-gone l.effective.hops (Some r) l.identifier l.query.policies) e;
+          (hops-there l.effective.hops (Some r) l.identifier wanted l.query.policies) e;
+      rule = states-follow r ps s (follow-there l.effective.hops r l.identifier wanted l.query.policies) e;
+      start = states-no-start ps s (start-gone l.effective.hops (Some r) l.identifier wanted l.query.policies) e;
       identifier =
-          λ id is. states-identifier id ps s (rw is (identifier-there l.effective.hops (Some r) id l.query.policies)) e;
+          λ id is. states-identifier id ps s
+          (rw is (identifier-there l.effective.hops (Some r) id wanted l.query.policies)) e;
+      card = λ d. card-in-its-place wanted l (Some r) s e d;
       others =
           λ d. keeps-others l.query.policies ps l.stated s d e
-          (λ name a b c f g. replaced-stays l.effective.hops (Some r) l.identifier l.query.policies name a b c f);
+          (λ name o a b c f g. replaced-stays l.effective.hops (Some r) l.identifier wanted l.query.policies name
+          o a b c f);
     }
 
 -- ---- to a proxy offer's trader
 
-kept-by-one : (ps : List Policy) (p : Policy)
-    → policy_named (with_passed ps p) (codes "request_id") ≡ policy_named ps (codes "request_id")
-kept-by-one ps p = by_name (is_named (codes "request_id") p) refl
+kept-by-one : (limited : Bool) (ps : List Policy) (p : Policy)
+    → policy_named (with_passed limited ps p) (codes "request_id") ≡ policy_named ps (codes "request_id")
+kept-by-one limited ps p = by_name (is_named (codes "request_id") p) refl
   where
     by_rest : (b : Bool) → is_named (codes "request_id") p ≡ false
         → policy_named (if b then ps else with_policy p ps) (codes "request_id") ≡ policy_named ps (codes "request_id")
@@ -106,100 +118,148 @@ kept-by-one ps p = by_name (is_named (codes "request_id") p) refl
     by_rest false other = others-stay (codes "request_id") p ps other
 
     by_name : (b : Bool) → is_named (codes "request_id") p ≡ b
-        → policy_named (with_passed ps p) (codes "request_id") ≡ policy_named ps (codes "request_id")
+        → policy_named (with_passed limited ps p) (codes "request_id") ≡ policy_named ps (codes "request_id")
     by_name true is = rw is refl
-    by_name false is = by_rest (stands ps p) is
+    by_name false is = by_rest (stands limited ps p) is
 
-pub identifier-kept : (passed ps : List Policy)
-    → policy_named (with_all_passed passed ps) (codes "request_id") ≡ policy_named ps (codes "request_id")
-identifier-kept [] ps = refl
-identifier-kept (p ∷ passed) ps = identifier-kept passed (with_passed ps p) ∙ kept-by-one ps p
+pub identifier-kept : (limited : Bool) (passed ps : List Policy)
+    → policy_named (with_all_passed limited passed ps) (codes "request_id") ≡ policy_named ps (codes "request_id")
+identifier-kept limited [] ps = refl
+identifier-kept limited (p ∷ passed) ps =
+    identifier-kept limited passed (with_passed limited ps p) ∙ kept-by-one limited ps p
 
--- a hop count is there, and it is no more than so many, or can't be read
-pub record HasHops (most : ℕ) (ps : List Policy) : Type 0 where
+pub apart : (name other : List ℕ) (p : Policy) → is_named name p ≡ true → bytes_eq name other ≡ false
+    → is_named other p ≡ false
+apart name other p is differs = ap (λ (n : List ℕ). bytes_eq n other) (same-name p.name name is) ∙ differs
+
+-- of two policies of this name the one that states less stands
+abbrev pub LessStands : (limited : Bool) → (name : List ℕ) → Type 0
+LessStands limited name =
+    (ps : List Policy) (p : Policy) → is_named name p ≡ true
+    → stands limited ps p ≡ states_less number_in (policy_named ps name) p
+
+pub hops-stand : (limited : Bool) → LessStands limited (codes "hop_count")
+hops-stand limited ps p is = rw (apart (codes "hop_count") (codes "request_id") p is refl, is) refl
+
+pub card-stands : LessStands true (codes "return_card")
+card-stands ps p is =
+    rw (
+      apart (codes "return_card") (codes "request_id") p is refl,
+      apart (codes "return_card") (codes "hop_count") p is refl,
+      apart (codes "return_card") (codes "link_follow_rule") p is refl,
+      is,
+    ) refl
+
+-- a policy of this name is there, and it states no more than so many, or can't be read
+pub record HasAtMost (name : List ℕ) (most : ℕ) (ps : List Policy) : Type 0 where
   pub policy : Policy
-  pub there : policy_named ps (codes "hop_count") ≡ Some policy
-  pub bounded : (n : ℕ) → hops_in policy ≡ Some n → n ≤ most
+  pub there : policy_named ps name ≡ Some policy
+  pub bounded : (n : ℕ) → number_in policy ≡ Some n → n ≤ most
 
 less-bounds : (o : Option ℕ) (m n : ℕ) → is_less o (Some n) ≡ false → ((k : ℕ) → o ≡ Some k → k ≤ m) → n ≤ m
 less-bounds None m n e h = absurd cc
 less-bounds (Some k) m n e h = omega (arith, ltb-false k n e, h k refl)
 
-bounded-by-one : (most : ℕ) (ps : List Policy) (p : Policy) → HasHops most ps → HasHops most (with_passed ps p)
-bounded-by-one most ps p h =
-    by_name (is_named (codes "request_id") p) (is_named (codes "hop_count") p) refl refl
+bounded-by-one : (limited : Bool) (name : List ℕ) → LessStands limited name → (most : ℕ) (ps : List Policy)
+    (p : Policy) → HasAtMost name most ps → HasAtMost name most (with_passed limited ps p)
+bounded-by-one limited name keeps most ps p h = by_name (is_named name p) refl
   where
-    replaces : is_named (codes "hop_count") p ≡ true → is_less (hops_in h.policy) (hops_in p) ≡ false
-        → HasHops most (with_policy p ps)
+    replaces : is_named name p ≡ true → is_less (number_in h.policy) (number_in p) ≡ false
+        → HasAtMost name most (with_policy p ps)
     replaces is less = record {
       policy = p;
       there =
-          subst (λ (name : List ℕ). policy_named (with_policy p ps) name ≡ Some p)
-          (same-name p.name (codes "hop_count") is) (put-is-named p ps);
+          subst (λ (n : List ℕ). policy_named (with_policy p ps) n ≡ Some p) (same-name p.name name is)
+          (put-is-named p ps);
       bounded =
-          λ n e. less-bounds (hops_in h.policy) most n (ap (is_less (hops_in h.policy)) (sym e) ∙ less) h.bounded;
+          λ n e. less-bounds (number_in h.policy) most n (ap (is_less (number_in h.policy)) (sym e) ∙ less) h.bounded;
     }
 
-    by_less : (b : Bool) → is_named (codes "hop_count") p ≡ true → is_less (hops_in h.policy) (hops_in p) ≡ b
-        → HasHops most (if b then ps else with_policy p ps)
+    by_less : (b : Bool) → is_named name p ≡ true → is_less (number_in h.policy) (number_in p) ≡ b
+        → HasAtMost name most (if b then ps else with_policy p ps)
     by_less true is less = h
     by_less false is less = replaces is less
 
-    other : (b : Bool) → is_named (codes "hop_count") p ≡ false → HasHops most (if b then ps else with_policy p ps)
+    other : (b : Bool) → is_named name p ≡ false → HasAtMost name most (if b then ps else with_policy p ps)
     other true is = h
     other false is = record {
       policy = h.policy;
-      there = others-stay (codes "hop_count") p ps is ∙ h.there;
+      there = others-stay name p ps is ∙ h.there;
       bounded = h.bounded;
     }
 
-    by_name : (b d : Bool) → is_named (codes "request_id") p ≡ b → is_named (codes "hop_count") p ≡ d
-        → HasHops most (with_passed ps p)
-    by_name true d is hop = rw is h
-    by_name false true is hop =
-        rw (is, hop, h.there) (by_less (is_less (hops_in h.policy) (hops_in p)) hop refl)
-    by_name false false is hop = other (stands ps p) hop
+    by_name : (b : Bool) → is_named name p ≡ b → HasAtMost name most (with_passed limited ps p)
+    by_name true is =
+        let test : stands limited ps p ≡ is_less (number_in h.policy) (number_in p) =
+        keeps ps p is ∙ ap (λ (o : Option Policy). states_less number_in o p) h.there in
+        subst (λ (t : Bool). HasAtMost name most (if t then ps else with_policy p ps)) (sym test)
+        (by_less (is_less (number_in h.policy) (number_in p)) is refl)
+    by_name false is = other (stands limited ps p) is
 
-hops-kept : (most : ℕ) (passed ps : List Policy) → HasHops most ps → HasHops most (with_all_passed passed ps)
-hops-kept most [] ps h = h
-hops-kept most (p ∷ passed) ps h = hops-kept most passed (with_passed ps p) (bounded-by-one most ps p h)
+few-kept : (limited : Bool) (name : List ℕ) → LessStands limited name → (most : ℕ) (passed ps : List Policy)
+    → HasAtMost name most ps → HasAtMost name most (with_all_passed limited passed ps)
+few-kept limited name keeps most [] ps h = h
+few-kept limited name keeps most (p ∷ passed) ps h =
+    few-kept limited name keeps most passed (with_passed limited ps p) (bounded-by-one limited name keeps most ps p h)
 
 -- what can be read is a number, and no more than so many
-states-few-hops : (most : ℕ) (ps : List Policy) (s : Stated) → HasHops most ps → stated ps ≡ Ok s
-    → (n : ℕ) × (s.hops ≡ Some n) × (n ≤ most)
-states-few-hops most ps s h e =
-    let value = there number (policy_named ps (codes "hop_count")) h.policy None s.hops h.there (hops-stated ps s e) in
-    let is = held number h.policy s.hops value in
+states-few : (name : List ℕ) (most : ℕ) (ps : List Policy) (x : Option ℕ) → HasAtMost name most ps
+    → IsStatedBy number (policy_named ps name) None x → (n : ℕ) × (x ≡ Some n) × (n ≤ most)
+states-few name most ps x h by =
+    let value = there number (policy_named ps name) h.policy None x h.there by in
+    let is = held number h.policy x value in
     (is.0, is.1, h.bounded is.0 is.2)
 
-replaced-has-hops : (hops : ℕ) (follow : Option FollowOption) (identifier : Option (List ℕ)) (ps : List Policy)
-    → HasHops (hops - 1) (replaced hops follow identifier ps)
-replaced-has-hops hops follow identifier ps = record {
-  policy = hop_policy (hops - 1);
-  there = hops-there hops follow identifier ps;
-  bounded =
-      λ n e. let back = number_back (codes "hop_count") (hops - 1) in
-      let h = held number (hop_policy (hops - 1)) (Some (hops - 1)) back in
-      let before : hops - 1 ≡ h.0 = some-is (hops - 1) h.0 h.1 in
-      let after : h.0 ≡ n = some-is h.0 n (sym h.2 ∙ e) in
-      omega (arith, before, after);
+written-bounds : (name : List ℕ) (n k : ℕ) → number_in (policy number name n) ≡ Some k → k ≤ n
+written-bounds name n k e =
+    let back = number_back name n in
+    let h = held number (policy number name n) (Some n) back in
+    let before : n ≡ h.0 = some-is n h.0 h.1 in
+    let after : h.0 ≡ k = some-is h.0 k (sym h.2 ∙ e) in
+    omega (arith, before, after)
+
+replaced-has-hops : (hops : ℕ) (follow : Option FollowOption) (identifier : Option (List ℕ)) (wanted : Option ℕ)
+    (ps : List Policy) → HasAtMost (codes "hop_count") (hops - 1) (replaced hops follow identifier wanted ps)
+replaced-has-hops hops follow identifier wanted ps = record {
+  policy = policy number (codes "hop_count") (hops - 1);
+  there = hops-there hops follow identifier wanted ps;
+  bounded = written-bounds (codes "hop_count") (hops - 1);
 }
 
-pub to_a_proxy : (l : Local) (part : ProxyPart) (constraint : List ℕ) (s : Stated)
-    → stated (proxy_query l part constraint).policies ≡ Ok s → ToAProxy l s
+replaced-has-card : (hops : ℕ) (follow : Option FollowOption) (identifier : Option (List ℕ)) (n : ℕ)
+    (ps : List Policy) → HasAtMost (codes "return_card") n (replaced hops follow identifier (Some n) ps)
+replaced-has-card hops follow identifier n ps = record {
+  policy = policy number (codes "return_card") n;
+  there = card-there hops follow identifier n ps;
+  bounded = written-bounds (codes "return_card") n;
+}
+
+pub to_a_proxy : (l : Local) (wanted : Option ℕ) (part : ProxyPart) (constraint : List ℕ) (s : Stated)
+    → stated (proxy_query l wanted part constraint).policies ≡ Ok s → ToAProxy l wanted s
 unfolding proxy_query
-to_a_proxy l part constraint s e =
+to_a_proxy l wanted part constraint s e =
     let r = stated_rule l.stated.follow l.attributes.max_follow_policy in
-    let ps = replaced l.effective.hops r l.identifier l.query.policies in
-    let all = with_all_passed part.policies ps in
+    let ps = replaced l.effective.hops r l.identifier wanted l.query.policies in
+    let all = with_all_passed (is_some wanted) part.policies ps in
     record {
       hops =
-          states-few-hops (l.effective.hops - 1) all s
-          (hops-kept (l.effective.hops - 1) part.policies ps
-          (replaced-has-hops l.effective.hops r l.identifier l.query.policies)) e;
+          states-few (codes "hop_count") (l.effective.hops - 1) all s.hops
+          (few-kept (is_some wanted) (codes "hop_count") (hops-stand (is_some wanted)) (l.effective.hops - 1)
+          part.policies ps (replaced-has-hops l.effective.hops r l.identifier wanted l.query.policies))
+          (hops-stated all s e);
       identifier =
           λ id is. states-identifier id all s
-          (identifier-kept part.policies ps ∙ rw is (identifier-there l.effective.hops r id l.query.policies)) e;
+          (identifier-kept (is_some wanted) part.policies ps
+          ∙ rw is (identifier-there l.effective.hops r id wanted l.query.policies)) e;
+      card =
+          λ n is. states-few (codes "return_card") n all s.return_card
+          (subst (λ (w : Option ℕ). HasAtMost (codes "return_card") n
+          (with_all_passed (is_some w) part.policies (replaced l.effective.hops r l.identifier w l.query.policies)))
+          (sym is)
+          (few-kept true (codes "return_card") card-stands n part.policies
+          (replaced l.effective.hops r l.identifier (Some n) l.query.policies)
+          (replaced-has-card l.effective.hops r l.identifier n l.query.policies)))
+          (return_card-stated all s e);
     }
 
 -- ---- along a path
@@ -226,5 +286,9 @@ along_a_path left ps before s d e =
           kept (octets 256) (codes "request_id") ps qs before.request_id s.request_id
           (path-stays (codes "request_id") left ps refl refl) (request_id-stated ps before d)
           (request_id-stated qs s e);
-      others = keeps-others ps qs before s d e (λ name a b c f g. path-stays name left ps g f);
+      card =
+          kept number (codes "return_card") ps qs before.return_card s.return_card
+          (path-stays (codes "return_card") left ps refl refl) (return_card-stated ps before d)
+          (return_card-stated qs s e);
+      others = keeps-others ps qs before s d e (λ name o a b c f g. path-stays name left ps g f);
     }

@@ -1,7 +1,8 @@
 -- Which questions a visit asks.
 use Rattle.std.proofs.Common.{◌≡◌, ℕ, Bool, true, false, List, [], ◌∷◌, ◌++◌, Option, Some, None, Result, Ok}
-use Rattle.std.proofs.Common.{Err, refl, ap, ◌∙◌, subst, if◌then◌else◌, ◌&&◌, option_map}
-use Rattle.std.specs.List.{AllByRecursion, filter_map, list_any, cons_option}
+use Rattle.std.proofs.Common.{Err, refl, sym, ap, ◌∙◌, subst, if◌then◌else◌, ◌&&◌, option_map, map, not, ◌+◌, ◌-◌}
+use Rattle.std.proofs.Common.{arith, length}
+use Rattle.std.specs.List.{AllByRecursion, list_any}
 use Rattle.td_cdr.specs.Format.{◌>>=◌}
 use Rattle.td_codes.specs.declared.reference.Ior.{Ior}
 use Rattle.td_eval.specs.Mentioning.{Names, names_asked}
@@ -15,13 +16,15 @@ use Rattle.td_value.specs.declared.structures.Property.{Property}
 use Rattle.td_value.specs.declared.unions.SpecifiedProps.{SpecifiedProps}
 use Rattle.td_walk.specs.Resolving.{dynamic_named, is_evaluated}
 use Rattle.td_walk.specs.SubQueries.{link_step, proxy_step, proxy_call, expanded, follows, has_hops, link_query}
-use Rattle.td_walk.specs.SubQueries.{proxy_query, path_query}
+use Rattle.td_walk.specs.SubQueries.{proxy_query, path_query, is_full, keeps_order, wanted_behind}
 use Rattle.td_walk.specs.Visits.{Reads, ask, question_on, evaluated_property, evaluated_name, evaluated, matches_all}
 use Rattle.td_walk.specs.Visits.{tried, searched, completed, all_completed, forwarded, gathered, search_of}
-use Rattle.td_walk.specs.Visits.{visit_by, visit_of, steps, is_ordinary, desired_names, next_of, question_of}
+use Rattle.td_walk.specs.Visits.{visit_by, visit_of, steps, is_ordinary, desired_names, next_of, question_of, Step}
+use Rattle.td_walk.specs.Visits.{less, stepped, sub_answer, path_step, count_ordinary}
 use Rattle.td_walk.specs.declared.answer.Next.{Next}
 use Rattle.td_walk.specs.declared.answer.Next.TheVariants.{Done, Forward}
 use Rattle.td_walk.specs.declared.answer.StepAnswer.{StepAnswer}
+use Rattle.td_walk.specs.declared.answer.SubAnswer.{SubAnswer}
 use Rattle.td_walk.specs.declared.evaluation.Evaluation.{Evaluation}
 use Rattle.td_walk.specs.declared.found.Found.{Found}
 use Rattle.td_walk.specs.declared.gathering.Gathered.{Gathered}
@@ -94,25 +97,35 @@ module _ (P : Next → Type 0) where
         only-then (completed desired f.offer f.made answers) _ (only-completed desired f.offer f.made answers)
         (λ r. only-all-completed desired _ fs r.1)
 
-  only-forwarded : (qs : List Next) (answers : List StepAnswer) → AllByRecursion P qs → Only (forwarded qs answers)
-  only-forwarded [] answers h = only-ok _
-  only-forwarded (question ∷ qs) answers h =
-      only-then (ask question answers) _ (only-ask question answers h.0)
-      (λ r. only-then (forwarded qs r.1) _ (only-forwarded qs r.1 h.1) (λ s. only-ok _))
+  -- where so much is wanted, what the step asks is such a one
+  abbrev pub AsksOnly : (Option ℕ → Type 0) → Step → Type 0
+  AsksOnly W step = (wanted : Option ℕ) (q : Next) → W wanted → step wanted ≡ Some q → P q
 
-  all-joined : (qs rs : List Next) → AllByRecursion P qs → AllByRecursion P rs → AllByRecursion P (qs ++ rs)
-  all-joined [] rs h k = k
-  all-joined (q ∷ qs) rs h k = (h.0, all-joined qs rs h.1 k)
+  module _ (W : Option ℕ → Type 0) (falls : (wanted : Option ℕ) (a : SubAnswer) → W wanted → W (less wanted a)) where
+    only-forwarded : (wanted : Option ℕ) → W wanted → (ss : List Step) (answers : List StepAnswer)
+        → AllByRecursion (AsksOnly W) ss → Only (forwarded wanted ss answers)
+    only-forwarded wanted w [] answers h = only-ok _
+    only-forwarded wanted w (step ∷ ss) answers h =
+        by_step (λ v k xs. only-forwarded v k ss xs h.1) (step wanted) refl
+      where
+        by_step : ((v : Option ℕ) → W v → (xs : List StepAnswer) → Only (forwarded v ss xs)) → (o : Option Next)
+            → step wanted ≡ o
+            → Only (stepped o (λ a. forwarded (less wanted a) ss) (forwarded wanted ss) answers)
+        by_step below None is = below wanted w answers
+        by_step below (Some p) is =
+            only-then (ask p answers) _ (only-ask p answers (h.0 wanted p w is))
+            (λ r. only-then (forwarded (less wanted (sub_answer r.0)) ss r.1) _
+            (below (less wanted (sub_answer r.0)) (falls wanted (sub_answer r.0) w) r.1) (λ s. only-ok _))
 
-  all-steps : {X : Type 0} (step : X → Option Next) → ((x : X) (q : Next) → step x ≡ Some q → P q) → (xs : List X)
-      → AllByRecursion P (filter_map step xs)
-  all-steps step h [] = tt
-  all-steps {X} step h (x ∷ xs) = by_step (all-steps step h xs) (step x) refl
-    where
-      by_step : AllByRecursion P (filter_map step xs) → (o : Option Next) → step x ≡ o
-          → AllByRecursion P (cons_option o (filter_map step xs))
-      by_step rest None e = rest
-      by_step rest (Some q) e = (h x q e, rest)
+    all-joined : (ss ts : List Step) → AllByRecursion (AsksOnly W) ss → AllByRecursion (AsksOnly W) ts
+        → AllByRecursion (AsksOnly W) (ss ++ ts)
+    all-joined [] ts h k = k
+    all-joined (s ∷ ss) ts h k = (h.0, all-joined ss ts h.1 k)
+
+    all-steps : {X : Type 0} (step : X → Step) → ((x : X) → AsksOnly W (step x)) → (xs : List X)
+        → AllByRecursion (AsksOnly W) (map step xs)
+    all-steps step h [] = tt
+    all-steps step h (x ∷ xs) = (h x, all-steps step h xs)
 
 -- ---- a visit's questions
 
@@ -134,54 +147,97 @@ first-holds : (a b : Bool) → (a && b) ≡ true → a ≡ true
 first-holds true b e = refl
 first-holds false b e = e
 
-link-goes : (l : Local) → l.path ≡ None → (local_match : Bool) (link : LinkRecord) (q : Next)
-    → link_step l local_match link ≡ Some q → Goes l q
-unfolding link_step
-link-goes l searches local_match link q e target sub is = by_rule (follows l local_match link) refl e
+second-holds : (a b : Bool) → (a && b) ≡ true → b ≡ true
+second-holds true b e = e
+second-holds false b e = absurd cc
+
+isnt-full : (b : Bool) → not b ≡ true → b ≡ false
+isnt-full true e = absurd cc
+isnt-full false e = refl
+
+-- so much is wanted behind some gathered offers
+abbrev pub IsWanted : Local → Option ℕ → Type 0
+IsWanted l wanted = (gathered : ℕ) × (wanted ≡ wanted_behind l gathered)
+
+wanted-falls : (l : Local) (wanted : Option ℕ) (a : SubAnswer) → IsWanted l wanted → IsWanted l (less wanted a)
+wanted-falls l wanted a h =
+    (h.0 + length a.offers, ap (λ (w : Option ℕ). less w a) h.1 ∙ by_order (keeps_order l.preference))
   where
-    by_rule : (b : Bool) → follows l local_match link ≡ b
-        → (if b then Some (Forward link.target (link_query l link)) else None) ≡ Some q → IsPassed l target sub
+    by_order : (b : Bool)
+        → less (if b then Some (l.effective.return_card - h.0) else None) a
+        ≡ (if b then Some (l.effective.return_card - (h.0 + length a.offers)) else None)
+    by_order true =
+        let same : (l.effective.return_card - h.0) - length a.offers
+        ≡ l.effective.return_card - (h.0 + length a.offers) = omega arith in
+        ap (λ (n : ℕ). Some n) same
+    by_order false = refl
+
+link-goes : (l : Local) → l.path ≡ None → (local_match : Bool) (link : LinkRecord) (wanted : Option ℕ) (q : Next)
+    → IsWanted l wanted → link_step l wanted local_match link ≡ Some q → Goes l q
+unfolding link_step
+link-goes l searches local_match link wanted q w e target sub is =
+    by_rule (not (is_full wanted) && follows l local_match link) refl e
+  where
+    by_rule : (b : Bool) → (not (is_full wanted) && follows l local_match link) ≡ b
+        → (if b then Some (Forward link.target (link_query l wanted link)) else None) ≡ Some q → IsPassed l target sub
     by_rule true rule e =
-        let same : Forward link.target (link_query l link) ≡ q = cc in
-        goes l link.target target (link_query l link) sub (over_link link searches (first-holds (has_hops l) _ rule))
+        let same : Forward link.target (link_query l wanted link) ≡ q = cc in
+        let some : is_full wanted ≡ false = isnt-full (is_full wanted) (first-holds (not (is_full wanted)) _ rule) in
+        let hops : has_hops l ≡ true = first-holds (has_hops l) _ (second-holds (not (is_full wanted)) _ rule) in
+        goes l link.target target (link_query l wanted link) sub
+        (subst (λ (v : Option ℕ). IsPassed l link.target (link_query l v link)) (sym w.1)
+        (over_link link w.0 searches hops (sym (ap is_full w.1) ∙ some)))
         (same ∙ is)
     by_rule false rule e = absurd cc
 
-proxy-goes : (l : Local) → l.path ≡ None → (o : OfferRecord) (q : Next) → proxy_step l o ≡ Some q → Goes l q
+proxy-goes : (l : Local) → l.path ≡ None → (o : OfferRecord) (wanted : Option ℕ) (q : Next) → IsWanted l wanted
+    → proxy_step l wanted o ≡ Some q → Goes l q
 unfolding proxy_step
-proxy-goes l searches o q e target sub is = by_part o.proxy e
+proxy-goes l searches o wanted q w e target sub is = by_part o.proxy e
   where
-    by_text : (part : ProxyPart) (t : Option (List ℕ)) → has_hops l ≡ true
-        → option_map (λ (text : List ℕ). Forward o.reference (proxy_query l part text)) t ≡ Some q
+    by_text : (part : ProxyPart) (t : Option (List ℕ)) → has_hops l ≡ true → is_full wanted ≡ false
+        → option_map (λ (text : List ℕ). Forward o.reference (proxy_query l wanted part text)) t ≡ Some q
         → IsPassed l target sub
-    by_text part None hops e = absurd cc
-    by_text part (Some text) hops e =
-        let same : Forward o.reference (proxy_query l part text) ≡ q = cc in
-        goes l o.reference target (proxy_query l part text) sub (to_proxy o part text searches hops) (same ∙ is)
+    by_text part None hops some e = absurd cc
+    by_text part (Some text) hops some e =
+        let same : Forward o.reference (proxy_query l wanted part text) ≡ q = cc in
+        goes l o.reference target (proxy_query l wanted part text) sub
+        (subst (λ (v : Option ℕ). IsPassed l o.reference (proxy_query l v part text)) (sym w.1)
+        (to_proxy o part text w.0 searches hops (sym (ap is_full w.1) ∙ some)))
+        (same ∙ is)
 
-    by_hops : (part : ProxyPart) (b : Bool) → has_hops l ≡ b
-        → (if b then option_map (λ (text : List ℕ). Forward o.reference (proxy_query l part text))
+    by_hops : (part : ProxyPart) (b : Bool) → (not (is_full wanted) && has_hops l) ≡ b
+        → (if b then option_map (λ (text : List ℕ). Forward o.reference (proxy_query l wanted part text))
         (expanded l.query.constraint o part) else None) ≡ Some q
         → IsPassed l target sub
-    by_hops part true hops e = by_text part (expanded l.query.constraint o part) hops e
-    by_hops part false hops e = absurd cc
+    by_hops part true both e =
+        by_text part (expanded l.query.constraint o part) (second-holds (not (is_full wanted)) _ both)
+        (isnt-full (is_full wanted) (first-holds (not (is_full wanted)) _ both)) e
+    by_hops part false both e = absurd cc
 
-    by_part : (p : Option ProxyPart) → proxy_call l o p ≡ Some q → IsPassed l target sub
+    by_part : (p : Option ProxyPart) → proxy_call l wanted o p ≡ Some q → IsPassed l target sub
     by_part None e = absurd cc
-    by_part (Some part) e = by_hops part (has_hops l) refl e
+    by_part (Some part) e = by_hops part (not (is_full wanted) && has_hops l) refl e
 
-steps-go : (l : Local) → l.path ≡ None → (found : List Found) → AllByRecursion (Goes l) (steps l found)
+steps-go : (l : Local) → l.path ≡ None → (found : List Found)
+    → AllByRecursion (AsksOnly (Goes l) (IsWanted l)) (steps l found)
 unfolding steps
 steps-go l searches found =
-    all-joined (Goes l) _ _
-    (all-steps (Goes l) (λ (f : Found). proxy_step l f.offer) (λ f q e. proxy-goes l searches f.offer q e) found)
-    (all-steps (Goes l) (link_step l (list_any (λ (f : Found). is_ordinary f.offer) found))
-    (λ link q e. link-goes l searches (list_any (λ (f : Found). is_ordinary f.offer) found) link q e) l.links)
+    let any : Bool = list_any (λ (f : Found). is_ordinary f.offer) found in
+    all-joined (Goes l) (IsWanted l) (wanted-falls l) _ _
+    (all-steps (Goes l) (IsWanted l) (wanted-falls l)
+    (λ (f : Found) (wanted : Option ℕ). proxy_step l wanted f.offer)
+    (λ f wanted q w e. proxy-goes l searches f.offer wanted q w e) found)
+    (all-steps (Goes l) (IsWanted l) (wanted-falls l)
+    (λ (link : LinkRecord) (wanted : Option ℕ). link_step l wanted any link)
+    (λ link wanted q w e. link-goes l searches any link wanted q w e) l.links)
 
-gathered-goes : (l : Local) (found : List Found) (answers : List StepAnswer) (qs : List Next)
-    → AllByRecursion (Goes l) qs → Only (Goes l) (gathered found answers qs)
-gathered-goes l found answers qs h =
-    only-then (Goes l) (forwarded qs answers) _ (only-forwarded (Goes l) qs answers h) (λ r. only-ok (Goes l) _)
+gathered-goes : (l : Local) (found : List Found) (answers : List StepAnswer) (wanted : Option ℕ) (ss : List Step)
+    → IsWanted l wanted → AllByRecursion (AsksOnly (Goes l) (IsWanted l)) ss
+    → Only (Goes l) (gathered found answers wanted ss)
+gathered-goes l found answers wanted ss w h =
+    only-then (Goes l) (forwarded wanted ss answers) _
+    (only-forwarded (Goes l) (IsWanted l) (wanted-falls l) wanted w ss answers h) (λ r. only-ok (Goes l) _)
 
 search-goes : (l : Local) → l.path ≡ None → (answers : List StepAnswer) → Only (Goes l) (search_of l answers)
 search-goes l searches answers =
@@ -189,14 +245,25 @@ search-goes l searches answers =
     (only-searched (Goes l) (no-forward l) l l.candidates [] answers)
     (λ r. only-then (Goes l) (all_completed l.query.desired [] r.0 r.1) _
     (only-all-completed (Goes l) (no-forward l) l.query.desired [] r.0 r.1)
-    (λ s. gathered-goes l s.0 s.1 (steps l s.0) (steps-go l searches s.0)))
+    (λ s. gathered-goes l s.0 s.1 (wanted_behind l (count_ordinary s.0)) (steps l s.0) (count_ordinary s.0, refl)
+    (steps-go l searches s.0)))
+
+-- whatever is wanted
+abbrev AnyWanted : Option ℕ → Type 0
+AnyWanted wanted = Unit {0}
+
+path-goes : (l : Local) (link : LinkRecord) → l.path ≡ Some link → AsksOnly (Goes l) AnyWanted (path_step l link)
+path-goes l link e wanted q w asked target sub is =
+    let same : Forward link.target (path_query l) ≡ q = cc in
+    goes l link.target target (path_query l) sub (along_path link e) (same ∙ is)
 
 visit-goes : (l : Local) (p : Option LinkRecord) (answers : List StepAnswer) → l.path ≡ p
     → Only (Goes l) (visit_by p l answers)
 visit-goes l None answers e = search-goes l e answers
 visit-goes l (Some link) answers e =
-    gathered-goes l [] answers (Forward link.target (path_query l) ∷ [])
-    ((λ target sub is. goes l link.target target (path_query l) sub (along_path link e) is), tt)
+    only-then (Goes l) (forwarded None (path_step l link ∷ []) answers) _
+    (only-forwarded (Goes l) AnyWanted (λ wanted a w. tt) None tt (path_step l link ∷ []) answers
+    (path-goes l link e, tt)) (λ r. only-ok (Goes l) _)
 
 -- each query that a visit passes on goes over a link, to a proxy offer's trader or along the path
 pub only_passed : (l : Local) (answers : List StepAnswer) (target : Ior) (sub : Query)
@@ -217,46 +284,53 @@ Stands q = q ≡ Done → ⊥
 stands-forward : (target : Ior) (sub : Query) (q : Next) → Forward target sub ≡ q → Stands q
 stands-forward target sub q same e = absurd cc
 
-link-stands : (l : Local) (local_match : Bool) (link : LinkRecord) (q : Next) → link_step l local_match link ≡ Some q
-    → Stands q
+link-stands : (l : Local) (local_match : Bool) (link : LinkRecord) (wanted : Option ℕ) (q : Next)
+    → link_step l wanted local_match link ≡ Some q → Stands q
 unfolding link_step
-link-stands l local_match link q e = by_rule (follows l local_match link) e
+link-stands l local_match link wanted q e = by_rule (not (is_full wanted) && follows l local_match link) e
   where
-    by_rule : (b : Bool) → (if b then Some (Forward link.target (link_query l link)) else None) ≡ Some q → Stands q
-    by_rule true e = stands-forward link.target (link_query l link) q cc
+    by_rule : (b : Bool) → (if b then Some (Forward link.target (link_query l wanted link)) else None) ≡ Some q → Stands q
+    by_rule true e = stands-forward link.target (link_query l wanted link) q cc
     by_rule false e = absurd cc
 
-proxy-stands : (l : Local) (o : OfferRecord) (q : Next) → proxy_step l o ≡ Some q → Stands q
+proxy-stands : (l : Local) (o : OfferRecord) (wanted : Option ℕ) (q : Next) → proxy_step l wanted o ≡ Some q → Stands q
 unfolding proxy_step
-proxy-stands l o q e = by_part o.proxy e
+proxy-stands l o wanted q e = by_part o.proxy e
   where
     by_text : (part : ProxyPart) (t : Option (List ℕ))
-        → option_map (λ (text : List ℕ). Forward o.reference (proxy_query l part text)) t ≡ Some q → Stands q
+        → option_map (λ (text : List ℕ). Forward o.reference (proxy_query l wanted part text)) t ≡ Some q → Stands q
     by_text part None e = absurd cc
-    by_text part (Some text) e = stands-forward o.reference (proxy_query l part text) q cc
+    by_text part (Some text) e = stands-forward o.reference (proxy_query l wanted part text) q cc
 
     by_hops : (part : ProxyPart) (b : Bool)
-        → (if b then option_map (λ (text : List ℕ). Forward o.reference (proxy_query l part text))
+        → (if b then option_map (λ (text : List ℕ). Forward o.reference (proxy_query l wanted part text))
         (expanded l.query.constraint o part) else None) ≡ Some q → Stands q
     by_hops part true e = by_text part (expanded l.query.constraint o part) e
     by_hops part false e = absurd cc
 
-    by_part : (p : Option ProxyPart) → proxy_call l o p ≡ Some q → Stands q
+    by_part : (p : Option ProxyPart) → proxy_call l wanted o p ≡ Some q → Stands q
     by_part None e = absurd cc
-    by_part (Some part) e = by_hops part (has_hops l) e
+    by_part (Some part) e = by_hops part (not (is_full wanted) && has_hops l) e
 
-steps-stand : (l : Local) (found : List Found) → AllByRecursion Stands (steps l found)
+steps-stand : (l : Local) (found : List Found) → AllByRecursion (AsksOnly Stands AnyWanted) (steps l found)
 unfolding steps
 steps-stand l found =
-    all-joined Stands _ _
-    (all-steps Stands (λ (f : Found). proxy_step l f.offer) (λ f q e. proxy-stands l f.offer q e) found)
-    (all-steps Stands (link_step l (list_any (λ (f : Found). is_ordinary f.offer) found))
-    (λ link q e. link-stands l (list_any (λ (f : Found). is_ordinary f.offer) found) link q e) l.links)
+    let any : Bool = list_any (λ (f : Found). is_ordinary f.offer) found in
+    all-joined Stands AnyWanted (λ wanted a w. tt) _ _
+    (all-steps Stands AnyWanted (λ wanted a w. tt) (λ (f : Found) (wanted : Option ℕ). proxy_step l wanted f.offer)
+    (λ f wanted q w e. proxy-stands l f.offer wanted q e) found)
+    (all-steps Stands AnyWanted (λ wanted a w. tt)
+    (λ (link : LinkRecord) (wanted : Option ℕ). link_step l wanted any link)
+    (λ link wanted q w e. link-stands l any link wanted q e) l.links)
 
-gathered-stands : (found : List Found) (answers : List StepAnswer) (qs : List Next) → AllByRecursion Stands qs
-    → Only Stands (gathered found answers qs)
-gathered-stands found answers qs h =
-    only-then Stands (forwarded qs answers) _ (only-forwarded Stands qs answers h) (λ r. only-ok Stands _)
+gathered-stands : (found : List Found) (answers : List StepAnswer) (wanted : Option ℕ) (ss : List Step)
+    → AllByRecursion (AsksOnly Stands AnyWanted) ss → Only Stands (gathered found answers wanted ss)
+gathered-stands found answers wanted ss h =
+    only-then Stands (forwarded wanted ss answers) _
+    (only-forwarded Stands AnyWanted (λ wanted a w. tt) wanted tt ss answers h) (λ r. only-ok Stands _)
+
+path-stands : (l : Local) (link : LinkRecord) → AsksOnly Stands AnyWanted (path_step l link)
+path-stands l link wanted q w asked = stands-forward link.target (path_query l) q cc
 
 evaluation-stands : (name : List ℕ) (d : DynamicProp) → Stands (question_on name d)
 evaluation-stands name d e = absurd cc
@@ -267,10 +341,9 @@ visit-stands l None answers =
     (only-searched Stands evaluation-stands l l.candidates [] answers)
     (λ r. only-then Stands (all_completed l.query.desired [] r.0 r.1) _
     (only-all-completed Stands evaluation-stands l.query.desired [] r.0 r.1)
-    (λ s. gathered-stands s.0 s.1 (steps l s.0) (steps-stand l s.0)))
+    (λ s. gathered-stands s.0 s.1 (wanted_behind l (count_ordinary s.0)) (steps l s.0) (steps-stand l s.0)))
 visit-stands l (Some link) answers =
-    gathered-stands [] answers (Forward link.target (path_query l) ∷ [])
-    (stands-forward link.target (path_query l) (Forward link.target (path_query l)) refl, tt)
+    gathered-stands [] answers None (path_step l link ∷ []) (path-stands l link, tt)
 
 pub never_done : (l : Local) (answers : List StepAnswer) (q : Next) → visit_of l answers ≡ Err q → q ≡ Done → ⊥
 unfolding visit_of

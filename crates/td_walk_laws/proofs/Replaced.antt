@@ -17,8 +17,9 @@ use Rattle.td_policy.specs.declared.stated.Stated.{Stated}
 use Rattle.td_value.specs.declared.enumerations.FollowOption.{FollowOption}
 use Rattle.td_value.specs.declared.structures.Policy.{Policy}
 use Rattle.td_walk.specs.Passing.{policy_named, with_policy, with_optional, without_policy, hop_policy, follow_policy}
-use Rattle.td_walk.specs.Passing.{identifier_policy, start_policy, replaced, along_path}
-use Rattle.td_walk_laws.proofs.Fields.{hops-stated, follow-stated, start-stated, request_id-stated}
+use Rattle.td_walk.specs.Passing.{identifier_policy, start_policy, card_policy, replaced, along_path}
+use Rattle.td_walk_laws.proofs.Fields.{hops-stated, follow-stated, start-stated, return_card-stated}
+use Rattle.td_walk_laws.proofs.Fields.{request_id-stated}
 use Rattle.td_walk_laws.proofs.Named.{put-is-named, others-stay, taken-is-gone, others-are-left}
 use Rattle.td_walk_laws.proofs.Stating.{IsStatedBy, ok-is}
 
@@ -35,6 +36,11 @@ identifier-stays : (name : List ℕ) (o : Option (List ℕ)) (ps : List Policy) 
 identifier-stays name None ps apart = refl
 identifier-stays name (Some id) ps apart = others-stay name (identifier_policy id) ps apart
 
+card-stays : (name : List ℕ) (o : Option ℕ) (ps : List Policy) → bytes_eq (codes "return_card") name ≡ false
+    → policy_named (with_optional (option_map card_policy o) ps) name ≡ policy_named ps name
+card-stays name None ps apart = refl
+card-stays name (Some n) ps apart = others-stay name (card_policy n) ps apart
+
 abbrev left : List Policy → List Policy
 left ps = without_policy (codes "starting_trader") ps
 
@@ -44,47 +50,75 @@ hopped hops ps = with_policy (hop_policy (hops - 1)) (left ps)
 abbrev ruled : (hops : ℕ) → Option FollowOption → List Policy → List Policy
 ruled hops follow ps = with_optional (option_map follow_policy follow) (hopped hops ps)
 
-module _ (hops : ℕ) (follow : Option FollowOption) (identifier : Option (List ℕ)) (ps : List Policy) where
-  pub hops-there : policy_named (replaced hops follow identifier ps) (codes "hop_count") ≡ Some (hop_policy (hops - 1))
+abbrev identified : (hops : ℕ) → Option FollowOption → Option (List ℕ) → List Policy → List Policy
+identified hops follow identifier ps = with_optional (option_map identifier_policy identifier) (ruled hops follow ps)
+
+module _ (hops : ℕ) (follow : Option FollowOption) (identifier : Option (List ℕ)) (wanted : Option ℕ)
+    (ps : List Policy) where
+  pub hops-there : policy_named (replaced hops follow identifier wanted ps) (codes "hop_count")
+      ≡ Some (hop_policy (hops - 1))
   hops-there =
-      identifier-stays (codes "hop_count") identifier (ruled hops follow ps) refl
+      card-stays (codes "hop_count") wanted (identified hops follow identifier ps) refl
+      ∙ identifier-stays (codes "hop_count") identifier (ruled hops follow ps) refl
       ∙ follow-stays (codes "hop_count") follow (hopped hops ps) refl
       ∙ put-is-named (hop_policy (hops - 1)) (left ps)
 
-  pub start-gone : policy_named (replaced hops follow identifier ps) (codes "starting_trader") ≡ None
+  pub start-gone : policy_named (replaced hops follow identifier wanted ps) (codes "starting_trader") ≡ None
   start-gone =
-      identifier-stays (codes "starting_trader") identifier (ruled hops follow ps) refl
+      card-stays (codes "starting_trader") wanted (identified hops follow identifier ps) refl
+      ∙ identifier-stays (codes "starting_trader") identifier (ruled hops follow ps) refl
       ∙ follow-stays (codes "starting_trader") follow (hopped hops ps) refl
       ∙ others-stay (codes "starting_trader") (hop_policy (hops - 1)) (left ps) refl
       ∙ taken-is-gone (codes "starting_trader") ps
 
   -- a policy of any other name stays
-  pub replaced-stays : (name : List ℕ) → bytes_eq (codes "request_id") name ≡ false
+  pub replaced-stays : (name : List ℕ) → bytes_eq (codes "return_card") name ≡ false
+      → bytes_eq (codes "request_id") name ≡ false
       → bytes_eq (codes "link_follow_rule") name ≡ false → bytes_eq (codes "hop_count") name ≡ false
       → bytes_eq name (codes "starting_trader") ≡ false
-      → policy_named (replaced hops follow identifier ps) name ≡ policy_named ps name
-  replaced-stays name no_identifier no_rule no_hops no_start =
-      identifier-stays name identifier (ruled hops follow ps) no_identifier
+      → policy_named (replaced hops follow identifier wanted ps) name ≡ policy_named ps name
+  replaced-stays name no_card no_identifier no_rule no_hops no_start =
+      card-stays name wanted (identified hops follow identifier ps) no_card
+      ∙ identifier-stays name identifier (ruled hops follow ps) no_identifier
       ∙ follow-stays name follow (hopped hops ps) no_rule
       ∙ others-stay name (hop_policy (hops - 1)) (left ps) no_hops
       ∙ others-are-left (codes "starting_trader") name ps no_start
 
-pub identifier-there : (hops : ℕ) (follow : Option FollowOption) (id : List ℕ) (ps : List Policy)
-    → policy_named (replaced hops follow (Some id) ps) (codes "request_id") ≡ Some (identifier_policy id)
-identifier-there hops follow id ps = put-is-named (identifier_policy id) (ruled hops follow ps)
+pub identifier-there : (hops : ℕ) (follow : Option FollowOption) (id : List ℕ) (wanted : Option ℕ) (ps : List Policy)
+    → policy_named (replaced hops follow (Some id) wanted ps) (codes "request_id") ≡ Some (identifier_policy id)
+identifier-there hops follow id wanted ps =
+    card-stays (codes "request_id") wanted (identified hops follow (Some id) ps) refl
+    ∙ put-is-named (identifier_policy id) (ruled hops follow ps)
 
-pub follow-there : (hops : ℕ) (r : FollowOption) (identifier : Option (List ℕ)) (ps : List Policy)
-    → policy_named (replaced hops (Some r) identifier ps) (codes "link_follow_rule") ≡ Some (follow_policy r)
-follow-there hops r identifier ps =
-    identifier-stays (codes "link_follow_rule") identifier (ruled hops (Some r) ps) refl
+pub follow-there : (hops : ℕ) (r : FollowOption) (identifier : Option (List ℕ)) (wanted : Option ℕ) (ps : List Policy)
+    → policy_named (replaced hops (Some r) identifier wanted ps) (codes "link_follow_rule") ≡ Some (follow_policy r)
+follow-there hops r identifier wanted ps =
+    card-stays (codes "link_follow_rule") wanted (identified hops (Some r) identifier ps) refl
+    ∙ identifier-stays (codes "link_follow_rule") identifier (ruled hops (Some r) ps) refl
     ∙ put-is-named (follow_policy r) (hopped hops ps)
 
+-- where the offers that are wanted are limited, that is stated
+pub card-there : (hops : ℕ) (follow : Option FollowOption) (identifier : Option (List ℕ)) (n : ℕ) (ps : List Policy)
+    → policy_named (replaced hops follow identifier (Some n) ps) (codes "return_card") ≡ Some (card_policy n)
+card-there hops follow identifier n ps = put-is-named (card_policy n) (identified hops follow identifier ps)
+
+-- and else what was stated stays
+pub card-untouched : (hops : ℕ) (follow : Option FollowOption) (identifier : Option (List ℕ)) (ps : List Policy)
+    → policy_named (replaced hops follow identifier None ps) (codes "return_card")
+    ≡ policy_named ps (codes "return_card")
+card-untouched hops follow identifier ps =
+    identifier-stays (codes "return_card") identifier (ruled hops follow ps) refl
+    ∙ follow-stays (codes "return_card") follow (hopped hops ps) refl
+    ∙ others-stay (codes "return_card") (hop_policy (hops - 1)) (left ps) refl
+    ∙ others-are-left (codes "starting_trader") (codes "return_card") ps refl
+
 -- a rule that was stated stays where none is passed on
-pub rule-untouched : (hops : ℕ) (identifier : Option (List ℕ)) (ps : List Policy)
-    → policy_named (replaced hops None identifier ps) (codes "link_follow_rule")
+pub rule-untouched : (hops : ℕ) (identifier : Option (List ℕ)) (wanted : Option ℕ) (ps : List Policy)
+    → policy_named (replaced hops None identifier wanted ps) (codes "link_follow_rule")
     ≡ policy_named ps (codes "link_follow_rule")
-rule-untouched hops identifier ps =
-    identifier-stays (codes "link_follow_rule") identifier (ruled hops None ps) refl
+rule-untouched hops identifier wanted ps =
+    card-stays (codes "link_follow_rule") wanted (identified hops None identifier ps) refl
+    ∙ identifier-stays (codes "link_follow_rule") identifier (ruled hops None ps) refl
     ∙ others-stay (codes "link_follow_rule") (hop_policy (hops - 1)) (left ps) refl
     ∙ others-are-left (codes "starting_trader") (codes "link_follow_rule") ps refl
 
@@ -109,6 +143,14 @@ pub states-hops : (n : ℕ) (ps : List Policy) (s : Stated)
 states-hops n ps s is e =
     let h = there number (policy_named ps (codes "hop_count")) (hop_policy n) None s.hops is (hops-stated ps s e) in
     ok-is s.hops (Some n) (sym h ∙ number_back (codes "hop_count") n)
+
+pub states-card : (n : ℕ) (ps : List Policy) (s : Stated)
+    → policy_named ps (codes "return_card") ≡ Some (card_policy n) → stated ps ≡ Ok s → s.return_card ≡ Some n
+states-card n ps s is e =
+    let h =
+    there number (policy_named ps (codes "return_card")) (card_policy n) None s.return_card is
+    (return_card-stated ps s e) in
+    ok-is s.return_card (Some n) (sym h ∙ number_back (codes "return_card") n)
 
 pub states-follow : (r : FollowOption) (ps : List Policy) (s : Stated)
     → policy_named ps (codes "link_follow_rule") ≡ Some (follow_policy r) → stated ps ≡ Ok s → s.follow ≡ Some r

@@ -1,9 +1,9 @@
 -- How many questions a visit asks at most: each reading of answers spends what it reads, and hands on the rest.
 use Rattle.std.proofs.Common.{◌≡◌, ℕ, suc, ◌+◌, ◌<◌, ◌≤◌, nat_le, Bool, true, false, List, [], ◌∷◌, ◌++◌}
-use Rattle.std.proofs.Common.{length, Option}
+use Rattle.std.proofs.Common.{length, map, Option}
 use Rattle.std.proofs.Common.{Some, None, Ok, Err, refl, arith, if◌then◌else◌}
-use Rattle.std.proofs.lemmas.List.{length-append}
-use Rattle.std.specs.List.{filter_map, list_any, cons_option}
+use Rattle.std.proofs.lemmas.List.{length-append, length-map}
+use Rattle.std.specs.List.{list_any}
 use Rattle.td_cdr.specs.Format.{◌>>=◌}
 use Rattle.td_codes.specs.declared.reference.Ior.{Ior}
 use Rattle.td_eval.specs.Mentioning.{Names, names_asked}
@@ -15,13 +15,15 @@ use Rattle.td_store.specs.declared.record.OfferRecord.{OfferRecord}
 use Rattle.td_value.specs.declared.structures.DynamicProp.{DynamicProp}
 use Rattle.td_value.specs.declared.structures.Property.{Property}
 use Rattle.td_walk.specs.Resolving.{dynamic_named, is_evaluated, resolved}
-use Rattle.td_walk.specs.SubQueries.{link_step, proxy_step, path_query}
+use Rattle.td_walk.specs.SubQueries.{link_step, proxy_step, wanted_behind}
 use Rattle.td_walk.specs.Visits.{Reads, ask, question_on, evaluated_property, evaluated_name, evaluated, matches_all}
 use Rattle.td_walk.specs.Visits.{if_matching, tried, searched, completed, all_completed, forwarded, gathered, search_of}
-use Rattle.td_walk.specs.Visits.{visit_by, visit_of, steps, is_ordinary, desired_names, next_of, question_of}
+use Rattle.td_walk.specs.Visits.{visit_by, visit_of, steps, is_ordinary, desired_names, next_of, question_of, Step}
+use Rattle.td_walk.specs.Visits.{less, stepped, sub_answer, path_step, count_ordinary}
 use Rattle.td_walk.specs.declared.answer.Next.{Next}
 use Rattle.td_walk.specs.declared.answer.Next.TheVariants.{Done, Forward}
 use Rattle.td_walk.specs.declared.answer.StepAnswer.{StepAnswer}
+use Rattle.td_walk.specs.declared.answer.SubAnswer.{SubAnswer}
 use Rattle.td_walk.specs.declared.evaluation.Evaluation.{Evaluation}
 use Rattle.td_walk.specs.declared.found.Found.{Found}
 use Rattle.td_walk.specs.declared.gathering.Gathered.{Gathered}
@@ -181,42 +183,46 @@ module _ (l : Local) where
 abbrev none_left : {X : Type 0} → X → ℕ
 none_left x = 0
 
-spends-forwarded : (questions : List Next) (answers : List StepAnswer)
-    → Spends (length questions) none_left answers (forwarded questions answers)
-spends-forwarded [] answers = omega arith
-spends-forwarded (question ∷ questions) answers =
-    let more = length questions in
-    spends-then (length (question ∷ questions)) (λ (a : StepAnswer). more) none_left answers (ask question answers) _
-    (spends-more (suc more) (length (question ∷ questions)) (λ (a : StepAnswer). more) answers (ask question answers)
-    (omega arith) (spends-ask more question answers))
-    (λ s. spends-then more none_left none_left s.1 (forwarded questions s.1) _ (spends-forwarded questions s.1)
-    (λ t. omega arith))
-
-spends-gathered : (n : ℕ) (found : List Found) (answers : List StepAnswer) (questions : List Next)
-    → length questions ≤ n → Spends n none_left answers (gathered found answers questions)
-spends-gathered n found answers questions few =
-    spends-then n none_left none_left answers (forwarded questions answers) _
-    (spends-more (length questions) n none_left answers (forwarded questions answers) few
-    (spends-forwarded questions answers)) (λ s. omega arith)
-
-no-more : {X Y : Type 0} (h : X → Option Y) (xs : List X) → length (filter_map h xs) ≤ length xs
-no-more h [] = omega arith
-no-more {X} {Y} h (x ∷ xs) = by_one (no-more h xs) (h x)
+spends-forwarded : (wanted : Option ℕ) (ss : List Step) (answers : List StepAnswer)
+    → Spends (length ss) none_left answers (forwarded wanted ss answers)
+spends-forwarded wanted [] answers = omega arith
+spends-forwarded wanted (step ∷ ss) answers = by_step (spends-forwarded wanted ss answers)
+    (λ a xs. spends-forwarded (less wanted a) ss xs) (step wanted)
   where
-    by_one : length (filter_map h xs) ≤ length xs → (o : Option Y)
-        → length (cons_option o (filter_map h xs)) ≤ length (x ∷ xs)
-    by_one le None = omega (arith, le)
-    by_one le (Some y) = omega (arith, le)
+    by_step : Spends (length ss) none_left answers (forwarded wanted ss answers)
+        → ((a : SubAnswer) (xs : List StepAnswer)
+        → Spends (length ss) none_left xs (forwarded (less wanted a) ss xs))
+        → (o : Option Next)
+        → Spends (length (step ∷ ss)) none_left answers
+        (stepped o (λ a. forwarded (less wanted a) ss) (forwarded wanted ss) answers)
+    by_step skipped asked None =
+        spends-more (length ss) (length (step ∷ ss)) none_left answers (forwarded wanted ss answers) (omega arith) skipped
+    by_step skipped asked (Some question) =
+        let more = length ss in
+        spends-then (length (step ∷ ss)) (λ (a : StepAnswer). more) none_left answers (ask question answers) _
+        (spends-more (suc more) (length (step ∷ ss)) (λ (a : StepAnswer). more) answers (ask question answers)
+        (omega arith) (spends-ask more question answers))
+        (λ s. spends-then more none_left none_left s.1 (forwarded (less wanted (sub_answer s.0)) ss s.1) _
+        (asked (sub_answer s.0) s.1) (λ t. omega arith))
+
+spends-gathered : (n : ℕ) (found : List Found) (answers : List StepAnswer) (wanted : Option ℕ) (ss : List Step)
+    → length ss ≤ n → Spends n none_left answers (gathered found answers wanted ss)
+spends-gathered n found answers wanted ss few =
+    spends-then n none_left none_left answers (forwarded wanted ss answers) _
+    (spends-more (length ss) n none_left answers (forwarded wanted ss answers) few
+    (spends-forwarded wanted ss answers)) (λ s. omega arith)
 
 few-steps : (l : Local) (found : List Found) → length (steps l found) ≤ length found + length l.links
 unfolding steps
 few-steps l found =
-    let proxies = filter_map (λ (f : Found). proxy_step l f.offer) found in
-    let over = filter_map (link_step l (list_any (λ (f : Found). is_ordinary f.offer) found)) l.links in
-    let all : length (proxies ++ over) ≡ length proxies + length over = length-append proxies over in
-    let some : length proxies ≤ length found = no-more (λ (f : Found). proxy_step l f.offer) found in
-    let others : length over ≤ length l.links =
-    no-more (link_step l (list_any (λ (f : Found). is_ordinary f.offer) found)) l.links in
+    let any : Bool = list_any (λ (f : Found). is_ordinary f.offer) found in
+    let to_proxies : List Step = map (λ (f : Found) (wanted : Option ℕ). proxy_step l wanted f.offer) found in
+    let over : List Step = map (λ (link : LinkRecord) (wanted : Option ℕ). link_step l wanted any link) l.links in
+    let all : length (to_proxies ++ over) ≡ length to_proxies + length over = length-append to_proxies over in
+    let some : length to_proxies ≡ length found =
+    length-map found (λ (f : Found) (wanted : Option ℕ). proxy_step l wanted f.offer) in
+    let others : length over ≡ length l.links =
+    length-map l.links (λ (link : LinkRecord) (wanted : Option ℕ). link_step l wanted any link) in
     omega (arith, all, some, others)
 
 -- ---- the visit
@@ -233,13 +239,14 @@ spends-search l answers =
     (all_completed l.query.desired [] s.0 s.1) _
     (spends-more (0 + (held_by l s.0 + n)) (held_by l s.0 + n) (completed_rest l n) s.1
     (all_completed l.query.desired [] s.0 s.1) (omega arith) (spends-all-completed l n [] s.0 s.1))
-    (λ t. spends-gathered (completed_rest l n t.0) t.0 t.1 (steps l t.0) (few-steps l t.0)))
+    (λ t. spends-gathered (completed_rest l n t.0) t.0 t.1 (wanted_behind l (count_ordinary t.0)) (steps l t.0)
+    (few-steps l t.0)))
 
 spends-visit : (l : Local) (p : Option LinkRecord) (answers : List StepAnswer)
     → Spends (turns_by p l) none_left answers (visit_by p l answers)
 spends-visit l None answers = spends-search l answers
 spends-visit l (Some link) answers =
-    spends-gathered 1 [] answers (Forward link.target (path_query l) ∷ []) (omega arith)
+    spends-gathered 1 [] answers None (path_step l link ∷ []) (omega arith)
 
 pub ends : (l : Local) (answers : List StepAnswer) → turns_of l ≤ length answers → next_of l answers ≡ Done
 unfolding next_of visit_of

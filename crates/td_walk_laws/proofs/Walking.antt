@@ -82,7 +82,7 @@ visit-along : visit_of along (answer.Offers given_there ∷ [])
 unfolding visit_of steps link_step proxy_step with_names resolved
 visit-along = refl
 
-pub next-over-none : next_of (over Always []) [] ≡ Forward elsewhere (link_query (over Always []) (link Always))
+pub next-over-none : next_of (over Always []) [] ≡ Forward elsewhere (link_query (over Always []) (Some 1000) (link Always))
 unfolding next_of visit_of steps link_step proxy_step with_names resolved
 next-over-none = refl
 
@@ -92,7 +92,7 @@ unfolding visit_of steps link_step proxy_step with_names resolved
 visit-over-none = refl
 
 next-over-plain : next_of (over Always (plain ∷ [])) []
-    ≡ Forward elsewhere (link_query (over Always (plain ∷ [])) (link Always))
+    ≡ Forward elsewhere (link_query (over Always (plain ∷ [])) (Some 999) (link Always))
 unfolding next_of visit_of steps link_step proxy_step with_names resolved
 next-over-plain = refl
 
@@ -199,7 +199,7 @@ on-the-way word =
 -- the second trader's visit
 inner : (word : ℕ → ℕ)
     → Walk (BeginsIn (group (Search (over Always [])) (Search (search [] [])))) at_second (course word 1 []) 1
-    (link_query (over Always []) (link Always)) (item.Search 1 0 1 ∷ item.Leave ∷ []) (answers nothing)
+    (link_query (over Always []) (Some 1000) (link Always)) (item.Search 1 0 1 ∷ item.Leave ∷ []) (answers nothing)
     (course word 2 [])
 inner word =
     let last : Ends (course word 2 []) (search [] []) [] nothing (course word 2 []) =
@@ -214,7 +214,7 @@ within : (word : ℕ → ℕ)
     (item.Search 0 0 1 ∷ item.Search 1 0 1 ∷ item.Leave ∷ item.Leave ∷ []) (answers nothing) 2 []
 within word =
     one-question (group (Search (over Always [])) (Search (search [] []))) at_second word (Search (over Always []))
-    (over Always []) (item.Search 0 0 1) (Forward elsewhere (link_query (over Always []) (link Always)))
+    (over Always []) (item.Search 0 0 1) (Forward elsewhere (link_query (over Always []) (Some 1000) (link Always)))
     (item.Search 1 0 1 ∷ item.Leave ∷ []) (answer.Offers nothing) (record { found = []; given = nothing ∷ [] }) nothing
     2 [] refl searching next-over-none (visited refl (inner word)) visit-over-none refl
     (record { ranked = []; in_order = refl; cut = refl; limits = refl })
@@ -228,13 +228,13 @@ plain-ranked word = record { ranked = (offering []).offers; in_order = refl; cut
 without-answer : (word : ℕ → ℕ)
     → Comes (alike (Search (over Always (plain ∷ [])))) nowhere word
     (item.Search 0 0 1 ∷ item.Failed fault.Wire ∷ item.Leave ∷ []) (answers (offering [])) 1
-    (one_call (Querying elsewhere (link_query (over Always (plain ∷ [])) (link Always))) (Missed fault.Wire))
+    (one_call (Querying elsewhere (link_query (over Always (plain ∷ [])) (Some 999) (link Always))) (Missed fault.Wire))
 without-answer word =
     one-question (alike (Search (over Always (plain ∷ [])))) nowhere word (Search (over Always (plain ∷ [])))
     (over Always (plain ∷ [])) (item.Search 0 0 1)
-    (Forward elsewhere (link_query (over Always (plain ∷ [])) (link Always))) (item.Failed fault.Wire ∷ [])
+    (Forward elsewhere (link_query (over Always (plain ∷ [])) (Some 999) (link Always))) (item.Failed fault.Wire ∷ [])
     answer.Failed (record { found = record { offer = plain; made = [] } ∷ []; given = nothing ∷ [] }) (offering []) 1
-    (one_call (Querying elsewhere (link_query (over Always (plain ∷ [])) (link Always))) (Missed fault.Wire)) refl
+    (one_call (Querying elsewhere (link_query (over Always (plain ∷ [])) (Some 999) (link Always))) (Missed fault.Wire)) refl
     searching next-over-plain (unanswered refl refl) visit-over-plain refl (plain-ranked word)
 
 pub worked : (word : ℕ → ℕ) → WorkedWalks word

@@ -18,7 +18,7 @@ use Rattle.td_store.specs.declared.local.Local.{Local}
 use Rattle.td_store.specs.declared.record.LinkRecord.{LinkRecord}
 use Rattle.td_value.specs.declared.structures.Policy.{Policy}
 use Rattle.td_walk.specs.Passing.{policy_named, value_in}
-use Rattle.td_walk.specs.SubQueries.{has_hops, link_query, path_query, path_left}
+use Rattle.td_walk.specs.SubQueries.{has_hops, link_query, path_query, path_left, wanted_behind}
 use Rattle.td_walk.specs.Visits.{next_of}
 use Rattle.td_walk.specs.declared.answer.Next.TheVariants.{Forward}
 use Rattle.td_walk.specs.declared.answer.StepAnswer.{StepAnswer}
@@ -113,11 +113,11 @@ shorter (Some (name ∷ other ∷ names)) h = omega arith
 falls : (l : Local) (target : Ior) (sub : Query) (s : Stated) → IsRead l → IsPassed l target sub
     → stated sub.policies ≡ Ok s → weight_of s < reach_of l
 unfolding path_query
-falls l target sub s read (over_link link none hops) e =
-    let h = over_a_link l link s e in
-    by-hops l (link_query l link).policies s (l.effective.hops - 1) none hops h.hops (omega arith) e
-falls l target sub s read (to_proxy o part constraint none hops) e =
-    let h = to_a_proxy l part constraint s e in
+falls l target sub s read (over_link link gathered none hops some) e =
+    let h = over_a_link l (wanted_behind l gathered) link s e in
+    by-hops l (link_query l (wanted_behind l gathered) link).policies s (l.effective.hops - 1) none hops h.hops (omega arith) e
+falls l target sub s read (to_proxy o part constraint gathered none hops some) e =
+    let h = to_a_proxy l (wanted_behind l gathered) part constraint s e in
     by-hops l sub.policies s h.hops.0 none hops h.hops.1 h.hops.2 e
 falls l target sub s read (along_path link is) e =
     let known : IsReadFor (Some link) l = subst (λ (p : Option LinkRecord). IsReadFor p l) is read in

@@ -89,6 +89,14 @@ queued = offer 3 printer 1 (evaluated (codes "Queue") ∷ [])
 abbrev pub over : FollowOption → (candidates : List OfferRecord) → Local
 over limiting candidates = search candidates (link limiting ∷ [])
 
+-- the same visit, which returns so many offers at most
+abbrev pub returning : ℕ → Local → Local
+returning n l = record l { effective = record l.effective { return_card = n } }
+
+-- and in any order
+abbrev pub randomly : Local → Local
+randomly l = record l { preference = preference.Random }
+
 abbrev pub along : Local
 along = record (search [] []) {
   path = Some (link Always);
@@ -100,22 +108,29 @@ pub record WorkedVisits : Type 0 where
   pub alone : next_of (search (plain ∷ []) []) [] ≡ Done
   -- a link is followed once
   pub followed : next_of (over Always (plain ∷ [])) []
-      ≡ Forward elsewhere (link_query (over Always (plain ∷ [])) (link Always))
+      ≡ Forward elsewhere (link_query (over Always (plain ∷ [])) (Some 999) (link Always))
   pub answered : next_of (over Always (plain ∷ [])) (Failed ∷ []) ≡ Done
   -- a link of if_no_local, where an ordinary offer matched and where none did
   pub with_match : next_of (over IfNoLocal (plain ∷ [])) [] ≡ Done
   pub without_match : next_of (over IfNoLocal []) []
-      ≡ Forward elsewhere (link_query (over IfNoLocal []) (link IfNoLocal))
+      ≡ Forward elsewhere (link_query (over IfNoLocal []) (Some 1000) (link IfNoLocal))
   -- along a path the one trader is asked
   pub on_the_way : next_of along [] ≡ Forward elsewhere (path_query along)
   pub on_the_way_back : next_of along (Failed ∷ []) ≡ Done
+  -- however many offers are to be returned
+  pub on_any_way : next_of (returning 0 along) [] ≡ Forward elsewhere (path_query (returning 0 along))
+  -- where enough offers matched, nobody is asked, unless they get another order
+  pub enough : next_of (returning 1 (over Always (plain ∷ []))) [] ≡ Done
+  pub none_wanted : next_of (returning 0 (over Always [])) [] ≡ Done
+  pub at_random : next_of (randomly (returning 1 (over Always (plain ∷ [])))) []
+      ≡ Forward elsewhere (link_query (randomly (returning 1 (over Always (plain ∷ [])))) None (link Always))
 
 pub record WorkedProxies : Type 0 where
   -- a proxy offer comes before a link, and isn't a match of if_no_local; an empty constraint goes on as TRUE
   pub called : next_of (over IfNoLocal (proxy ∷ [])) []
-      ≡ Forward nobody (proxy_query (over IfNoLocal (proxy ∷ [])) as_it_is (codes "TRUE"))
+      ≡ Forward nobody (proxy_query (over IfNoLocal (proxy ∷ [])) (Some 1000) as_it_is (codes "TRUE"))
   pub behind_it : next_of (over IfNoLocal (proxy ∷ [])) (Failed ∷ [])
-      ≡ Forward elsewhere (link_query (over IfNoLocal (proxy ∷ [])) (link IfNoLocal))
+      ≡ Forward elsewhere (link_query (over IfNoLocal (proxy ∷ [])) (Some 1000) (link IfNoLocal))
 
 pub record WorkedEvaluations : Type 0 where
   -- a desired property is evaluated
@@ -158,9 +173,9 @@ far = record { reference = elsewhere; properties = [] }
 abbrev pub given_there : SubAnswer
 given_there = record { offers = far ∷ []; limits = codes "hop_count" ∷ [] }
 
--- the same visit, which returns one offer at most
-abbrev pub one_returned : Local → Local
-one_returned l = record l { effective = record l.effective { return_card = 1 } }
+-- and gives more than one offer
+abbrev pub more_given : SubAnswer
+more_given = record { offers = far ∷ here ∷ []; limits = [] }
 
 pub record WorkedAnswers (word : ℕ → ℕ) : Type 0 where
   -- the offer that matched here, and then the other trader's
@@ -168,6 +183,8 @@ pub record WorkedAnswers (word : ℕ → ℕ) : Type 0 where
       (record { offers = here ∷ far ∷ []; limits = codes "hop_count" ∷ [] })
   -- the other trader gives none
   pub failed : IsAnswer (over Always (plain ∷ [])) (Failed ∷ []) word (record { offers = here ∷ []; limits = [] })
-  -- the answer is cut
-  pub cut : IsAnswer (one_returned (over Always (plain ∷ []))) (Offers given_there ∷ []) word
-      (record { offers = here ∷ []; limits = codes "hop_count" ∷ [] })
+  -- the answer is cut, where the other trader gives more than was wanted
+  pub cut : IsAnswer (returning 2 (over Always (plain ∷ []))) (Offers more_given ∷ []) word
+      (record { offers = here ∷ far ∷ []; limits = [] })
+  -- and where enough matched, nobody is asked
+  pub enough : IsAnswer (returning 1 (over Always (plain ∷ []))) [] word (record { offers = here ∷ []; limits = [] })

@@ -1,5 +1,5 @@
 -- Worked examples of the order in which a visit asks.
-use Rattle.std.specs.Prelude.{◌≡◌, [], ◌∷◌, codes}
+use Rattle.std.specs.Prelude.{◌≡◌, [], ◌∷◌, Some, codes}
 use Rattle.td_store.specs.Examples.{nobody}
 use Rattle.td_value.specs.declared.enumerations.FollowOption.TheVariants.{IfNoLocal}
 use Rattle.td_walk.specs.SubQueries.{link_query, proxy_query}
@@ -16,5 +16,5 @@ pub record WorkedOrder : Type 0 where
   pub not_again : dynamics queue_and_serial (codes "Queue" ∷ []) (codes "Queue" ∷ []) ≡ []
   -- a proxy offer's trader, and then the target of a link
   pub both : Asks (over IfNoLocal (proxy ∷ [])) []
-      (Forward nobody (proxy_query (over IfNoLocal (proxy ∷ [])) as_it_is (codes "TRUE"))
-      ∷ Forward elsewhere (link_query (over IfNoLocal (proxy ∷ [])) (link IfNoLocal)) ∷ []) (Failed ∷ Failed ∷ [])
+      (Forward nobody (proxy_query (over IfNoLocal (proxy ∷ [])) (Some 1000) as_it_is (codes "TRUE"))
+      ∷ Forward elsewhere (link_query (over IfNoLocal (proxy ∷ [])) (Some 1000) (link IfNoLocal)) ∷ []) (Failed ∷ Failed ∷ [])

@@ -1,6 +1,6 @@
 -- How far a query may still go (OMG's Trading Object Service, "Link Follow Behavior", hop_count and starting_trader),
 -- and how many questions a visit may ask.
-use Rattle.std.specs.Prelude.{◌≡◌, true, ℕ, ◌+◌, ◌*◌, ◌^◌, List, [], ◌∷◌, length, Option, None, Some, Ok, unwrap_or}
+use Rattle.std.specs.Prelude.{◌≡◌, true, false, ℕ, ◌+◌, ◌*◌, ◌^◌, List, [], ◌∷◌, length, Option, None, Some, Ok, unwrap_or}
 use Rattle.td_codes.specs.declared.reference.Ior.{Ior}
 use Rattle.td_eval.specs.Mentioning.{names_asked}
 use Rattle.td_ops.specs.declared.call.Query.{Query}
@@ -10,16 +10,19 @@ use Rattle.td_store.specs.declared.local.Local.{Local}
 use Rattle.td_store.specs.declared.record.LinkRecord.{LinkRecord}
 use Rattle.td_store.specs.declared.record.OfferRecord.{OfferRecord}
 use Rattle.td_store.specs.declared.record.ProxyPart.{ProxyPart}
-use Rattle.td_walk.specs.SubQueries.{has_hops, link_query, proxy_query, path_query}
+use Rattle.td_walk.specs.SubQueries.{has_hops, is_full, link_query, proxy_query, path_query, wanted_behind}
 use Rattle.td_walk.specs.Visits.{desired_names}
 
 -- ---- what is passed on
 
--- a query that a visit passes on, and to whom
+-- A query that a visit passes on, and to whom: of a search what is still wanted behind so many gathered offers.
 pub data IsPassed (l : Local) : Ior → Query → Type 0 where
-  over_link : (link : LinkRecord) → l.path ≡ None → has_hops l ≡ true → IsPassed l link.target (link_query l link)
-  to_proxy : (o : OfferRecord) (part : ProxyPart) (constraint : List ℕ) → l.path ≡ None → has_hops l ≡ true
-      → IsPassed l o.reference (proxy_query l part constraint)
+  over_link : (link : LinkRecord) (gathered : ℕ) → l.path ≡ None → has_hops l ≡ true
+      → is_full (wanted_behind l gathered) ≡ false
+      → IsPassed l link.target (link_query l (wanted_behind l gathered) link)
+  to_proxy : (o : OfferRecord) (part : ProxyPart) (constraint : List ℕ) (gathered : ℕ) → l.path ≡ None
+      → has_hops l ≡ true → is_full (wanted_behind l gathered) ≡ false
+      → IsPassed l o.reference (proxy_query l (wanted_behind l gathered) part constraint)
   along_path : (link : LinkRecord) → l.path ≡ Some link → IsPassed l link.target (path_query l)
 
 -- ---- how far a query may still go

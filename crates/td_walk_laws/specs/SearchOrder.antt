@@ -3,7 +3,7 @@
 -- traders by number, and the links' targets in the order of adding.
 use Rattle.std.specs.Prelude.{◌≡◌, ℕ, ◌+◌, ◌<◌, ◌≤◌, Bool, ◌||◌, if◌then◌else◌, List, [], ◌∷◌, ◌++◌, length, map}
 use Rattle.std.specs.Prelude.{Option, None, Some}
-use Rattle.std.specs.List.{filter_map, flat_map, list_any}
+use Rattle.std.specs.List.{flat_map, list_any}
 use Rattle.std.specs.Str.{bytes_eq}
 use Rattle.td_eval.specs.Mentioning.{Names, names_asked}
 use Rattle.td_eval.specs.Values.{matching}
@@ -13,8 +13,9 @@ use Rattle.td_value.specs.declared.structures.DynamicProp.{DynamicProp}
 use Rattle.td_value.specs.declared.structures.Property.{Property}
 use Rattle.td_value.specs.declared.unions.SpecifiedProps.{SpecifiedProps}
 use Rattle.td_walk.specs.Resolving.{dynamic_named, resolved}
-use Rattle.td_walk.specs.SubQueries.{link_step, proxy_step}
-use Rattle.td_walk.specs.Visits.{desired_names, evaluation, is_ordinary, matches_all, next_of, question_on}
+use Rattle.td_walk.specs.SubQueries.{link_step, proxy_step, wanted_behind}
+use Rattle.td_walk.specs.Visits.{Step, count_ordinary, desired_names, evaluation, is_ordinary, less, matches_all}
+use Rattle.td_walk.specs.Visits.{next_of, question_on, sub_answer}
 use Rattle.td_walk.specs.declared.answer.Next.{Next}
 use Rattle.td_walk.specs.declared.answer.Next.TheVariants.{Done}
 use Rattle.td_walk.specs.declared.answer.StepAnswer.{StepAnswer}
@@ -100,18 +101,29 @@ completions desired found = flat_map (λ f. questions_on (to_be_completed desire
 
 -- ---- other traders
 
--- each proxy offer that matched and is called, by number
-abbrev pub proxy_calls : Local → List Found → List Next
-proxy_calls l found = filter_map (λ f. proxy_step l f.offer) found
+-- each proxy offer that matched, by number
+abbrev pub proxy_calls : Local → List Found → List Step
+proxy_calls l found = map (λ f wanted. proxy_step l wanted f.offer) found
 
--- each link that is followed, in the order of adding
-abbrev pub link_calls : Local → List Found → List Next
-link_calls l found = filter_map (link_step l (list_any (λ f. is_ordinary f.offer) found)) l.links
+-- each link, in the order of adding
+abbrev pub link_calls : Local → List Found → List Step
+link_calls l found = map (λ link wanted. link_step l wanted (list_any (λ f. is_ordinary f.offer) found) link) l.links
+
+-- Steps are taken one after the other: each one asks its question, if it has one where so many offers are still wanted,
+-- and each answer leaves as many fewer.
+pub data Calls : (wanted : Option ℕ) → List Step → List Next → List StepAnswer → Type 0 where
+  no_step_left : (wanted : Option ℕ) → Calls wanted [] [] []
+  left_out : (wanted : Option ℕ) (step : Step) (steps : List Step) (qs : List Next) (answers : List StepAnswer)
+      → step wanted ≡ None → Calls wanted steps qs answers → Calls wanted (step ∷ steps) qs answers
+  called : (wanted : Option ℕ) (step : Step) (steps : List Step) (qs : List Next) (answers : List StepAnswer)
+      (q : Next) (a : StepAnswer) → step wanted ≡ Some q → Calls (less wanted (sub_answer a)) steps qs answers
+      → Calls wanted (step ∷ steps) (q ∷ qs) (a ∷ answers)
 
 -- ---- the search
 
 -- The candidates' evaluations stand in front, then those of the offers that matched, then one call for each proxy offer
--- and for each link.
+-- and for each link that is asked while offers are wanted. At first as many are wanted as the ordinary offers that
+-- matched leave.
 pub record IsInOrder (l : Local) (questions : List Next) (answers : List StepAnswer) : Type 0 where
   pub found : List Found
   pub trials : List Next
@@ -119,6 +131,7 @@ pub record IsInOrder (l : Local) (questions : List Next) (answers : List StepAns
   pub later : List StepAnswer
   pub candidates : Tries l 0 l.candidates trials first found
   pub others : List Next
-  pub called : others ≡ proxy_calls l found ++ link_calls l found
+  pub given : List StepAnswer
+  pub calls : Calls (wanted_behind l (count_ordinary found)) (proxy_calls l found ++ link_calls l found) others given
   pub all : questions ≡ trials ++ (completions l.query.desired found ++ others)
-  pub answered : answers ≡ first ++ later
+  pub answered : answers ≡ first ++ (later ++ given)

@@ -110,7 +110,7 @@ pub record WorkedWalks (word : ℕ → ℕ) : Type 0 where
   -- over a link to a trader outside, which can't be reached: what matched here is left
   pub without_answer : Comes (alike (Search (over Always (plain ∷ [])))) nowhere word
       (item.Search 0 0 1 ∷ item.Failed fault.Wire ∷ item.Leave ∷ []) (answers (offering [])) 1
-      (one_call (Querying elsewhere (link_query (over Always (plain ∷ [])) (link Always))) (Missed fault.Wire))
+      (one_call (Querying elsewhere (link_query (over Always (plain ∷ [])) (Some 999) (link Always))) (Missed fault.Wire))
   -- a desired property is evaluated, and its value stands in the offer
   pub evaluation : (e : Ior) (p : Iiop) (v : Any) → iiop_of e ≡ Some p → may_stand (told e) v ≡ true
       → Comes (alike (Search (over_queue e))) nowhere word (item.Search 0 0 1 ∷ item.Evaluated v ∷ item.Leave ∷ [])

@@ -5,6 +5,7 @@
 mod answers;
 mod examples;
 mod faults;
+mod gathering;
 mod orders;
 mod sub_queries;
 mod walks;
@@ -15,6 +16,7 @@ pub use examples::{
     worked_resolving, worked_visits, worked_walks,
 };
 pub use faults::{failures_are_faults, faults_are_counted, worked_faults};
+pub use gathering::{asking_on_would_be_cut, full_visits_ask_nobody};
 pub use orders::{paths_ask_once, searches_ask_in_order, walks_step_in_order};
 pub use sub_queries::{
     sub_queries_along_a_path, sub_queries_over_a_link, sub_queries_to_a_proxy,

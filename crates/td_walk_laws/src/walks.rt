@@ -17,8 +17,8 @@ ghost use Rattle.td_walk_laws.specs.SubQueryLaws.{CarriesIdentifier, StatesIdent
 ghost use Rattle.td_walk_laws.specs.WalkLaws.{BeginsIn, Group, Shows};
 ghost use Rattle.td_walk_laws.specs.Walks.{Course, Walk};
 
-/// Each query that a visit passes on goes over a link or to a proxy offer's trader, where there are hops, or along its
-/// path.
+/// Each query that a visit passes on goes over a link or to a proxy offer's trader, where there are hops and offers are
+/// wanted, and asks for as many as these; or along its path.
 #[tactic(auto, using(crate::proofs::Questions::only_passed))]
 pub fn queries_are_passed_on()
     ensures { (l : Local) (answers : List StepAnswer) (target : Ior) (sub : Query)

@@ -1,20 +1,19 @@
 use Rattle.std.proofs.Common.{◌≡◌, drop, length, sym, ap, ◌∙◌, arith}
 use Rattle.std.proofs.lemmas.List.{length-drop}
-use Rattle.td_visit.proofs.Turns.{at_item, given_within, link_passed, link_asks, call_asked, all_called, all_asked}
+use Rattle.td_visit.proofs.Turns.{at_item, link_passed, link_asks, forwards, call_asked, all_called, all_asked}
 use Rattle.td_visit.proofs.asking.ask_others.Goals as goal
 
-pub returns-then-is_some-clause-passes : goal.returns-then-is_some-clause-passes
-returns-then-is_some-clause-passes c =
-    call_asked c.args.local.now c.args.found.now c.call_proxies.new.others c.args.answers.now
+pub returns-then-is_some-clause-asks : goal.returns-then-is_some-clause-asks
+returns-then-is_some-clause-asks c =
+    call_asked c.args.local.now c.args.found.now c.args.answers.now c.call_proxies.new.others
     c.in_ok-called.called (sym c.is_some.ensures ∙ c.if-is_some.true) c.in_ok-called.ensures.calls
 
 pub loop-link-init : goal.loop-link-init
 loop-link-init c = (
-  all_called c.args.local.now c.args.found.now c.call_proxies.new.others c.args.answers.now c.in_ok-called.called
+  all_called c.args.local.now c.args.found.now c.args.answers.now c.call_proxies.new.others c.in_ok-called.called
       (sym c.is_some.ensures ∙ c.if-is_some.false) c.in_ok-called.ensures.calls,
   omega arith,
   c.in_ok-called.ensures.place,
-  c.in_ok-called.ensures.within,
 )
 
 pub loop-link-preserved : goal.loop-link-preserved
@@ -23,16 +22,13 @@ loop-link-preserved c =
     at_item c.args.local.now.links c.split_at.result.1.now c.call_proxies.new.others.links c.loop-link.link-index
     c.loop-link.others.links c.link-item.result
     (c.split_at.ensures.back ∙ ap (drop c.call_proxies.new.others.links) c.as_slice.ensures)
-    c.loop-link.invariant.1 (omega arith) c.link-item.is in (
-      c.loop-link.invariant.0,
-      omega (arith, c.loop-link.invariant.1),
-      link_passed c.args.local.now c.args.found.now c.loop-link.others (length c.args.answers.now)
-          c.pass-question.new.given c.link-item.result c.in_ok-step.step c.pass-question.result
-          (sym c.is_some-in-loop-link.ensures ∙ c.if-is_some-2.false) c.loop-link.invariant.0 at c.in_ok-step.ensures
-          c.pass-question.ensures c.loop-link.invariant.2,
-      given_within c.in_ok-step.step c.pass-question.result (length c.args.answers.now) c.loop-link.others.given
-          c.pass-question.new.given c.loop-link.invariant.3 c.pass-question.ensures,
-    )
+    c.loop-link.invariant.1 (omega arith) c.link-item.is in
+    let next =
+    link_passed c.args.local.now c.args.found.now c.args.answers.now c.loop-link.others c.pass-question.new.others
+    c.link-item.result c.in_ok-step.step c.pass-question.result
+    (sym c.is_some-in-loop-link.ensures ∙ c.if-is_some-2.false) c.loop-link.invariant.0 at c.in_ok-step.ensures
+    c.pass-question.ensures.asks c.pass-question.ensures.passes c.loop-link.invariant.2 in
+    (next.0, omega (arith, c.loop-link.invariant.1, next.1), next.2)
 
 pub returns-then-is_some-2-clause-place : goal.returns-then-is_some-2-clause-place
 returns-then-is_some-2-clause-place c =
@@ -42,33 +38,28 @@ returns-then-is_some-2-clause-place c =
     (c.split_at.ensures.back ∙ ap (drop c.call_proxies.new.others.links) c.as_slice.ensures)
     c.loop-link.invariant.1 (omega arith) c.link-item.is in
     let stop =
-    link_asks c.args.local.now c.args.found.now c.loop-link.others c.args.answers.now c.pass-question.new.given
+    link_asks c.args.local.now c.args.found.now c.args.answers.now c.loop-link.others c.pass-question.new.others
     c.link-item.result c.in_ok-step.step c.pass-question.result
     (sym c.is_some-in-loop-link.ensures ∙ c.if-is_some-2.true) c.loop-link.invariant.0 at c.in_ok-step.ensures
-    c.pass-question.ensures c.loop-link.invariant.2 in
+    c.pass-question.ensures.asks c.pass-question.ensures.passes c.loop-link.invariant.2 in
     stop.place
 
-pub returns-then-is_some-2-clause-within : goal.returns-then-is_some-2-clause-within
-returns-then-is_some-2-clause-within c =
-    given_within c.in_ok-step.step c.pass-question.result (length c.args.answers.now) c.loop-link.others.given
-    c.pass-question.new.given c.loop-link.invariant.3 c.pass-question.ensures
-
-pub returns-then-is_some-2-clause-passes : goal.returns-then-is_some-2-clause-passes
-returns-then-is_some-2-clause-passes c =
+pub returns-then-is_some-2-clause-asks : goal.returns-then-is_some-2-clause-asks
+returns-then-is_some-2-clause-asks c =
     let at =
     at_item c.args.local.now.links c.split_at.result.1.now c.call_proxies.new.others.links c.loop-link.link-index
     c.loop-link.others.links c.link-item.result
     (c.split_at.ensures.back ∙ ap (drop c.call_proxies.new.others.links) c.as_slice.ensures)
     c.loop-link.invariant.1 (omega arith) c.link-item.is in
     let stop =
-    link_asks c.args.local.now c.args.found.now c.loop-link.others c.args.answers.now c.pass-question.new.given
+    link_asks c.args.local.now c.args.found.now c.args.answers.now c.loop-link.others c.pass-question.new.others
     c.link-item.result c.in_ok-step.step c.pass-question.result
     (sym c.is_some-in-loop-link.ensures ∙ c.if-is_some-2.true) c.loop-link.invariant.0 at c.in_ok-step.ensures
-    c.pass-question.ensures c.loop-link.invariant.2 in
-    stop.passes
+    c.pass-question.ensures.asks c.pass-question.ensures.passes c.loop-link.invariant.2 in
+    forwards c.args.local.now c.args.found.now c.args.answers.now c.pass-question.new.others c.pass-question.result stop
 
-pub returns-clause-passes : goal.returns-clause-passes
-returns-clause-passes c =
+pub returns-clause-asks : goal.returns-clause-asks
+returns-clause-asks c =
     let all : c.loop-link.others.links ≡ length c.args.local.now.links =
     omega (
       arith,
@@ -78,5 +69,5 @@ returns-clause-passes c =
       length-drop c.call_proxies.new.others.links c.as_slice.result.now,
       c.in_ok-called.ensures.place.links,
     ) in
-    all_asked c.args.local.now c.args.found.now c.loop-link.others c.args.answers.now c.loop-link.invariant.0 all
-    c.loop-link.invariant.3 c.loop-link.invariant.2
+    all_asked c.args.local.now c.args.found.now c.args.answers.now c.loop-link.others c.loop-link.invariant.0 all
+    c.loop-link.invariant.2

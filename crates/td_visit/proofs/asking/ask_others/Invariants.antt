@@ -1,4 +1,4 @@
-use Rattle.std.proofs.Common.{◌≡◌, ◌+◌, ◌≤◌, length}
+use Rattle.std.proofs.Common.{◌≡◌, ◌+◌, length}
 use Rattle.td_visit.specs.Resuming.{IsPlaceInSearch}
 use Rattle.td_visit.proofs.asking.ask_others.Given as goal
 
@@ -7,5 +7,4 @@ abbrev pub invariant-loop-link : goal.invariant-loop-link
 invariant-loop-link l =
     (l.others.offers ≡ length l.found)
     × (l.others.links ≡ l.initial.others.links + l.link-index)
-    × IsPlaceInSearch l.local l.found l.others
-    × (l.others.given ≤ length l.answers)
+    × IsPlaceInSearch l.local l.found l.answers l.others

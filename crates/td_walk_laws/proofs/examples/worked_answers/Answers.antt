@@ -12,5 +12,6 @@ unfolding IsAnswer visit_of steps link_step proxy_step with_names resolved
 returns c = λ word. record {
   both = record { ranked = here ∷ far ∷ []; in_order = refl; cut = refl; limits = refl };
   failed = record { ranked = here ∷ []; in_order = refl; cut = refl; limits = refl };
-  cut = record { ranked = here ∷ far ∷ []; in_order = refl; cut = refl; limits = refl };
+  cut = record { ranked = here ∷ far ∷ here ∷ []; in_order = refl; cut = refl; limits = refl };
+  enough = record { ranked = here ∷ []; in_order = refl; cut = refl; limits = refl };
 }

@@ -15,4 +15,8 @@ returns c = record {
   without_match = refl;
   on_the_way = refl;
   on_the_way_back = refl;
+  on_any_way = refl;
+  enough = refl;
+  none_wanted = refl;
+  at_random = refl;
 }
