@@ -8,10 +8,10 @@
        all or so many seconds have passed, and reads each reply whole. Prints the seconds, how many replies were the one
        in REPLY, how many weren't, how many connections got none within 20 seconds or ended, and the milliseconds that
        the slowest reply took.
-   load answer PORT REQUEST_SIZE REPLY
+   load answer PORT REQUEST_SIZE REPLY [TOGETHER]
        Serves whoever connects, each on a thread of its own, by the socket calls that tradesrv makes: it reads 8,192
-       bytes at most, and for as many as a request has it writes the reply (a file) by a call of its own. It looks at
-       none of them. */
+       bytes at most, and for as many as a request has it writes the reply (a file), so many by one call at most, or
+       each by a call of its own. It looks at none of them. */
 
 #include <arpa/inet.h>
 #include <netinet/tcp.h>
@@ -207,7 +207,7 @@ static void compare(int port, int connections, double seconds, long count, struc
     printf("%.3f %ld %ld %ld %.0f\n", now() - begin, all.same, all.other, all.lost, all.slowest * 1000);
 }
 
-static void answer(int port, size_t request_size, struct text reply) {
+static void answer(int port, size_t request_size, struct text reply, size_t together) {
     struct sockaddr_in address = loopback(port);
     int listener = socket(AF_INET, SOCK_STREAM, 0), yes = 1;
     setsockopt(listener, SOL_SOCKET, SO_REUSEADDR, &yes, sizeof yes);
@@ -220,7 +220,7 @@ static void answer(int port, size_t request_size, struct text reply) {
         struct end *it = malloc(sizeof *it);
         pthread_t thread;
         if (!it) fail("malloc");
-        *it = (struct end){stream, 0, reply, 1, 8192, request_size, 0};
+        *it = (struct end){stream, 0, reply, together, 8192, request_size, 0};
         pthread_create(&thread, NULL, exchange, it);
         pthread_detach(thread);
     }
@@ -232,8 +232,8 @@ int main(int count, char **words) {
         ask(atoi(words[2]), atoi(words[3]), atoi(words[4]), atof(words[5]), text_of(words[6]), atoi(words[7]));
     } else if (count == 8 && strcmp(words[1], "compare") == 0) {
         compare(atoi(words[2]), atoi(words[3]), atof(words[4]), atol(words[5]), text_of(words[6]), text_of(words[7]));
-    } else if (count == 5 && strcmp(words[1], "answer") == 0) {
-        answer(atoi(words[2]), atoi(words[3]), text_of(words[4]));
+    } else if ((count == 5 || count == 6) && strcmp(words[1], "answer") == 0) {
+        answer(atoi(words[2]), atoi(words[3]), text_of(words[4]), count == 6 ? atoi(words[5]) : 1);
     } else {
         fprintf(stderr, "usage\n");
         return 2;
