@@ -1,15 +1,9 @@
 //! How streams end.
 
-use crate::messages::{PLAIN, REPLY, REQUEST};
+use crate::messages::{CLOSE, ERROR, PLAIN, REPLY, REQUEST};
 use crate::story::{Story, comes};
 use std::test::Fail;
 use td_stream::{Cause, End};
-
-/// A MessageError in big order.
-const ERROR: &[u8] = b"GIOP\x01\x00\x00\x06\x00\x00\x00\x00";
-
-/// A CloseConnection.
-const CLOSE: &[u8] = b"GIOP\x01\x00\x00\x05\x00\x00\x00\x00";
 
 #[test]
 fn messages_close_a_stream(rt: HostRuntime) -> Result<(), Fail> {

@@ -33,6 +33,12 @@ const HERE: &[u8] = b"GIOP\x01\x00\x00\x04\x00\x00\x00\x08\x00\x00\x00\x09\x00\x
 /// A CancelRequest.
 const CANCEL: &[u8] = b"GIOP\x01\x00\x00\x02\x00\x00\x00\x04\x00\x00\x00\x05";
 
+/// A MessageError in big order.
+pub const ERROR: &[u8] = b"GIOP\x01\x00\x00\x06\x00\x00\x00\x00";
+
+/// A CloseConnection.
+pub const CLOSE: &[u8] = b"GIOP\x01\x00\x00\x05\x00\x00\x00\x00";
+
 /// A Request, all of which comes.
 pub const PLAIN: Story = Story {
     sent: &[REQUEST],

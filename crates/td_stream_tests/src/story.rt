@@ -23,7 +23,7 @@ pub struct Story {
 }
 
 /// The parts, one after the other.
-fn joined(alloc: Global, parts: &[&'static [u8]]) -> Result<Vec<u8>, Memory> {
+pub fn joined(alloc: Global, parts: &[&'static [u8]]) -> Result<Vec<u8>, Memory> {
     let mut all = Vec::new(alloc);
     for part in parts {
         all.extend_from_slice(part)?;
