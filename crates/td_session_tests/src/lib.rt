@@ -37,3 +37,5 @@ mod serving;
 mod session_tests;
 #[cfg(test)]
 mod story;
+#[cfg(test)]
+mod together;

@@ -1,14 +1,14 @@
 //! Replies go out together, and never too late.
 
 use crate::counting::{Counting, Plan, fill};
-use crate::messages::{CLOSE, REQUEST};
+use crate::messages::{CLOSE, ERROR, REQUEST};
 use crate::outside::{Got, Supply, Tap};
 use crate::story::joined;
 use std::alloc::Global;
 use std::cell::Cell;
 use std::test::Fail;
 use td_cdr::{Memory, Octets};
-use td_stream::{End, serve_stream};
+use td_stream::{Cause, End, serve_stream};
 
 /// A client and a servant, and what comes of them.
 #[derive(Clone, Copy)]
@@ -214,4 +214,137 @@ fn a_failed_write_before_a_servant_waits_ends_a_stream(rt: HostRuntime) -> Resul
     };
     assert!(rt; comes(alloc, &full)?, "nor does it end for want of memory");
     Ok(())
+}
+
+#[test]
+fn long_replies_go_out_in_their_order(rt: HostRuntime) -> Result<(), Fail> {
+    let alloc = rt.alloc();
+    let half = Case {
+        plan: Plan {
+            size: 40_000,
+            ..THREE.plan
+        },
+        wrote: 120_000,
+        writes: 3,
+        ..THREE
+    };
+    assert!(rt; comes(alloc, &half)?, "one is held, one isn't, and one is");
+    let long = Case {
+        plan: Plan {
+            size: 65_537,
+            ..THREE.plan
+        },
+        wrote: 196_611,
+        ..half
+    };
+    assert!(rt; comes(alloc, &long)?, "longer than what is held");
+    let fails = Case {
+        failing: 2,
+        end: End::WriteFault,
+        wrote: 40_000,
+        writes: 2,
+        answered: 2,
+        ..half
+    };
+    assert!(rt;
+        comes(alloc, &fails)?,
+        "a failed write behind what was held"
+    );
+    Ok(())
+}
+
+/// Two Requests at once, and then a CloseConnection.
+const CLOSED: Case = Case {
+    sent: &[REQUEST, REQUEST, CLOSE, REQUEST],
+    cut: 153,
+    waits: 0,
+    plan: Plan {
+        size: 2,
+        most: 255,
+        sends: false,
+        least: 0,
+    },
+    failing: 0,
+    most: usize::MAX,
+    end: End::Closed,
+    told: &[1, 2],
+    wrote: 4,
+    last: &[],
+    writes: 1,
+    answered: 2,
+};
+
+#[test]
+fn a_closed_stream_sends_what_is_held(rt: HostRuntime) -> Result<(), Fail> {
+    let alloc = rt.alloc();
+    assert!(rt; sends(alloc, &CLOSED)?, "CloseConnection");
+    let truncated = Case {
+        sent: &[REQUEST, REQUEST, b"GIOP\x01\x00"],
+        cut: 100,
+        end: End::Truncated(94),
+        ..CLOSED
+    };
+    assert!(rt; sends(alloc, &truncated)?, "the input's end in a message");
+    Ok(())
+}
+
+#[test]
+fn a_broken_stream_sends_what_is_held(rt: HostRuntime) -> Result<(), Fail> {
+    let alloc = rt.alloc();
+    let broken = Case {
+        sent: &[REQUEST, REQUEST, b"GIOP\x01\x00\x00\x01\x00\x00\x00\x00"],
+        cut: 106,
+        end: End::Broken(94, Cause::NotForServer),
+        last: ERROR,
+        writes: 2,
+        ..CLOSED
+    };
+    assert!(rt;
+        sends(alloc, &broken)?,
+        "a message that is not for a server"
+    );
+    let bad = Case {
+        sent: &[REQUEST, REQUEST, b"GIOR\x01\x00\x00\x01\x00\x00\x00\x00"],
+        end: End::Broken(94, Cause::BadMagic),
+        ..broken
+    };
+    assert!(rt; sends(alloc, &bad)?, "a bad header");
+    Ok(())
+}
+
+#[test]
+fn want_of_memory_and_a_fault_send_what_is_held(rt: HostRuntime) -> Result<(), Fail> {
+    let alloc = rt.alloc();
+    let memory = Case {
+        sent: THREE.sent,
+        cut: 141,
+        plan: Plan {
+            most: 2,
+            ..THREE.plan
+        },
+        end: End::Memory,
+        ..CLOSED
+    };
+    assert!(rt; sends(alloc, &memory)?, "a servant without memory");
+    let fault = Case {
+        cut: 94,
+        waits: 5,
+        end: End::ReadFault,
+        ..memory
+    };
+    assert!(rt; sends(alloc, &fault)?, "a fault of the source");
+    Ok(())
+}
+
+/// Whether it comes so, and as WriteFault where what is held can't be sent.
+fn sends(alloc: Global, case: &Case) -> Result<bool, Memory> {
+    let fails = Case {
+        failing: 1,
+        end: End::WriteFault,
+        wrote: 0,
+        last: &[],
+        writes: 1,
+        ..*case
+    };
+    Ok(comes(alloc, case)? && comes(alloc, &fails)?)
 }
