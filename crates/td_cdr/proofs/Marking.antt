@@ -1,7 +1,7 @@
 -- One more mark, and what is remembered then.
 use Rattle.std.proofs.Common.{◌≡◌, true≢false, ℕ, ◌+◌, ◌-◌, ◌^◌, ◌<◌, ◌≤◌, ◌⊎◌, inl, inr, List, [], ◌∷◌, ◌++◌}
 use Rattle.std.proofs.Common.{Bool, true, false, cond, nat_lt, ltb-true, ltb-false, Option, Some, None, option_map}
-use Rattle.std.proofs.Common.{refl, sym, ◌∙◌, ap, subst, le_refl, arith}
+use Rattle.std.proofs.Common.{refl, sym, ◌∙◌, ap, subst, le_refl, arith, length, length-append}
 use Rattle.std.specs.List.{find}
 use Rattle.std.specs.Str.{bytes_eq}
 use Rattle.std.proofs.lemmas.Slice.Eq.{bytes_eq-Decides}
@@ -198,7 +198,25 @@ same_end (x ∷ stem) a b e = same_end stem a b (ap (λ t. tail_of t) e)
 read_back : (k : ℕ) → k < 256 ^ 8 → number Big 8 (bytes_of Big 8 k) ≡ k
 read_back k few = ap (number Big 8) (sym (append-nil (bytes_of Big 8 k))) ∙ big_number-reads_back 8 k [] few
 
-pub made_apart : (stem : List ℕ) (k l : ℕ) → k < 256 ^ 8 → l < 256 ^ 8 → made_identifier stem k ≡ made_identifier stem l
-    → k ≡ l
-made_apart stem k l few also e =
-    sym (read_back k few) ∙ ap (number Big 8) (same_end stem (bytes_of Big 8 k) (bytes_of Big 8 l) e) ∙ read_back l also
+same_front : (xs ys a b : List ℕ) → length xs ≡ length ys → xs ++ a ≡ ys ++ b → xs ≡ ys
+same_front [] [] a b long e = refl
+same_front [] (y ∷ ys) a b long e = absurd (omega arith)
+same_front (x ∷ xs) [] a b long e = absurd (omega arith)
+same_front (x ∷ xs) (y ∷ ys) a b long e =
+    let first : x ≡ y = cc in
+    let rest : xs ++ a ≡ ys ++ b = cc in
+    let more = same_front xs ys a b (omega arith) rest in
+    cc
+
+-- the values are the same, whatever the stems
+pub made_apart : (s t : List ℕ) (k l : ℕ) → k < 256 ^ 8 → l < 256 ^ 8 → made_identifier s k ≡ made_identifier t l → k ≡ l
+made_apart s t k l few also e =
+    let a : List ℕ = bytes_of Big 8 k in
+    let b : List ℕ = bytes_of Big 8 l in
+    let long_a : length a ≡ 8 = refl in
+    let long_b : length b ≡ 8 = refl in
+    let all : length s + length a ≡ length t + length b =
+    sym (length-append s a) ∙ (ap (length {A = ℕ}) e ∙ length-append t b) in
+    let stems : s ≡ t = same_front s t a b (omega arith) e in
+    let ends : a ≡ b = same_end s a b (e ∙ ap (λ (x : List ℕ). made_identifier x l) (sym stems)) in
+    sym (read_back k few) ∙ ap (number Big 8) ends ∙ read_back l also

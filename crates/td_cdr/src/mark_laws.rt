@@ -34,9 +34,9 @@ pub fn later_marks_go_on()
     ensures on { (a b c : Marks) → Later a b → Later b c → Later a c }
 {}
 
-/// Two values of a trader's counter make two identifiers.
+/// Two values of a trader's counter make two identifiers, whatever the stems.
 #[tactic(auto, using(crate::proofs::Marking::made_apart))]
 pub fn made_identifiers_differ()
-    ensures { (stem : List ℕ) (k l : ℕ) → k < 256 ^ 8 → l < 256 ^ 8 → made_identifier stem k ≡ made_identifier stem l
-        → k ≡ l }
+    ensures { (s t : List ℕ) (k l : ℕ) → k < 256 ^ 8 → l < 256 ^ 8
+        → made_identifier s k ≡ made_identifier t l → k ≡ l }
 {}

@@ -1,13 +1,11 @@
 -- Own marks, over the steps.
 use Rattle.std.proofs.Common.{◌≡◌, ℕ, ◌+◌, ◌-◌, ◌<◌, ◌≤◌, ◌⊎◌, inl, inr, List, [], ◌∷◌, ◌++◌, append-nil, Bool, true}
 use Rattle.std.proofs.Common.{false, cond, nat_lt, ltb-true, ltb-false, refl, sym, ◌∙◌, ap, subst, arith, slice_set}
-use Rattle.std.proofs.Common.{Some, None, length, length-append, ◌^◌, ◌≢◌}
+use Rattle.std.proofs.Common.{Some, None, ◌≢◌}
 use mathlib.Core.Option.{some}
 use lib.ListN.{get_elem?}
 use Rattle.td_cdr.proofs.Marking.{made_apart}
-use Rattle.td_cdr.specs.Gap.{bytes_of}
 use Rattle.td_cdr.specs.Marks.{In, Later, Marks, NewMark, last_identifier, made_identifier}
-use Rattle.td_cdr.specs.declared.order.Order.TheVariants.{Big}
 use Rattle.td_cell.specs.declared.pass.View.{View}
 use Rattle.td_cell.specs.declared.pass.Mark.{Mark}
 use Rattle.td_cell.specs.OwnMarks.{MarksOnce, Gap, IsMadeOf, LastIsMade, Spaced, mark_between, number_of}
@@ -25,32 +23,11 @@ lt_or x y = lt_by x y (nat_lt x y) refl
 
 -- ---- made identifiers
 
-same_front : (xs ys a b : List ℕ) → length xs ≡ length ys → xs ++ a ≡ ys ++ b → xs ≡ ys
-same_front [] [] a b long e = refl
-same_front [] (y ∷ ys) a b long e = absurd (omega arith)
-same_front (x ∷ xs) [] a b long e = absurd (omega arith)
-same_front (x ∷ xs) (y ∷ ys) a b long e =
-    let first : x ≡ y = cc in
-    let rest : xs ++ a ≡ ys ++ b = cc in
-    let more = same_front xs ys a b (omega arith) rest in
-    cc
-
-values_same : (s t : List ℕ) (v w : ℕ) → v < 256 ^ 8 → w < 256 ^ 8 → made_identifier s v ≡ made_identifier t w → v ≡ w
-values_same s t v w few also e =
-    let a : List ℕ = bytes_of Big 8 v in
-    let b : List ℕ = bytes_of Big 8 w in
-    let long_a : length a ≡ 8 = refl in
-    let long_b : length b ≡ 8 = refl in
-    let all : length s + length a ≡ length t + length b =
-    sym (length-append s a) ∙ (ap (length {A = ℕ}) e ∙ length-append t b) in
-    let stems : s ≡ t = same_front s t a b (omega arith) e in
-    made_apart s v w few also (e ∙ ap (λ (x : List ℕ). made_identifier x w) (sym stems))
-
 -- of two values two identifiers are made
 made_differ : (i j : List ℕ) (k l : ℕ) → IsMadeOf i k → IsMadeOf j l → k < l → i ≢ j
 made_differ i j k l a b less same =
     let e : made_identifier a.stem k ≡ made_identifier b.stem l = sym a.is ∙ (same ∙ b.is) in
-    let values = values_same a.stem b.stem k l a.below b.below e in
+    let values = made_apart a.stem b.stem k l a.below b.below e in
     absurd (omega (arith, values))
 
 module _ {B : Type 0} where

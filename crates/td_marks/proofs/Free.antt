@@ -1,9 +1,7 @@
 -- Values of which identifiers are made: one of so many as are remembered, and one more, is free.
 use Rattle.std.proofs.Common.{◌≡◌, true≢false, ℕ, zero, suc, ◌+◌, ◌-◌, ◌^◌, ◌<◌, ◌≤◌, ◌⊎◌, inl, inr, Bool, true, false}
-use Rattle.std.proofs.Common.{not, List, [], ◌∷◌, ◌++◌, length, Option, Some, None, is_some, unwrap_or, refl}
-use Rattle.std.proofs.Common.{sym, ap, ◌∙◌, subst, arith, length-append, Result, Ok, Err, IfOk}
-use Rattle.td_cdr.specs.Gap.{bytes_of}
-use Rattle.td_cdr.specs.declared.order.Order.TheVariants.{Big}
+use Rattle.std.proofs.Common.{not, List, [], ◌∷◌, length, Option, Some, None, is_some, unwrap_or, refl}
+use Rattle.std.proofs.Common.{sym, ap, ◌∙◌, subst, arith, Result, Ok, Err, IfOk}
 use Rattle.std.proofs.lemmas.Bool.{cases_Bool, cases_eq, cases_lt}
 use Rattle.indexmap.proofs.IndexTableLemmas.Probe.{Into, OneToOne, pigeonhole}
 use Rattle.td_cdr.specs.Marks.{Marks, Remembered, In, Holds, Numbered, Orderly, Later, Follows, remembered, marked}
@@ -133,7 +131,7 @@ few m stem n k o fits taken = pigeonhole n (length m.kept) place into one
         (entry_of (made_identifier stem (k + j)) (number_of m stem (k + j))) o.numbers (there_is i p) (there_is j q)
         same in
         let values : k + i ≡ k + j =
-        made_apart stem (k + i) (k + j) (omega arith) (omega arith) (ap (λ (x : Remembered). x.identifier) entries) in
+        made_apart stem stem (k + i) (k + j) (omega arith) (omega arith) (ap (λ (x : Remembered). x.identifier) entries) in
         omega (arith, values)
 
 -- ---- the next value
@@ -212,28 +210,6 @@ far a m i number h later fresh =
     ]
 
 -- ---- made identifiers
-
-same_front : (xs ys a b : List ℕ) → length xs ≡ length ys → xs ++ a ≡ ys ++ b → xs ≡ ys
-same_front [] [] a b long e = refl
-same_front [] (y ∷ ys) a b long e = absurd (omega arith)
-same_front (x ∷ xs) [] a b long e = absurd (omega arith)
-same_front (x ∷ xs) (y ∷ ys) a b long e =
-    let first : x ≡ y = cc in
-    let rest : xs ++ a ≡ ys ++ b = cc in
-    let more = same_front xs ys a b (omega arith) rest in
-    cc
-
-pub values_differ : (s t : List ℕ) (v w : ℕ) → v < 256 ^ 8 → w < 256 ^ 8 → made_identifier s v ≡ made_identifier t w
-    → v ≡ w
-values_differ s t v w few also e =
-    let a : List ℕ = bytes_of Big 8 v in
-    let b : List ℕ = bytes_of Big 8 w in
-    let long_a : length a ≡ 8 = refl in
-    let long_b : length b ≡ 8 = refl in
-    let all : length s + length a ≡ length t + length b =
-    sym (length-append s a) ∙ (ap (length {A = ℕ}) e ∙ length-append t b) in
-    let stems : s ≡ t = same_front s t a b (omega arith) e in
-    made_apart s v w few also (e ∙ ap (λ (x : List ℕ). made_identifier x w) (sym stems))
 
 -- the identifier that is made isn't remembered
 made_is_free : (m : Marks) (stem : List ℕ) (made : Made) → Orderly m → m.counter + length m.kept < 256 ^ 8

@@ -1,6 +1,6 @@
 -- What holds of marks and of made identifiers, however they came about.
 use Rattle.std.specs.Prelude.{◌≡◌, ℕ, ◌+◌, ◌^◌, ◌<◌, ◌≤◌, List, None, length}
-use Rattle.td_cdr.specs.Marks.{Marks, Holds, remembered, Orderly, Later, Follows, marked, made_identifier}
+use Rattle.td_cdr.specs.Marks.{Marks, Holds, remembered, Orderly, Later, Follows, marked}
 use Rattle.td_marks.specs.Making.{next_value, IsNextValue}
 
 -- an identifier that isn't remembered is marked: the marks go on
@@ -25,8 +25,3 @@ NextValuesAreFree =
 abbrev pub NextValuesAreAlone : Type 0
 NextValuesAreAlone =
     (m : Marks) (stem : List ℕ) (v w : ℕ) → IsNextValue m stem v → IsNextValue m stem w → v ≡ w
-
--- two values make two identifiers, also where the stem has changed between
-abbrev pub MadeIdentifiersDiffer : Type 0
-MadeIdentifiersDiffer =
-    (s t : List ℕ) (v w : ℕ) → v < 256 ^ 8 → w < 256 ^ 8 → made_identifier s v ≡ made_identifier t w → v ≡ w

@@ -1,8 +1,8 @@
-//! What holds of marks and of made identifiers (Trading Object Service, the policy request_id of a query), as
+//! What holds of marks and of the next made identifier (Trading Object Service, the policy request_id of a query), as
 //! functions that do nothing: each one's contract is the law.
 
 ghost use Rattle.td_marks.specs.Laws.{FreshMarksFollow, MarksOfOneIdentifierAreFar};
-ghost use Rattle.td_marks.specs.Laws.{NextValuesAreFree, NextValuesAreAlone, MadeIdentifiersDiffer};
+ghost use Rattle.td_marks.specs.Laws.{NextValuesAreFree, NextValuesAreAlone};
 
 /// A mark of an identifier that isn't remembered: the marks are later then and in order, and the mark is new.
 pub fn fresh_marks_follow()
@@ -18,9 +18,4 @@ pub fn marks_of_one_identifier_are_far()
 pub fn next_values_are_free()
     ensures free { NextValuesAreFree }
     ensures alone { NextValuesAreAlone }
-{}
-
-/// Two values of a trader's counter make two identifiers, whatever the stems.
-pub fn made_identifiers_differ()
-    ensures { MadeIdentifiersDiffer }
 {}

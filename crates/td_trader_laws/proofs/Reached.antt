@@ -10,11 +10,11 @@ use Rattle.std.proofs.lemmas.Map.Keys.{IsDistinct-tail, IsDistinct-push}
 use Rattle.std.proofs.lemmas.Slice.Eq.{bytes_eq-Decides}
 use Rattle.td_cdr.specs.Marks.{Marks, Remembered, In, Holds, Later, Numbered, entry_of, kept_beside, made_identifier}
 use Rattle.td_cdr.specs.Marks.{marked, without_first}
-use Rattle.td_cdr.proofs.Marking.{follows, newest}
+use Rattle.td_cdr.proofs.Marking.{follows, made_apart, newest}
 use Rattle.td_marks.specs.Keeping.{IsKept, identifiers, most_kept, no_marks}
 use Rattle.td_marks.specs.Making.{made_from, next_value}
 use Rattle.td_marks.specs.declared.made.Made.{Made}
-use Rattle.td_marks.proofs.Free.{is_next, values_differ}
+use Rattle.td_marks.proofs.Free.{is_next}
 use Rattle.td_ops.specs.declared.call.Change.{Change}
 use Rattle.td_ops.specs.declared.call.Query.{Query}
 use Rattle.td_ops.specs.declared.outcome.Outcome.{Outcome}
@@ -308,7 +308,7 @@ made-apart t u p q k l bounds kept kept_then e after f none nil same =
     let b = made-of u q l (bounds-then t u p k bounds after) kept_then f nil in
     let alike : made_identifier a.stem a.value ≡ made_identifier b.stem b.value =
     same_some (made_identifier a.stem a.value) (made_identifier b.stem b.value) (sym a.is ∙ (same ∙ b.is)) in
-    let one = values_differ a.stem b.stem a.value b.value a.below b.below alike in
+    let one = made_apart a.stem b.stem a.value b.value a.below b.below alike in
     let up = after.marks.counter in
     let risen = a.counter in
     let from = b.from in
