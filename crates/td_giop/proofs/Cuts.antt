@@ -178,9 +178,10 @@ front_message limit s m front =
     let good = subst (Judged limit m) alone (judged limit m) in
     let size : w.header.size ≡ length m - 12 = omega (arith, w.size) in
     record {
+      minor = w.header.minor;
       order = w.header.order;
       kind = w.header.kind;
-      good = subst (GoodHeader limit m w.header.order w.header.kind) size good;
+      good = subst (GoodHeader limit m w.header.minor w.header.order w.header.kind) size good;
     }
 
 abbrev told_size : ℕ → Result (Option ℕ) FrameFault
@@ -189,10 +190,10 @@ told_size n = Ok (Some n)
 pub message_front : (limit : ℕ) (m rest : List ℕ) → IsMessage limit m → Front limit (m ++ rest) m
 message_front limit m rest i =
     let long = i.good.whole in
-    let there = header_at-append limit m rest long ∙ good_at limit m i.order i.kind (length m - 12) i.good in
+    let there = header_at-append limit m rest long ∙ good_at limit m i.minor i.order i.kind (length m - 12) i.good in
     let size : 12 + (length m - 12) ≡ length m = omega arith in
     let first =
-    first_of limit (m ++ rest) (record { kind = i.kind; order = i.order; size = length m - 12 }) there
+    first_of limit (m ++ rest) (record { kind = i.kind; order = i.order; size = length m - 12; minor = i.minor }) there
     (omega (arith, length-append m rest)) in
     record { size = first ∙ ap (λ (n : ℕ). told_size n) size; bytes = sym (take_at m rest (length m) refl) }
 
@@ -202,14 +203,14 @@ pub raw_front : (s : Stream) (m : Raw) → IsRaw s m → Front s.limit s.rest m.
 raw_front s m r = record { size = r.whole; bytes = r.bytes }
 
 pub raw_good : (s : Stream) (m : Raw) → IsRaw s m
-    → GoodHeader s.limit m.bytes.now m.order m.kind (length m.bytes.now - 12)
+    → GoodHeader s.limit m.bytes.now m.minor m.order m.kind (length m.bytes.now - 12)
 raw_good s m r =
     let bytes = m.bytes.now in
     let parts : s.rest ≡ bytes ++ drop (length bytes) s.rest =
     sym (take-append-drop (length bytes) s.rest)
     ∙ ap (λ (x : List ℕ). x ++ drop (length bytes) s.rest) (sym r.bytes) in
     let alone : header_at s.limit bytes
-    ≡ Ok (Some (record { kind = m.kind; order = m.order; size = length bytes - 12 })) =
+    ≡ Ok (Some (record { kind = m.kind; order = m.order; size = length bytes - 12; minor = m.minor })) =
     sym (header_at-append s.limit bytes (drop (length bytes) s.rest) r.least) ∙ ap (header_at s.limit) (sym parts)
     ∙ r.header in
     subst (Judged s.limit bytes) alone (judged s.limit bytes)

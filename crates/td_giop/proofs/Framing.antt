@@ -50,7 +50,7 @@ sized held n (Ok (Some h)) e =
 pub record Whole (limit : ℕ) (s : List ℕ) (n : ℕ) : Type 0 where
   pub header : Header
   pub was : header_at limit s ≡ Ok (Some header)
-  pub good : GoodHeader limit s header.order header.kind header.size
+  pub good : GoodHeader limit s header.minor header.order header.kind header.size
   pub size : n ≡ 12 + header.size
   pub within : n ≤ length s
 
@@ -111,14 +111,14 @@ bad-append limit s p f e =
 abbrev is_header : Header → header_result
 is_header h = Ok (Some h)
 
-abbrev header_of : ℕ → Order → ℕ → Header
-header_of kind order size = record { kind = kind; order = order; size = size }
+abbrev header_of : ℕ → Order → ℕ → ℕ → Header
+header_of kind order size minor = record { kind = kind; order = order; size = size; minor = minor }
 
-pub same_header : (h : Header) (kind : ℕ) (order : Order) (size : ℕ) → h.kind ≡ kind → h.order ≡ order → h.size ≡ size
-    → h ≡ record { kind = kind; order = order; size = size }
-same_header h kind order size p q r =
-    ap (λ (x : ℕ). header_of x h.order h.size) p ∙ ap (λ (x : Order). header_of kind x h.size) q
-    ∙ ap (header_of kind order) r
+pub same_header : (h : Header) (kind : ℕ) (order : Order) (size minor : ℕ) → h.kind ≡ kind → h.order ≡ order
+    → h.size ≡ size → h.minor ≡ minor → h ≡ record { kind = kind; order = order; size = size; minor = minor }
+same_header h kind order size minor p q r t =
+    ap (λ (x : ℕ). header_of x h.order h.size h.minor) p ∙ ap (λ (x : Order). header_of kind x h.size h.minor) q
+    ∙ ap (λ (x : ℕ). header_of kind order x h.minor) r ∙ ap (header_of kind order size) t
 
 -- what the ring holds once a piece fitted in
 pub filled : (old kept new piece : List ℕ) (count room : ℕ) → count ≡ min (length piece) (room - length kept)
@@ -149,8 +149,9 @@ bounded start message old piece kept ring e f h =
 -- what is lent is the message in front, with what its header tells
 pub is_raw : (s : Stream) (message ring : List ℕ) (m : Raw) → s.rest ≡ message ++ ring
     → first_at s.limit s.rest ≡ Ok (Some (length message)) → m.bytes.now ≡ message → m.start ≡ s.start
-    → m.kind ≡ slice_index message 7 → m.order ≡ order_told (slice_index message 6) → IsRaw s m
-is_raw s message ring m parts first bytes place kind order =
+    → m.kind ≡ slice_index message 7 → m.order ≡ order_told (slice_index message 6)
+    → m.minor ≡ slice_index message 5 → IsRaw s m
+is_raw s message ring m parts first bytes place kind order minor =
     let w = whole s.limit s.rest (length message) first in
     let long : 12 ≤ length message = omega (arith, w.size) in
     let kind_is : w.header.kind ≡ m.kind =
@@ -160,8 +161,12 @@ is_raw s message ring m parts first bytes place kind order =
     only_told (slice_index s.rest 6) w.header.order w.good.order_octet
     ∙ ap (λ (x : List ℕ). order_told (slice_index x 6)) parts
     ∙ ap order_told (octet-append message ring 6 long (omega arith)) ∙ sym order in
+    let minor_is : w.header.minor ≡ m.minor =
+    sym w.good.minor_octet ∙ ap (λ (x : List ℕ). slice_index x 5) parts
+    ∙ octet-append message ring 5 long (omega arith) ∙ sym minor in
     let size_is : w.header.size ≡ length message - 12 = omega (arith, w.size) in
-    let header_is = same_header w.header m.kind m.order (length message - 12) kind_is order_is size_is in
+    let header_is =
+    same_header w.header m.kind m.order (length message - 12) m.minor kind_is order_is size_is minor_is in
     record {
       whole = rw bytes first;
       bytes = rw (bytes, parts) (sym (take_at message ring (length message) refl));

@@ -1,6 +1,6 @@
 -- Heads: what is read is spelled so, what is spelled so is read, what is faulty is refused, and no reading wants
 -- memory.
-use Rattle.std.proofs.Common.{◌≡◌, ◌≤◌, Result, Ok, Err, ap}
+use Rattle.std.proofs.Common.{◌≡◌, ◌≤◌, ℕ, zero, suc, Result, Ok, Err, ap}
 use Rattle.td_cdr.specs.declared.fault.CdrFault.{CdrFault}
 use Rattle.td_cdr.specs.declared.fault.CdrFault.TheVariants.{Memory}
 use Rattle.td_cdr.specs.Place.{At}
@@ -8,8 +8,9 @@ use Rattle.td_cdr.specs.Spelling.{Joins}
 use Rattle.td_cdr.specs.Faults.{ThenFault}
 use Rattle.td_cdr.specs.Joined.{ok_is}
 use Rattle.td_cdr.specs.Sound.{Sound, ◌&◌}
-use Rattle.td_giop.specs.Fields.{ulong, boolean, octets, text, sequence}
-use Rattle.td_giop.specs.Heads.{alone, context, contexts, principal, request, reply, locate_request, locate_reply}
+use Rattle.td_giop.specs.Fields.{ulong, octet, boolean, octets, text, sequence}
+use Rattle.td_giop.specs.Heads.{alone, context, contexts, principal, reserved, request, reply, locate_request}
+use Rattle.td_giop.specs.Heads.{locate_reply}
 use Rattle.td_giop.specs.Heads.{cancel_request}
 use Rattle.td_cdr.proofs.Items.{number-takes_none, octets-takes_none, boolean-takes_none, string-takes_none}
 use Rattle.td_giop.specs.Alone.{SpellsAlone, IsReadAlone}
@@ -62,13 +63,20 @@ sequence-takes_none g none a (ThenFault.second v next found d) = none d.next d.h
 contexts-takes_none : TakesNone contexts
 contexts-takes_none = sequence-takes_none context (pair-takes_none ulong octets (number-takes_none 4) octets-takes_none)
 
-pub request-takes_none : TakesNone request
-request-takes_none =
-    pair-takes_none contexts (ulong & boolean & octets & text & principal) contexts-takes_none
-    (pair-takes_none ulong (boolean & octets & text & principal) (number-takes_none 4)
-    (pair-takes_none boolean (octets & text & principal) boolean-takes_none
+reserved-takes_none : (minor : ℕ) → TakesNone (reserved minor)
+reserved-takes_none zero = λ a d. d
+reserved-takes_none (suc newer) =
+    pair-takes_none octet (octet & octet) (number-takes_none 1)
+    (pair-takes_none octet octet (number-takes_none 1) (number-takes_none 1))
+
+pub request-takes_none : (minor : ℕ) → TakesNone (request minor)
+request-takes_none minor =
+    pair-takes_none contexts (ulong & boolean & reserved minor & octets & text & principal) contexts-takes_none
+    (pair-takes_none ulong (boolean & reserved minor & octets & text & principal) (number-takes_none 4)
+    (pair-takes_none boolean (reserved minor & octets & text & principal) boolean-takes_none
+    (pair-takes_none (reserved minor) (octets & text & principal) (reserved-takes_none minor)
     (pair-takes_none octets (text & principal) octets-takes_none
-    (pair-takes_none text principal string-takes_none octets-takes_none))))
+    (pair-takes_none text principal string-takes_none octets-takes_none)))))
 
 pub reply-takes_none : TakesNone reply
 reply-takes_none =

@@ -1,16 +1,16 @@
 -- What the judging of a header says of its octets.
 use Rattle.std.proofs.Common.{◌≡◌, ℕ, ◌<◌, ◌≤◌, ◌%◌, Bool, true, false, not, ltb, eqb, List, ◌++◌, length, drop}
 use Rattle.std.proofs.Common.{slice_index, Some, None, Ok, Err, refl, sym, ap, subst, ◌∙◌, arith, length-append}
-use Rattle.std.proofs.lemmas.Bool.{ltb-true, ltb-false, lt-ltb, le-ltb, eqb-true, eq-eqb}
+use Rattle.std.proofs.lemmas.Bool.{ltb-true, ltb-false, lt-ltb, le-ltb, leb-true, le-leb, eqb-true, eq-eqb}
 use Rattle.std.proofs.lemmas.List.{get_or_append_left, drop-append-le, length-drop}
 use Rattle.byteorder.specs.Numbers.{big_from-append, little_from-append}
 use Rattle.td_cdr.specs.declared.order.Order.{Order}
 use Rattle.td_cdr.specs.declared.order.Order.TheVariants.{Big, Little}
 use Rattle.td_cdr.specs.Reading.{number}
 use Rattle.td_giop.specs.declared.fault.FrameFault.{FrameFault}
-use Rattle.td_giop.specs.declared.fault.FrameFault.TheVariants.{BadMagic, BadVersion, BadType, TooLarge}
-use Rattle.td_giop.specs.Header.{GoodHeader, FirstFault, HasMagic, HasVersion, TellsOrder, has_magic, has_version}
-use Rattle.td_giop.specs.Header.{order_told, size_told, header_at, Judged}
+use Rattle.td_giop.specs.declared.fault.FrameFault.TheVariants.{BadMagic, BadVersion, BadType, TooLarge, Fragmented}
+use Rattle.td_giop.specs.Header.{GoodHeader, FirstFault, HasMagic, HasVersion, IsFragmented, TellsOrder, has_magic}
+use Rattle.td_giop.specs.Header.{has_version, is_fragmented, order_told, size_told, header_at, Judged}
 use Rattle.td_giop.proofs.Cond.{cond_case, both_true, and_true}
 
 -- ---- tests and what they test
@@ -29,10 +29,18 @@ magic_test bytes m =
 version_true : (bytes : List ℕ) → has_version bytes ≡ true → HasVersion bytes
 version_true bytes e =
     let p = both_true (eqb (slice_index bytes 4) 1) _ e in
-    record { major = eqb-true _ _ p.0; minor = eqb-true _ _ p.1 }
+    record { major = eqb-true _ _ p.0; minor = leb-true _ _ p.1 }
 
 version_test : (bytes : List ℕ) → HasVersion bytes → has_version bytes ≡ true
-version_test bytes v = and_true _ _ (eq-eqb _ _ v.major) (eq-eqb _ _ v.minor)
+version_test bytes v = and_true _ _ (eq-eqb _ _ v.major) (le-leb _ _ v.minor)
+
+fragmented_true : (bytes : List ℕ) → is_fragmented bytes ≡ true → IsFragmented bytes
+fragmented_true bytes e =
+    let p = both_true (ltb 0 (slice_index bytes 5)) _ e in
+    record { newer = ltb-true _ _ p.0; flag = leb-true _ _ p.1 }
+
+fragmented_test : (bytes : List ℕ) → IsFragmented bytes → is_fragmented bytes ≡ true
+fragmented_test bytes f = and_true _ _ (lt-ltb _ _ f.newer) (le-leb _ _ f.flag)
 
 not_true : (b : Bool) → not b ≡ true → b ≡ false
 not_true true e = absurd cc
@@ -86,8 +94,12 @@ judged limit bytes =
       ),
     ))
     (λ v. let version = version_true bytes (not_false (has_version bytes) v) in
+    cond_case (Judged limit bytes) (is_fragmented bytes) _ _
+    (λ e. (there, (magic, version, fragmented_true bytes e)))
+    (λ w. let one : IsFragmented bytes → ⊥ = λ (f : IsFragmented bytes).
+    is_false (is_fragmented bytes) (fragmented_test bytes f) w in
     cond_case (Judged limit bytes) (ltb 6 (slice_index bytes 7)) _ _
-    (λ e. (there, (magic, version, ltb-true _ _ e)))
+    (λ e. (there, (magic, version, one, ltb-true _ _ e)))
     (λ t. let known : slice_index bytes 7 ≤ 6 = ltb-false _ _ t in
     cond_case (Judged limit bytes) (ltb limit (size_told order bytes)) _ _
     (λ e. (
@@ -95,6 +107,7 @@ judged limit bytes =
       (
         magic,
         version,
+        one,
         known,
         λ (o : Order) (h : TellsOrder (slice_index bytes 6) o).
             subst (λ (x : Order). limit < number x 4 (drop 8 bytes)) (sym (only_told (slice_index bytes 6) o h))
@@ -105,11 +118,13 @@ judged limit bytes =
       whole = there;
       magic = magic;
       version = version;
+      minor_octet = refl;
+      unfragmented = one;
       order_octet = told (slice_index bytes 6);
       type_octet = (refl, known);
       size_field = refl;
       within = ltb-false _ _ s;
-    })))))
+    }))))))
 
 -- ---- a header that is there stays as it is, whatever follows
 
@@ -143,26 +158,29 @@ header_at-append limit s p h =
 
 -- ---- what is so is answered
 
-pub good_at : (limit : ℕ) (bytes : List ℕ) (order : Order) (kind size : ℕ) → GoodHeader limit bytes order kind size
-    → header_at limit bytes ≡ Ok (Some (record { kind = kind; order = order; size = size }))
+true_or_false : (b : Bool) → (b ≡ true → ⊥) → b ≡ false
+true_or_false true h = absurd (h refl)
+true_or_false false h = refl
+
+pub good_at : (limit : ℕ) (bytes : List ℕ) (minor : ℕ) (order : Order) (kind size : ℕ)
+    → GoodHeader limit bytes minor order kind size
+    → header_at limit bytes ≡ Ok (Some (record { kind = kind; order = order; size = size; minor = minor }))
 unfolding header_at
-good_at limit bytes order kind size g =
+good_at limit bytes minor order kind size g =
     let there : ltb (length bytes) 12 ≡ false = le-ltb _ _ g.whole in
     let magic = magic_test bytes g.magic in
     let version = version_test bytes g.version in
+    let one : is_fragmented bytes ≡ false =
+    true_or_false (is_fragmented bytes) (λ f. g.unfragmented (fragmented_true bytes f)) in
     let known : ltb 6 kind ≡ false = le-ltb _ _ g.type_octet.1 in
     let told_is : order_told (slice_index bytes 6) ≡ order =
     sym (only_told (slice_index bytes 6) order g.order_octet) in
     let small : ltb limit size ≡ false = le-ltb _ _ g.within in
-    rw (there, magic, version, g.type_octet.0, known, told_is, g.size_field, small) refl
+    rw (there, magic, version, one, g.type_octet.0, known, told_is, g.size_field, small, g.minor_octet) refl
 
 pub cut_at : (limit : ℕ) (bytes : List ℕ) → length bytes < 12 → header_at limit bytes ≡ Ok None
 unfolding header_at
 cut_at limit bytes h = rw (lt-ltb (length bytes) 12 h) refl
-
-true_or_false : (b : Bool) → (b ≡ true → ⊥) → b ≡ false
-true_or_false true h = absurd (h refl)
-true_or_false false h = refl
 
 pub fault_at : (limit : ℕ) (bytes : List ℕ) (f : FrameFault) → 12 ≤ length bytes → FirstFault f limit bytes
     → header_at limit bytes ≡ Err f
@@ -176,17 +194,25 @@ fault_at limit bytes BadVersion h e =
     let magic = magic_test bytes e.0 in
     let no = true_or_false (has_version bytes) (λ x. e.1 (version_true bytes x)) in
     rw (there, magic, no) refl
+fault_at limit bytes Fragmented h e =
+    let there : ltb (length bytes) 12 ≡ false = le-ltb _ _ h in
+    let magic = magic_test bytes e.0 in
+    let version = version_test bytes e.1 in
+    let some = fragmented_test bytes e.2 in
+    rw (there, magic, version, some) refl
 fault_at limit bytes BadType h e =
     let there : ltb (length bytes) 12 ≡ false = le-ltb _ _ h in
     let magic = magic_test bytes e.0 in
     let version = version_test bytes e.1 in
-    let above : ltb 6 (slice_index bytes 7) ≡ true = lt-ltb _ _ e.2 in
-    rw (there, magic, version, above) refl
+    let one = true_or_false (is_fragmented bytes) (λ f. e.2 (fragmented_true bytes f)) in
+    let above : ltb 6 (slice_index bytes 7) ≡ true = lt-ltb _ _ e.3 in
+    rw (there, magic, version, one, above) refl
 fault_at limit bytes TooLarge h e =
     let there : ltb (length bytes) 12 ≡ false = le-ltb _ _ h in
     let magic = magic_test bytes e.0 in
     let version = version_test bytes e.1 in
-    let known : ltb 6 (slice_index bytes 7) ≡ false = le-ltb _ _ e.2 in
+    let one = true_or_false (is_fragmented bytes) (λ f. e.2 (fragmented_true bytes f)) in
+    let known : ltb 6 (slice_index bytes 7) ≡ false = le-ltb _ _ e.3 in
     let above : ltb limit (size_told (order_told (slice_index bytes 6)) bytes) ≡ true =
-    lt-ltb _ _ (e.3 (order_told (slice_index bytes 6)) (told (slice_index bytes 6))) in
-    rw (there, magic, version, known, above) refl
+    lt-ltb _ _ (e.4 (order_told (slice_index bytes 6)) (told (slice_index bytes 6))) in
+    rw (there, magic, version, one, known, above) refl

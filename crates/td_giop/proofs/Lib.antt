@@ -7,3 +7,5 @@ pub mod Judged
 pub mod Lengths
 pub mod Messages
 pub mod Passing
+pub mod Reserved
+pub mod Room

@@ -48,6 +48,7 @@ pub record SameCut (ms ns : List (List ℕ)) (r s : List ℕ) (e f : Ending) : T
 
 -- a whole message by itself: a good header that tells as many bytes as follow it
 pub record IsMessage (limit : ℕ) (m : List ℕ) : Type 0 where
+  pub minor : ℕ
   pub order : Order
   pub kind : ℕ
-  pub good : GoodHeader limit m order kind (length m - HEADER_SIZE)
+  pub good : GoodHeader limit m minor order kind (length m - HEADER_SIZE)

@@ -20,6 +20,14 @@ ulong = record {
   refuses = number-refuses 4;
 }
 
+abbrev pub octet : Sound CdrFault ℕ
+octet = record {
+  format = format.number 1;
+  lawful = number-lawful 1;
+  faults = NumberFault 1;
+  refuses = number-refuses 1;
+}
+
 abbrev pub boolean : Sound CdrFault Bool
 boolean = record { format = format.boolean; lawful = boolean-lawful; faults = BooleanFault; refuses = boolean-refuses }
 

@@ -18,7 +18,12 @@ pub record IsRaw (s : Stream) (m : Raw) : Type 0 where
   pub whole : first_at s.limit s.rest ≡ Ok (Some (length m.bytes.now))
   pub bytes : m.bytes.now ≡ take (length m.bytes.now) s.rest
   pub header : header_at s.limit s.rest
-      ≡ Ok (Some (record { kind = m.kind; order = m.order; size = length m.bytes.now - HEADER_SIZE }))
+      ≡ Ok (Some (record {
+        kind = m.kind;
+        order = m.order;
+        size = length m.bytes.now - HEADER_SIZE;
+        minor = m.minor;
+      }))
   pub place : m.start ≡ s.start
   pub least : HEADER_SIZE ≤ length m.bytes.now
   pub most : length m.bytes.now ≤ s.limit + HEADER_SIZE

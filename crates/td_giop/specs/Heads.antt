@@ -1,14 +1,14 @@
--- The heads of GIOP 1.0's messages (chapter "General Inter-ORB Protocol", "GIOP Messages"), as formats, and read
--- from behind the message header.
-use Rattle.std.specs.Prelude.{ℕ, ◌^◌, ◌≤◌, ◌<◌, Bool, List, [], length, drop, Result, Ok, Err, refl}
+-- The heads of the messages of GIOP 1.0 and 1.1 (chapter "General Inter-ORB Protocol", "GIOP Messages"), as formats,
+-- and read from behind the message header.
+use Rattle.std.specs.Prelude.{ℕ, zero, suc, ◌^◌, ◌≤◌, ◌<◌, Bool, List, [], length, drop, Result, Ok, Err, refl}
 use Rattle.std.proofs.Common.{arith}
 use Rattle.td_cdr.specs.declared.order.Order.{Order}
 use Rattle.td_cdr.specs.declared.fault.CdrFault.{CdrFault}
 use Rattle.td_cdr.specs.Place.{At}
 use Rattle.td_cdr.specs.Format.{Read, ◌>>=◌}
-use Rattle.td_cdr.specs.Sound.{Sound, ◌&◌, structure, placeholder}
+use Rattle.td_cdr.specs.Sound.{Sound, ◌&◌, structure, placeholder, constant}
 use Rattle.td_giop.specs.declared.header.TheConstants.{HEADER_SIZE}
-use Rattle.td_giop.specs.Fields.{ulong, boolean, octets, text, sequence}
+use Rattle.td_giop.specs.Fields.{ulong, octet, boolean, octets, text, sequence}
 
 -- ---- what the heads tell
 
@@ -39,14 +39,23 @@ contexts = placeholder [] (sequence context) no_contexts-admitted
 abbrev pub principal : Sound CdrFault (Unit {0})
 principal = placeholder [] octets tt
 
-abbrev pub request_of : Unit {0} × (ℕ × (Bool × (List ℕ × (List ℕ × Unit {0})))) → Request
-request_of p = record { id = p.1.0; answered = p.1.1.0; key = p.1.1.1.0; operation = p.1.1.1.1.0 }
+-- any three octets, which are passed over; zeros are written
+abbrev pub reserved_octets : Sound CdrFault (Unit {0})
+reserved_octets = placeholder (0, (0, 0)) (octet & octet & octet) (omega arith, (omega arith, omega arith))
 
--- contexts, request id, response expected, object key, operation, principal
-abbrev pub request : Sound CdrFault Request
-request =
-    structure request_of (λ x. (tt, (x.id, (x.answered, (x.key, (x.operation, tt)))))) (λ _. refl) (λ _. refl)
-    (contexts & ulong & boolean & octets & text & principal)
+-- version 1.0 has none
+abbrev pub reserved : (minor : ℕ) → Sound CdrFault (Unit {0})
+reserved zero = constant tt
+reserved (suc newer) = reserved_octets
+
+abbrev pub request_of : Unit {0} × (ℕ × (Bool × (Unit {0} × (List ℕ × (List ℕ × Unit {0}))))) → Request
+request_of p = record { id = p.1.0; answered = p.1.1.0; key = p.1.1.1.1.0; operation = p.1.1.1.1.1.0 }
+
+-- contexts, request id, response expected, reserved octets, object key, operation, principal
+abbrev pub request : (minor : ℕ) → Sound CdrFault Request
+request minor =
+    structure request_of (λ x. (tt, (x.id, (x.answered, (tt, (x.key, (x.operation, tt))))))) (λ _. refl) (λ _. refl)
+    (contexts & ulong & boolean & reserved minor & octets & text & principal)
 
 abbrev pub reply_of : Unit {0} × (ℕ × ℕ) → Reply
 reply_of p = record { id = p.1.0; status = p.1.1 }
@@ -82,9 +91,9 @@ behind_header order bytes = record { rest = drop HEADER_SIZE bytes; place = HEAD
 abbrev pub passed : {F Y : Type 0} → Read F Y → Read F (Unit {0})
 passed r = r >>= λ v. Ok (tt, v.1)
 
--- a Request's head, and where its parameters begin
-unfoldable pub request_at : At → Result (Request × At) CdrFault
-request_at a = request.format.reads a
+-- the head of a Request of this minor version, and where its parameters begin
+unfoldable pub request_at : (minor : ℕ) → At → Result (Request × At) CdrFault
+request_at minor a = (request minor).format.reads a
 
 -- a Reply's head, and where its body begins
 unfoldable pub reply_at : At → Result (Reply × At) CdrFault

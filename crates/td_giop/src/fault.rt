@@ -2,13 +2,13 @@
 
 use thiserror::Error;
 
-/// Why a message header is refused. The first that fits, in this order, is answered.
+/// Why a message header is refused. The first that fits, in the order magic, version, flags, type, size, is answered.
 #[derive(Clone, Copy, Debug, PartialEq, Eq, Error)]
 pub enum FrameFault {
     /// The message doesn't begin with `GIOP`.
     #[error("a message doesn't begin with GIOP")]
     BadMagic,
-    /// The version isn't 1.0.
+    /// The major version isn't 1, or the minor version is above `NEWEST_MINOR`.
     #[error("a message's version isn't 1.0")]
     BadVersion,
     /// The message type is above 6.
@@ -17,4 +17,7 @@ pub enum FrameFault {
     /// More bytes follow the header than the limit allows.
     #[error("a message is larger than the limit")]
     TooLarge,
+    /// The message is of version 1.1, and fragments of it follow.
+    #[error("a message is fragmented")]
+    Fragmented,
 }

@@ -6,7 +6,7 @@ ghost use Rattle.std.specs.Borrow.{sem};
 ghost use Rattle.td_giop.specs.Stream.{first_at, dropped, IsInside, IsFront};
 
 use crate::fault::FrameFault;
-use crate::header::{HEADER_SIZE, ORDER_PLACE, TYPE_PLACE, judge, order_of};
+use crate::header::{HEADER_SIZE, MINOR_PLACE, ORDER_PLACE, TYPE_PLACE, judge, order_of};
 use crate::raw::Raw;
 use circular_buffer::HeapCircularBuffer;
 use std::alloc::Global;
@@ -95,6 +95,7 @@ impl Framer {
             start: self.start,
             kind: self.message[TYPE_PLACE],
             order: order_of(self.message[ORDER_PLACE]),
+            minor: self.message[MINOR_PLACE],
             bytes: self.message.as_slice(),
         }))
     }

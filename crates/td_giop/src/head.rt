@@ -3,8 +3,8 @@
 
 ghost use Rattle.std.specs.Prelude.{◌≡◌, ◌≤◌, ◌<◌, ◌^◌, length, drop, MatchResult};
 ghost use Rattle.td_cdr.specs.Format.{Shows, array_format};
-ghost use Rattle.td_giop.specs.Heads.{behind_header, passed, context, contexts, Request, request_at, Reply, reply_at};
-ghost use Rattle.td_giop.specs.Heads.{locate_at, locate_reply_at, cancel_at, IsReadable};
+ghost use Rattle.td_giop.specs.Heads.{behind_header, passed, context, contexts, reserved, Request, request_at, Reply};
+ghost use Rattle.td_giop.specs.Heads.{reply_at, locate_at, locate_reply_at, cancel_at, IsReadable};
 
 use crate::header::HEADER_SIZE;
 use crate::raw::Raw;
@@ -36,8 +36,8 @@ pub struct ReplyHead<'a> {
     pub body: Reader<'a>,
 }
 
-/// The head of a Request: contexts, which are passed over, request id, whether a reply is expected,
-/// object key, operation, and the principal, which is passed over too.
+/// The head of a Request: contexts, which are passed over, request id, whether a reply is expected, in version 1.1
+/// three reserved octets, which are passed over, object key, operation, and the principal, which is passed over too.
 ///
 /// # Errors
 ///
@@ -46,14 +46,15 @@ pub struct ReplyHead<'a> {
 pub fn read_request<'a>(m: &Raw<'a>) -> Result<RequestHead<'a>, CdrFault>
     requires { IsReadable m.now.bytes.now }
     ensures { MatchResult result
-        (λ h. request_at (behind_header m.now.order m.now.bytes.now)
+        (λ h. request_at m.now.minor (behind_header m.now.order m.now.bytes.now)
         ≡ Ok (record { id = h.id; answered = h.answered; key = h.key.now; operation = h.operation.now }, h.body))
-        (λ e. request_at (behind_header m.now.order m.now.bytes.now) ≡ Err e) }
+        (λ e. request_at m.now.minor (behind_header m.now.order m.now.bytes.now) ≡ Err e) }
 {
     let mut body = behind_header(m);
     pass_contexts(&mut body)?;
     let id = body.u32()?;
     let answered = body.boolean()?;
+    pass_reserved(&mut body, m.minor)?;
     let key = body.octets()?;
     let operation = body.string()?;
     let _principal = body.octets()?;
@@ -139,6 +140,19 @@ fn behind_header<'a>(m: &Raw<'a>) -> Reader<'a>
     ensures { result ≡ behind_header m.now.order m.now.bytes.now }
 {
     Reader::new(m.bytes, HEADER_SIZE as u32, m.order)
+}
+
+/// Passes over the reserved octets of a Request of this minor version.
+fn pass_reserved(r: &mut Reader, minor: u8) -> Result<(), CdrFault>
+    ensures { Shows (λ u. u) r.new result ((reserved minor).format.reads r.old) }
+{
+    if minor == 0 {
+        return Ok(());
+    }
+    let _first = r.octet()?;
+    let _second = r.octet()?;
+    let _third = r.octet()?;
+    Ok(())
 }
 
 /// Passes over the contexts of a head.

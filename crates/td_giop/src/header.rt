@@ -3,7 +3,7 @@
 
 ghost use Rattle.std.specs.Prelude.{◌≡◌, ◌≤◌, length, slice_index, IsTrue, ◌↔◌};
 ghost use Rattle.td_cdr.specs.Reading.{number};
-ghost use Rattle.td_giop.specs.Header.{has_magic, has_version, order_told, size_told, header_at};
+ghost use Rattle.td_giop.specs.Header.{has_magic, has_version, is_fragmented, order_told, size_told, header_at};
 
 use crate::fault::FrameFault;
 use crate::message_type::MESSAGE_ERROR;
@@ -17,11 +17,12 @@ pub const HEADER_SIZE: usize = 12;
 /// The octets that a message begins with.
 pub const MAGIC: [u8; 4] = *b"GIOP";
 
-/// The major version of GIOP 1.0.
+/// The major version.
 pub const MAJOR: u8 = 1;
 
-/// The minor version of GIOP 1.0.
-pub const MINOR: u8 = 0;
+/// The newest minor version that is read and written: with 0, messages are of GIOP 1.0 alone. A message of GIOP 1.1 is
+/// then refused as `BadVersion` before its flags are looked at.
+pub const NEWEST_MINOR: u8 = 0;
 
 /// Where the major version stands in a header.
 pub const MAJOR_PLACE: usize = 4;
@@ -29,7 +30,7 @@ pub const MAJOR_PLACE: usize = 4;
 /// Where the minor version stands in a header.
 pub const MINOR_PLACE: usize = 5;
 
-/// Where the octet stands that tells the order.
+/// Where the octet stands whose lowest bit tells the order; in version 1.1 the next bit tells fragments.
 pub const ORDER_PLACE: usize = 6;
 
 /// Where the message type stands in a header.
@@ -47,13 +48,15 @@ pub struct Header {
     pub order: Order,
     /// How many bytes follow the header.
     pub size: u32,
+    /// The minor version.
+    pub minor: u8,
 }
 
 /// The header in front, once its octets are there.
 ///
 /// # Errors
 ///
-/// The first `FrameFault` that fits, in the order of its variants.
+/// The first `FrameFault` that fits, in the order magic, version, flags, type, size.
 #[tactic(auto, unfolding(crate::specs::Header::header_at))]
 pub fn judge(ring: &HeapCircularBuffer<u8>, limit: u32) -> Result<Option<Header>, FrameFault>
     ensures { result ≡ header_at limit ring.now.items }
@@ -67,6 +70,9 @@ pub fn judge(ring: &HeapCircularBuffer<u8>, limit: u32) -> Result<Option<Header>
     if !has_version(ring) {
         return Err(FrameFault::BadVersion);
     }
+    if is_fragmented(ring) {
+        return Err(FrameFault::Fragmented);
+    }
     let kind = octet(ring, TYPE_PLACE);
     if kind > MESSAGE_ERROR {
         return Err(FrameFault::BadType);
@@ -76,7 +82,13 @@ pub fn judge(ring: &HeapCircularBuffer<u8>, limit: u32) -> Result<Option<Header>
     if size > limit {
         return Err(FrameFault::TooLarge);
     }
-    Ok(Some(Header { kind, order, size }))
+    let minor = octet(ring, MINOR_PLACE);
+    Ok(Some(Header {
+        kind,
+        order,
+        size,
+        minor,
+    }))
 }
 
 fn has_magic(ring: &HeapCircularBuffer<u8>) -> bool
@@ -91,7 +103,14 @@ fn has_magic(ring: &HeapCircularBuffer<u8>) -> bool
 fn has_version(ring: &HeapCircularBuffer<u8>) -> bool
     ensures { result ≡ has_version ring.now.items }
 {
-    octet(ring, MAJOR_PLACE) == MAJOR && octet(ring, MINOR_PLACE) == MINOR
+    octet(ring, MAJOR_PLACE) == MAJOR && octet(ring, MINOR_PLACE) <= NEWEST_MINOR
+}
+
+/// Whether fragments of the message follow. Version 1.0 has none.
+fn is_fragmented(ring: &HeapCircularBuffer<u8>) -> bool
+    ensures { result ≡ is_fragmented ring.now.items }
+{
+    octet(ring, MINOR_PLACE) > 0 && octet(ring, ORDER_PLACE) % 4 >= 2
 }
 
 /// The size field, which is a number in the message's order.

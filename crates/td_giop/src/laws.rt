@@ -13,7 +13,7 @@ ghost use Rattle.td_cdr.specs.Faults.{Refuses};
 ghost use Rattle.td_giop.specs.declared.fault.FrameFault.{FrameFault};
 ghost use Rattle.td_giop.specs.declared.header.Header.{Header};
 ghost use Rattle.td_giop.specs.declared.raw.Raw.{Raw};
-ghost use Rattle.td_giop.specs.declared.header.TheConstants.{HEADER_SIZE};
+ghost use Rattle.td_giop.specs.declared.header.TheConstants.{HEADER_SIZE, NEWEST_MINOR};
 ghost use Rattle.td_giop.specs.declared.message_type.TheConstants.{REQUEST, REPLY, LOCATE_REQUEST, LOCATE_REPLY};
 ghost use Rattle.td_giop.specs.declared.message_type.TheConstants.{MESSAGE_ERROR};
 ghost use Rattle.td_giop.specs.Header.{GoodHeader, IsFault, header_at};
@@ -27,11 +27,11 @@ ghost use Rattle.td_giop.specs.Written.{header_written, request_start, reply_sta
 ghost use Rattle.td_giop.specs.Written.{locate_reply_written, sealed, at_body, IsSealed};
 
 /// A header is answered exactly where it is good, with what it tells; none exactly where fewer than 12
-/// octets are there; and a fault exactly where it is the first, in the order magic, version, type and
-/// size.
+/// octets are there; and a fault exactly where it is the first, in the order magic, version, flags,
+/// type and size.
 pub fn header_is_judged()
     ensures good { (limit : ℕ) (bytes : List ℕ) (h : Header)
-        → (header_at limit bytes ≡ Ok (Some h)) ↔ GoodHeader limit bytes h.order h.kind h.size }
+        → (header_at limit bytes ≡ Ok (Some h)) ↔ GoodHeader limit bytes h.minor h.order h.kind h.size }
     ensures cut { (limit : ℕ) (bytes : List ℕ) → (header_at limit bytes ≡ Ok None) ↔ (length bytes < HEADER_SIZE) }
     ensures refused { (limit : ℕ) (bytes : List ℕ) (f : FrameFault)
         → (header_at limit bytes ≡ Err f) ↔ IsFault f limit bytes }
@@ -44,7 +44,7 @@ pub fn front_is_message()
     ensures front { (limit : ℕ) (s m : List ℕ) → Front limit s m → IsMessage limit m }
     ensures message { (limit : ℕ) (m rest : List ℕ) → IsMessage limit m → Front limit (m ++ rest) m }
     ensures raw { (s : Stream) (m : Raw) → IsRaw s m → Front s.limit s.rest m.bytes.now
-        × GoodHeader s.limit m.bytes.now m.order m.kind (length m.bytes.now - HEADER_SIZE) }
+        × GoodHeader s.limit m.bytes.now m.minor m.order m.kind (length m.bytes.now - HEADER_SIZE) }
 {}
 
 /// Every stream is messages and a rest, and the messages followed by the rest are the stream. No second
@@ -72,8 +72,8 @@ pub fn fronts_go_on()
 /// A head is read exactly where it is spelled, whatever follows, and refused exactly with the fault of
 /// the first item that has no spelling.
 pub fn heads_are_read()
-    ensures request { Joins request.format.spells request_at }
-    ensures request_refused { Refuses request.faults request_at }
+    ensures request { (minor : ℕ) → Joins (request minor).format.spells (request_at minor) }
+    ensures request_refused { (minor : ℕ) → Refuses (request minor).faults (request_at minor) }
     ensures reply { Joins reply.format.spells reply_at }
     ensures reply_refused { Refuses reply.faults reply_at }
     ensures locate { IsReadAlone locate_request locate_at }
@@ -83,7 +83,7 @@ pub fn heads_are_read()
 
 /// No reading of a head wants memory.
 pub fn heads_take_no_memory()
-    ensures request { (a : At) → a.origin ≤ a.place → request_at a ≡ Err Memory → ⊥ }
+    ensures request { (minor : ℕ) (a : At) → a.origin ≤ a.place → request_at minor a ≡ Err Memory → ⊥ }
     ensures reply { (a : At) → a.origin ≤ a.place → reply_at a ≡ Err Memory → ⊥ }
     ensures locate { (a : At) → a.origin ≤ a.place → locate_at a ≡ Err Memory → ⊥ }
     ensures locate_reply { (a : At) → a.origin ≤ a.place → locate_reply_at a ≡ Err Memory → ⊥ }
@@ -92,33 +92,35 @@ pub fn heads_take_no_memory()
 
 /// What was written and sealed is read back, and the reader then stands at the body.
 pub fn written_is_read()
-    ensures request { (order : Order) (id : ℕ) (answered : Bool) (key operation body : List ℕ) → id < 2 ^ 32
+    ensures request { (order : Order) (minor id : ℕ) (answered : Bool) (key operation body : List ℕ) → id < 2 ^ 32
         → length key < 2 ^ 32 → length operation + 1 < 2 ^ 32 → HasNoNul operation
-        → request_at (behind_header order (sealed order (request_start order id answered key operation ++ body)))
+        → request_at minor
+        (behind_header order (sealed order (request_start order minor id answered key operation ++ body)))
         ≡ Ok (
           record { id = id; answered = answered; key = key; operation = operation },
-          at_body order (request_start order id answered key operation) body,
+          at_body order (request_start order minor id answered key operation) body,
         ) }
-    ensures reply { (order : Order) (id status : ℕ) (body : List ℕ) → id < 2 ^ 32 → status < 2 ^ 32
-        → reply_at (behind_header order (sealed order (reply_start order id status ++ body)))
-        ≡ Ok (record { id = id; status = status }, at_body order (reply_start order id status) body) }
-    ensures locate { (order : Order) (id : ℕ) (key : List ℕ) → id < 2 ^ 32 → length key < 2 ^ 32
-        → locate_at (behind_header order (sealed order (locate_written order id key))) ≡ Ok (id, key) }
-    ensures locate_reply { (order : Order) (id status : ℕ) → id < 2 ^ 32 → status < 2 ^ 32
-        → locate_reply_at (behind_header order (sealed order (locate_reply_written order id status)))
+    ensures reply { (order : Order) (minor id status : ℕ) (body : List ℕ) → id < 2 ^ 32 → status < 2 ^ 32
+        → reply_at (behind_header order (sealed order (reply_start order minor id status ++ body)))
+        ≡ Ok (record { id = id; status = status }, at_body order (reply_start order minor id status) body) }
+    ensures locate { (order : Order) (minor id : ℕ) (key : List ℕ) → id < 2 ^ 32 → length key < 2 ^ 32
+        → locate_at (behind_header order (sealed order (locate_written order minor id key))) ≡ Ok (id, key) }
+    ensures locate_reply { (order : Order) (minor id status : ℕ) → id < 2 ^ 32 → status < 2 ^ 32
+        → locate_reply_at (behind_header order (sealed order (locate_reply_written order minor id status)))
         ≡ Ok (id, status) }
 {}
 
 /// What was written and sealed is a whole good message of its type.
 pub fn sealed_is_whole()
-    ensures request { (order : Order) (id : ℕ) (answered : Bool) (key operation body : List ℕ) (limit : ℕ)
-        → IsSealed limit order REQUEST (request_start order id answered key operation ++ body) }
-    ensures reply { (order : Order) (id status : ℕ) (body : List ℕ) (limit : ℕ)
-        → IsSealed limit order REPLY (reply_start order id status ++ body) }
-    ensures locate { (order : Order) (id : ℕ) (key : List ℕ) (limit : ℕ)
-        → IsSealed limit order LOCATE_REQUEST (locate_written order id key) }
-    ensures locate_reply { (order : Order) (id status : ℕ) (limit : ℕ)
-        → IsSealed limit order LOCATE_REPLY (locate_reply_written order id status) }
+    ensures request { (order : Order) (minor id : ℕ) (answered : Bool) (key operation body : List ℕ) (limit : ℕ)
+        → minor ≤ NEWEST_MINOR
+        → IsSealed limit minor order REQUEST (request_start order minor id answered key operation ++ body) }
+    ensures reply { (order : Order) (minor id status : ℕ) (body : List ℕ) (limit : ℕ)
+        → minor ≤ NEWEST_MINOR → IsSealed limit minor order REPLY (reply_start order minor id status ++ body) }
+    ensures locate { (order : Order) (minor id : ℕ) (key : List ℕ) (limit : ℕ)
+        → minor ≤ NEWEST_MINOR → IsSealed limit minor order LOCATE_REQUEST (locate_written order minor id key) }
+    ensures locate_reply { (order : Order) (minor id status : ℕ) (limit : ℕ)
+        → minor ≤ NEWEST_MINOR → IsSealed limit minor order LOCATE_REPLY (locate_reply_written order minor id status) }
     ensures plain { (order : Order) (kind : ℕ) (limit : ℕ) → kind ≤ MESSAGE_ERROR
-        → IsSealed limit order kind (header_written order kind) }
+        → IsSealed limit 0 order kind (header_written order 0 kind) }
 {}

@@ -1,5 +1,5 @@
-//! The General Inter-ORB Protocol (GIOP) 1.0: messages out of a stream, message heads, and writers
-//! of both.
+//! The General Inter-ORB Protocol (GIOP) 1.0, and what 1.1 adds to it: messages out of a stream, message heads, and
+//! writers of both. Which versions are read and written is told by `NEWEST_MINOR`.
 #![tactic(auto)]
 
 mod fault;
@@ -17,7 +17,7 @@ pub use framer::Framer;
 pub use head::{
     ReplyHead, RequestHead, read_cancel, read_locate, read_locate_reply, read_reply, read_request,
 };
-pub use header::HEADER_SIZE;
+pub use header::{HEADER_SIZE, NEWEST_MINOR};
 pub use laws::{
     front_is_message, fronts_go_on, header_is_judged, heads_are_read, heads_take_no_memory,
     one_cut, sealed_is_whole, written_is_read,

@@ -5,9 +5,11 @@ ghost use Rattle.std.specs.Prelude.{◌≡◌, ◌+◌, ◌≤◌, ◌<◌, ◌^
 ghost use Rattle.td_cdr.specs.Gap.{gap};
 ghost use Rattle.td_cdr.specs.Writing.{Adds, written_octets};
 ghost use Rattle.td_giop.specs.Written.{octets_end, request_size, header_written, request_start, reply_start};
+ghost use Rattle.td_giop.specs.Heads.{reserved};
+ghost use Rattle.td_giop.specs.declared.header.TheConstants.{NEWEST_MINOR};
 ghost use Rattle.td_giop.specs.Written.{locate_written, locate_reply_written, sealed};
 
-use crate::header::{HEADER_SIZE, MAGIC, MAJOR, MINOR, SIZE_PLACE};
+use crate::header::{HEADER_SIZE, MAGIC, MAJOR, SIZE_PLACE};
 use crate::message_type::{LOCATE_REPLY, LOCATE_REQUEST, REPLY, REQUEST};
 use td_cdr::{Memory, Writer, flag_of};
 
@@ -30,26 +32,29 @@ const KEY_PLACE: usize = HEADER_SIZE + 9;
 /// # Errors
 ///
 /// `Memory` for want of room; the writer is then unchanged.
-#[tactic(auto, using(crate::proofs::Lengths::request_length, crate::proofs::ByField::request_is))]
+#[tactic(auto, using(crate::proofs::Lengths::request_lengths, crate::proofs::ByField::request_is))]
 pub fn start_request(
     w: &mut Writer,
+    minor: u8,
     id: u32,
     answered: bool,
     key: &[u8],
     operation: &[u8],
 ) -> Result<(), Memory>
-    requires { w.old.bytes ≡ [] }
-    ensures { Adds (request_start w.old.order id answered key.now operation.now) w.old w.new result }
+    requires empty { w.old.bytes ≡ [] }
+    requires minor { minor ≤ NEWEST_MINOR }
+    ensures { Adds (request_start w.old.order minor id answered key.now operation.now) w.old w.new result }
 {
     let most = u32::MAX as usize - w.len();
     if key.len() > most || operation.len() > most {
         return Err(Memory);
     }
     w.reserve(request_size(key.len(), operation.len()))?;
-    put_header(w, REQUEST)?;
+    put_header(w, minor, REQUEST)?;
     w.u32(0)?;
     w.u32(id)?;
     w.octet(u8::from(answered))?;
+    put_reserved(w, minor)?;
     w.octets(key)?;
     w.string(operation)?;
     w.octets(&[])?;
@@ -82,12 +87,13 @@ fn octets_end(place: usize, len: usize) -> usize
 ///
 /// `Memory` for want of room; the writer is then unchanged.
 #[tactic(auto, using(crate::proofs::Lengths::reply_length, crate::proofs::ByField::reply_is))]
-pub fn start_reply(w: &mut Writer, id: u32, status: u32) -> Result<(), Memory>
-    requires { w.old.bytes ≡ [] }
-    ensures { Adds (reply_start w.old.order id status) w.old w.new result }
+pub fn start_reply(w: &mut Writer, minor: u8, id: u32, status: u32) -> Result<(), Memory>
+    requires empty { w.old.bytes ≡ [] }
+    requires minor { minor ≤ NEWEST_MINOR }
+    ensures { Adds (reply_start w.old.order minor id status) w.old w.new result }
 {
     w.reserve(REPLY_SIZE)?;
-    put_header(w, REPLY)?;
+    put_header(w, minor, REPLY)?;
     w.u32(0)?;
     w.u32(id)?;
     w.u32(status)
@@ -100,12 +106,13 @@ pub fn start_reply(w: &mut Writer, id: u32, status: u32) -> Result<(), Memory>
 ///
 /// `Memory` for want of room; the writer is then unchanged.
 #[tactic(auto, using(crate::proofs::Lengths::locate_length, crate::proofs::ByField::locate_is))]
-pub fn write_locate(w: &mut Writer, id: u32, key: &[u8]) -> Result<(), Memory>
-    requires { w.old.bytes ≡ [] }
-    ensures { Adds (locate_written w.old.order id key.now) w.old w.new result }
+pub fn write_locate(w: &mut Writer, minor: u8, id: u32, key: &[u8]) -> Result<(), Memory>
+    requires empty { w.old.bytes ≡ [] }
+    requires minor { minor ≤ NEWEST_MINOR }
+    ensures { Adds (locate_written w.old.order minor id key.now) w.old w.new result }
 {
     w.reserve(LOCATE_FRONT + key.len())?;
-    put_header(w, LOCATE_REQUEST)?;
+    put_header(w, minor, LOCATE_REQUEST)?;
     w.u32(id)?;
     w.octets(key)
 }
@@ -116,12 +123,13 @@ pub fn write_locate(w: &mut Writer, id: u32, key: &[u8]) -> Result<(), Memory>
 ///
 /// `Memory` for want of room; the writer is then unchanged.
 #[tactic(auto, using(crate::proofs::Lengths::locate_reply_length, crate::proofs::ByField::locate_reply_is))]
-pub fn write_locate_reply(w: &mut Writer, id: u32, status: u32) -> Result<(), Memory>
-    requires { w.old.bytes ≡ [] }
-    ensures { Adds (locate_reply_written w.old.order id status) w.old w.new result }
+pub fn write_locate_reply(w: &mut Writer, minor: u8, id: u32, status: u32) -> Result<(), Memory>
+    requires empty { w.old.bytes ≡ [] }
+    requires minor { minor ≤ NEWEST_MINOR }
+    ensures { Adds (locate_reply_written w.old.order minor id status) w.old w.new result }
 {
     w.reserve(LOCATE_REPLY_SIZE)?;
-    put_header(w, LOCATE_REPLY)?;
+    put_header(w, minor, LOCATE_REPLY)?;
     w.u32(id)?;
     w.u32(status)
 }
@@ -134,18 +142,28 @@ pub fn write_locate_reply(w: &mut Writer, id: u32, status: u32) -> Result<(), Me
 /// `Memory` for want of room; the writer is then unchanged.
 pub fn write_plain(w: &mut Writer, kind: u8) -> Result<(), Memory>
     requires { w.old.bytes ≡ [] }
-    ensures { Adds (header_written w.old.order kind) w.old w.new result }
+    ensures { Adds (header_written w.old.order 0 kind) w.old w.new result }
 {
-    put_header(w, kind)
+    put_header(w, 0, kind)
+}
+
+/// The reserved octets of a Request of this minor version.
+fn put_reserved(w: &mut Writer, minor: u8) -> Result<(), Memory>
+    ensures { Adds ((reserved minor).format.writes tt w.old.order (length w.old.bytes)) w.old w.new result }
+{
+    if minor == 0 {
+        return Ok(());
+    }
+    w.append(&[0, 0, 0])
 }
 
 /// The header of a message of this type, with 0 in the size field.
-fn put_header(w: &mut Writer, kind: u8) -> Result<(), Memory>
-    ensures { Adds (header_written w.old.order kind) w.old w.new result }
+fn put_header(w: &mut Writer, minor: u8, kind: u8) -> Result<(), Memory>
+    ensures { Adds (header_written w.old.order minor kind) w.old w.new result }
 {
     let order = flag_of(w.order());
     let [g, i, o, p] = MAGIC;
-    w.append(&[g, i, o, p, MAJOR, MINOR, order, kind, 0, 0, 0, 0])
+    w.append(&[g, i, o, p, MAJOR, minor, order, kind, 0, 0, 0, 0])
 }
 
 /// Sets the size field to the number of bytes behind the header. Takes no memory.

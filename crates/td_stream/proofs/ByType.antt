@@ -6,13 +6,13 @@ use Rattle.td_cdr.specs.declared.fault.CdrFault.{CdrFault}
 use Rattle.td_cdr.specs.Place.{At}
 use Rattle.td_giop.specs.Heads.{Request, request_at, locate_at, cancel_at}
 use Rattle.td_giop.proofs.Cond.{cond_case}
-use Rattle.td_stream.specs.Messages.{IsForServer, behind, is_closing, kind_of}
+use Rattle.td_stream.specs.Messages.{IsForServer, behind, is_closing, kind_of, minor_of}
 use Rattle.td_stream.specs.declared.end.Cause.{Cause}
 use Rattle.td_stream.specs.declared.end.Cause.TheVariants.{NotForServer}
 use Rattle.td_stream.specs.Steps.{Step, answers, closes, breaks, step_of, request_step, cancel_step, locate_step}
 
 -- what holds of the steps of each type of message holds of the step
-by_type : (P : Step → Type 0) (m : List ℕ) → (kind_of m ≡ 0 → P (request_step (request_at (behind m))))
+by_type : (P : Step → Type 0) (m : List ℕ) → (kind_of m ≡ 0 → P (request_step (request_at (minor_of m) (behind m))))
     → (kind_of m ≡ 2 → P (cancel_step (cancel_at (behind m))))
     → (kind_of m ≡ 3 → P (locate_step (locate_at (behind m))))
     → (kind_of m ≡ 1 → P (breaks NotForServer)) → (kind_of m ≡ 4 → P (breaks NotForServer))

@@ -20,6 +20,8 @@ is_message s m limited raw =
     record {
       kind = sym good.type_octet.0;
       order = only_told _ m.order good.order_octet;
+      minor = sym good.minor_octet;
+      newest = (let version = good.version in omega (arith, version.minor, good.minor_octet));
       least = raw.least;
       most = let most = raw.most in omega arith;
     }

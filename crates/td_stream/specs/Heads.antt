@@ -3,7 +3,7 @@ use Rattle.std.specs.Prelude.{◌≡◌, ◌≤◌, ◌<◌, ◌^◌, length, Ok
 use Rattle.std.specs.List.{slice_index}
 use Rattle.td_giop.specs.declared.head.RequestHead.{RequestHead}
 use Rattle.td_giop.specs.declared.raw.Raw.{Raw}
-use Rattle.td_giop.specs.declared.header.TheConstants.{HEADER_SIZE, ORDER_PLACE, TYPE_PLACE}
+use Rattle.td_giop.specs.declared.header.TheConstants.{HEADER_SIZE, NEWEST_MINOR, MINOR_PLACE, ORDER_PLACE, TYPE_PLACE}
 use Rattle.td_giop.specs.declared.message_type.TheConstants.{REQUEST, CANCEL_REQUEST, LOCATE_REQUEST}
 use Rattle.td_giop.specs.Header.{order_told}
 use Rattle.td_giop.specs.Heads.{Request as AskedOf, behind_header, request_at, locate_at, cancel_at}
@@ -13,10 +13,12 @@ use Rattle.td_stream.specs.declared.head.Head.{Head}
 use Rattle.td_stream.specs.declared.head.Head.TheVariants.{Request, Locate, Cancel}
 use Rattle.td_stream.specs.Steps.{answers, closes, breaks, step_of}
 
--- a lent message tells its type and its order by its header
+-- a lent message tells its type, its order and its minor version by its header
 pub record IsMessage (m : Raw) : Type 0 where
   pub kind : m.kind ≡ slice_index m.bytes.now TYPE_PLACE
   pub order : m.order ≡ order_told (slice_index m.bytes.now ORDER_PLACE)
+  pub minor : m.minor ≡ slice_index m.bytes.now MINOR_PLACE
+  pub newest : m.minor ≤ NEWEST_MINOR
   pub least : HEADER_SIZE ≤ length m.bytes.now
   pub most : length m.bytes.now < 2 ^ 32
 
@@ -39,7 +41,7 @@ asked_of h = record { id = h.id; answered = h.answered; key = h.key.now; operati
 -- the message is of this type, and has this head
 abbrev pub HasHead : Raw → Head → Type 0
 HasHead m (Request h) =
-    IsRequest m × (request_at (behind_header m.order m.bytes.now) ≡ Ok (asked_of h, h.body))
+    IsRequest m × (request_at m.minor (behind_header m.order m.bytes.now) ≡ Ok (asked_of h, h.body))
 HasHead m (Locate id key) =
     IsLocateRequest m × (locate_at (behind_header m.order m.bytes.now) ≡ Ok (id, key.now))
 HasHead m (Cancel id) = IsCancelRequest m × (cancel_at (behind_header m.order m.bytes.now) ≡ Ok id)

@@ -4,7 +4,7 @@ use Rattle.std.specs.Prelude.{◌≡◌, ◌≢◌, ℕ, Bool, ◌||◌, nat_eq,
 use Rattle.std.specs.List.{slice_index}
 use Rattle.td_cdr.specs.declared.order.Order.{Order}
 use Rattle.td_cdr.specs.Place.{At}
-use Rattle.td_giop.specs.declared.header.TheConstants.{ORDER_PLACE, TYPE_PLACE}
+use Rattle.td_giop.specs.declared.header.TheConstants.{MINOR_PLACE, ORDER_PLACE, TYPE_PLACE}
 use Rattle.td_giop.specs.declared.limit.TheConstants.{SERVER_LIMIT}
 use Rattle.td_giop.specs.declared.message_type.TheConstants.{REQUEST, REPLY, CANCEL_REQUEST, LOCATE_REQUEST}
 use Rattle.td_giop.specs.declared.message_type.TheConstants.{LOCATE_REPLY, CLOSE_CONNECTION, MESSAGE_ERROR}
@@ -28,6 +28,10 @@ is_request message = nat_eq (kind_of message) REQUEST
 abbrev pub order_of : List ℕ → Order
 order_of message = order_told (slice_index message ORDER_PLACE)
 
+-- the minor version that a message's header tells
+abbrev pub minor_of : List ℕ → ℕ
+minor_of message = slice_index message MINOR_PLACE
+
 -- behind the message's header
 abbrev pub behind : List ℕ → At
 behind message = behind_header (order_of message) message
@@ -41,7 +45,7 @@ pub record IsForServer (message : List ℕ) : Type 0 where
   pub whole : IsMessage message_limit message
   pub no_reply : kind_of message ≢ REPLY
   pub no_locate_reply : kind_of message ≢ LOCATE_REPLY
-  pub request : kind_of message ≡ REQUEST → IsOk (request_at (behind message))
+  pub request : kind_of message ≡ REQUEST → IsOk (request_at (minor_of message) (behind message))
   pub locate : kind_of message ≡ LOCATE_REQUEST → IsOk (locate_at (behind message))
   pub cancel : kind_of message ≡ CANCEL_REQUEST → IsOk (cancel_at (behind message))
 

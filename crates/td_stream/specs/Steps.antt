@@ -8,10 +8,10 @@ use Rattle.td_giop.specs.declared.fault.FrameFault.TheVariants as frame
 use Rattle.td_giop.specs.declared.message_type.TheConstants.{REQUEST, REPLY, CANCEL_REQUEST, LOCATE_REQUEST}
 use Rattle.td_giop.specs.declared.message_type.TheConstants.{LOCATE_REPLY}
 use Rattle.td_giop.specs.Heads.{Request, request_at, locate_at, cancel_at}
-use Rattle.td_stream.specs.Messages.{behind, kind_of}
+use Rattle.td_stream.specs.Messages.{behind, kind_of, minor_of}
 use Rattle.td_stream.specs.declared.end.Cause.{Cause}
 use Rattle.td_stream.specs.declared.end.Cause.TheVariants.{BadMagic, BadVersion, BadType, TooLarge, NotForServer}
-use Rattle.td_stream.specs.declared.end.Cause.TheVariants.{Header}
+use Rattle.td_stream.specs.declared.end.Cause.TheVariants.{Header, Fragmented}
 
 -- it is answered; it closes the stream; or the stream is broken off at it
 pub data Step : Type 0 where
@@ -43,7 +43,7 @@ cancel_step (Err fault) = breaks (broken_head fault)
 -- and LocateReply are for clients
 unfoldable pub step_of : List ℕ → Step
 step_of message =
-    if nat_eq (kind_of message) REQUEST then request_step (request_at (behind message))
+    if nat_eq (kind_of message) REQUEST then request_step (request_at (minor_of message) (behind message))
     else if nat_eq (kind_of message) CANCEL_REQUEST then cancel_step (cancel_at (behind message))
     else if nat_eq (kind_of message) LOCATE_REQUEST then locate_step (locate_at (behind message))
     else if nat_eq (kind_of message) REPLY then breaks NotForServer
@@ -55,3 +55,4 @@ cause_of frame.BadMagic = BadMagic
 cause_of frame.BadVersion = BadVersion
 cause_of frame.BadType = BadType
 cause_of frame.TooLarge = TooLarge
+cause_of frame.Fragmented = Fragmented

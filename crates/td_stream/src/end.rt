@@ -15,6 +15,8 @@ pub enum Cause {
     NotForServer,
     /// Its head isn't in the grammar; the place of the fault in the message, in bytes from 0.
     Header(u32),
+    /// It is of GIOP 1.1, and fragments of it follow. While GIOP 1.0 alone is read, `BadVersion` comes before it.
+    Fragmented,
 }
 
 /// How a stream ended. Places are bytes of the stream before the message's first byte.

@@ -207,6 +207,7 @@ fn cause_of(fault: FrameFault) -> Cause
         FrameFault::BadVersion => Cause::BadVersion,
         FrameFault::BadType => Cause::BadType,
         FrameFault::TooLarge => Cause::TooLarge,
+        FrameFault::Fragmented => Cause::Fragmented,
     }
 }
 

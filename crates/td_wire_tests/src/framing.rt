@@ -11,7 +11,13 @@ fn lends(framer: &mut Framer, start: u64, kind: u8, order: Order, bytes: &[u8]) 
     ensures { framer.new ≡ framer.old }
 {
     match framer.next_message() {
-        Ok(Some(m)) => m.start == start && m.kind == kind && m.order == order && m.bytes == bytes,
+        Ok(Some(m)) => {
+            m.start == start
+                && m.kind == kind
+                && m.order == order
+                && m.minor == 0
+                && m.bytes == bytes
+        }
         _ => false,
     }
 }
@@ -116,6 +122,14 @@ fn bad_headers_are_refused(rt: HostRuntime) -> Result<(), Fail> {
         ),
         (
             *b"GIOP\x01\x01\x00\x00\x00\x00\x00\x04",
+            FrameFault::BadVersion,
+        ),
+        (
+            *b"GIOP\x01\x01\x02\x07\x00\x00\x00\x05",
+            FrameFault::BadVersion,
+        ),
+        (
+            *b"GIOP\x01\x02\x00\x00\x00\x00\x00\x04",
             FrameFault::BadVersion,
         ),
         (

@@ -62,7 +62,7 @@ const LOCATED: [u8; 20] = [
 /// A CloseConnection, little.
 const CLOSE: [u8; 12] = [b'G', b'I', b'O', b'P', 1, 0, 1, 5, 0, 0, 0, 0];
 
-/// A message of this type and order.
+/// A message of this type and order, of GIOP 1.0.
 fn raw(kind: u8, order: Order, bytes: &[u8]) -> Raw<'_>
     ensures { result.bytes.now ≡ bytes.now }
 {
@@ -71,6 +71,20 @@ fn raw(kind: u8, order: Order, bytes: &[u8]) -> Raw<'_>
         kind,
         order,
         bytes,
+        minor: 0,
+    }
+}
+
+/// A Request in big order, of GIOP 1.1.
+fn newer_request(bytes: &[u8]) -> Raw<'_>
+    ensures { result.bytes.now ≡ bytes.now }
+{
+    Raw {
+        start: 0,
+        kind: REQUEST,
+        order: Order::Big,
+        bytes,
+        minor: 1,
     }
 }
 
@@ -105,6 +119,7 @@ fn requests_are_read(rt: HostRuntime) {
     assert!(rt; tells_request(&plain, (7, true), b"ab", b"op", 44));
     let with_contexts = raw(REQUEST, Order::Little, &WITH_CONTEXTS);
     assert!(rt; tells_request(&with_contexts, (258, false), b"", b"f", 61));
+    assert!(rt; tells_request(&newer_request(&PLAIN), (7, true), b"ab", b"op", 44));
 }
 
 #[test]
@@ -121,7 +136,13 @@ fn the_other_heads_are_read(rt: HostRuntime) {
 fn is_refused(bytes: &[u8], fault: CdrFault) -> bool
     requires { (12 ≤ length bytes.now) × (length bytes.now ≤ 100) }
 {
-    match read_request(&raw(REQUEST, Order::Big, bytes)) {
+    refuses(&raw(REQUEST, Order::Big, bytes), fault)
+}
+
+fn refuses(message: &Raw, fault: CdrFault) -> bool
+    requires { (12 ≤ length message.now.bytes.now) × (length message.now.bytes.now ≤ 100) }
+{
+    match read_request(message) {
         Ok(_) => false,
         Err(f) => f == fault,
     }
@@ -139,6 +160,21 @@ fn a_request_that_is_cut_is_refused_at_the_cut_field(rt: HostRuntime) {
         (43, CdrFault::Short(40)),
     ] {
         assert!(rt; is_refused(&PLAIN[..len], fault));
+    }
+}
+
+/// The reserved octets of GIOP 1.1 stand where GIOP 1.0 has padding: only a head that is cut there differs.
+#[test]
+fn a_request_that_is_cut_in_its_reserved_octets_is_refused_there(rt: HostRuntime) {
+    for (len, older, newer) in [
+        (21, 24, 21),
+        (22, 24, 22),
+        (23, 24, 23),
+        (24, 24, 24),
+        (27, 24, 24),
+    ] {
+        assert!(rt; is_refused(&PLAIN[..len], CdrFault::Short(older)));
+        assert!(rt; refuses(&newer_request(&PLAIN[..len]), CdrFault::Short(newer)));
     }
 }
 
@@ -187,7 +223,7 @@ fn without_old_bytes() -> [u8; 45] {
 fn writes_request(w: &mut Writer) -> bool
     requires { w.old.bytes ≡ [] }
 {
-    start_request(w, 7, true, b"ab", b"op").is_ok()
+    start_request(w, 0, 7, true, b"ab", b"op").is_ok()
         && w.octet(5).is_ok()
         && seals(w, &without_old_bytes())
 }
@@ -195,19 +231,19 @@ fn writes_request(w: &mut Writer) -> bool
 fn writes_reply(w: &mut Writer) -> bool
     requires { w.old.bytes ≡ [] }
 {
-    start_reply(w, 7, 2).is_ok() && w.octet(6).is_ok() && seals(w, &ANSWER)
+    start_reply(w, 0, 7, 2).is_ok() && w.octet(6).is_ok() && seals(w, &ANSWER)
 }
 
 fn writes_locate(w: &mut Writer) -> bool
     requires { w.old.bytes ≡ [] }
 {
-    write_locate(w, 3, b"k").is_ok() && seals(w, &LOCATE)
+    write_locate(w, 0, 3, b"k").is_ok() && seals(w, &LOCATE)
 }
 
 fn writes_locate_reply(w: &mut Writer) -> bool
     requires { w.old.bytes ≡ [] }
 {
-    write_locate_reply(w, 3, 1).is_ok() && seals(w, &LOCATED)
+    write_locate_reply(w, 0, 3, 1).is_ok() && seals(w, &LOCATED)
 }
 
 fn writes_close(w: &mut Writer) -> bool

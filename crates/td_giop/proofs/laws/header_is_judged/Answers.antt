@@ -7,7 +7,7 @@ pub returns-clause-good : goal.returns-clause-good
 returns-clause-good c =
     λ limit bytes h. (
       λ e. subst (Judged limit bytes) e (judged limit bytes),
-      λ g. good_at limit bytes h.order h.kind h.size g,
+      λ g. good_at limit bytes h.minor h.order h.kind h.size g,
     )
 
 pub returns-clause-cut : goal.returns-clause-cut

@@ -5,7 +5,7 @@ use Rattle.td_giop.proofs.laws.heads_are_read.Goals as goal
 
 pub returns-clause-request : goal.returns-clause-request
 unfolding request_at
-returns-clause-request c = joins request
+returns-clause-request c = λ minor. joins (request minor)
 
 pub returns-clause-reply : goal.returns-clause-reply
 unfolding reply_at
@@ -25,7 +25,7 @@ returns-clause-cancel c = read-alone cancel_request
 
 pub returns-clause-request_refused : goal.returns-clause-request_refused
 unfolding request_at
-returns-clause-request_refused c = request.refuses
+returns-clause-request_refused c = λ minor. (request minor).refuses
 
 pub returns-clause-reply_refused : goal.returns-clause-reply_refused
 unfolding reply_at

@@ -7,7 +7,7 @@ use Rattle.td_giop.proofs.laws.heads_take_no_memory.Goals as goal
 
 pub returns-clause-request : goal.returns-clause-request
 unfolding request_at
-returns-clause-request c = reading-takes_none request request-takes_none
+returns-clause-request c = λ minor. reading-takes_none (request minor) (request-takes_none minor)
 
 pub returns-clause-reply : goal.returns-clause-reply
 unfolding reply_at

@@ -22,6 +22,12 @@ index-requires-2 c =
     let w = whole _ _ _ front in
     omega (arith, w.size)
 
+pub index-requires-3 : goal.index-requires-3
+index-requires-3 c =
+    let front = when_true _ _ c.if-not-branch.false c.in_ok-settle.ensures.found in
+    let w = whole _ _ _ front in
+    omega (arith, w.size)
+
 pub returns : goal.returns
 returns c =
     let front = when_true _ _ c.if-not-branch.false c.in_ok-settle.ensures.found in
@@ -37,11 +43,13 @@ returns c =
       kind = c.index.result.now;
       order = c.order_of.result;
       bytes = c.as_slice.result;
+      minor = c.index-3.result.now;
     })
     (sym same) front c.as_slice.ensures.value refl
     (c.index.ensures ∙ get_or_default_zero c.settle.new.message.items 7 c.index.result.now (omega arith))
     (c.order_of.ensures ∙ ap order_told
-    (c.index-2.ensures ∙ get_or_default_zero c.settle.new.message.items 6 c.index-2.result.now (omega arith))) in (
+    (c.index-2.ensures ∙ get_or_default_zero c.settle.new.message.items 6 c.index-2.result.now (omega arith)))
+    (c.index-3.ensures ∙ get_or_default_zero c.settle.new.message.items 5 c.index-3.result.now (omega arith)) in (
       (refl, (λ _. tt), ap (stream c.self.inside.start c.self.inside.limit) same ∙ c.self.view_is),
       record {
         stays = tt;
@@ -51,6 +59,7 @@ returns c =
               kind = c.index.result.now;
               order = c.order_of.result;
               bytes = c.as_slice.result;
+              minor = c.index-3.result.now;
             }))
             c.self.view_is raw;
       },
