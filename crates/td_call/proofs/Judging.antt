@@ -31,11 +31,12 @@ readable s m limited raw = record {
   places = let most = raw.most in omega (arith, limited, most);
 }
 
-by_whole : {A : Type 0} (reads : Reading A) (id : ℕ) (given message : List ℕ) (kind : ℕ) (order : Order) (body size : ℕ)
+by_whole : {A : Type 0} (reads : Reading A) (id : ℕ) (given message : List ℕ) (kind : ℕ) (order : Order)
+    (body size minor : ℕ)
     → 12 + body ≡ size → nat_lt (length given) size ≡ false → take size given ≡ message
-    → by_header reads id given (Ok (Some (record { kind = kind; order = order; size = body })))
+    → by_header reads id given (Ok (Some (record { kind = kind; order = order; size = body; minor = minor })))
     ≡ comes_of (message_read reads id kind order message) size
-by_whole reads id given message kind order body size total fits front =
+by_whole reads id given message kind order body size minor total fits front =
     ap (λ (n : ℕ). cond (nat_lt (length given) n) short (comes_of (message_read reads id kind order (take n given)) n))
     total
     ∙ ap (λ (b : Bool). cond b short (comes_of (message_read reads id kind order (take size given)) size)) fits
@@ -55,12 +56,10 @@ front_told reads id s m more limited raw =
     let size : ℕ = length m.bytes.now in
     let w = whole reply_limit s.rest size (first_of_raw s m limited raw) in
     let within : size ≤ length s.rest = w.within in
-    let header : header_at reply_limit s.rest
-    ≡ Ok (Some (record { kind = m.kind; order = m.order; size = size - 12 })) =
-    subst (λ (n : ℕ). header_at n s.rest ≡ Ok (Some (record { kind = m.kind; order = m.order; size = size - 12 })))
-    limited raw.header in
-    let there : header_at reply_limit (s.rest ++ more)
-    ≡ Ok (Some (record { kind = m.kind; order = m.order; size = size - 12 })) =
+    let told : Header = record { kind = m.kind; order = m.order; size = size - 12; minor = m.minor } in
+    let header : header_at reply_limit s.rest ≡ Ok (Some told) =
+    subst (λ (n : ℕ). header_at n s.rest ≡ Ok (Some told)) limited raw.header in
+    let there : header_at reply_limit (s.rest ++ more) ≡ Ok (Some told) =
     header_at-append reply_limit s.rest more w.good.whole ∙ header in
     let total : 12 + (size - 12) ≡ size = let least = raw.least in omega (arith, least) in
     let fits : nat_lt (length (s.rest ++ more)) size ≡ false =
@@ -68,7 +67,7 @@ front_told reads id s m more limited raw =
     let front : take size (s.rest ++ more) ≡ m.bytes.now =
     take-append-le size s.rest more within ∙ sym raw.bytes in
     ap (by_header reads id (s.rest ++ more)) there
-    ∙ by_whole reads id (s.rest ++ more) m.bytes.now m.kind m.order (size - 12) size total fits front
+    ∙ by_whole reads id (s.rest ++ more) m.bytes.now m.kind m.order (size - 12) size m.minor total fits front
 
 pub reads_message : {A : Type 0} (reads : Reading A) (id : ℕ) (s : Stream) (m : Raw) (result : Result A PeerFault)
     → s.limit ≡ reply_limit → IsRaw s m → IsRead (message_read reads id m.kind m.order m.bytes.now) result

@@ -14,10 +14,14 @@ use Rattle.td_ops.specs.Called.{operation_in}
 use Rattle.td_ops.specs.Calls.{call_piece}
 use Rattle.td_ops.specs.Operations.{name_of}
 
+-- the minor version of GIOP that a client writes its Requests in
+abbrev pub spoken : ℕ
+spoken = 0
+
 -- a Request for an operation of the object with this key, and what is written for its parameters
 unfoldable pub request_bytes : (id : ℕ) → (key operation : List ℕ) → (parameters : Piece) → List ℕ
 request_bytes id key operation parameters =
-    let start : List ℕ = request_start Big id true key operation in
+    let start : List ℕ = request_start Big spoken id true key operation in
     sealed Big (start ++ parameters Big (length start))
 
 -- the Request for a call

@@ -9,6 +9,9 @@ use td_giop::{seal, start_request};
 use td_ops::{Call, operation_of, write_call};
 use td_value::{Any, TypeCode};
 
+/// The minor version of GIOP that a client writes its Requests in.
+const SPOKEN: u8 = 0;
+
 /// The operation of a dynamic property's evaluator (OMG's Trading Object Service, interface DynamicPropEval).
 const EVAL_DP: &str = "evalDP";
 
@@ -27,7 +30,7 @@ pub(crate) fn call_request(
     ensures { IfOk result (λ w. w.bytes ≡ request_of id key.now call.now) }
 {
     let mut w = Writer::new(alloc, Order::Big);
-    start_request(&mut w, id, true, key, operation_of(call).as_bytes())?;
+    start_request(&mut w, SPOKEN, id, true, key, operation_of(call).as_bytes())?;
     write_call(alloc, &mut w, call)?;
     seal(&mut w);
     Ok(w)
@@ -50,7 +53,7 @@ pub(crate) fn evaluation_request(
     ensures { IfOk result (λ w. w.bytes ≡ evaluation_of id key.now name.now returned.now extra.now) }
 {
     let mut w = Writer::new(alloc, Order::Big);
-    start_request(&mut w, id, true, key, EVAL_DP.as_bytes())?;
+    start_request(&mut w, SPOKEN, id, true, key, EVAL_DP.as_bytes())?;
     put_three(alloc, &mut w, name, returned, extra)?;
     seal(&mut w);
     Ok(w)
