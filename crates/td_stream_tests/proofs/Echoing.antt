@@ -9,6 +9,7 @@ use Rattle.td_giop.specs.Written.{locate_reply_written, sealed}
 use Rattle.td_giop.specs.declared.raw.Raw.{Raw}
 use Rattle.td_stream.specs.Exchanges.{Exchange, Run}
 use Rattle.td_stream.specs.Heads.{IsMessage}
+use Rattle.td_stream.specs.Messages.{behind, order_of}
 use Rattle.td_stream.specs.Outside.{Outside}
 use Rattle.td_stream.specs.Streams.{Streams}
 use Rattle.td_stream.specs.declared.end.End.{End}
@@ -32,22 +33,27 @@ written old new start n size long e = omega (arith, size, long, ap (length {A = 
 -- ---- one message
 
 pub request_echoed : {E : Type 0} (result : Result (Unit {0}) E) (m : Raw) (head : Request) (body : At) (order : Order)
-    (reply : List ℕ) → IsMessage m → m.kind ≡ 0 → request_at (behind_header m.order m.bytes.now) ≡ Ok (head, body)
-    → order ≡ m.order → OnOk result (reply ≡ cond head.answered (echo_of order head body) [])
+    (reply : List ℕ) → IsMessage m → m.kind ≡ 0
+    → request_at m.minor (behind_header m.order m.bytes.now) ≡ Ok (head, body) → order ≡ m.order
+    → OnOk result (reply ≡ cond head.answered (echo_of order m.minor head body) [])
     → OnOk result (Echoes m.bytes.now reply)
 request_echoed (Ok u) m head body order reply is kind read same told =
     request (record {
       head = head;
       body = body;
       kind = sym is.kind ∙ kind;
-      read = subst (λ (o : Order). request_at (behind_header o m.bytes.now) ≡ Ok (head, body)) is.order read;
-      told = subst (λ (o : Order). reply ≡ cond head.answered (echo_of o head body) []) (same ∙ is.order) told;
+      read =
+          subst (λ (n : ℕ). request_at n (behind m.bytes.now) ≡ Ok (head, body)) is.minor
+          (subst (λ (o : Order). request_at m.minor (behind_header o m.bytes.now) ≡ Ok (head, body)) is.order read);
+      told =
+          subst (λ (n : ℕ). reply ≡ cond head.answered (echo_of (order_of m.bytes.now) n head body) []) is.minor
+          (subst (λ (o : Order). reply ≡ cond head.answered (echo_of o m.minor head body) []) (same ∙ is.order) told);
     })
 request_echoed (Err f) m head body order reply is kind read same told = tt
 
 pub locate_echoed : {E : Type 0} (result : Result (Unit {0}) E) (m : Raw) (id : ℕ) (key : List ℕ) (order : Order)
     (reply : List ℕ) → IsMessage m → m.kind ≡ 3 → locate_at (behind_header m.order m.bytes.now) ≡ Ok (id, key)
-    → order ≡ m.order → OnOk result (reply ≡ sealed order (locate_reply_written order id 1))
+    → order ≡ m.order → OnOk result (reply ≡ sealed order (locate_reply_written order m.minor id 1))
     → OnOk result (Echoes m.bytes.now reply)
 locate_echoed (Ok u) m id key order reply is kind read same told =
     locate (record {
@@ -55,7 +61,10 @@ locate_echoed (Ok u) m id key order reply is kind read same told =
       key = key;
       kind = sym is.kind ∙ kind;
       read = subst (λ (o : Order). locate_at (behind_header o m.bytes.now) ≡ Ok (id, key)) is.order read;
-      told = subst (λ (o : Order). reply ≡ sealed o (locate_reply_written o id 1)) (same ∙ is.order) told;
+      told =
+          subst (λ (n : ℕ). reply ≡ sealed (order_of m.bytes.now) (locate_reply_written (order_of m.bytes.now) n id 1))
+          is.minor
+          (subst (λ (o : Order). reply ≡ sealed o (locate_reply_written o m.minor id 1)) (same ∙ is.order) told);
     })
 locate_echoed (Err f) m id key order reply is kind read same told = tt
 

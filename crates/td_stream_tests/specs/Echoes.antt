@@ -6,22 +6,22 @@ use Rattle.td_giop.specs.Heads.{Request, request_at, locate_at, cancel_at}
 use Rattle.td_giop.specs.Written.{locate_reply_written, reply_start, sealed}
 use Rattle.td_giop.specs.declared.message_type.TheConstants.{REQUEST, CANCEL_REQUEST, LOCATE_REQUEST}
 use Rattle.td_stream.specs.Exchanges.{Exchange}
-use Rattle.td_stream.specs.Messages.{behind, kind_of, order_of}
+use Rattle.td_stream.specs.Messages.{behind, kind_of, minor_of, order_of}
 use Rattle.td_stream.specs.Outside.{Outside}
 use Rattle.td_stream.specs.Streams.{Finishes}
 use Rattle.td_stream.specs.declared.end.End.{End}
 
--- a Reply with status NO_EXCEPTION (0), with the Request's parameters behind it
-abbrev pub echo_of : Order → Request → At → List ℕ
-echo_of order head body = sealed order (reply_start order head.id 0 ++ body.rest)
+-- a Reply of the Request's version with status NO_EXCEPTION (0), with the Request's parameters behind it
+abbrev pub echo_of : Order → (minor : ℕ) → Request → At → List ℕ
+echo_of order minor head body = sealed order (reply_start order minor head.id 0 ++ body.rest)
 
 -- a Request that expects a reply is answered with its parameters, any other with nothing
 pub record EchoesRequest (message reply : List ℕ) : Type 0 where
   pub head : Request
   pub body : At
   pub kind : kind_of message ≡ REQUEST
-  pub read : request_at (behind message) ≡ Ok (head, body)
-  pub told : reply ≡ (if head.answered then echo_of (order_of message) head body else [])
+  pub read : request_at (minor_of message) (behind message) ≡ Ok (head, body)
+  pub told : reply ≡ (if head.answered then echo_of (order_of message) (minor_of message) head body else [])
 
 -- each key is that of an object: OBJECT_HERE (1)
 pub record EchoesLocate (message reply : List ℕ) : Type 0 where
@@ -29,7 +29,8 @@ pub record EchoesLocate (message reply : List ℕ) : Type 0 where
   pub key : List ℕ
   pub kind : kind_of message ≡ LOCATE_REQUEST
   pub read : locate_at (behind message) ≡ Ok (id, key)
-  pub told : reply ≡ sealed (order_of message) (locate_reply_written (order_of message) id 1)
+  pub told : reply
+      ≡ sealed (order_of message) (locate_reply_written (order_of message) (minor_of message) id 1)
 
 pub record EchoesCancel (message reply : List ℕ) : Type 0 where
   pub id : ℕ

@@ -1,6 +1,7 @@
 //! A servant that sends each Request's body back.
 
-ghost use Rattle.std.specs.Prelude.{◌≡◌, [], OnOk, if◌then◌else◌};
+ghost use Rattle.std.specs.Prelude.{◌≡◌, ◌≤◌, [], OnOk, if◌then◌else◌};
+ghost use Rattle.td_giop.specs.declared.header.TheConstants.{NEWEST_MINOR};
 ghost use Rattle.td_giop.specs.Written.{locate_reply_written, sealed};
 ghost use Rattle.td_stream.specs.Heads.{asked_of};
 ghost use Rattle.td_stream.specs.Outside.{outside};
@@ -57,8 +58,8 @@ impl Servant for Echo {
     ) -> Result<(), Memory> {
         self.reply.restart(message.order);
         match head {
-            Head::Request(request) => write_echo(&mut self.reply, request),
-            Head::Locate(id, _key) => write_here(&mut self.reply, *id),
+            Head::Request(request) => write_echo(&mut self.reply, message.minor, request),
+            Head::Locate(id, _key) => write_here(&mut self.reply, message.minor, *id),
             Head::Cancel(_id) => Ok(()),
         }
     }
@@ -69,26 +70,28 @@ impl Servant for Echo {
 }
 
 /// Writes the Reply to a Request that expects one.
-fn write_echo(reply: &mut Writer, request: &RequestHead<'_>) -> Result<(), Memory>
-    requires { reply.old.bytes ≡ [] }
-    ensures { OnOk result (reply.new.bytes
-        ≡ (if request.now.answered then echo_of reply.old.order (asked_of request.now) request.now.body else [])) }
+fn write_echo(reply: &mut Writer, minor: u8, request: &RequestHead<'_>) -> Result<(), Memory>
+    requires empty { reply.old.bytes ≡ [] }
+    requires minor { minor ≤ NEWEST_MINOR }
+    ensures { OnOk result (reply.new.bytes ≡ (if request.now.answered
+        then echo_of reply.old.order minor (asked_of request.now) request.now.body else [])) }
 {
     if !request.answered {
         return Ok(());
     }
-    start_reply(reply, request.id, 0)?;
+    start_reply(reply, minor, request.id, 0)?;
     reply.append(request.body.left())?;
     seal(reply);
     Ok(())
 }
 
 /// Writes a LocateReply: the object is here.
-fn write_here(reply: &mut Writer, id: u32) -> Result<(), Memory>
-    requires { reply.old.bytes ≡ [] }
-    ensures { OnOk result (reply.new.bytes ≡ sealed reply.old.order (locate_reply_written reply.old.order id 1)) }
+fn write_here(reply: &mut Writer, minor: u8, id: u32) -> Result<(), Memory>
+    requires empty { reply.old.bytes ≡ [] }
+    requires minor { minor ≤ NEWEST_MINOR }
+    ensures { OnOk result (reply.new.bytes ≡ sealed reply.old.order (locate_reply_written reply.old.order minor id 1)) }
 {
-    write_locate_reply(reply, id, 1)?;
+    write_locate_reply(reply, minor, id, 1)?;
     seal(reply);
     Ok(())
 }
