@@ -19,6 +19,8 @@ const STOPPED: &str = "A! B! C! A>B B>C;;;;return_card=0 => A. 0 0
 A! B! C! A>B B>C;;;;return_card=1 => A. 1 0
 A! B! C! A>B B>C;;;;return_card=2 => AB.. 2 0
 A! B! C! A>B B>C;;;;return_card=5 => ABC... 3 0
+A! B! C! A>B B>A A>C;;;;return_card=2 => AB.. 2 0
+A! B! C! A>B B>A A>C;;;;return_card=3 => ABa.C.. 3 0
 A! B! C! A>B B>C;;;first;return_card=1 => A. 1 0
 A! B! C! A>B B>C;;;random;return_card=1 => AB.. 1 0
 A! B! C! A>B B>C;;;min Cost;return_card=1 => ABC... 1 0
@@ -26,7 +28,8 @@ A! B! C! A>B B>C;;;;starting_trader=B return_card=0 => 0B.. 0 0
 A! B! C! D! A>B A>C B>C C>D;;;;hop_count=3 return_card=1 => A. 1 0
 A! B! C! D! A>B A>C B>C C>D;;;min Cost;hop_count=3 return_card=1 => ABCD...c. 1 0";
 
-/// No further trader is asked once enough offers are there, unless they get another order; a path is always followed.
+/// No further trader is asked once enough offers are there, unless they get another order; a search that is repeated
+/// adds nothing to them. A path is always followed.
 #[test]
 fn gathering_that_stops(rt: HostRuntime) -> Result<(), Fail> {
     check(&rt, rt.alloc(), Case::Walk, STOPPED)
