@@ -23,7 +23,7 @@ pub record HasMagic (bytes : List ℕ) : Type 0 where
   pub o : slice_index bytes 2 ≡ slice_index MAGIC 2
   pub p : slice_index bytes 3 ≡ slice_index MAGIC 3
 
--- version 1.0, or a later one of the same major version up to the newest that is read
+-- version 1.0 or 1.1
 pub record HasVersion (bytes : List ℕ) : Type 0 where
   pub major : slice_index bytes MAJOR_PLACE ≡ MAJOR
   pub minor : slice_index bytes MINOR_PLACE ≤ NEWEST_MINOR

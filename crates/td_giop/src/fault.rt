@@ -8,8 +8,8 @@ pub enum FrameFault {
     /// The message doesn't begin with `GIOP`.
     #[error("a message doesn't begin with GIOP")]
     BadMagic,
-    /// The major version isn't 1, or the minor version is above `NEWEST_MINOR`.
-    #[error("a message's version isn't 1.0")]
+    /// The version isn't 1.0 or 1.1.
+    #[error("a message's version isn't 1.0 or 1.1")]
     BadVersion,
     /// The message type is above 6.
     #[error("a message's type isn't known")]

@@ -20,9 +20,8 @@ pub const MAGIC: [u8; 4] = *b"GIOP";
 /// The major version.
 pub const MAJOR: u8 = 1;
 
-/// The newest minor version that is read and written: with 0, messages are of GIOP 1.0 alone. A message of GIOP 1.1 is
-/// then refused as `BadVersion` before its flags are looked at.
-pub const NEWEST_MINOR: u8 = 0;
+/// The newest minor version that is read and written: messages are of GIOP 1.0 and 1.1.
+pub const NEWEST_MINOR: u8 = 1;
 
 /// Where the major version stands in a header.
 pub const MAJOR_PLACE: usize = 4;

@@ -1,5 +1,5 @@
-//! The General Inter-ORB Protocol (GIOP) 1.0, and what 1.1 adds to it: messages out of a stream, message heads, and
-//! writers of both. Which versions are read and written is told by `NEWEST_MINOR`.
+//! The General Inter-ORB Protocol (GIOP) 1.0 and 1.1, without fragments: messages out of a stream, message heads, and
+//! writers of both.
 #![tactic(auto)]
 
 mod fault;

@@ -13,6 +13,6 @@ pub struct Raw<'a> {
     pub order: Order,
     /// The message, with its header of 12 bytes.
     pub bytes: &'a [u8],
-    /// The minor version, at most `NEWEST_MINOR`.
+    /// The minor version, 0 or 1.
     pub minor: u8,
 }

@@ -5,7 +5,7 @@
 pub enum Cause {
     /// Its first four bytes aren't `GIOP`.
     BadMagic,
-    /// Its version isn't 1.0.
+    /// Its version isn't 1.0 or 1.1.
     BadVersion,
     /// Its type is above 6.
     BadType,
@@ -15,7 +15,7 @@ pub enum Cause {
     NotForServer,
     /// Its head isn't in the grammar; the place of the fault in the message, in bytes from 0.
     Header(u32),
-    /// It is of GIOP 1.1, and fragments of it follow. While GIOP 1.0 alone is read, `BadVersion` comes before it.
+    /// It is of GIOP 1.1, and fragments of it follow.
     Fragmented,
 }
 
