@@ -1,20 +1,24 @@
 -- What stands alone as the octets of an encapsulation is read as it is spelled, and only so.
 use Rattle.std.proofs.Common.{◌≡◌, ℕ, ◌+◌, ◌^◌, ◌<◌, nat_eq, nat_lt, Bool, true, false, List, [], ◌∷◌, ◌++◌, length}
 use Rattle.std.proofs.Common.{Option, Some, None, Ok, Err, refl, sym, ap, subst, ◌∙◌, arith, if◌then◌else◌}
-use Rattle.std.proofs.lemmas.List.{append-nil}
+use Rattle.std.proofs.lemmas.List.{append-nil, drop_at}
 use Rattle.std.proofs.lemmas.Bool.{eqb-true, lt-ltb}
 use Rattle.std.proofs.lemmas.Bool.Decides.{nat_tests}
 use Rattle.td_cdr.specs.declared.order.Order.TheVariants.{Big}
 use Rattle.td_cdr.specs.Place.{At}
 use Rattle.td_cdr.specs.Spelling.{IsFlag}
 use Rattle.td_cdr.specs.Format.{Read}
+use Rattle.td_cdr.specs.Reading.{after}
 use Rattle.td_cdr.specs.Sound.{Sound}
 use Rattle.td_cdr.specs.declared.value_fault.ValueFault.{ValueFault}
-use Rattle.td_ior.specs.Enclosed.{Encloses, start, start_of, value_in, enclosed_in, enclosing}
+use Rattle.td_ior.specs.Enclosed.{Encloses, behind, start, start_of, value_in, enclosed_in, enclosing}
 use Rattle.td_ior.proofs.Keys.{bind-Some, some-is}
 
 abbrev some_at : At → Option At
 some_at a = Some a
+
+abbrev read_as : {Y : Type 0} → Y → At → Read ValueFault Y
+read_as v a = Ok (v, a)
 
 record Starts (octets : List ℕ) (a : At) : Type 0 where
   little : Bool
@@ -73,33 +77,68 @@ value-found : {Y : Type 0} (r : Read ValueFault Y) (v : Y) → value_in r ≡ So
 value-found (Ok x) v e = (x.1, ap (λ (y : _). Ok (y, x.1)) (some-is x.0 v e))
 value-found (Err d) v e = absurd cc
 
+-- a reader of these octets stands behind the value
+pub record ReadAt {Y : Type 0} (g : Sound ValueFault Y) (octets : List ℕ) (v : Y) (next : At) : Type 0 where
+  pub holds : Encloses g octets v
+  pub next_is : behind g octets v holds ≡ next
+
+abbrev resting : At → List ℕ → At
+resting a rest = record a { rest = rest }
+
+pub read-found : {Y : Type 0} (g : Sound ValueFault Y) (octets : List ℕ) (v : Y) (a next : At) → start_of octets ≡ Some a
+    → g.format.reads a ≡ Ok (v, next) → ReadAt g octets v next
+read-found g octets v a next begins read =
+    let s = start-found octets a begins in
+    let at : g.format.reads (start s.little s.body) ≡ Ok (v, next) = ap g.format.reads s.is ∙ read in
+    let f = g.lawful.found (start s.little s.body) v next (omega arith) at in
+    let there : At = after (length f.bytes) (start s.little s.body) in
+    record {
+      holds =
+          record {
+            little = s.little;
+            order_octet = s.octet;
+            body = f.bytes;
+            ignored = next.rest;
+            order_told = s.told;
+            parts = s.parts ∙ ap (λ (x : List ℕ). s.octet ∷ x) f.parts;
+            short = s.short;
+            spelled = f.spelled;
+          };
+      next_is = ap (resting there) (ap (λ (x : At). x.rest) f.moved) ∙ sym f.moved;
+    }
+
 pub enclosed-found : {Y : Type 0} (g : Sound ValueFault Y) → (octets : List ℕ) (v : Y) → enclosed_in g octets ≡ Some v
     → Encloses g octets v
 enclosed-found {Y = Y} g octets v e =
     let b = bind-Some (start_of octets) (λ (a : At). value_in (g.format.reads a)) v e in
-    let s = start-found octets b.0 b.1 in
     let n = value-found (g.format.reads b.0) v b.2 in
-    let at : g.format.reads (start s.little s.body) ≡ Ok (v, n.0) = ap g.format.reads s.is ∙ n.1 in
-    let f = g.lawful.found (start s.little s.body) v n.0 (omega arith) at in
-    record {
-      little = s.little;
-      order_octet = s.octet;
-      body = f.bytes;
-      ignored = n.0.rest;
-      order_told = s.told;
-      parts = s.parts ∙ ap (λ (x : List ℕ). s.octet ∷ x) f.parts;
-      short = s.short;
-      spelled = f.spelled;
-    }
+    let r = read-found g octets v b.0 n.0 b.1 n.1 in
+    r.holds
 
-pub enclosed-only : {Y : Type 0} (g : Sound ValueFault Y) → (octets : List ℕ) (v : Y) → Encloses g octets v
-    → enclosed_in g octets ≡ Some v
-enclosed-only {Y = Y} g octets v s =
+-- where a reader begins, and what it reads
+pub record BeginsAt {Y : Type 0} (g : Sound ValueFault Y) (octets : List ℕ) (v : Y) (next : At) : Type 0 where
+  pub at : At
+  pub begins : start_of octets ≡ Some at
+  pub read : g.format.reads at ≡ Ok (v, next)
+
+pub read-only : {Y : Type 0} (g : Sound ValueFault Y) (octets : List ℕ) (v : Y) (s : Encloses g octets v)
+    → BeginsAt g octets v (behind g octets v s)
+read-only {Y = Y} g octets v s =
     let body : List ℕ = s.body ++ s.ignored in
     let short : length (s.order_octet ∷ body) < 2 ^ 32 = subst (λ (x : List ℕ). length x < 2 ^ 32) s.parts s.short in
     let begins = start-only s.little s.order_octet body s.order_told short in
     let one = g.lawful.only (start s.little body) v s.body s.ignored (omega arith) s.spelled refl in
-    ap (enclosed_in g) s.parts ∙ rw (begins, one) refl
+    let there : At = behind g octets v s in
+    let left = ap (resting there) (drop_at s.body s.ignored (length s.body) refl) in
+    record {
+      at = start s.little body;
+      begins = ap start_of s.parts ∙ begins;
+      read = one ∙ ap (λ (x : At). read_as v x) left;
+    }
+
+pub enclosed-only : {Y : Type 0} (g : Sound ValueFault Y) → (octets : List ℕ) (v : Y) → Encloses g octets v
+    → enclosed_in g octets ≡ Some v
+enclosed-only g octets v s = let r = read-only g octets v s in rw (r.begins, r.read) refl
 
 -- what is written for a value, behind the octet that tells big order
 pub enclosing-holds : {Y : Type 0} (g : Sound ValueFault Y) (v : Y) → g.format.admits v

@@ -147,7 +147,7 @@ unfolding parts_of
 parts-steps text = refl
 
 abbrev made_of : Parts → Ior
-made_of p = made_reference p.id p.host p.port p.key
+made_of p = made_reference p.id p.host p.port p.key 0
 
 parts-found : (text : List ℕ) (parts : Parts) → parts_of text ≡ Some parts → IsPlainForm text (made_of parts)
 parts-found text parts e =
@@ -160,7 +160,7 @@ parts-found text parts e =
     let at_last = cut-Some rest.0 last.0 last.1 in
     let at_before = cut-Some last.0.0 before.0 before.1 in
     let at_first = cut-Some before.0.0 first.0 first.1 in
-    let made_as : made_of parts ≡ made_reference first.0.0 first.0.1 port.0 last.0.1 = ap made_of (sym ported.is) in
+    let made_as : made_of parts ≡ made_reference first.0.0 first.0.1 port.0 last.0.1 0 = ap made_of (sym ported.is) in
     record {
       id = first.0.0;
       host = first.0.1;
@@ -263,8 +263,8 @@ printed-back r octets (Ok t) e held bytes short = λ ok.
 printed-back r octets (Err d) e held bytes short = tt
 
 -- a made reference has a spelling
-pub made-admitted : (id host key : List ℕ) (port : ℕ) → HasNoNul id
-    → reference.format.admits (made_reference id host port key)
-made-admitted id host key port plain =
-    let p : Profile = made_profile host port key in
+pub made-admitted : (id host key : List ℕ) (port minor : ℕ) → HasNoNul id
+    → reference.format.admits (made_reference id host port key minor)
+made-admitted id host key port minor plain =
+    let p : Profile = made_profile host port key minor in
     (plain, (omega arith, ((p, []), refl, ((omega arith, tt), refl))))

@@ -24,6 +24,11 @@ pub record Encloses {Y : Type 0} (g : Sound ValueFault Y) (octets : List ℕ) (v
   pub short : length octets < 2 ^ 32
   pub spelled : g.format.spells (order_of little) 1 v body
 
+-- behind the value
+abbrev pub behind : {Y : Type 0} (g : Sound ValueFault Y) (octets : List ℕ) (v : Y) → Encloses g octets v → At
+behind g octets v e =
+    record { rest = e.ignored; place = 1 + length e.body; origin = 0; order = order_of e.little }
+
 -- ---- how they are read
 
 -- behind the octet that tells the order

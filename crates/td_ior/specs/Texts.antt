@@ -27,7 +27,7 @@ pub record IsHexForm (text : List ℕ) (r : Ior) : Type 0 where
 abbrev pub HasNoComma : List ℕ → Type 0
 HasNoComma word = list_any (λ b. nat_eq b 44) word ≡ false
 
--- `ref:ID,HOST,PORT,KEY`, cut at its last three commas
+-- `ref:ID,HOST,PORT,KEY`, cut at its last three commas: a reference with a profile of IIOP 1.0
 pub record IsPlainForm (text : List ℕ) (r : Ior) : Type 0 where
   pub id : List ℕ
   pub host : List ℕ
@@ -41,7 +41,7 @@ pub record IsPlainForm (text : List ℕ) (r : Ior) : Type 0 where
   pub id_plain : HasNoNul id
   pub host_plain : HasNoNul host
   pub number : SpellsBelow 65536 port_word port
-  pub made : r ≡ made_reference id host port key
+  pub made : r ≡ made_reference id host port key 0
 
 pub data IsReferenceText (text : List ℕ) (r : Ior) : Type 0 where
   hex : IsHexForm text r → IsReferenceText text r
@@ -86,7 +86,7 @@ parts_of text = do
   with_port first last.1 port
 
 abbrev pub plain_form : List ℕ → Option Ior
-plain_form text = parts_of text >>= λ p. Some (made_reference p.id p.host p.port p.key)
+plain_form text = parts_of text >>= λ p. Some (made_reference p.id p.host p.port p.key 0)
 
 abbrev pub reference_in : List ℕ → Option Ior
 reference_in text = if bytes_eq (take 4 text) (codes "IOR:") then hex_form (drop 4 text) else plain_form text

@@ -1,7 +1,7 @@
 //! What holds of all keys, profiles and texts, as functions that do nothing: each one's contract is
 //! the law.
 
-ghost use Rattle.std.specs.Prelude.{◌≡◌, ℕ, ◌^◌, ◌<◌, List, length, Some, None};
+ghost use Rattle.std.specs.Prelude.{◌≡◌, ℕ, ◌^◌, ◌≤◌, ◌<◌, List, [], length, Some, None};
 ghost use Rattle.hex.specs.Hex.{IsBytes};
 ghost use Rattle.td_cdr.specs.Names.{IsTraderName};
 ghost use Rattle.td_cdr.specs.Text.{HasNoNul};
@@ -25,16 +25,17 @@ pub fn keys_are_read()
 {}
 
 /// A profile is read as the layout of IIOP spells it, and only so, and the first one that is of IIOP is
-/// taken; there is none exactly where no profile is of IIOP. A made reference gives its host, its port
-/// and its key back.
+/// taken; there is none exactly where no profile is of IIOP. A made reference gives its host, its port,
+/// its key and its minor version back, and no components.
 pub fn profiles_are_read()
     ensures one { Agrees IsIiop iiop_in }
     ensures first { Agrees IsFirstIiop first_iiop }
     ensures none { (profiles : List Profile) → first_iiop profiles ≡ None → HasNoIiop profiles }
     ensures only_none { (profiles : List Profile) → HasNoIiop profiles → first_iiop profiles ≡ None }
-    ensures back { (id host key : List ℕ) (port : ℕ) → HasNoNul host → port < 65536
-        → length (made_octets host port key) < 2 ^ 32
-        → iiop_of (made_reference id host port key) ≡ Some (record { host = host; port = port; key = key }) }
+    ensures back { (id host key : List ℕ) (port minor : ℕ) → HasNoNul host → port < 65536 → minor ≤ 1
+        → length (made_octets host port key minor) < 2 ^ 32
+        → iiop_of (made_reference id host port key minor)
+        ≡ Some (record { host = host; port = port; key = key; minor = minor; components = [] }) }
 {}
 
 /// A text is read as the reference that one of the two forms says it spells, and only so. A printed
@@ -43,6 +44,6 @@ pub fn texts_are_read()
     ensures agrees { Agrees IsReferenceText reference_in }
     ensures back { (r : Ior) → reference.format.admits r → IsBytes (enclosing reference r)
         → length (enclosing reference r) < 2 ^ 32 → reference_in (printed r) ≡ Some r }
-    ensures made { (id host key : List ℕ) (port : ℕ) → HasNoNul id
-        → reference.format.admits (made_reference id host port key) }
+    ensures made { (id host key : List ℕ) (port minor : ℕ) → HasNoNul id
+        → reference.format.admits (made_reference id host port key minor) }
 {}

@@ -18,10 +18,14 @@ use std::alloc::Global;
 use td_cdr::{Memory, Octets, Order, Text, Writer};
 use td_value::{Ior, ValueFault, read_ior, write_ior};
 
+/// The minor version of IIOP in a reference of the form `ref:ID,HOST,PORT,KEY`.
+const PLAIN_MINOR: u8 = 0;
+
 /// The reference that a text spells: `IOR:` and the hexadecimal digits, in either case, of an
 /// encapsulation of it, or `ref:ID,HOST,PORT,KEY`, cut at its last three commas, with ID and HOST
 /// without NUL and PORT in decimal without leading zeros from 0 to 65535. The second form stands for
-/// the reference that `make_ior` makes. Octets behind the reference in the encapsulation are ignored.
+/// the reference that `make_ior` makes with minor version 0. Octets behind the reference in the
+/// encapsulation are ignored.
 ///
 /// # Errors
 ///
@@ -66,7 +70,14 @@ fn plain_form(alloc: Global, text: &[u8]) -> Result<Ior, IorFault>
     let Some(parts) = parts_of(text) else {
         return Err(IorFault::NotIor);
     };
-    let reference = make_ior(alloc, parts.id, parts.host, parts.port, parts.key)?;
+    let reference = make_ior(
+        alloc,
+        parts.id,
+        parts.host,
+        parts.port,
+        parts.key,
+        PLAIN_MINOR,
+    )?;
     Ok(reference)
 }
 

@@ -6,8 +6,9 @@ use Rattle.td_ior.proofs.profile.make_ior.Goals as goal
 
 pub returns-clause-back : goal.returns-clause-back
 returns-clause-back c =
-    made-back c.args.id.now c.args.host.now c.args.key.now c.in_ok-octets.octets c.args.port c.push.new.self c.requires
-    (omega arith) c.in_ok-octets.ensures.short c.in_ok-octets.ensures.made
+    made-back c.args.id.now c.args.host.now c.args.key.now c.in_ok-octets.octets c.args.port c.args.minor c.push.new.self
+    c.requires.host
+    (omega arith) c.requires.minor c.in_ok-octets.ensures.short c.in_ok-octets.ensures.made
     (c.in_ok-push.ensures.ok ∙ ap
     (λ (x : List Profile). x ++ record { tag = iiop_tag; octets = c.in_ok-octets.octets } ∷ [])
     c.new-profiles.ensures)
