@@ -1,6 +1,6 @@
 -- How long the references are that the server gives of its iterators.
-use Rattle.std.proofs.Common.{◌≡◌, ℕ, ◌+◌, ◌^◌, ◌<◌, ◌≤◌, ◌&&◌, nat_le, List, [], ◌∷◌, ◌++◌, length, codes}
-use Rattle.std.proofs.Common.{subst, sym, arith, length-append}
+use Rattle.std.proofs.Common.{◌≡◌, ℕ, ◌+◌, ◌^◌, ◌<◌, ◌≤◌, ◌&&◌, nat_eq, nat_le, Bool, true, false, if◌then◌else◌, List}
+use Rattle.std.proofs.Common.{[], ◌∷◌, ◌++◌, length, codes, subst, sym, arith, length-append}
 use Rattle.std.proofs.lemmas.Bool.{leb-true}
 use Rattle.std.proofs.lemmas.Fmt.{length-decimal-le}
 use Rattle.std.specs.Fmt.{decimal}
@@ -13,13 +13,13 @@ use Rattle.td_cdr.specs.Format.{Piece, ◌then◌, row}
 use Rattle.td_cdr.specs.Format.{number as number_format}
 use Rattle.td_cdr.specs.Gap.{flag}
 use Rattle.td_cdr.specs.Names.{IsTraderName, is_trader_byte}
-use Rattle.td_cdr.specs.Sound.{number, octets, text}
+use Rattle.td_cdr.specs.Sound.{number, octets, sequence, text}
 use Rattle.td_codes.specs.References.{profile, reference}
 use Rattle.td_codes.specs.declared.reference.Ior.{Ior}
 use Rattle.td_codes.specs.declared.reference.Profile.{Profile}
 use Rattle.td_ior.proofs.Numbers.{and-left, and-right}
 use Rattle.td_ior.specs.Keys.{written_key}
-use Rattle.td_ior.specs.Profiles.{iiop_major, made_octets, made_profile, written_minor}
+use Rattle.td_ior.specs.Profiles.{iiop_major, made_octets, made_profile, no_components}
 use Rattle.td_iter.proofs.Endings.{text-length}
 use Rattle.td_iter.proofs.Lengths.{number-length, octets-length}
 use Rattle.td_iter.specs.Heads.{IsSmallReference}
@@ -68,23 +68,41 @@ one_short p m a = record { long = λ o place. omega (arith, a.long o place, leng
 cons_short : (x : ℕ) (b : List ℕ) (n : ℕ) → length b ≤ n → length (x ∷ b) ≤ n + 1
 cons_short x b n h = omega (arith, h)
 
-made_short : (host key : List ℕ) (port : ℕ) → length (made_octets host port key) ≤ length host + length key + 21
-made_short host key port =
+-- at most the count of an empty sequence
+no_components_short : (minor : ℕ) → Short (no_components minor) 7
+no_components_short minor = record { long = λ o place. at_version (nat_eq minor 0) o place }
+  where
+    at_version : (older : Bool) (o : Order) (place : ℕ)
+        → length (if older then [] else (sequence profile).format.writes [] o place) ≤ 7
+    at_version true o place = omega arith
+    at_version false o place =
+        omega (
+          arith,
+          (ulong_short 0).long o place,
+          length-append ((number_format 4).writes 0 o place) [],
+        )
+
+made_short : (host key : List ℕ) (port minor : ℕ)
+    → length (made_octets host port key minor) ≤ length host + length key + 28
+made_short host key port minor =
     let p = (number 1).format.writes iiop_major in
-    let q = (number 1).format.writes written_minor in
+    let q = (number 1).format.writes minor in
     let r = text.format.writes host in
     let s = (number 2).format.writes port in
     let t = octets.format.writes key in
     let st = then_short s t 3 (7 + length key) (ushort_short port) (octets_short key) in
     let rst = then_short r (s then t) (8 + length host) (3 + (7 + length key)) (text_short host) st in
     let qrst =
-    then_short q (r then s then t) 1 (8 + length host + (3 + (7 + length key))) (octet_short written_minor) rst in
+    then_short q (r then s then t) 1 (8 + length host + (3 + (7 + length key))) (octet_short minor) rst in
     let all =
     then_short p (q then r then s then t) 1 (1 + (8 + length host + (3 + (7 + length key)))) (octet_short iiop_major)
     qrst in
-    let whole : length (made_octets host port key) ≤ 1 + (1 + (8 + length host + (3 + (7 + length key)))) + 1 =
-    cons_short (flag Big) ((p then q then r then s then t) Big 1) (1 + (1 + (8 + length host + (3 + (7 + length key)))))
-    (all.long Big 1) in
+    let front : ℕ = 1 + (1 + (8 + length host + (3 + (7 + length key)))) in
+    let both =
+    then_short (p then q then r then s then t) (no_components minor) front 7 all (no_components_short minor) in
+    let whole : length (made_octets host port key minor) ≤ front + 7 + 1 =
+    cons_short (flag Big) (((p then q then r then s then t) then no_components minor) Big 1) (front + 7)
+    (both.long Big 1) in
     omega (arith, whole)
 
 -- ---- references with one profile
@@ -129,8 +147,8 @@ own_small : (home : Address) (i : Interface) (name : List ℕ) (n : ℕ) → len
 own_small home i name n id a t h =
     let key = written_key (record { trader = name; kind = Iterator n }) in
     let short = key_short name n t h in
-    let octets_are = made_short home.host key home.port in
-    let whole = (reference_short (interface_id i) (made_profile home.host home.port key)).long Big 0 in
+    let octets_are = made_short home.host key home.port home.minor in
+    let whole = (reference_short (interface_id i) (made_profile home.host home.port key home.minor)).long Big 0 in
     let host = a.short in
     omega (arith, short, octets_are, whole, id, host)
 

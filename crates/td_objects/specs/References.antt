@@ -1,6 +1,6 @@
 -- The references that the server gives of its own objects (CORBA, chapter on General Inter-ORB Protocol, "IIOP IOR
--- Profiles"): each has the id of its interface, the server's host and port, and the key NAME/L for the Lookup of the
--- trader NAME, and so on.
+-- Profiles"): each has the id of its interface, the server's host, port and version, and the key NAME/L for the Lookup
+-- of the trader NAME, and so on.
 use Rattle.std.specs.Prelude.{ℕ, ◌≤◌, List, length}
 use Rattle.td_cdr.specs.Text.{HasNoNul}
 use Rattle.td_codes.specs.declared.reference.Ior.{Ior}
@@ -14,15 +14,16 @@ use Rattle.td_objects.specs.Interfaces.{interface_id}
 use Rattle.td_objects.specs.declared.interface.Interface.{Interface}
 use Rattle.td_objects.specs.declared.interface.Interface.TheVariants as interface
 
--- where a server may listen
+-- where a server may listen, and the minor version of IIOP in which it may be reached
 pub record IsAddress (home : Address) : Type 0 where
   pub short : length home.host ≤ 1000
   pub no_nul : HasNoNul home.host
+  pub minor : home.minor ≤ 1
 
 -- the object of a kind that the trader of a name has, reached where the server listens
 abbrev pub own_reference : Address → Interface → (name : List ℕ) → Kind → Ior
 own_reference home i name k =
-    made_reference (interface_id i) home.host home.port (written_key (record { trader = name; kind = k }))
+    made_reference (interface_id i) home.host home.port (written_key (record { trader = name; kind = k })) home.minor
 
 -- ---- the objects of every trader (OMG's Trading Object Service, TraderComponents)
 

@@ -38,6 +38,7 @@ pub fn own_reference(
         home.host.as_slice(),
         home.port,
         key.as_slice(),
+        home.minor,
     )
 }
 

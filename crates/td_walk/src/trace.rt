@@ -6,11 +6,14 @@ use td_cdr::{Boxed, List, Text};
 use td_ops::Outcome;
 use td_value::Any;
 
-/// Where a server listens. The host has at most 1,000 bytes and no NUL.
+/// Where a server listens, and the version of the profiles that it publishes. The host has at most 1,000 bytes and no
+/// NUL.
 #[derive(Drop)]
 pub struct Address {
     pub host: Text,
     pub port: u16,
+    /// The minor version of IIOP of the server's own references, 0 or 1.
+    pub minor: u8,
 }
 
 /// What the visit of a query comes to.
