@@ -12,7 +12,9 @@ use Rattle.td_ops.specs.declared.outcome.Outcome.{Outcome}
 use Rattle.td_ops.specs.declared.outcome.Outcome.TheVariants.{Done, User, System}
 use Rattle.td_ops.specs.declared.outcome.Reply.{Reply}
 use Rattle.td_changes.specs.Applying.{apply}
-use Rattle.td_trader.specs.Following.{ActsBegin, ActsChange, ActsLook, ActsOnce, BeginsOnce, Follows, MarksOnce}
+use Rattle.td_trader.specs.Admitted.{AdmitsChange, AreAdmitted}
+use Rattle.td_trader.specs.Following.{ActsBegin, ActsChange, ActsLook, ActsOnce, BeginsOnce, Follows, FollowsWritably}
+use Rattle.td_trader.specs.Following.{MarksOnce}
 use Rattle.td_changes.specs.Histories.{Legal, LegalFrom, StandsAt, after_all, is_done, noted}
 use Rattle.td_register.specs.Entries.{entry}
 use Rattle.td_changes.specs.Laws.{Extends, applied_after}
@@ -148,6 +150,60 @@ pub begin-once : (t u : PlainTrader) (q : Query) (r : Result Begin Memory) → A
 begin-once t u q (Ok b) bounds marks h =
     subst (BeginsOnce t) (sym (h.1 ∙ ap (after_begin t q) h.0)) (begun t q bounds marks)
 begin-once t u q (Err e) bounds marks h = subst (BeginsOnce t) (sym h) (with-marks t t.marks (inl refl))
+
+-- ---- changes that can be written
+
+admitted-append : (xs ys : List Accepted) → AreAdmitted xs → AreAdmitted ys → AreAdmitted (xs ++ ys)
+admitted-append [] ys p q = q
+admitted-append (x ∷ xs) ys p q = (p.0, admitted-append xs ys p.1 q)
+
+pub writable-itself : (t : PlainTrader) → FollowsWritably t t
+unfolding follows-itself
+writable-itself t = record { follows = follows-itself t; admitted = tt }
+
+pub writable-on : (t u v : PlainTrader) → FollowsWritably t u → FollowsWritably u v → FollowsWritably t v
+unfolding follows-on
+writable-on t u v p q = record {
+  follows = follows-on t u v p.follows q.follows;
+  admitted = admitted-append p.follows.more q.follows.more p.admitted q.admitted;
+}
+
+-- nothing was added
+none-more : (h more : List Accepted) → h ≡ h ++ more → more ≡ []
+none-more h more e = no-length more (let n = ap length e ∙ length-append h more in omega (arith, n))
+  where
+    no-length : (xs : List Accepted) → length xs ≡ 0 → xs ≡ []
+    no-length [] e = refl
+    no-length (x ∷ xs) e = absurd (omega (arith, e))
+
+pub writable-same : (t u : PlainTrader) → Follows t u → u.history ≡ t.history → FollowsWritably t u
+writable-same t u f same = record {
+  follows = f;
+  admitted = subst AreAdmitted (sym (none-more t.history f.more (sym same ∙ f.history))) tt;
+}
+
+left-writable : (t : PlainTrader) (c : Change) (o : Outcome)
+    → (applied_after t.bounds t.opening t.history c).outcome ≡ o → AdmitsChange c
+    → FollowsWritably t (after_outcome t c o)
+unfolding left
+left-writable t c (Done told) e h = record { follows = (left t c (Done told) e).follows; admitted = (h, tt) }
+left-writable t c (User f) e h = writable-itself t
+left-writable t c (System kind minor completion) e h = writable-itself t
+
+pub change-writable : (t u : PlainTrader) (c : Change) (r : Result Outcome Memory) → AdmitsChange c
+    → ActsChange t c r u → FollowsWritably t u
+change-writable t u c (Ok o) a h = subst (FollowsWritably t) (sym h.1) (left-writable t c (outcome_of t c) refl a)
+change-writable t u c (Err e) a h = subst (FollowsWritably t) (sym h) (writable-itself t)
+
+pub look-writable : (t u : PlainTrader) (l : Look) (r : Result (Outcome × ℕ) Memory) → ActsLook t l r u
+    → FollowsWritably t u
+look-writable t u l (Ok a) h = subst (FollowsWritably t) (sym h.1) (writable-itself t)
+look-writable t u l (Err e) h = subst (FollowsWritably t) (sym h) (writable-itself t)
+
+pub begin-writable : (t u : PlainTrader) (q : Query) (r : Result Begin Memory) → AreBounds t.bounds → AreMarks t.marks
+    → ActsBegin t q r u → FollowsWritably t u
+begin-writable t u q r bounds marks h =
+    let is = begin-once t u q r bounds marks h in writable-same t u is.follows is.history
 
 -- ---- what is recorded
 

@@ -4,6 +4,7 @@ pub mod Counted
 pub mod Growing
 pub mod Kept
 pub mod MarkedOnce
+pub mod ReadAdmitted
 pub mod Starting
 pub mod Taken
 pub mod Worked

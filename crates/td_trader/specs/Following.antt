@@ -8,6 +8,7 @@ use Rattle.td_ops.specs.declared.call.Query.{Query}
 use Rattle.td_ops.specs.declared.outcome.Outcome.{Outcome}
 use Rattle.td_changes.specs.Applying.{seek}
 use Rattle.td_changes.specs.Histories.{LegalFrom}
+use Rattle.td_trader.specs.Admitted.{AreAdmitted}
 use Rattle.td_trader.specs.PlainTraders.{PlainTrader, after_begin, after_change, begin_at, outcome_of}
 use Rattle.td_trader.specs.PlainTraders.{store_of}
 use Rattle.td_trader.specs.declared.begin.Begin.{Begin}
@@ -22,6 +23,11 @@ pub record Follows (t u : PlainTrader) : Type 0 where
   pub history : u.history ≡ t.history ++ more
   pub legal : LegalFrom t.bounds (length t.history) (store_of t) more
   pub marks : Later t.marks u.marks
+
+-- That, and each change that has come since can be written.
+pub record FollowsWritably (t u : PlainTrader) : Type 0 where
+  pub follows : Follows t u
+  pub admitted : AreAdmitted follows.more
 
 -- what a change answers and leaves; where memory was wanted, all as it was
 abbrev pub ActsChange : PlainTrader → Change → Result Outcome Wanting → PlainTrader → Type 0

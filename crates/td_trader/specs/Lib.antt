@@ -1,3 +1,4 @@
+pub mod Admitted
 pub mod BeginLaws
 pub mod Beginning
 pub mod Following

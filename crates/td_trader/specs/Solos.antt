@@ -5,6 +5,7 @@ use Rattle.std.specs.List.{IsDistinct}
 use Rattle.std.specs.Str.{bytes_eq}
 use Rattle.td_cdr.specs.Marks.{Later, Marks}
 use Rattle.td_cdr.proofs.Marking.{later_itself}
+use Rattle.td_trader.specs.Admitted.{AreAdmitted}
 use Rattle.td_trader.specs.PlainTraders.{PlainTrader}
 use Rattle.td_trader.specs.Worlds.{View, view_of}
 use Rattle.td_register.specs.declared.history.Accepted.{Accepted}
@@ -29,6 +30,10 @@ nothing between = between ≡ []
 
 abbrev pub unchanged : Marks → Marks → Type 0
 unchanged before after = after ≡ before
+
+-- no change is one that can be written
+pub nothing_admitted : (between : List Accepted) → nothing between → AreAdmitted between
+nothing_admitted between none = subst AreAdmitted (sym none) tt
 
 -- marks that stay as they are are later ones
 pub unchanged_later : (a b : Marks) → unchanged a b → Later a b

@@ -10,7 +10,9 @@ ghost use Rattle.td_ops.specs.declared.outcome.Outcome.{Outcome};
 ghost use Rattle.td_ops.specs.declared.outcome.Outcome.TheVariants as outcome;
 ghost use Rattle.td_ops.specs.declared.outcome.Reply.{Reply};
 ghost use Rattle.td_marks.specs.Keeping.{IsKept as AreMarks};
+ghost use Rattle.td_trader.specs.Admitted.{AdmitsChange};
 ghost use Rattle.td_trader.specs.Following.{ActsBegin, ActsChange, ActsLook, ActsOnce, BeginsOnce, Follows};
+ghost use Rattle.td_trader.specs.Following.{FollowsWritably};
 ghost use Rattle.td_changes.specs.Histories.{Legal, StandsAt, is_done};
 ghost use Rattle.td_changes.specs.Laws.{applied_after};
 ghost use Rattle.td_trader.specs.PlainTraders.{AreBounds, PlainTrader, after_change, outcome_of, store_of};
@@ -39,4 +41,17 @@ pub fn acts_follow()
         → ActsOnce t u }
     ensures begin { (t u : PlainTrader) (q : Query) (r : Result Begin Memory) → AreBounds t.bounds
         → AreMarks t.marks → ActsBegin t q r u → BeginsOnce t u }
+{}
+
+/// So it is of what can be written: where each change since can be, each act of a holder leaves what follows so, if the
+/// change can be written.
+pub fn acts_follow_writably()
+    ensures itself { (t : PlainTrader) → FollowsWritably t t }
+    ensures on { (t u v : PlainTrader) → FollowsWritably t u → FollowsWritably u v → FollowsWritably t v }
+    ensures change { (t u : PlainTrader) (c : Change) (r : Result Outcome Memory) → AdmitsChange c → ActsChange t c r u
+        → FollowsWritably t u }
+    ensures look { (t u : PlainTrader) (l : Look) (r : Result (Outcome × ℕ) Memory) → ActsLook t l r u
+        → FollowsWritably t u }
+    ensures begin { (t u : PlainTrader) (q : Query) (r : Result Begin Memory) → AreBounds t.bounds
+        → AreMarks t.marks → ActsBegin t q r u → FollowsWritably t u }
 {}

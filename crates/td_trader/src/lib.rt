@@ -14,7 +14,7 @@ mod traders;
 
 pub use begin::{Begin, begin_query};
 pub use begin_laws::{only_searches_mark, queries_are_served, queries_begin};
-pub use following::{acts_follow, changes_are_recorded};
+pub use following::{acts_follow, acts_follow_writably, changes_are_recorded};
 pub use local::{path_local, search_local};
 pub use query::{Parts, judge};
 pub use query_laws::{

@@ -2,7 +2,7 @@
 
 ghost use Rattle.std.proofs.Props.{props};
 ghost use Rattle.std.specs.Prelude.{map};
-ghost use Rattle.td_trader.specs.Solos.{AreDistinct, nothing, solo_view, unchanged, unchanged_later};
+ghost use Rattle.td_trader.specs.Solos.{AreDistinct, nothing, nothing_admitted, solo_view, unchanged, unchanged_later};
 
 use crate::begin::Begin;
 use crate::trader::Trader;
@@ -53,6 +53,8 @@ impl Traders for Solo {
     ghost same_itself = { λ a. tt };
 
     ghost same_on = { λ a b c p q. tt };
+
+    ghost others_admitted = { nothing_admitted };
 
     ghost later_marks = { unchanged_later };
 }

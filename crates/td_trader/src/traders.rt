@@ -4,6 +4,7 @@ ghost use Rattle.std.specs.Prelude.{◌≡◌, ◌<◌, List, length, map, IfOk,
 ghost use Rattle.std.specs.List.{IsDistinct};
 ghost use Rattle.std.specs.Str.{bytes_eq};
 ghost use Rattle.td_cdr.specs.Marks.{Later, Marks};
+ghost use Rattle.td_trader.specs.Admitted.{AdmitsChange, AreAdmitted};
 ghost use Rattle.td_trader.specs.Worlds.{AdmittedAt, Begun, Changes, LegalAt, Looks, View, Watches};
 ghost use Rattle.td_trader.specs.Worlds.{history_at, name_at};
 ghost use Rattle.td_register.specs.declared.history.Accepted.{Accepted};
@@ -18,7 +19,7 @@ pub trait Traders {
     /// What is seen of each trader, and what was done through this value.
     ghost world: { Self → List View };
 
-    /// What changes others may make between two calls.
+    /// What changes others may make between two calls: such whose values can be written, as `others_admitted` says.
     ghost others: { List Accepted → Type 0 };
 
     /// What others may make of the marks between two calls: later marks, as `later_marks` says.
@@ -43,7 +44,9 @@ pub trait Traders {
     ///
     /// `Memory` for want of memory alone; the change isn't made then.
     fn change(&mut self, trader: usize, c: Change) -> Result<Outcome, Memory>
-        requires { trader < length (world self.old) }
+        requires trader { trader < length (world self.old) }
+        // Its values can be written, as those of a call that was read.
+        requires admitted { AdmitsChange c }
         ensures same { same self.old self.new }
         ensures ok { IfOk result (λ o. Changes others later (world self.old) trader c o (world self.new)) }
         ensures err { OnErr result (Watches others later (world self.old) trader (world self.new)) };
@@ -76,6 +79,8 @@ pub trait Traders {
         ensures point { result ≡ length (history_at (world self.now) trader) }
         ensures legal { LegalAt (world self.now) trader }
         ensures admitted { AdmittedAt (world self.now) trader };
+
+    ghost others_admitted: { (between : List Accepted) → others between → AreAdmitted between };
 
     ghost same_itself: { (a : Self) → same a a };
 

@@ -13,9 +13,6 @@ use Rattle.td_ops.specs.Answers.{AdmitsOutcome}
 use Rattle.td_ops.specs.declared.operation.Operation.{Operation}
 use Rattle.td_ops.specs.declared.outcome.Outcome.TheVariants.{Done}
 use Rattle.td_ops.specs.declared.outcome.Reply.{Reply}
-use Rattle.td_value.specs.Enumerations.{follow_option}
-use Rattle.td_value.specs.declared.enumerations.FollowOption.{FollowOption}
-use Rattle.td_value.specs.declared.enumerations.FollowOption.TheVariants.{LocalOnly, IfNoLocal, Always}
 use Rattle.td_register.specs.Causes.{Cause, Comes, Found, applied, given, limit_if, raise_if, refused, tells, there}
 use Rattle.td_register.specs.Causes.{unless, unless_supported, ◌otherwise◌}
 use Rattle.td_register.specs.Stores.{Store}
@@ -154,11 +151,6 @@ counted-admitted o bounds count (Ok a) h = at-limit o (is_at_limit bounds count)
 counted-admitted o bounds count (Err f) h = h
 
 -- ---- values that can always be written
-
-pub follow-admitted : (f : FollowOption) → follow_option.format.admits f
-follow-admitted LocalOnly = omega arith
-follow-admitted IfNoLocal = omega arith
-follow-admitted Always = omega arith
 
 some-digit : (b : ℕ) → nat_le 48 b ≡ true → nat_eq b 0 ≡ false
 some-digit zero h = absurd (let bad : ⊥ = cc in bad)

@@ -23,7 +23,8 @@ use Rattle.td_admin.specs.Administration.{set_follow, set_number, set_request_id
 use Rattle.td_admin.specs.Administration.{with_follow, with_number, with_stem, with_truth}
 use Rattle.td_changes.specs.Applying.{comes_to}
 use Rattle.td_trader_laws.specs.Writable.{AreUlongs, IsWritableStore}
-use Rattle.td_trader_laws.proofs.Admitting.{AdmitsComes, came, follow-admitted, limited}
+use Rattle.td_trader_laws.proofs.Admitting.{AdmitsComes, came, limited}
+use Rattle.td_trader.proofs.ReadAdmitted.{follow-admitted}
 
 -- ---- attributes by their names
 

@@ -23,8 +23,10 @@ use Rattle.td_register.specs.Stores.{Store}
 use Rattle.td_changes.specs.Applying.{comes_to}
 use Rattle.td_admin.specs.Links.{add_link, add_link_cause, linked, modify_link, modify_link_cause, name_cause}
 use Rattle.td_admin.specs.Links.{new_links, permits_more, remove_link, remove_link_cause, rules_cause, target_cause}
-use Rattle.td_trader_laws.specs.Writable.{AdmitsChange, IsWritableStore}
-use Rattle.td_trader_laws.proofs.Admitting.{AdmitsCause, AdmitsComes, AdmitsFound, came, follow-admitted, found-when}
+use Rattle.td_trader_laws.specs.Writable.{IsWritableStore}
+use Rattle.td_trader.specs.Admitted.{AdmitsChange}
+use Rattle.td_trader_laws.proofs.Admitting.{AdmitsCause, AdmitsComes, AdmitsFound, came, found-when}
+use Rattle.td_trader.proofs.ReadAdmitted.{follow-admitted}
 use Rattle.td_trader_laws.proofs.Admitting.{given-admitted, limited, no-first, no-later, no-limit, not-raised, or-else}
 use Rattle.td_trader_laws.proofs.Admitting.{raised, there-admitted}
 

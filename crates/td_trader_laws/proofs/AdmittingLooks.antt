@@ -51,7 +51,8 @@ use Rattle.td_changes.specs.Applying.{seen}
 use Rattle.td_admin.specs.Links.{describe_link, linked, list_links}
 use Rattle.td_admin.specs.Repositories.{describe_type, fully_describe_type, list_types, outcome_of, since}
 use Rattle.td_trader_laws.specs.Writable.{IsWritableStore, LooksAreWritable}
-use Rattle.td_trader_laws.proofs.Admitting.{decimal-clean, follow-admitted, refused-admitted, tells-admitted}
+use Rattle.td_trader_laws.proofs.Admitting.{decimal-clean, refused-admitted, tells-admitted}
+use Rattle.td_trader.proofs.ReadAdmitted.{follow-admitted}
 use Rattle.td_trader_laws.proofs.AdmittingAttributes.{number-admitted, reference-admitted}
 use Rattle.td_trader_laws.proofs.AdmittingLinks.{linked-held}
 use Rattle.td_trader_laws.proofs.AdmittingOffers.{IsHeld, ordinary-held, proxy-held}

@@ -54,7 +54,8 @@ use Rattle.td_register.specs.Registers.{renewed, with_offer, withdraw, withdraw_
 use Rattle.td_register.specs.Registers.{withdraw_using_constraint}
 use Rattle.td_register.specs.Stores.{Store}
 use Rattle.td_changes.specs.Applying.{comes_to}
-use Rattle.td_trader_laws.specs.Writable.{AdmitsChange, IsWritableStore}
+use Rattle.td_trader_laws.specs.Writable.{IsWritableStore}
+use Rattle.td_trader.specs.Admitted.{AdmitsChange}
 use Rattle.td_trader_laws.proofs.Admitting.{AdmitsCause, AdmitsComes, AdmitsFound, came, came-with, decimal-clean}
 use Rattle.td_trader_laws.proofs.Admitting.{found-when, given-admitted, limited, no-later, no-limit, or-else, raised}
 use Rattle.td_trader_laws.proofs.Admitting.{supported, there-admitted, three-false, two-false}

@@ -5,7 +5,6 @@ pub mod AdmittingLooks
 pub mod AdmittingOffers
 pub mod AdmittingTypes
 pub mod Reached
-pub mod ReadAdmitted
 pub mod Writing
 pub mod WritingQueries
 pub mod WritingWorlds

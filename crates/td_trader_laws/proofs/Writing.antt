@@ -3,7 +3,7 @@ use Rattle.std.proofs.Common.{List, [], ◌∷◌, ◌++◌, length}
 use Rattle.td_ops.specs.declared.call.Change.{Change}
 use Rattle.td_ops.specs.declared.outcome.Outcome.{Outcome}
 use Rattle.td_ops.specs.declared.outcome.Outcome.TheVariants.{Done, User, System}
-use Rattle.td_trader_laws.specs.Writable.{AdmitsChange, AreAdmitted}
+use Rattle.td_trader.specs.Admitted.{AdmitsChange, AreAdmitted}
 use Rattle.td_trader_laws.proofs.AdmittingLooks.{looks}
 use Rattle.td_trader_laws.proofs.Written.{after-written, counted-changes}
 use Rattle.td_register.specs.declared.history.Accepted.{Accepted}

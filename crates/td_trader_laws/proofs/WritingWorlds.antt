@@ -8,7 +8,8 @@ use Rattle.td_ops.specs.Called.{change_operation, look_operation}
 use Rattle.td_ops.specs.declared.call.Change.{Change}
 use Rattle.td_ops.specs.declared.outcome.Outcome.{Outcome}
 use Rattle.td_ops.specs.declared.outcome.Outcome.TheVariants.{Done, User, System}
-use Rattle.td_trader_laws.specs.Writable.{AdmitsChange, AreAdmitted, IsWritableStore}
+use Rattle.td_trader_laws.specs.Writable.{IsWritableStore}
+use Rattle.td_trader.specs.Admitted.{AdmitsChange, AreAdmitted}
 use Rattle.td_trader_laws.proofs.AdmittingLooks.{looks}
 use Rattle.td_trader_laws.proofs.Written.{after-written, counted-changes}
 use Rattle.td_types.proofs.Sequences.{each-append}
@@ -65,43 +66,44 @@ marks-written v marks h = record { opening = h.opening; changes = h.changes }
 
 -- ---- the calls
 
-module _ (others : List Accepted → Type 0) (later : Marks → Marks → Type 0) where
-  seen-written : (w : List View) (k : ℕ) (seen : View) → OthersAreAdmitted others → IsWritableWorld w
-      → Meanwhile others later w k seen → IsWritableView seen
-  seen-written w k seen admitted h m =
-      subst IsWritableView (sym m.seen_is)
-      (others-written m.view m.between m.marks (each-at IsWritableView w k m.view h m.is)
-      (admitted m.between m.may))
+module _ (others : List Accepted → Type 0) (later : Marks → Marks → Type 0) (admitted : OthersAreAdmitted others)
+  where
+    seen-written : (w : List View) (k : ℕ) (seen : View) → IsWritableWorld w → Meanwhile others later w k seen
+        → IsWritableView seen
+    seen-written w k seen h m =
+        subst IsWritableView (sym m.seen_is)
+        (others-written m.view m.between m.marks (each-at IsWritableView w k m.view h m.is)
+        (admitted m.between m.may))
 
-  pub worlds-change : WorldsChangeWritably others later
-  worlds-change w u k c o admitted h a r =
-      let seen = seen-written w k r.seen admitted h r.meanwhile in
-      let is = counted-changes r.seen.bounds (length r.seen.history) (store_seen r.seen) c
-      (store-written r.seen seen) a in (
-        subst (AdmitsOutcome (change_operation c)) (sym r.outcome) is.outcome,
-        put w u k (after_own r.seen c o) h (own-written r.seen c o seen a) r.world,
-      )
+    pub worlds-change : WorldsChangeWritably others later
+    worlds-change w u k c o h a r =
+        let seen = seen-written w k r.seen h r.meanwhile in
+        let is = counted-changes r.seen.bounds (length r.seen.history) (store_seen r.seen) c
+        (store-written r.seen seen) a in (
+          subst (AdmitsOutcome (change_operation c)) (sym r.outcome) is.outcome,
+          put w u k (after_own r.seen c o) h (own-written r.seen c o seen a) r.world,
+        )
 
-  pub worlds-look : WorldsLookWritably others later
-  worlds-look w u k l a admitted h p r =
-      let seen = seen-written w k r.seen admitted h r.meanwhile in (
-        subst (λ (x : Outcome × ℕ). AdmitsOutcome (look_operation l) x.0) (sym r.answer)
-            (looks (store_seen r.seen) l (store-written r.seen seen) p),
-        put w u k r.seen h seen r.world,
-      )
+    pub worlds-look : WorldsLookWritably others later
+    worlds-look w u k l a h p r =
+        let seen = seen-written w k r.seen h r.meanwhile in (
+          subst (λ (x : Outcome × ℕ). AdmitsOutcome (look_operation l) x.0) (sym r.answer)
+              (looks (store_seen r.seen) l (store-written r.seen seen) p),
+          put w u k r.seen h seen r.world,
+        )
 
-  pub worlds-begin : WorldsBeginWritably others later
-  worlds-begin w u k q b admitted h p r =
-      let seen = seen-written w k r.seen admitted h r.meanwhile in
-      let marks = marks_after (store_seen r.seen) r.seen.marks q b in (
-        subst AdmitsRefused (sym r.begin)
-            (begun-so (store_seen r.seen) (length r.seen.history) r.seen.marks q r.seen.bounds p),
-        put w u k (after_begin r.seen marks) h (marks-written r.seen marks seen) r.world,
-      )
+    pub worlds-begin : WorldsBeginWritably others later
+    worlds-begin w u k q b h p r =
+        let seen = seen-written w k r.seen h r.meanwhile in
+        let marks = marks_after (store_seen r.seen) r.seen.marks q b in (
+          subst AdmitsRefused (sym r.begin)
+              (begun-so (store_seen r.seen) (length r.seen.history) r.seen.marks q r.seen.bounds p),
+          put w u k (after_begin r.seen marks) h (marks-written r.seen marks seen) r.world,
+        )
 
-  pub worlds-watch : WorldsWatchWritably others later
-  worlds-watch w u k admitted h r =
-      put w u k r.seen h (seen-written w k r.seen admitted h r.meanwhile) r.world
+    pub worlds-watch : WorldsWatchWritably others later
+    worlds-watch w u k h r =
+        put w u k r.seen h (seen-written w k r.seen h r.meanwhile) r.world
 
 pub solo-admitted : OthersAreAdmitted nothing
 solo-admitted between none = subst AreAdmitted (sym none) tt

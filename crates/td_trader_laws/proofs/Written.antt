@@ -9,7 +9,8 @@ use Rattle.td_register.specs.Stores.{Store}
 use Rattle.td_register.specs.declared.history.Accepted.{Accepted}
 use Rattle.td_changes.specs.Applying.{apply, comes_to, counted}
 use Rattle.td_changes.specs.Histories.{LegalFrom, after_all}
-use Rattle.td_trader_laws.specs.Writable.{AdmitsChange, AreAdmitted, ChangesStayWritable, CountedChangesStayWritable}
+use Rattle.td_trader_laws.specs.Writable.{ChangesStayWritable, CountedChangesStayWritable}
+use Rattle.td_trader.specs.Admitted.{AdmitsChange, AreAdmitted}
 use Rattle.td_trader_laws.specs.Writable.{HistoriesStayWritable, IsWritableStore, IsWritten}
 use Rattle.td_trader_laws.specs.Writable.{RepliesAreWritable}
 use Rattle.td_trader_laws.proofs.Admitting.{AdmitsComes, applied-outcome, applied-store, counted-admitted}

@@ -12,7 +12,8 @@ use Rattle.td_ops.specs.Parameters.{query}
 use Rattle.td_store.specs.Stores.{AdmitsAttributes, AdmitsLink, IsOffer}
 use Rattle.td_store.specs.declared.local.Local.{Local}
 use Rattle.td_changes.specs.Applying.{seek}
-use Rattle.td_trader_laws.specs.Writable.{AdmitsChange, AdmitsLook, AreAdmitted, IsWritableStore}
+use Rattle.td_trader_laws.specs.Writable.{AdmitsLook, IsWritableStore}
+use Rattle.td_trader.specs.Admitted.{AdmitsChange, AreAdmitted}
 use Rattle.td_trader.specs.PlainTraders.{PlainTrader, after_begin, after_change, begin_at, outcome_of, store_of}
 use Rattle.td_trader.specs.declared.begin.Begin.TheVariants.{Refused, Search}
 

@@ -10,7 +10,8 @@ use Rattle.td_ops.specs.declared.call.Look.{Look}
 use Rattle.td_ops.specs.declared.call.Query.{Query}
 use Rattle.td_ops.specs.declared.operation.Operation.TheVariants as operation
 use Rattle.td_ops.specs.declared.outcome.Outcome.{Outcome}
-use Rattle.td_trader_laws.specs.Writable.{AdmitsChange, AdmitsLook, AreAdmitted, IsWritableStore}
+use Rattle.td_trader_laws.specs.Writable.{AdmitsLook, IsWritableStore}
+use Rattle.td_trader.specs.Admitted.{AdmitsChange, AreAdmitted}
 use Rattle.td_register.specs.declared.history.Accepted.{Accepted}
 use Rattle.td_trader.specs.Worlds.{Begun, Changes, Looks, View, Watches}
 use Rattle.td_trader.specs.declared.begin.Begin.{Begin}
@@ -35,26 +36,27 @@ AdmitsRefused (Repeat number) = Unit {0}
 AdmitsRefused (Search l) = Unit {0}
 AdmitsRefused (Path l) = Unit {0}
 
--- ---- what each call leaves is such a group again, and what it answers can be written
+-- ---- what each call leaves is such a group again, and what it answers can be written, where the changes of others can
+-- be
 
 module _ (others : List Accepted → Type 0) (later : Marks → Marks → Type 0) where
   abbrev pub WorldsChangeWritably : Type 0
   WorldsChangeWritably =
-      (w u : List View) (k : ℕ) (c : Change) (o : Outcome) → OthersAreAdmitted others → IsWritableWorld w
+      (w u : List View) (k : ℕ) (c : Change) (o : Outcome) → IsWritableWorld w
       → AdmitsChange c → Changes others later w k c o u
       → AdmitsOutcome (change_operation c) o × IsWritableWorld u
 
   abbrev pub WorldsLookWritably : Type 0
   WorldsLookWritably =
-      (w u : List View) (k : ℕ) (l : Look) (a : Outcome × ℕ) → OthersAreAdmitted others → IsWritableWorld w
+      (w u : List View) (k : ℕ) (l : Look) (a : Outcome × ℕ) → IsWritableWorld w
       → AdmitsLook l → Looks others later w k l a u → AdmitsOutcome (look_operation l) a.0 × IsWritableWorld u
 
   abbrev pub WorldsBeginWritably : Type 0
   WorldsBeginWritably =
-      (w u : List View) (k : ℕ) (q : Query) (b : Begin) → OthersAreAdmitted others → IsWritableWorld w
+      (w u : List View) (k : ℕ) (q : Query) (b : Begin) → IsWritableWorld w
       → query.format.admits q → Begun others later w k q b u → AdmitsRefused b × IsWritableWorld u
 
   abbrev pub WorldsWatchWritably : Type 0
   WorldsWatchWritably =
-      (w u : List View) (k : ℕ) → OthersAreAdmitted others → IsWritableWorld w → Watches others later w k u
+      (w u : List View) (k : ℕ) → IsWritableWorld w → Watches others later w k u
       → IsWritableWorld u

@@ -27,8 +27,8 @@ pub fn queries_begin_writably()
     ensures searches { TradersSearchWritably }
 {}
 
-/// A group of traders that can be written, of which others make only changes whose values can be, stays one through
-/// each call of it, and what the call answers can be written, where its parameters can.
+/// A group of traders that can be written stays one through each call of it, whatever others do meanwhile, and what the
+/// call answers can be written, where its parameters can.
 pub fn groups_stay_writable<T: Traders>()
     ensures change { WorldsChangeWritably T.others T.later }
     ensures look { WorldsLookWritably T.others T.later }

@@ -2,7 +2,8 @@
 //! law.
 
 ghost use Rattle.td_trader_laws.specs.Writable.{ChangesStayWritable, CountedChangesStayWritable, HistoriesStayWritable};
-ghost use Rattle.td_trader_laws.specs.Writable.{LooksAreWritable, ReadChangesAreAdmitted, RepliesAreWritable};
+ghost use Rattle.td_trader_laws.specs.Writable.{LooksAreWritable, RepliesAreWritable};
+ghost use Rattle.td_trader.specs.Admitted.{ReadChangesAreAdmitted};
 
 /// A store that can be written stays so through each change whose values can be, and what the change comes to can be
 /// written too: a reply of its operation, or an exception with its members. The values of a change that is read from a

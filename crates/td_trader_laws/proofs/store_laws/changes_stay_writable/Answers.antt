@@ -1,4 +1,4 @@
-use Rattle.td_trader_laws.proofs.ReadAdmitted.{read-admitted}
+use Rattle.td_trader.proofs.ReadAdmitted.{read_admitted}
 use Rattle.td_trader_laws.proofs.Written.{changes, counted-changes}
 use Rattle.td_trader_laws.proofs.store_laws.changes_stay_writable.Goals as goal
 
@@ -9,4 +9,4 @@ pub returns-clause-counted : goal.returns-clause-counted
 returns-clause-counted c = counted-changes
 
 pub returns-clause-read : goal.returns-clause-read
-returns-clause-read c = read-admitted
+returns-clause-read c = read_admitted
