@@ -1,6 +1,7 @@
 //! The peers outside.
 
 ghost use Rattle.std.specs.Prelude.{◌≡◌, ℕ, List, IfOk};
+ghost use Rattle.td_codes.specs.References.{reference};
 ghost use Rattle.td_walk.specs.Peering.{Exchange, IsNoted, HasSmallOffers, Querying, Evaluating, RegisterOf};
 ghost use Rattle.td_walk.specs.Peering.{Resolving, Answered, Evaluated, Referred};
 
@@ -50,7 +51,7 @@ pub trait Peers {
         ensures noted { IsNoted (λ v. Evaluated v) (Evaluating evaluator.now name.now returned.now extra.now)
             (calls self.old) (calls self.new) (faults self.old) (faults self.new) result };
 
-    /// The register that a Lookup names.
+    /// The register that a Lookup names: a reference that can be written.
     ///
     /// # Errors
     ///
@@ -58,9 +59,11 @@ pub trait Peers {
     fn register_of(&mut self, alloc: Global, lookup: &Ior) -> Result<Ior, PeerFault>
         ensures same { same self.old self.new }
         ensures noted { IsNoted (λ r. Referred r) (RegisterOf lookup.now) (calls self.old) (calls self.new)
-            (faults self.old) (faults self.new) result };
+            (faults self.old) (faults self.new) result }
+        ensures admitted { IfOk result (λ r. reference.format.admits r) };
 
-    /// The register that links of these names lead to, one after the other, from a register on.
+    /// The register that links of these names lead to, one after the other, from a register on: a reference that can
+    /// be written.
     ///
     /// # Errors
     ///
@@ -73,7 +76,8 @@ pub trait Peers {
     ) -> Result<Ior, PeerFault>
         ensures same { same self.old self.new }
         ensures noted { IsNoted (λ r. Referred r) (Resolving register.now name.now) (calls self.old) (calls self.new)
-            (faults self.old) (faults self.new) result };
+            (faults self.old) (faults self.new) result }
+        ensures admitted { IfOk result (λ r. reference.format.admits r) };
 
     ghost same_self: { (a : Self) → same a a };
 
