@@ -17,7 +17,7 @@ pub(crate) fn object(alloc: Global, key: &str) -> Result<Boxed<Ior>, Memory> {
     if key.is_empty() {
         return Boxed::new(alloc, nobody(alloc));
     }
-    let object = make_ior(alloc, b"IDL:P:1.0", b"h", 9, key.as_bytes())?;
+    let object = make_ior(alloc, b"IDL:P:1.0", b"h", 9, key.as_bytes(), 0)?;
     Boxed::new(alloc, object)
 }
 

@@ -24,7 +24,7 @@ use Rattle.td_codes.specs.declared.code.Value.TheVariants as value
 use Rattle.td_codes.specs.declared.kinds.CodeKind.TheVariants as kind
 use Rattle.td_codes.specs.declared.mode.Mode.TheVariants.{Outer}
 use Rattle.td_codes.specs.declared.reference.Ior.{Ior}
-use Rattle.td_ior.specs.Profiles.{made_octets, made_reference, profile_body}
+use Rattle.td_ior.specs.Profiles.{front, made_octets, made_reference}
 use Rattle.td_ior.specs.declared.profile.Iiop.{Iiop}
 use Rattle.td_iter.proofs.Lengths.{number-length, octets-length}
 use Rattle.td_make_laws.specs.Said.{costing, item}
@@ -125,7 +125,7 @@ counted-short label n most = omega (arith, length-append label (decimal n), deci
 
 body-short : (host key : List ℕ) (port : ℕ)
     → IsAtMost (1 + (1 + ((8 + length host) + (3 + (7 + length key)))))
-    (profile_body.format.writes (record { host = host; port = port; key = key }))
+    (front.format.writes (record { minor = 0; host = host; port = port; key = key }))
 body-short host key port =
     then-short 1 (1 + ((8 + length host) + (3 + (7 + length key)))) ((number 1).writes 1)
     ((number 1).writes 0 then text.format.writes host then (number 2).writes port
@@ -139,16 +139,19 @@ body-short host key port =
     (then-short 3 (7 + length key) ((number 2).writes port) (λ order place. written_octets order place key)
     (two-short port) (octets-short key))))
 
-pub made-short : (host key : List ℕ) (port : ℕ) → length (made_octets host port key) ≤ 21 + length host + length key
-made-short host key port = omega (arith, (body-short host key port).short Big 1)
+-- a profile of version 1.0 has nothing behind them
+pub made-short : (host key : List ℕ) (port : ℕ) → length (made_octets host port key 0) ≤ 21 + length host + length key
+made-short host key port =
+    let body : List ℕ = front.format.writes (record { minor = 0; host = host; port = port; key = key }) Big 1 in
+    omega (arith, (body-short host key port).short Big 1, length-append body [])
 
 -- ---- offers
 
 reference-short : (id : List ℕ) (host key : List ℕ) (port : ℕ)
-    → IsAtMost ((8 + length id) + (7 + (7 + (7 + length (made_octets host port key)))))
-    (reference.format.writes (made_reference id host port key))
+    → IsAtMost ((8 + length id) + (7 + (7 + (7 + length (made_octets host port key 0)))))
+    (reference.format.writes (made_reference id host port key 0))
 reference-short id host key port =
-    let octets : List ℕ = made_octets host port key in
+    let octets : List ℕ = made_octets host port key 0 in
     then-short (8 + length id) (7 + (7 + (7 + length octets))) (text.format.writes id)
     ((sequence profile).format.writes (record { tag = 0; octets = octets } ∷ [])) (text-short id)
     (one-item-short (7 + (7 + length octets)) profile (record { tag = 0; octets = octets })
@@ -173,7 +176,7 @@ pub offer-short : (trader number amount : ℕ) → trader ≤ 64 → number ≤ 
     ≤ 1048576
 offer-short trader number amount t n =
     let key : List ℕ = counted (counted [] trader ++ codes ".") number in
-    let first : ℕ = (8 + 12) + (7 + (7 + (7 + length (made_octets (codes "h") 9 key)))) in
+    let first : ℕ = (8 + 12) + (7 + (7 + (7 + length (made_octets (codes "h") 9 key 0)))) in
     let octets = made-short (codes "h") key 9 in
     let keyed = key-short trader number t n in
     let whole : IsAtMost (first + 33)
@@ -182,7 +185,7 @@ offer-short trader number amount t n =
     ((sequence property).format.writes (costing amount ∷ [])) (reference-short (codes "IDL:Item:1.0") (codes "h") key 9)
     (one-item-short 26 property (costing amount) (costing-short amount)) in
     bounded (length (offer.format.writes (record { reference = item trader number; properties = costing amount ∷ [] })
-    Big 0)) (length (made_octets (codes "h") 9 key)) (length key) (whole.short Big 0) octets keyed
+    Big 0)) (length (made_octets (codes "h") 9 key 0)) (length key) (whole.short Big 0) octets keyed
   where
     bounded : (whole octets key : ℕ) → whole ≤ ((8 + 12) + (7 + (7 + (7 + octets)))) + 33
         → octets ≤ 21 + length (codes "h") + key → key ≤ 131 → whole ≤ 1048576

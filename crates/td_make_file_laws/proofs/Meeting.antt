@@ -33,14 +33,15 @@ lookup_key trader = written_key (record { trader = name_of trader; kind = kind.L
 -- it can be reached
 lookup-found : (trader : ℕ) → trader ≤ 64
     → iiop_of (lookup_reference local_address (name_of trader))
-    ≡ Some (record { host = codes "127.0.0.1"; port = 2809; key = lookup_key trader })
+    ≡ Some (record { host = codes "127.0.0.1"; port = 2809; key = lookup_key trader; minor = 0; components = [] })
 lookup-found trader most =
     let octets : List ℕ = lookup_key trader in
     let named = counted-short (codes "T") trader most in
     let whole = length-append (name_of trader) (codes "/L") in
     let made = made-short (codes "127.0.0.1") octets 2809 in
-    let short : length (made_octets (codes "127.0.0.1") 2809 octets) < 2 ^ 32 = omega (arith, named, whole, made) in
-    made-found (codes "IDL:omg.org/CosTrading/Lookup:1.0") (codes "127.0.0.1") octets 2809 refl (omega arith) short
+    let short : length (made_octets (codes "127.0.0.1") 2809 octets 0) < 2 ^ 32 = omega (arith, named, whole, made) in
+    made-found (codes "IDL:omg.org/CosTrading/Lookup:1.0") (codes "127.0.0.1") octets 2809 0 refl (omega arith)
+    (omega arith) short
 
 abbrev pub record_of : (name : List ℕ) → (trader : ℕ) → LinkRecord
 record_of name trader = record {

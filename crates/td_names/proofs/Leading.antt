@@ -122,9 +122,9 @@ reference-back home n a is =
       length-append (codes "N/")
           (decimal n),
     ) in
-    let short : length (made_octets home.host home.port (context_key n)) < 2 ^ 32 =
+    let short : length (made_octets home.host home.port (context_key n) 0) < 2 ^ 32 =
     omega (arith, made-short home.host (context_key n) home.port, key, a.short, is.1) in
-    let first = made-found context_id home.host (context_key n) home.port a.plain a.port short in
+    let first = made-found context_id home.host (context_key n) home.port 0 a.plain a.port (omega arith) short in
     let host : bytes_eq home.host home.host ≡ true = same-host home.host home.host refl in
     let port : nat_eq home.port home.port ≡ true = same-port home.port home.port refl in
     rw (first, host, port) (made-number n is.0 is.1)

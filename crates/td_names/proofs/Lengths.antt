@@ -65,8 +65,9 @@ then-short m n p q a b = record {
       omega (arith, first, second, length-append (p order place) (q order (place + length (p order place))));
 }
 
--- the version's two octets, the host, the port and the key, behind the octet that tells the order
-pub made-short : (host key : List ℕ) (port : ℕ) → length (made_octets host port key) ≤ 21 + length host + length key
+-- the version's two octets, the host, the port and the key, behind the octet that tells the order; a profile of version
+-- 1.0 has nothing behind them
+pub made-short : (host key : List ℕ) (port : ℕ) → length (made_octets host port key 0) ≤ 21 + length host + length key
 made-short host key port =
     let keyed : Piece = λ order place. written_octets order place key in
     let port_on : Piece = (number 2).writes port then keyed in
@@ -80,4 +81,5 @@ made-short host key port =
     then-short 1 ((8 + length host) + (3 + (7 + length key))) ((number 1).writes 0) host_on (octet-short 0) b in
     let d : IsAtMost (1 + (1 + ((8 + length host) + (3 + (7 + length key))))) ((number 1).writes 1 then minor_on) =
     then-short 1 (1 + ((8 + length host) + (3 + (7 + length key)))) ((number 1).writes 1) minor_on (octet-short 1) c in
-    omega (arith, d.short Big 1)
+    let front : List ℕ = ((number 1).writes 1 then minor_on) Big 1 in
+    omega (arith, d.short Big 1, length-append front [])

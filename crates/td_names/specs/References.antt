@@ -32,9 +32,9 @@ pub record IsAddress (home : Address) : Type 0 where
   pub short : length home.host ≤ 1000
   pub port : home.port < 65536
 
--- the reference of the context of a number
+-- the reference of the context of a number, by IIOP 1.0
 abbrev pub reference_of : Address → ℕ → Ior
-reference_of home n = made_reference context_id home.host home.port (context_key n)
+reference_of home n = made_reference context_id home.host home.port (context_key n) 0
 
 -- the reference is of a context of this server: its first IIOP profile has the server's host and port, and the key of
 -- the context. Its id doesn't matter.

@@ -71,6 +71,9 @@ fn number_at(home: &Address, profile: &Iiop) -> Option<u32>
     context_number(profile.key.as_slice())
 }
 
+/// The minor version of IIOP of the contexts' references.
+const IIOP_MINOR: u8 = 0;
+
 /// The reference of the context of a number, from 1.
 ///
 /// # Errors
@@ -87,6 +90,7 @@ pub fn context_reference(alloc: Global, home: &Address, number: u32) -> Result<I
         home.host.as_slice(),
         home.port,
         key.as_slice(),
+        IIOP_MINOR,
     )
 }
 

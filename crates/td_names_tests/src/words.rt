@@ -66,8 +66,22 @@ pub(crate) fn object(alloc: Global, word: &str) -> Result<Ior, Memory> {
     let (key, address) = word.split_once('@').unwrap_or((word, ""));
     let (host, port) = address.split_once(':').unwrap_or((address, ""));
     match host {
-        "here" => make_ior(alloc, OUTSIDE_ID, b"here", ushort_of(port), key.as_bytes()),
-        "there" => make_ior(alloc, OUTSIDE_ID, b"there", ushort_of(port), key.as_bytes()),
+        "here" => make_ior(
+            alloc,
+            OUTSIDE_ID,
+            b"here",
+            ushort_of(port),
+            key.as_bytes(),
+            0,
+        ),
+        "there" => make_ior(
+            alloc,
+            OUTSIDE_ID,
+            b"there",
+            ushort_of(port),
+            key.as_bytes(),
+            0,
+        ),
         _ => Ok(nil(alloc)),
     }
 }

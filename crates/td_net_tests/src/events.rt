@@ -22,7 +22,7 @@ pub(crate) fn place_of(letter: u8) -> usize {
 /// An export of a Printer whose object has a key, or of a type that isn't there where there is no key.
 fn exported(alloc: Global, key: &str) -> Result<Change, Memory> {
     let service_type = text(alloc, if key.is_empty() { "Scanner" } else { "Printer" })?;
-    let object = make_ior(alloc, b"IDL:P:1.0", b"h", 9, key.as_bytes())?;
+    let object = make_ior(alloc, b"IDL:P:1.0", b"h", 9, key.as_bytes(), 0)?;
     let (reference, (service_type, properties)) = share_owned_three(
         alloc,
         (object, (service_type, List::new(alloc))),

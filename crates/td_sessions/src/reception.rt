@@ -236,6 +236,7 @@ fn room_at<J: Journal>(alloc: Global, home: &Address) -> Result<Room<J>, Memory>
         Address {
             host,
             port: home.port,
+            minor: home.minor,
         },
     )
 }

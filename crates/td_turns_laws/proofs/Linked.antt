@@ -34,7 +34,7 @@ use Rattle.td_walk.specs.declared.trace.Address.{Address}
 register-writes : (home : Address) (name : List ℕ) → reference.format.admits (register_reference home name)
 register-writes home name =
     made-writes (interface_id Register) home.host home.port
-    (written_key (record { trader = name; kind = kind.Register })) refl
+    (written_key (record { trader = name; kind = kind.Register })) home.minor refl
 
 unless-nil : (nil : Bool) (r : Ior) → reference.format.admits r → AdmitsRegister (cond nil None (Some r))
 unless-nil true r h = tt

@@ -39,7 +39,7 @@ pub iterator-writes : (home : Address) (name : List ℕ) (n : ℕ)
     → reference.format.admits (iterator_reference home name n)
 iterator-writes home name n =
     made-writes (interface_id OfferIdIterator) home.host home.port
-    (written_key (record { trader = name; kind = kind.Iterator n })) refl
+    (written_key (record { trader = name; kind = kind.Iterator n })) home.minor refl
 
 kept-writes : (name : List ℕ) (left : List (List ℕ)) (d : Live) → IsWritableDesk d
     → (sequence text).format.admits left → IsWritableDesk (kept_for name left d)

@@ -68,10 +68,10 @@ sequence-behind g n xs h =
 -- ---- references
 
 -- one that the server makes
-pub made-writes : (id host : List ℕ) (port : ℕ) (key : List ℕ) → HasNoNul id
-    → reference.format.admits (made_reference id host port key)
-made-writes id host port key n =
-    (n, sequence-from profile (made_profile host port key ∷ []) (omega arith) ((omega arith, tt), tt))
+pub made-writes : (id host : List ℕ) (port : ℕ) (key : List ℕ) (minor : ℕ) → HasNoNul id
+    → reference.format.admits (made_reference id host port key minor)
+made-writes id host port key minor n =
+    (n, sequence-from profile (made_profile host port key minor ∷ []) (omega arith) ((omega arith, tt), tt))
 
 -- or nil where nothing is left
 pub given-writes : (r : Ior) (more : Bool) → reference.format.admits r → reference.format.admits (given_or_nil r more)

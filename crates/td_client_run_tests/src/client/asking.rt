@@ -61,9 +61,9 @@ fn target_of(alloc: Global, asked: Asked) -> Result<Ior, Memory> {
             id: Text::new(alloc),
             profiles: List::new(alloc),
         }),
-        Asked::Evaluate | Asked::VisitEvaluate => make_ior(alloc, b"IDL:E:1.0", b"h", 9, b"E"),
-        Asked::Resolve => make_ior(alloc, b"IDL:R:1.0", b"h", 9, b"A/R"),
-        _ => make_ior(alloc, b"IDL:L:1.0", b"h", 9, b"A/L"),
+        Asked::Evaluate | Asked::VisitEvaluate => make_ior(alloc, b"IDL:E:1.0", b"h", 9, b"E", 0),
+        Asked::Resolve => make_ior(alloc, b"IDL:R:1.0", b"h", 9, b"A/R", 0),
+        _ => make_ior(alloc, b"IDL:L:1.0", b"h", 9, b"A/L", 0),
     }
 }
 
