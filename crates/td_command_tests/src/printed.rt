@@ -24,6 +24,22 @@ const REFERENCES: &[u8] =
     547970655265706f7369746f72793a312e30000000000000010000000000000013000100000000000268000009000000\
     03412f54\n";
 
+/// The same by IIOP 1.1.
+const NEWER: &[u8] =
+    b"lookup IOR:000000000000002249444c3a6f6d672e6f72672f436f7354726164696e672f4c6f6f6b75703a312e30000\
+    00000000001000000000000001800010100000000026800000900000003412f4c0000000000\n\
+    register IOR:000000000000002449444c3a6f6d672e6f72672f436f7354726164696e672f52656769737465723a312\
+    e300000000001000000000000001800010100000000026800000900000003412f520000000000\n\
+    link IOR:000000000000002049444c3a6f6d672e6f72672f436f7354726164696e672f4c696e6b3a312e30000000000\
+    1000000000000001800010100000000026800000900000003412f4b0000000000\n\
+    proxy IOR:000000000000002149444c3a6f6d672e6f72672f436f7354726164696e672f50726f78793a312e30000000\
+    0000000001000000000000001800010100000000026800000900000003412f500000000000\n\
+    admin IOR:000000000000002149444c3a6f6d672e6f72672f436f7354726164696e672f41646d696e3a312e30000000\
+    0000000001000000000000001800010100000000026800000900000003412f410000000000\n\
+    types IOR:000000000000003649444c3a6f6d672e6f72672f436f7354726164696e675265706f732f53657276696365\
+    547970655265706f7369746f72793a312e30000000000000010000000000000018000101000000000268000009000000\
+    03412f540000000000\n";
+
 /// The file of one trader.
 const RING_OF_ONE: &[u8] = b"address 127.0.0.1 2809\n\
     trader T1\n\
@@ -162,10 +178,10 @@ fn no_commands(rt: HostRuntime) -> Result<(), Fail> {
     Ok(())
 }
 
-/// Whether `check` prints this first line and the references.
-fn checks(alloc: Global, text: &[u8], line: &[u8]) -> bool {
+/// Whether `check` prints this first line and these references.
+fn checks(alloc: Global, text: &[u8], line: &[u8], references: &'static [u8]) -> bool {
     let mut expected = ending(0, line, b"");
-    expected.then = REFERENCES;
+    expected.then = references;
     holds(does_over(alloc, &["check", "file"], text, &expected))
 }
 
@@ -173,8 +189,18 @@ fn checks(alloc: Global, text: &[u8], line: &[u8]) -> bool {
 fn files_are_checked(rt: HostRuntime) -> Result<(), Fail> {
     let alloc = rt.alloc();
     let bare = b"address h 9\ntrader A\n";
-    assert!(rt; checks(alloc, bare, b"trader A types 0 offers 0 links 0\n"));
-    assert!(rt; checks(alloc, MIXED, b"trader A types 2 offers 3 links 1\n"));
+    let newer = b"address h 9\niiop 1\ntrader A\n";
+    let first = b"trader A types 0 offers 0 links 0\n";
+    assert!(rt; checks(alloc, bare, first, REFERENCES));
+    assert!(rt; checks(alloc, newer, first, NEWER));
+    assert!(rt;
+        checks(
+            alloc,
+            MIXED,
+            b"trader A types 2 offers 3 links 1\n",
+            REFERENCES
+        )
+    );
     Ok(())
 }
 

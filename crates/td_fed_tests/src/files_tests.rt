@@ -84,6 +84,22 @@ fn offers_of_the_first(rt: HostRuntime) -> Result<(), Fail> {
     check(&rt, rt.alloc(), Case::Look, OFFERS)
 }
 
+const VERSIONS: &str = "address h 9|trader A;address => h 9
+address h 9|iiop 0|trader A;address => h 9
+address h 9|iiop 1|trader A;address => h 9/1
+address h 9|iiop 1|trader A;0 get lookup_if => IDL:omg.org/CosTrading/Lookup:1.0 h 9/1 A/L
+address h 9|iiop 1|trader A;0 get type_repos => IDL:omg.org/CosTradingRepos/ServiceTypeRepository:1.0 h 9/1 A/T
+address h 9|iiop 1|trader A|link l A always always;0 link l => IDL:omg.org/CosTrading/Lookup:1.0 h 9/1 A/L;\
+IDL:omg.org/CosTrading/Register:1.0 h 9/1 A/R;always always
+address h 9|iiop 1|trader A|link l ref:x,h,9,A/L ref:y,h,9,A/R always always;0 link l => x h 9 A/L;y h 9 A/R;\
+always always";
+
+/// The server's own references have the version that the file tells, and others are kept as they are given.
+#[test]
+fn versions(rt: HostRuntime) -> Result<(), Fail> {
+    check(&rt, rt.alloc(), Case::Look, VERSIONS)
+}
+
 // ---- what is refused
 
 /// Files, with `|` for each line feed, the line at which they are refused, and why. The operation refuses an entry.

@@ -119,10 +119,16 @@ pub(crate) fn are_octets(octets: &[u8], told: &str) -> bool {
     numbers.next().is_none()
 }
 
+/// Whether a port is this, with the minor version of IIOP behind a slash where it isn't 0.
+fn is_port(port: u16, minor: u8, told: &str) -> bool {
+    let (number, version) = told.split_once('/').unwrap_or((told, "0"));
+    number.parse::<u16>() == Ok(port) && version.parse::<u8>() == Ok(minor)
+}
+
 /// Whether an address is `HOST PORT`.
 pub(crate) fn is_home(home: &Address, told: &str) -> bool {
     let (host, port) = told.split_once(' ').unwrap_or((told, ""));
-    home.host.as_slice() == host.as_bytes() && port.parse::<u16>() == Ok(home.port)
+    home.host.as_slice() == host.as_bytes() && is_port(home.port, home.minor, port)
 }
 
 /// Whether a profile is `HOST PORT KEY`; where there is none, nothing is told.
@@ -131,7 +137,7 @@ fn is_at(profile: Result<Iiop, IorFault>, told: &str) -> bool {
     let (port, key) = rest.split_once(' ').unwrap_or((rest, ""));
     let passed = match &profile {
         Ok(found) => found.host.as_slice() == host.as_bytes()
-            && port.parse::<u16>() == Ok(found.port)
+            && is_port(found.port, found.minor, port)
             && found.key.as_slice() == key.as_bytes(),
         Err(_) => told.is_empty(),
     };

@@ -39,7 +39,8 @@ trader East|@offer Plotter ref:IDL:P:1.0,h,9,e|with ulong Cost 4|link North Nort
 /// What a word gives to the trader of its first letter, by its second one, with the rest for each `@`: `A!` an offer of
 /// a Printer, `A$` one with a Cost, `A~` one with a Cost that is evaluated; `A=`, `Aq`, `As`, `An` and `Aw` a property
 /// more for the offer before; `A*B`, `A^B`, `A%B` and `A&B` a proxy offer, the last one with a recipe that names a
-/// sequence; `A>B`, `A?B`, `A/B` and `A-B` a link; and `A#` its greatest hop count.
+/// sequence; `A>B`, `A?B`, `A/B` and `A-B` a link, and `A+B` one by a reference of IIOP 1.1; and `A#` its greatest hop
+/// count.
 const GIVEN: &str = "! offer Printer ref:IDL:P:1.0,h,9,p
 $ offer Printer ref:IDL:P:1.0,h,9,p|with ulong Cost 7
 ~ offer Printer ref:IDL:P:1.0,h,9,p|dynamic ulong Cost ref:IDL:E:1.0,h,9,E
@@ -56,6 +57,7 @@ w dynamic ulong Wait ref:IDL:E:1.0,h,9,e
 ? link @ ref:@,h,9,@/L ref:IDL:R:1.0,h,9,@/R if_no_local if_no_local
 / link @ ref:@,h,9,@/L ref:IDL:R:1.0,h,9,@/R if_no_local always
 - link @ ref:@,h,9,@/L ref:IDL:R:1.0,h,9,@/R local_only local_only
++ link @ IOR:00000000000000024200000000000001000000000000001800010100000000026800000900000003422f4c0000000000 ref:IDL:R:1.0,h,9,@/R always always
 # set max_hop_count 10";
 
 /// Lines more, with these bytes for each `@`.
@@ -126,10 +128,20 @@ fn write_trader(text: &mut Vec<u8>, words: &str, letter: u8) -> Result<(), Memor
     Ok(())
 }
 
+/// The line that tells IIOP 1.1, where the first of the words does.
+fn version_of(words: &str) -> &'static str {
+    if words.starts_with("1.1 ") {
+        "iiop 1|"
+    } else {
+        ""
+    }
+}
+
 /// The file of the traders A to D at the host h, port 9.
 fn traders(alloc: Global, words: &str) -> Result<Vec<u8>, Memory> {
     let mut text = Vec::new(alloc);
     write(&mut text, "address h 9|", b"")?;
+    write(&mut text, version_of(words), b"")?;
     for letter in b"ABCD" {
         write_trader(&mut text, words, *letter)?;
     }

@@ -113,6 +113,17 @@ fn a_trader_outside(rt: HostRuntime) -> Result<(), Fail> {
     check(&rt, rt.alloc(), Case::Walk, OUTSIDE)
 }
 
+const VERSIONS: &str = "A! B! A+B => AB.. 2 0
+1.1 A! B! A>B => AB.. 2 0
+1.1 A! B! A+B => AB.. 2 0
+1.1 A! B! C! A>B B>C C>A => ABCa... 3 0";
+
+/// A link leads to a trader of the group whatever the version of its target's profile.
+#[test]
+fn links_of_another_version(rt: HostRuntime) -> Result<(), Fail> {
+    check(&rt, rt.alloc(), Case::Walk, VERSIONS)
+}
+
 /// At last nothing is asked of the property, and it is desired: the offer is given without it.
 const EVALUATIONS: &str = "A~;E:seven;Cost == 7;;;- => Ae. 1 0
 A~;E:seven;Cost == 8;;;- => Ae. 0 0

@@ -65,20 +65,22 @@ fits-at home seed told refused (Ok ts) reached long =
 fits-at home seed told refused (Err e) reached long = tt
 
 -- the address of a file that is sound is one where a server may listen
-pub listens : (home : Home) → length home.host ≤ 1000 → HasNoNul home.host → IsAddress (home_address home)
-listens home short text = record { short = short; no_nul = text }
+pub listens : (home : Home) → length home.host ≤ 1000 → HasNoNul home.host → home.minor ≤ 1
+    → IsAddress (home_address home)
+listens home short text low = record { short = short; no_nul = text; minor = low }
 
 fits-with : (s : Script) (home : Option Home) → IfSome home (λ (h : Home). length h.host ≤ 1000)
-    → IfSome home (λ (h : Home). HasNoNul h.host) → length s.seed ≡ 32 → Fits (opening_with s home)
-fits-with s (Some home) short text long =
+    → IfSome home (λ (h : Home). HasNoNul h.host) → IfSome home (λ (h : Home). h.minor ≤ 1) → length s.seed ≡ 32
+    → Fits (opening_with s home)
+fits-with s (Some home) short text low long =
     fits-at (home_address home) s.seed s.traders s.refused (all_traders (home_address home) s.traders)
-    (listens home short text) long
-fits-with s None short text long = tt
+    (listens home short text low) long
+fits-with s None short text low long = tt
 
 fits : (text : List ℕ) → IsSound (script_of text) → Fits (opening_of text)
 unfolding opening_of
 fits text sound =
-    fits-with (script_of text) (script_of text).home sound.short sound.host sound.seed
+    fits-with (script_of text) (script_of text).home sound.short sound.host sound.minor sound.seed
 
 address-in : (told : Result Opening Refused) (r : Result Opened FileFault) → Fits told → Answers told r
     → IfOk r (λ (o : Opened). IsAddress o.home)

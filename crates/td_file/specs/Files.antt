@@ -25,9 +25,9 @@ pub record Opening : Type 0 where
 abbrev pub opening : Address → List ℕ → List PlainTrader → Opening
 opening home seed traders = record { home = home; seed = seed; traders = traders }
 
--- where the lines of the file say that the server is reached
+-- where the lines of the file say that the server is reached, and by which version
 abbrev pub home_address : Home → Address
-home_address home = record { host = home.host; port = home.port }
+home_address home = record { host = home.host; port = home.port; minor = home.minor }
 
 abbrev pub unless_refused : Option Refused → Opening → Result Opening Refused
 unless_refused None o = Ok o

@@ -94,16 +94,18 @@ fn open_at(
     }
 }
 
-/// Where the lines of a file say that the server is reached.
+/// Where the lines of a file say that the server is reached, and by which version.
 fn home_address(home: Home) -> Address
     requires short { length home.host ≤ 1000 }
     requires no_nul { HasNoNul home.host }
+    requires minor { home.minor ≤ 1 }
     ensures address { result ≡ home_address home }
     ensures reached { IsAddress result }
 {
     Address {
         host: home.host,
         port: home.port,
+        minor: home.minor,
     }
 }
 

@@ -1,7 +1,7 @@
 -- What an answer unfolds to read a file that is written out.
 use Rattle.std.specs.Prelude.{⊤}
 use Rattle.td_ior.specs.Number.{number_below}
-use Rattle.td_lines.specs.Heads.{with_address, with_set, with_trader}
+use Rattle.td_lines.specs.Heads.{with_address, with_iiop, with_set, with_trader}
 use Rattle.td_lines.specs.Keywords.{begin_of}
 use Rattle.td_lines.specs.Linked.{with_link}
 use Rattle.td_lines.specs.Scripts.{script_of}
@@ -18,6 +18,11 @@ address_on_literals = tt
 unfoldable pub traders_on_literals : ⊤
 unfolding address_on_literals with_trader one_word
 traders_on_literals = tt
+
+-- and its version
+unfoldable pub version_on_literals : ⊤
+unfolding traders_on_literals with_iiop
+version_on_literals = tt
 
 -- and their types
 unfoldable pub types_on_literals : ⊤

@@ -1,13 +1,14 @@
--- What every file says has a host without NUL, a seed of 32 octets, and traders of distinct and short names.
-use Rattle.std.proofs.Common.{◌≡◌, ℕ, ◌+◌, ◌≤◌, nat_eq, nat_le, nat_lt, Bool, true, false, not, ◌&&◌, ◌||◌, List}
+-- What every file says has a host without NUL, a version, a seed of 32 octets, and traders of distinct and short names.
+use Rattle.std.proofs.Common.{◌≡◌, ℕ, ◌+◌, ◌≤◌, ◌<◌, nat_eq, nat_le, nat_lt, Bool, true, false, not, ◌&&◌, ◌||◌, List}
 use Rattle.std.proofs.Common.{[], ◌∷◌, ◌++◌, length}
 use Rattle.std.proofs.Common.{map, if◌then◌else◌, Option, Some, None, is_some, IfSome, Result, Ok, Err, IfOk, refl}
 use Rattle.std.proofs.Common.{sym, ap, ◌∙◌, subst, arith}
 use Rattle.std.specs.List.{IsDistinct, list_all, list_any}
+use Rattle.std.specs.Option.{option_map}
 use Rattle.std.specs.Result.{result_ok}
 use Rattle.std.specs.Str.{bytes_eq}
 use Rattle.std.specs.Str.Lines.{lines}
-use Rattle.std.proofs.lemmas.Bool.{eqb-true, leb-true, ltb-false, not-false}
+use Rattle.std.proofs.lemmas.Bool.{eqb-true, leb-true, ltb-false, ltb-true, not-false}
 use Rattle.std.proofs.lemmas.Bool.Decides.{nat_tests}
 use Rattle.std.proofs.lemmas.Cmp.{nat_list_eq_equiv}
 use Rattle.std.proofs.lemmas.Map.Keys.{IsDistinct-push}
@@ -16,7 +17,8 @@ use Rattle.hex.specs.declared.error.FromHexError.{FromHexError}
 use Rattle.td_cdr.specs.Names.{is_trader_byte, trader_name}
 use Rattle.td_cdr.specs.Reading.{◌>>=◌}
 use Rattle.td_cdr.specs.Text.{has_nul, HasNoNul}
-use Rattle.td_ior.specs.Number.{port_of}
+use Rattle.td_ior.proofs.Numbers.{and-right}
+use Rattle.td_ior.specs.Number.{number_after, number_below, numeral, port_of}
 use Rattle.td_codes.specs.declared.reference.Ior.{Ior}
 use Rattle.td_ops.specs.declared.call.Change.{Change}
 use Rattle.td_ops.specs.declared.call.Change.TheVariants as change
@@ -27,8 +29,8 @@ use Rattle.td_lines.specs.Causes.{or_cause, refused_if}
 use Rattle.td_lines.specs.Drafts.{closed, closed_with, has_trader, line_above, nothing_yet, offer_line, type_line}
 use Rattle.td_lines.specs.Drafts.{with_entry}
 use Rattle.td_lines.specs.Heads.{finished, is_declared, last_trader, opened_trader, with_address, with_interface}
-use Rattle.td_lines.specs.Heads.{with_declared, with_seed, with_set, with_stem, with_trader}
-use Rattle.td_lines.specs.Homes.{home_told}
+use Rattle.td_lines.specs.Heads.{with_declared, with_iiop, with_seed, with_set, with_stem, with_trader, with_version}
+use Rattle.td_lines.specs.Homes.{home_told, with_minor}
 use Rattle.td_lines.specs.Keywords.{begin_of}
 use Rattle.td_lines.specs.Laws.{AreShort, IsSound}
 use Rattle.td_lines.specs.Linked.{ends_told, inside_link, outside_link, rules_told, with_inside, with_link}
@@ -83,6 +85,7 @@ record Holds (home : Option Home) (seed : Option (List ℕ)) (names : List (List
     (name : List ℕ) : Type 0 where
   pub host : IfSome home (λ (h : Home). HasNoNul h.host)
   pub short : IfSome home (λ (h : Home). length h.host ≤ 1000)
+  pub version : IfSome home (λ (h : Home). h.minor ≤ 1)
   pub octets : IfSome seed IsSeed
   pub distinct : IsDistinct bytes_eq names
   pub named : names_of (not (nat_eq (length names) 0)) ended_traders name ≡ names
@@ -110,7 +113,7 @@ keeps-if false c told h = h refl
 -- ---- lines that begin an entry
 
 abbrev home_with : List ℕ → ℕ → Home
-home_with host port = record { host = host; port = port }
+home_with host port = record { host = host; port = port; minor = 0 }
 
 keeps-home_case : (d : Draft) (host : List ℕ) (large nul : Bool) (port : Option ℕ) → nat_lt 1000 (length host) ≡ large
     → has_nul host ≡ nul → IsDraft d
@@ -123,6 +126,7 @@ keeps-home_case d host false false None l e h = tt
 keeps-home_case d host false false (Some n) l e h = record {
   host = e;
   short = ltb-false 1000 (length host) l;
+  version = omega arith;
   octets = h.octets;
   distinct = h.distinct;
   named = h.named;
@@ -178,6 +182,7 @@ kept-seed : (d : Draft) (seed : List ℕ) → IsSeed seed → IsDraft d → IsDr
 kept-seed d seed long h = record {
   host = h.host;
   short = h.short;
+  version = h.version;
   octets = long;
   distinct = h.distinct;
   named = h.named;
@@ -188,12 +193,66 @@ kept-seed d seed long h = record {
 keeps-seed : (d : Draft) (line : List ℕ) → IsDraft d → Keeps (with_seed d line)
 unfolding with_seed
 keeps-seed d line h =
-    keeps-placed (or_cause cause.Words (one_word line)) (not (is_some d.home) || has_trader d) cause.Place
+    keeps-placed (or_cause cause.Words (one_word line)) (not (is_some d.home) || has_trader d || d.iiop) cause.Place
     (λ (said : List ℕ). refused_if (is_some d.seed) cause.Twice
     (seed_told said >>= λ (seed : List ℕ). Ok (seeded d seed)))
     (λ (said : List ℕ). keeps-when (is_some d.seed) cause.Twice
     (seed_told said >>= λ (seed : List ℕ). Ok (seeded d seed))
     (keeps-held IsSeed (seed_told said) (seeded d) (seed-long said) (λ (seed : List ℕ) long. kept-seed d seed long h)))
+
+abbrev IsVersion : ℕ → Type 0
+IsVersion minor = minor ≤ 1
+
+version-case : (right : Bool) (word : List ℕ)
+    → (numeral word && nat_lt (number_after 0 word) 2) ≡ right
+    → IfOk (or_cause cause.Number (if right then Some (number_after 0 word) else None)) IsVersion
+version-case true word e =
+    let low : nat_lt (number_after 0 word) 2 ≡ true = and-right (numeral word) (nat_lt (number_after 0 word) 2) e in
+    let below : number_after 0 word < 2 = ltb-true (number_after 0 word) 2 low in
+    omega (arith, below)
+version-case false word e = tt
+
+version-low : (word : List ℕ) → IfOk (or_cause cause.Number (number_below 2 word)) IsVersion
+unfolding number_below
+version-low word = version-case (numeral word && nat_lt (number_after 0 word) 2) word refl
+
+homes-host : (home : Option Home) (minor : ℕ) → IfSome home (λ (h : Home). HasNoNul h.host)
+    → IfSome (option_map (with_minor minor) home) (λ (h : Home). HasNoNul h.host)
+homes-host (Some h) minor k = k
+homes-host None minor k = tt
+
+homes-short : (home : Option Home) (minor : ℕ) → IfSome home (λ (h : Home). length h.host ≤ 1000)
+    → IfSome (option_map (with_minor minor) home) (λ (h : Home). length h.host ≤ 1000)
+homes-short (Some h) minor k = k
+homes-short None minor k = tt
+
+homes-version : (home : Option Home) (minor : ℕ) → minor ≤ 1
+    → IfSome (option_map (with_minor minor) home) (λ (h : Home). h.minor ≤ 1)
+homes-version (Some h) minor k = k
+homes-version None minor k = tt
+
+kept-version : (d : Draft) (minor : ℕ) → IsVersion minor → IsDraft d → IsDraft (with_version d minor)
+kept-version d minor low h = record {
+  host = homes-host d.home minor h.host;
+  short = homes-short d.home minor h.short;
+  version = homes-version d.home minor low;
+  octets = h.octets;
+  distinct = h.distinct;
+  named = h.named;
+  last = h.last;
+  others = h.others;
+}
+
+keeps-iiop : (d : Draft) (line : List ℕ) → IsDraft d → Keeps (with_iiop d line)
+unfolding with_iiop
+keeps-iiop d line h =
+    keeps-placed (or_cause cause.Words (one_word line)) (not (is_some d.home) || has_trader d) cause.Place
+    (λ (said : List ℕ). refused_if d.iiop cause.Twice
+    (or_cause cause.Number (number_below 2 said) >>= λ (minor : ℕ). Ok (with_version d minor)))
+    (λ (said : List ℕ). keeps-when d.iiop cause.Twice
+    (or_cause cause.Number (number_below 2 said) >>= λ (minor : ℕ). Ok (with_version d minor))
+    (keeps-held IsVersion (or_cause cause.Number (number_below 2 said)) (with_version d) (version-low said)
+    (λ (minor : ℕ) low. kept-version d minor low h)))
 
 short-push : (ts : List TraderScript) (t : TraderScript) → AreShort ts → length t.name ≤ 32 → AreShort (ts ++ t ∷ [])
 short-push [] t h k = (k, tt)
@@ -229,6 +288,7 @@ keeps-opened d name true e h fits apart =
     record {
       host = h.host;
       short = h.short;
+      version = h.version;
       octets = h.octets;
       distinct = IsDistinct-push nat_list_eq_equiv d.names name h.distinct apart;
       named =
@@ -242,6 +302,7 @@ keeps-opened d name false e h fits apart =
     record {
       host = h.host;
       short = h.short;
+      version = h.version;
       octets = h.octets;
       distinct = IsDistinct-push nat_list_eq_equiv d.names name h.distinct apart;
       named =
@@ -373,6 +434,7 @@ keeps-link d n line h = keeps-inside d n line (four_words line) h
 keeps-head : (d : Draft) (n : ℕ) (k : Head) (line : List ℕ) → IsDraft d → Keeps (with_head d n k line)
 keeps-head d n head.Address line h = keeps-address d line h
 keeps-head d n head.Seed line h = keeps-seed d line h
+keeps-head d n head.Iiop line h = keeps-iiop d line h
 keeps-head d n head.Trader line h = keeps-trader d line h
 keeps-head d n head.Stem line h = keeps-stem d n line h
 keeps-head d n head.Set line h = keeps-set d n line h
@@ -492,6 +554,7 @@ sound-script : (d : Draft) (refused : Option Refused) → IsDraft d → IsSound 
 sound-script d refused h = record {
   host = h.host;
   short = h.short;
+  minor = h.version;
   seed = seed-or_zeros d.seed h.octets;
   distinct = subst (λ ns. IsDistinct bytes_eq ns) (sym (names-finished d (has_trader d) ∙ h.named)) h.distinct;
   names = short-finished d (has_trader d) h;
@@ -521,6 +584,7 @@ unfolding IsDistinct
 nothing-said = record {
   host = tt;
   short = tt;
+  version = tt;
   octets = tt;
   distinct = tt;
   named = refl;

@@ -22,6 +22,7 @@ abbrev pub nothing_yet : Draft
 nothing_yet = record {
   home = None;
   seed = None;
+  iiop = false;
   names = [];
   finished = [];
   name = [];

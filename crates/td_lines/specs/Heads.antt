@@ -1,16 +1,18 @@
 -- Lines that begin an entry of one line. Each is judged in this order: the number of its words, its place, and then its
 -- words from left to right.
-use Rattle.std.specs.Prelude.{ℕ, nat_le, Bool, false, not, ◌||◌, List, [], ◌∷◌, ◌++◌, length, if◌then◌else◌, Some}
+use Rattle.std.specs.Prelude.{ℕ, nat_le, Bool, false, true, not, ◌||◌, List, [], ◌∷◌, ◌++◌, length, if◌then◌else◌, Some}
 use Rattle.std.specs.Prelude.{is_some, Result, Ok}
 use Rattle.std.specs.List.{list_any}
+use Rattle.std.specs.Option.{option_map}
 use Rattle.std.specs.Str.{bytes_eq}
 use Rattle.td_cdr.specs.Names.{trader_name}
 use Rattle.td_cdr.specs.Reading.{◌>>=◌}
 use Rattle.td_cdr.specs.Text.{has_nul}
+use Rattle.td_ior.specs.Number.{number_below}
 use Rattle.td_ops.specs.declared.call.Change.TheVariants as change
 use Rattle.td_lines.specs.Causes.{or_cause, refused_if}
 use Rattle.td_lines.specs.Drafts.{has_trader, with_entry}
-use Rattle.td_lines.specs.Homes.{home_told}
+use Rattle.td_lines.specs.Homes.{home_told, with_minor}
 use Rattle.td_lines.specs.Octets.{octets_told, seed_told}
 use Rattle.td_lines.specs.Settings.{setting_told}
 use Rattle.td_lines.specs.Words.{cut_word, one_word, two_words, words}
@@ -27,13 +29,26 @@ with_address d line = do
   refused_if (is_some d.home) cause.Twice
       (home_told said.0 said.1 >>= λ home. Ok (record d { home = Some home }))
 
--- `seed HEX`, once, behind the address and before the first trader
+-- `seed HEX`, once, behind the address and before the line `iiop` and the first trader
 unfoldable pub with_seed : Draft → List ℕ → Result Draft LineCause
 with_seed d line = do
   said ← or_cause cause.Words (one_word line)
-  refused_if (not (is_some d.home) || has_trader d) cause.Place
+  refused_if (not (is_some d.home) || has_trader d || d.iiop) cause.Place
       (refused_if (is_some d.seed) cause.Twice
       (seed_told said >>= λ seed. Ok (record d { seed = Some seed })))
+
+-- the server's references have this minor version
+abbrev pub with_version : Draft → ℕ → Draft
+with_version d minor = record d { home = option_map (with_minor minor) d.home; iiop = true }
+
+-- `iiop MINOR`, once, behind the address and before the first trader: the minor version of IIOP in the server's
+-- references, 0 or 1
+unfoldable pub with_iiop : Draft → List ℕ → Result Draft LineCause
+with_iiop d line = do
+  said ← or_cause cause.Words (one_word line)
+  refused_if (not (is_some d.home) || has_trader d) cause.Place
+      (refused_if d.iiop cause.Twice
+      (or_cause cause.Number (number_below 2 said) >>= λ minor. Ok (with_version d minor)))
 
 -- what was said of the last trader
 abbrev pub last_trader : Draft → TraderScript

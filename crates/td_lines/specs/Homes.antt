@@ -8,11 +8,15 @@ use Rattle.td_lines.specs.declared.cause.LineCause.{LineCause}
 use Rattle.td_lines.specs.declared.cause.LineCause.TheVariants as cause
 use Rattle.td_lines.specs.declared.entry.Home.{Home}
 
+abbrev pub with_minor : (minor : ℕ) → Home → Home
+with_minor minor home = record home { minor = minor }
+
 -- more than 1,000 bytes, or a NUL among them
 abbrev pub is_no_host : List ℕ → Bool
 is_no_host host = nat_lt 1000 (length host) || has_nul host
 
+-- reached by IIOP 1.0, where no line says otherwise
 abbrev pub home_told : (host port : List ℕ) → Result Home LineCause
 home_told host port =
     refused_if (is_no_host host) cause.Name
-    (or_cause cause.Number (port_of port) >>= λ n. Ok (record { host = host; port = n }))
+    (or_cause cause.Number (port_of port) >>= λ n. Ok (record { host = host; port = n; minor = 0 }))

@@ -13,6 +13,7 @@ use Rattle.td_lines.specs.declared.keyword.Keyword.TheVariants.{Begins, Belongs}
 abbrev pub head_name : Head → List ℕ
 head_name head.Address = codes "address"
 head_name head.Seed = codes "seed"
+head_name head.Iiop = codes "iiop"
 head_name head.Trader = codes "trader"
 head_name head.Stem = codes "stem"
 head_name head.Set = codes "set"
@@ -33,7 +34,7 @@ keyword_name (Belongs p) = part_name p
 
 abbrev pub keywords : List Keyword
 keywords =
-    Begins head.Address ∷ Begins head.Seed ∷ Begins head.Trader ∷ Begins head.Stem ∷ Begins head.Set
+    Begins head.Address ∷ Begins head.Seed ∷ Begins head.Iiop ∷ Begins head.Trader ∷ Begins head.Stem ∷ Begins head.Set
     ∷ Begins head.Interface ∷ Begins head.Type ∷ Begins head.Offer ∷ Begins head.Proxy ∷ Begins head.Link
     ∷ Belongs part.Prop ∷ Belongs part.With ∷ Belongs part.Dynamic ∷ []
 

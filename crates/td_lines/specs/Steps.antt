@@ -1,7 +1,7 @@
 -- What a line makes of what was said above it.
 use Rattle.std.specs.Prelude.{◌≡◌, ℕ, List, if◌then◌else◌, Option, Some, None, Result, Ok, Err}
 use Rattle.td_lines.specs.Drafts.{closed, line_above}
-use Rattle.td_lines.specs.Heads.{with_address, with_interface, with_seed, with_set, with_stem, with_trader}
+use Rattle.td_lines.specs.Heads.{with_address, with_iiop, with_interface, with_seed, with_set, with_stem, with_trader}
 use Rattle.td_lines.specs.Keywords.{begin_of}
 use Rattle.td_lines.specs.Linked.{with_link}
 use Rattle.td_lines.specs.Offered.{with_dynamic, with_offer, with_proxy, with_value}
@@ -26,6 +26,7 @@ use Rattle.td_lines.specs.declared.parts.Stop.TheVariants.{At, Memory}
 abbrev pub with_head : Draft → ℕ → Head → List ℕ → Result Draft LineCause
 with_head d n head.Address line = with_address d line
 with_head d n head.Seed line = with_seed d line
+with_head d n head.Iiop line = with_iiop d line
 with_head d n head.Trader line = with_trader d line
 with_head d n head.Stem line = with_stem d n line
 with_head d n head.Set line = with_set d n line

@@ -52,6 +52,8 @@ pub(crate) enum Open {
 pub(crate) struct Draft {
     pub(crate) home: Option<Home>,
     pub(crate) seed: Option<Octets>,
+    /// A line told the version of the server's references.
+    pub(crate) iiop: bool,
     /// The names of all traders.
     pub(crate) names: List<Text>,
     /// The traders but the last one.
@@ -75,6 +77,7 @@ impl Draft {
         Draft {
             home: None,
             seed: None,
+            iiop: false,
             names: List::new(alloc),
             finished: List::new(alloc),
             name: Text::new(alloc),

@@ -10,6 +10,8 @@ use td_value::FollowOption;
 pub struct Home {
     pub host: Text,
     pub port: u16,
+    /// The minor version of IIOP in the server's references, 0 or 1.
+    pub minor: u8,
 }
 
 /// One thing that the file asks of a trader.

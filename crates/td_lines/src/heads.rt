@@ -3,7 +3,7 @@
 ghost use Rattle.std.specs.Prelude.{◌≡◌, OnOk};
 ghost use Rattle.td_lines.specs.Drafts.{Takes};
 ghost use Rattle.td_lines.specs.Heads.{finished, is_declared, opened_trader, with_address, with_interface};
-ghost use Rattle.td_lines.specs.Heads.{with_declared, with_seed, with_set, with_stem, with_trader};
+ghost use Rattle.td_lines.specs.Heads.{with_declared, with_iiop, with_seed, with_set, with_stem, with_trader, with_version};
 
 use crate::cause::{LineCause, Misfit};
 use crate::draft::Draft;
@@ -15,6 +15,7 @@ use crate::words::{cut_word, one_word, two_words, words_of};
 use std::alloc::Global;
 use std::mem;
 use td_cdr::{List, Memory, Text, is_trader_name};
+use td_ior::number_up_to;
 use td_ops::{Change, is_among};
 
 impl Draft {
@@ -42,7 +43,7 @@ impl Draft {
         let Some(digits) = one_word(line) else {
             return Err(Misfit::Is(LineCause::Words));
         };
-        if self.home.is_none() || self.has_trader() {
+        if self.home.is_none() || self.has_trader() || self.iiop {
             return Err(Misfit::Is(LineCause::Place));
         }
         if self.seed.is_some() {
@@ -51,6 +52,37 @@ impl Draft {
         let seed = seed_told(alloc, digits)?;
         self.seed = Some(seed);
         Ok(())
+    }
+
+    /// `iiop MINOR`
+    #[tactic(auto, unfolding(crate::specs::Heads::with_iiop))]
+    pub(crate) fn take_iiop(&mut self, line: &[u8]) -> Result<(), Misfit>
+        ensures { Takes (with_iiop self.old line.now) self.old self.new result }
+    {
+        let Some(word) = one_word(line) else {
+            return Err(Misfit::Is(LineCause::Words));
+        };
+        if self.home.is_none() || self.has_trader() {
+            return Err(Misfit::Is(LineCause::Place));
+        }
+        if self.iiop {
+            return Err(Misfit::Is(LineCause::Twice));
+        }
+        let Some(minor) = number_up_to(word, 1) else {
+            return Err(Misfit::Is(LineCause::Number));
+        };
+        self.set_version(minor as u8);
+        Ok(())
+    }
+
+    /// The server's references have this minor version.
+    fn set_version(&mut self, minor: u8)
+        ensures { self.new ≡ with_version self.old minor }
+    {
+        if let Some(home) = &mut self.home {
+            home.set_minor(minor);
+        }
+        self.iiop = true;
     }
 
     /// `trader NAME`

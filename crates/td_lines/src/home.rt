@@ -4,7 +4,7 @@ ghost use Rattle.std.specs.Prelude.{◌≡◌, ◌||◌, nat_lt, length};
 ghost use Rattle.std.specs.List.{list_any};
 ghost use Rattle.td_cdr.specs.Text.{has_nul};
 ghost use Rattle.td_lines.specs.Causes.{Gives};
-ghost use Rattle.td_lines.specs.Homes.{home_told, is_no_host};
+ghost use Rattle.td_lines.specs.Homes.{home_told, is_no_host, with_minor};
 
 use crate::cause::{LineCause, Misfit};
 use crate::entry::Home;
@@ -32,7 +32,7 @@ fn is_no_host(host: &[u8]) -> bool
     host.len() > 1000 || has_nul(host)
 }
 
-/// The address that a host and a port tell.
+/// The address that a host and a port tell, reached by IIOP 1.0.
 pub(crate) fn home_told(alloc: Global, host: &[u8], port: &[u8]) -> Result<Home, Misfit>
     ensures { Gives (home_told host.now port.now) result }
 {
@@ -46,5 +46,15 @@ pub(crate) fn home_told(alloc: Global, host: &[u8], port: &[u8]) -> Result<Home,
     Ok(Home {
         host,
         port: port as u16,
+        minor: 0,
     })
+}
+
+impl Home {
+    /// The same address, reached by IIOP 1.`minor`.
+    pub(crate) fn set_minor(&mut self, minor: u8)
+        ensures { self.new ≡ with_minor minor self.old }
+    {
+        self.minor = minor;
+    }
 }

@@ -13,6 +13,7 @@ use td_cdr::{Named, find_named};
 pub(crate) enum Head {
     Address,
     Seed,
+    Iiop,
     Trader,
     Stem,
     Set,
@@ -44,6 +45,7 @@ fn head_name(head: Head) -> &'static str
     match head {
         Head::Address => "address",
         Head::Seed => "seed",
+        Head::Iiop => "iiop",
         Head::Trader => "trader",
         Head::Stem => "stem",
         Head::Set => "set",
@@ -83,6 +85,7 @@ fn keyword_named(word: &[u8]) -> Option<Keyword>
         &[
             Keyword::Begins(Head::Address),
             Keyword::Begins(Head::Seed),
+            Keyword::Begins(Head::Iiop),
             Keyword::Begins(Head::Trader),
             Keyword::Begins(Head::Stem),
             Keyword::Begins(Head::Set),

@@ -1,4 +1,4 @@
-//! The lines of a server's file, up to what they ask for: its address, its seed, and its traders with the
+//! The lines of a server's file, up to what they ask for: its address, its seed, its version, and its traders with the
 //! entries of each in order, each with the number of its first line.
 //!
 //! LF ends a line, a CR before it is dropped, and the last LF may be missing. Words stand between spaces

@@ -57,6 +57,7 @@ impl Draft {
         match head {
             Head::Address => self.take_address(alloc, line),
             Head::Seed => self.take_seed(alloc, line),
+            Head::Iiop => self.take_iiop(line),
             Head::Trader => self.take_trader(alloc, line),
             Head::Stem => self.take_stem(alloc, number, line),
             Head::Set => self.take_set(number, line),

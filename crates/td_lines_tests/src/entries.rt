@@ -9,7 +9,7 @@ use td_ops::Change;
 use td_value::{PropStruct, Property, PropertyMode, TypeCode, Value};
 
 /// A trader with a type of two properties, an offer with two and an evaluated one, a proxy offer and two links.
-const WORKED: &str = "# a file|address host 2809|trader A|interface i j k|type B i S T|\
+const WORKED: &str = "# a file|address host 2809|iiop 1|trader A|interface i j k|type B i S T|\
 prop mandatory ulong Cost|prop normal seq:string Rooms|\
 offer B ref:i,h,9,p1|with ulong Cost 5|with seq:string Rooms R1,R 2|dynamic short Queue ref:e,h,9,q|\
 proxy B ref:x,h,9,p2 match Cost < $(Cost)|with ulong Cost 7|link l A local_only always|\
@@ -23,6 +23,7 @@ fn is_worked(script: &Script) -> bool {
     };
     home.host.as_slice() == b"host".as_slice()
         && home.port == 2809
+        && home.minor == 1
         && script.seed.as_slice() == [0u8; 32].as_slice()
         && script.refused == None
         && is_only_trader(script.traders.as_slice())

@@ -25,6 +25,7 @@ abbrev pub between : List (List ℕ) → List TraderScript → TraderScript → 
 between names before last typed = record {
   home = Some local_host;
   seed = None;
+  iiop = nothing_yet.iiop;
   names = names;
   finished = before;
   name = last.name;
@@ -49,6 +50,7 @@ abbrev pub within : (done : ℕ) → List TraderScript → List Numbered → Ope
 within done before entries offer = with_new_offer (record {
   home = Some local_host;
   seed = None;
+  iiop = nothing_yet.iiop;
   names = first_names (suc done);
   finished = before;
   name = name_of (suc done);

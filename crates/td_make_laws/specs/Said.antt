@@ -28,7 +28,7 @@ first_names zero = []
 first_names (suc done) = first_names done ++ name_of (suc done) ∷ []
 
 abbrev pub local_host : Home
-local_host = record { host = codes "127.0.0.1"; port = 2809 }
+local_host = record { host = codes "127.0.0.1"; port = 2809; minor = 0 }
 
 -- ---- what is asked of a trader
 
@@ -45,7 +45,7 @@ type_entries =
 -- an offer's object and what it costs
 abbrev pub item : (trader number : ℕ) → Ior
 item trader number =
-    made_reference (codes "IDL:Item:1.0") (codes "h") 9 (counted (counted [] trader ++ codes ".") number)
+    made_reference (codes "IDL:Item:1.0") (codes "h") 9 (counted (counted [] trader ++ codes ".") number) 0
 
 abbrev pub costing : (amount : ℕ) → Property
 costing amount = record { name = codes "Cost"; value = record { code = code.ULong; value = value.ULong amount } }
