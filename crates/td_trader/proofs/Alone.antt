@@ -20,6 +20,7 @@ use Rattle.td_changes.specs.Applying.{seek}
 use Rattle.td_trader.specs.Beginning.{after_begin}
 use Rattle.td_changes.specs.Histories.{Legal, LegalFrom}
 use Rattle.td_register.specs.Entries.{entry}
+use Rattle.td_trader.specs.OfferLimits.{HasLimitedOffers}
 use Rattle.td_trader.specs.PlainTraders.{HasShortReplies, PlainTrader, after_change, after_outcome, begin_at}
 use Rattle.td_trader.specs.PlainTraders.{outcome_of, store_of}
 use Rattle.td_trader.specs.PlainTraders.{after_begin as trader_after}
@@ -146,15 +147,16 @@ module _ (ts : List PlainTrader) (k : ℕ) (t : PlainTrader) (inside : k < lengt
   changes u c (Err e) out is_after = tt
 
   pub begins : (u : PlainTrader) (q : Query) (r : Result Begin Memory) → IfOk r (λ b. b ≡ begin_at t q) →
-      IfOk r (λ b. u ≡ trader_after t q b) →
+      HasLimitedOffers (store_of t) → IfOk r (λ b. u ≡ trader_after t q b) →
       IfOk r (λ b. Begun nothing unchanged (map solo_view ts) k q b (map solo_view (slice_set ts k u)))
-  begins u q (Ok b) is_begin is_after = record {
+  begins u q (Ok b) is_begin limited is_after = record {
     seen = solo_view t;
     meanwhile = quiet;
     begin = is_begin;
+    limited = limited;
     world = map-set solo_view ts k u ∙ ap (slice_set (map solo_view ts) k) (ap solo_view is_after ∙ begun-view t q b);
   }
-  begins u q (Err e) is_begin is_after = tt
+  begins u q (Err e) is_begin limited is_after = tt
 
   pub watches : {X : Type 0} (u : PlainTrader) (r : Result X Memory) → OnErr r (u ≡ t) →
       OnErr r (Watches nothing unchanged (map solo_view ts) k (map solo_view (slice_set ts k u)))

@@ -2,6 +2,7 @@ pub mod Alone
 pub mod Begun
 pub mod Counted
 pub mod Growing
+pub mod KeepingLimits
 pub mod Kept
 pub mod MarkedOnce
 pub mod ReadAdmitted

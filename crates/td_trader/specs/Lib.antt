@@ -2,6 +2,7 @@ pub mod Admitted
 pub mod BeginLaws
 pub mod Beginning
 pub mod Following
+pub mod OfferLimits
 pub mod PlainTraders
 pub mod Queries
 pub mod QueryExamples

@@ -12,6 +12,7 @@ use Rattle.td_changes.specs.Applying.{seek}
 use Rattle.td_trader.specs.Beginning.{begin_of, after_begin as marks_after}
 use Rattle.td_changes.specs.Histories.{Legal, LegalFrom, after_all, noted}
 use Rattle.td_changes.specs.Laws.{applied_after}
+use Rattle.td_trader.specs.OfferLimits.{HasLimitedOffers}
 use Rattle.td_trader.specs.PlainTraders.{HasShortReplies, PlainTrader}
 use Rattle.td_register.specs.Stores.{Store}
 use Rattle.td_trader.specs.declared.begin.Begin.{Begin}
@@ -128,11 +129,13 @@ module _ (others : List Accepted → Type 0) (later : Marks → Marks → Type 0
     pub answer : a ≡ seek (store_seen seen) l
     pub world : u ≡ with_view w k seen
 
-  -- The query begins as it does at what is seen then, and a mark that is made is one's own.
+  -- The query begins as it does at what is seen then, where the offers are within their limits, and a mark that is made
+  -- is one's own.
   pub record Begun (w : List View) (k : ℕ) (q : Query) (b : Begin) (u : List View) : Type 0 where
     pub seen : View
     pub meanwhile : Meanwhile w k seen
     pub begin : b ≡ begin_of seen.bounds (store_seen seen) (length seen.history) seen.marks q
+    pub limited : HasLimitedOffers (store_seen seen)
     pub world : u ≡ with_view w k (after_begin seen (marks_after (store_seen seen) seen.marks q b))
 
   -- Nothing was done but by others.

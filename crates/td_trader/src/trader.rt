@@ -7,6 +7,7 @@ ghost use Rattle.td_changes.specs.Applying.{is_at_limit, seek};
 ghost use Rattle.td_changes.specs.Histories.{Legal};
 ghost use Rattle.td_changes.specs.Kinds.{is_free};
 ghost use Rattle.td_changes.specs.Numbering.{AreNumbered};
+ghost use Rattle.td_trader.specs.OfferLimits.{HasLimitedOffers};
 ghost use Rattle.td_trader.specs.PlainTraders.{AreBounds, HasShortReplies, after_begin, after_change, begin_at};
 ghost use Rattle.td_trader.specs.PlainTraders.{opened, outcome_of, store_of};
 ghost use Rattle.td_changes.specs.Recording.{HasRoom, Records};
@@ -57,6 +58,7 @@ impl Model for Trader {
     ghost use Rattle.std.specs.Coded.{codes};
     ghost use Rattle.td_codes.specs.contracts.code.TypeCode as code;
     ghost use Rattle.td_codes.specs.contracts.code.Value as value;
+    ghost use Rattle.td_trader.specs.OfferLimits.{HasLimitedOffers};
     ghost use Rattle.td_trader.specs.PlainTraders.{AreBounds, HasShortReplies, IsKept, PlainTrader};
     ghost use Rattle.td_changes.specs.Recording.{HasRoom};
 
@@ -74,7 +76,8 @@ impl Model for Trader {
     } };
 
     ghost invariant = { λ t. AreBounds t.bounds × IsKept t.bounds t.opening.value t.store t.history.items
-        × HasRoom t.reserved (vec_len t.history) (vec_capacity t.history) × HasShortReplies t.opening.value };
+        × HasRoom t.reserved (vec_len t.history) (vec_capacity t.history) × HasShortReplies t.opening.value
+        × HasLimitedOffers t.opening.value };
 }
 
 impl Trader {
@@ -91,8 +94,8 @@ impl Trader {
         bounds: Bounds,
     ) -> Result<Trader, Memory>
         requires bounds { AreBounds bounds }
-        // The numbers of the offers were given.
-        requires numbered { AreNumbered opening }
+        // Its offers are within their limits.
+        requires limited { HasLimitedOffers opening }
         // It is the opening store's own.
         requires stem { (stem ≡ opening.attributes.request_id_stem) × (length stem ≤ 64) }
         ensures { IfOk result (λ t. t ≡ opened name opening bounds) }
@@ -211,13 +214,15 @@ impl Trader {
         record_change(*alloc, store, history, reserved, c)
     }
 
-    /// How a query begins at the store as it is now. Where it is searched here it is marked.
+    /// How a query begins at the store as it is now, whose offers are within their limits. Where it is
+    /// searched here it is marked.
     ///
     /// # Errors
     ///
     /// `Memory` for want of memory alone. The trader is then as it was.
     pub fn begin(&mut self, q: &Query) -> Result<Begin, Memory>
         ensures begin { IfOk result (λ b. b ≡ begin_at self.old q.now) }
+        ensures limited { HasLimitedOffers (store_of self.old) }
         ensures after { IfOk result (λ b. self.new ≡ after_begin self.old q.now b) }
         ensures err { OnErr result (self.new ≡ self.old) }
     {

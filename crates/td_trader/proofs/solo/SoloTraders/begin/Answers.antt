@@ -4,7 +4,8 @@ use Rattle.td_trader.proofs.solo.SoloTraders.begin.Goals as goal
 pub returns-clause-ok : goal.returns-clause-ok
 returns-clause-ok c =
     begins c.args.self.now.traders.items c.args.trader c.index_mut.result.now c.requires c.index_mut.ensures.value
-    c.begin.new.self c.args.q.now c.begin.result c.begin.ensures.begin c.begin.ensures.after
+    c.begin.new.self c.args.q.now c.begin.result c.begin.ensures.begin c.begin.ensures.limited
+    c.begin.ensures.after
 
 pub returns-clause-err : goal.returns-clause-err
 returns-clause-err c =

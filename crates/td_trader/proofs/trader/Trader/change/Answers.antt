@@ -19,4 +19,5 @@ invariant_of-self-2 c =
           is_at_limit c.self.inside.bounds n ≡ false) counted below) c.record_change.ensures.records,
       c.record_change.ensures.room,
       c.self.invariant.3,
+      c.self.invariant.4,
     )
