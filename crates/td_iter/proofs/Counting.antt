@@ -13,7 +13,10 @@ use Rattle.td_codes.specs.Formats.{is_some}
 use Rattle.td_iter.specs.declared.limits.TheConstants.{LARGEST_MESSAGE, REPLY_START}
 use Rattle.td_iter.specs.declared.filling.Tail.{Tail}
 use Rattle.td_iter.specs.Batches.{PutsBatch, batch}
-use Rattle.td_iter.specs.Filling.{behind, reach, end_of, Fills, counted, next_piece, padded_flag}
+use Rattle.td_iter.specs.Filling.{behind, reach, end_of, Fills, counted, flagged, next_piece}
+use Rattle.td_iter.specs.Filling.{padded_flag}
+use Rattle.td_iter.specs.Truths.{told}
+use Rattle.td_iter.specs.declared.truth.Truth.{Truth}
 use Rattle.td_iter.proofs.Greatest.{greatest_of_same}
 use Rattle.td_iter.proofs.Lengths.{number-length, length-bytes_of}
 use Rattle.td_iter.proofs.Loading.{rows}
@@ -133,7 +136,7 @@ flag-end order b n =
 
 -- a boolean and its padding are four bytes
 flag-piece : {X : Type 0} (write : X → Piece) (order : Order) (b : Bool) (xs : List X)
-    → bytes_of order 4 (padded_flag order b) ++ counted write xs order 28 ≡ next_piece write xs b order 24
+    → bytes_of order 4 (padded_flag order b) ++ counted write xs order 28 ≡ flagged write xs b order 24
 flag-piece write Big true xs =
     ap (λ (m : ℕ). 1 ∷ 0 ∷ 0 ∷ 0 ∷ (bytes_of Big 4 (length xs) ++ row (map write xs) Big m))
     (flag-end Big true (length xs))
@@ -147,19 +150,23 @@ flag-piece write Little false xs =
     ap (λ (m : ℕ). 0 ∷ 0 ∷ 0 ∷ 0 ∷ (bytes_of Little 4 (length xs) ++ row (map write xs) Little m))
     (flag-end Little false (length xs))
 
-module _ {X : Type 0} (write : X → Piece) (items : List X) where
+module _ {X : Type 0} (truth : Truth) (write : X → Piece) (items : List X) where
   abbrev no_tail : Tail
   no_tail = record { more = 0; done = 0 }
 
+  -- what the truth value of the first j says
+  abbrev says : ℕ → Bool
+  says j = told truth (is_some (take j items)) (is_some (drop j items))
+
   flagged-end : (old mid : Draft) → length old.bytes ≡ 24 → length mid.bytes ≡ 28 → mid.order ≡ old.order → (j : ℕ)
-      → end_of (counted write) no_tail items mid j ≡ length old.bytes + length (batch (next_piece write) items j
+      → end_of (counted write) no_tail items mid j ≡ length old.bytes + length (batch (next_piece truth write) items j
       old.order (length old.bytes))
   flagged-end old mid start long o j =
-      let b = is_some (drop j items) in
+      let b = says j in
       let xs = take j items in
-      let whole : length (batch (next_piece write) items j old.order (length old.bytes)) ≡ 4 + length
+      let whole : length (batch (next_piece truth write) items j old.order (length old.bytes)) ≡ 4 + length
       (counted write xs old.order 28) =
-      ap (λ (m : ℕ). length (batch (next_piece write) items j old.order m)) start
+      ap (λ (m : ℕ). length (batch (next_piece truth write) items j old.order m)) start
       ∙ ap length (sym (flag-piece write old.order b xs))
       ∙ length-append (bytes_of old.order 4 (padded_flag old.order b)) (counted write xs old.order 28)
       ∙ ap (λ (m : ℕ). m + length (counted write xs old.order 28))
@@ -180,9 +187,9 @@ module _ {X : Type 0} (write : X → Piece) (items : List X) where
   pub next-puts : (old mid now new : Draft) (n k place : ℕ) (more : Bool) → length old.bytes ≡ REPLY_START
       → mid.bytes ≡ old.bytes ++ written_number 4 old.order (length old.bytes) 0 → mid.order ≡ old.order
       → Fills (counted write) no_tail items mid n now k → now.order ≡ mid.order → place ≡ length old.bytes
-      → more ≡ is_some (drop k items)
+      → more ≡ says k
       → new.bytes ≡ take place now.bytes ++ bytes_of now.order 4 (padded_flag now.order more) ++ drop (place + 4)
-      now.bytes → PutsBatch (next_piece write) items n old new k
+      now.bytes → PutsBatch (next_piece truth write) items n old new k
   next-puts old mid now new n k place more start e o f p at m set =
       let four = bytes_of old.order 4 0 in
       let xs = take k items in
@@ -212,6 +219,6 @@ module _ {X : Type 0} (write : X → Piece) (items : List X) where
             parts (sym at) (length-bytes_of old.order 4 0)
             ∙ ap (λ (r : Order). old.bytes ++ (bytes_of r 4 (padded_flag r more) ++ body)) (p ∙ o)
             ∙ ap (λ (b : Bool). old.bytes ++ (bytes_of old.order 4 (padded_flag old.order b) ++ body)) m
-            ∙ ap (λ (b : List ℕ). old.bytes ++ b) (flag-piece write old.order (is_some (drop k items)) xs)
-            ∙ ap (λ (n : ℕ). old.bytes ++ batch (next_piece write) items k old.order n) (sym start);
+            ∙ ap (λ (b : List ℕ). old.bytes ++ b) (flag-piece write old.order (says k) xs)
+            ∙ ap (λ (n : ℕ). old.bytes ++ batch (next_piece truth write) items k old.order n) (sym start);
       }

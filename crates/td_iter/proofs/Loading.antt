@@ -21,6 +21,12 @@ some-left (suc k) [] = grind arith
 some-left (suc k) (x ∷ xs) = some-left k xs ∙ (let less : nat_lt k (length xs) ≡ nat_lt (suc k) (suc (length xs)) =
     grind arith in less)
 
+-- whether the first k are any
+pub some-taken : {X : Type 0} (k : ℕ) (xs : List X) → k ≤ length xs → is_some (take k xs) ≡ nat_lt 0 k
+some-taken zero xs le = grind arith
+some-taken (suc k) [] le = absurd (let no : ⊥ = omega (arith, le) in no)
+some-taken (suc k) (x ∷ xs) le = grind arith
+
 at-most : (j i : ℕ) → (j ≤ i) ⊎ (i < j)
 at-most j i = grind arith
 

@@ -215,7 +215,7 @@ values-steady any code a c zero t v = none-steady
 values-steady any code a c (suc n) t v = layer-steady any code (values any code n) a c (values-steady any code a c n)
     n (out-TypeCode t) v
 
-anys-steady : (n : ℕ) (a : Any) → Steady ((anys n).format.writes a)
+pub anys-steady : (n : ℕ) (a : Any) → Steady ((anys n).format.writes a)
 unfolding anys
 anys-steady zero a = then-steady ((codes zero Outer).format.writes a.code) (λ order place. [])
     (codes-steady zero Outer a.code) none-steady
@@ -225,7 +225,7 @@ anys-steady (suc n) a =
     (codes-steady (suc n) Outer a.code) (values-steady (anys n) (codes n Outer) (anys-steady n)
     (codes-steady n Outer) (suc n) a.code a.value)
 
-property-steady : (p : Property) → Steady (property.format.writes p)
+pub property-steady : (p : Property) → Steady (property.format.writes p)
 property-steady p = then-steady (text.format.writes p.name) (any_value.format.writes p.value) (text-steady p.name)
     (anys-steady 16 p.value)
 

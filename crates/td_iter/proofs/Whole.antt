@@ -47,15 +47,15 @@ module _ (limits : List (List ℕ)) (offers : List Offer) (old : Draft) (r : Ior
       omega (arith, less, most)
 
 -- the same of an iterator's slice
-module _ (limits : List (List ℕ)) (left slice all : List Offer) (given n : ℕ) (old new : Draft) (r : Ior) where
-  pub gives-all : slice ≡ left → (len : ℕ) → len ≡ length all → (whole : Bool) → whole ≡ true
+module _ (limits : List (List ℕ)) (left slice rest : List Offer) (n : ℕ) (old new : Draft) (r : Ior) where
+  pub gives-all : slice ≡ left → rest ≡ drop (length left) left → (whole : Bool) → whole ≡ true
       → PutsWhole (offers_found r limits) slice n old new whole
-      → GivesWhole (offers_found r limits) left n (drop len all) old new whole
-  gives-all s len l true e p = (
+      → GivesWhole (offers_found r limits) left n rest old new whole
+  gives-all s l true e p = (
     subst (λ (xs : List Offer). PutsBatch (offers_found r limits) xs n old new (length xs)) s p,
-    ap (λ (m : ℕ). drop m all) l ∙ drop-length all,
+    l ∙ drop-length left,
   )
-  gives-all s len l false e p = absurd (both_ways false refl e)
+  gives-all s l false e p = absurd (both_ways false refl e)
 
   pub gives-none : slice ≡ left → (whole : Bool) → whole ≡ false
       → PutsWhole (offers_found r limits) slice n old new whole

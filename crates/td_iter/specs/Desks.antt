@@ -1,4 +1,4 @@
--- The iterators that a connection keeps, oldest first, and the number that the next one gets.
+-- Iterators that are kept, oldest first, and the number that the next one gets.
 use Rattle.std.specs.Prelude.{ℕ, zero, suc, ◌+◌, ◌-◌, ◌==◌, ◌&&◌, Bool, if◌then◌else◌, List, [], ◌∷◌, ◌++◌, length}
 use Rattle.std.specs.Prelude.{take, drop, find, Option, option_map, slice_get}
 use Rattle.std.specs.List.{list_any}
@@ -6,65 +6,76 @@ use Rattle.std.specs.Str.{bytes_eq}
 use Rattle.td_iter.specs.declared.desk.Entry.{Entry}
 use Rattle.td_iter.specs.declared.item.Item.{Item}
 
--- the live iterators, and the next number
+-- the live iterators over X, and the next number
+abbrev pub LiveOf : Type 0 → Type 0
+LiveOf X = List (Entry X) × ℕ
+
+-- those over what is left of an answer
 abbrev pub Live : Type 0
-Live = List Entry × ℕ
+Live = LiveOf Item
 
--- it has this number and is of this trader
-abbrev pub is_called : List ℕ → ℕ → Entry → Bool
-is_called trader number e = (e.number == number) && bytes_eq e.trader trader
+module _ {X : Type 0} where
+  -- it has this number and is of this trader
+  abbrev pub is_called : List ℕ → ℕ → Entry X → Bool
+  is_called trader number e = (e.number == number) && bytes_eq e.trader trader
 
--- the place of the first that is called so; behind the last where there is none
-abbrev pub place_of : List ℕ → ℕ → List Entry → ℕ
-place_of trader number [] = 0
-place_of trader number (e ∷ es) = if is_called trader number e then 0 else suc (place_of trader number es)
+  -- the place of the first that is called so; behind the last where there is none
+  abbrev pub place_of : List ℕ → ℕ → List (Entry X) → ℕ
+  place_of trader number [] = 0
+  place_of trader number (e ∷ es) = if is_called trader number e then 0 else suc (place_of trader number es)
 
--- what is left of it, where it is live
-abbrev pub item_of : List ℕ → ℕ → Live → Option Item
-item_of trader number d = option_map (λ e. e.item) (find (is_called trader number) d.0)
+  -- what is left of it, where it is live
+  abbrev pub item_of : List ℕ → ℕ → LiveOf X → Option X
+  item_of trader number d = option_map (λ e. e.item) (find (is_called trader number) d.0)
 
-abbrev pub is_live : List ℕ → ℕ → Live → Bool
-is_live trader number d = list_any (is_called trader number) d.0
+  abbrev pub is_live : List ℕ → ℕ → LiveOf X → Bool
+  is_live trader number d = list_any (is_called trader number) d.0
 
--- one more at the end, with the next number; of 256 the oldest is dropped
-abbrev pub added : List ℕ → Item → Live → Live
-added trader item d = (
-  drop (length d.0 - 255) d.0 ++ record { trader = trader; number = d.1; item = item } ∷ [],
-  d.1 + 1,
-)
+  -- one more at the end, with the next number; of 256 the oldest is dropped
+  abbrev pub added : List ℕ → X → LiveOf X → LiveOf X
+  added trader item d = (
+    drop (length d.0 - 255) d.0 ++ record { trader = trader; number = d.1; item = item } ∷ [],
+    d.1 + 1,
+  )
 
--- all but the first that is called so
-abbrev pub removed : List ℕ → ℕ → Live → Live
-removed trader number d = (take (place_of trader number d.0) d.0 ++ drop (place_of trader number d.0 + 1) d.0, d.1)
+  -- all but the first that is called so
+  abbrev pub removed : List ℕ → ℕ → LiveOf X → LiveOf X
+  removed trader number d = (take (place_of trader number d.0) d.0 ++ drop (place_of trader number d.0 + 1) d.0, d.1)
 
--- the one at a place has this left
-abbrev pub with_item_at : List Entry → ℕ → Item → List Entry
-with_item_at [] place item = []
-with_item_at (e ∷ es) zero item = record e { item = item } ∷ es
-with_item_at (e ∷ es) (suc place) item = e ∷ with_item_at es place item
+  -- all but the oldest
+  abbrev pub without_oldest : LiveOf X → LiveOf X
+  without_oldest d = (drop 1 d.0, d.1)
 
--- what is left at a place
-abbrev pub item_at : List Entry → ℕ → Option Item
-item_at es place = option_map (λ e. e.item) (slice_get es place)
+  -- the one at a place has this left
+  abbrev pub with_item_at : List (Entry X) → ℕ → X → List (Entry X)
+  with_item_at [] place item = []
+  with_item_at (e ∷ es) zero item = record e { item = item } ∷ es
+  with_item_at (e ∷ es) (suc place) item = e ∷ with_item_at es place item
 
-abbrev pub placed : ℕ → Live → Item → Live
-placed place d item = (with_item_at d.0 place item, d.1)
+  -- what is left at a place
+  abbrev pub item_at : List (Entry X) → ℕ → Option X
+  item_at es place = option_map (λ e. e.item) (slice_get es place)
 
--- the first that is called so has this left
-abbrev pub with_item : List ℕ → ℕ → Live → Item → Live
-with_item trader number d item = placed (place_of trader number d.0) d item
+  abbrev pub placed : ℕ → LiveOf X → X → LiveOf X
+  placed place d item = (with_item_at d.0 place item, d.1)
+
+  -- the first that is called so has this left
+  abbrev pub with_item : List ℕ → ℕ → LiveOf X → X → LiveOf X
+  with_item trader number d item = placed (place_of trader number d.0) d item
 
 -- ---- runs of calls
 
--- a call that changes a desk
-pub data Event : Type 0 where
-  Add : (trader : List ℕ) (item : Item) → Event
-  Remove : (trader : List ℕ) (number : ℕ) → Event
-  Change : (trader : List ℕ) (number : ℕ) (item : Item) → Event
+-- a call that changes a desk, but for one that numbers it anew
+pub data Event (X : Type 0) : Type 0 where
+  Add : (trader : List ℕ) (item : X) → Event X
+  Remove : (trader : List ℕ) (number : ℕ) → Event X
+  Change : (trader : List ℕ) (number : ℕ) (item : X) → Event X
+  PopFront : Event X
 
 -- the numbers that calls in this order give
-abbrev pub numbers_given : List Event → Live → List ℕ
+abbrev pub numbers_given : {X : Type 0} → List (Event X) → LiveOf X → List ℕ
 numbers_given [] d = []
 numbers_given (Add trader item ∷ events) d = d.1 ∷ numbers_given events (added trader item d)
 numbers_given (Remove trader number ∷ events) d = numbers_given events (removed trader number d)
 numbers_given (Change trader number item ∷ events) d = numbers_given events (with_item trader number d item)
+numbers_given (PopFront ∷ events) d = numbers_given events (without_oldest d)

@@ -10,15 +10,21 @@ use Rattle.td_cdr.specs.Format.{number as number_format}
 use Rattle.td_codes.specs.Formats.{is_some}
 use Rattle.td_iter.specs.declared.limits.TheConstants.{LARGEST_MESSAGE}
 use Rattle.td_iter.specs.declared.filling.Tail.{Tail}
+use Rattle.td_iter.specs.declared.truth.Truth.{Truth}
 use Rattle.td_iter.specs.Batches.{IsGreatest}
+use Rattle.td_iter.specs.Truths.{told}
 
 -- items behind their number
 abbrev pub counted : {X : Type 0} → (X → Piece) → List X → Piece
 counted write items = (number_format 4).writes (length items) then row (map write items)
 
--- whether some are left, and then the items
-abbrev pub next_piece : {X : Type 0} → (X → Piece) → List X → Bool → Piece
-next_piece write items more = (number_format 1).writes (from_bool more) then counted write items
+-- a truth value, and then the items
+abbrev pub flagged : {X : Type 0} → (X → Piece) → List X → Bool → Piece
+flagged write items flag = (number_format 1).writes (from_bool flag) then counted write items
+
+-- a batch of next_n, and whether some are left behind it
+abbrev pub next_piece : {X : Type 0} → Truth → (X → Piece) → List X → Bool → Piece
+next_piece truth write items more = flagged write items (told truth (is_some items) more)
 
 -- the items, and then what depends on whether some are left
 abbrev pub first_piece : {X : Type 0} → (X → Piece) → (Bool → Piece) → List X → Bool → Piece

@@ -2,6 +2,7 @@
 -- whether some are left (OMG's Trading Object Service, the results of query, list_offers, list_proxies and next_n).
 use Rattle.std.specs.Prelude.{◌≡◌, ℕ, ◌≤◌, Bool, true, false, List, [], codes, length}
 use Rattle.std.specs.List.{AllByRecursion}
+use Rattle.td_cdr.specs.declared.order.Order.{Order}
 use Rattle.td_cdr.specs.declared.order.Order.TheVariants.{Big}
 use Rattle.td_cdr.specs.Format.{Piece}
 use Rattle.td_codes.specs.declared.reference.Ior.{Ior}
@@ -10,6 +11,7 @@ use Rattle.td_value.specs.declared.structures.Offer.{Offer}
 use Rattle.td_value.specs.Structures.{offer}
 use Rattle.td_ops.specs.declared.outcome.Reply.TheVariants.{Found, Ids, Batch, IdBatch}
 use Rattle.td_ops.specs.Shapes.{reply_piece}
+use Rattle.td_iter.specs.Filling.{first_piece}
 
 -- the nil reference
 abbrev pub nil : Ior
@@ -19,6 +21,10 @@ nil = record { id = []; profiles = [] }
 abbrev pub given_or_nil : Ior → Bool → Ior
 given_or_nil iterator true = iterator
 given_or_nil iterator false = nil
+
+-- items behind their number, and the reference of an iterator for the rest
+abbrev pub items_found : {X : Type 0} → (X → Piece) → Ior → List X → Bool → Piece
+items_found write iterator = first_piece write (λ more. reference.format.writes (given_or_nil iterator more))
 
 -- the results of query, of list_offers and list_proxies, and of next_n over offers and over ids
 abbrev pub offers_found : Ior → List (List ℕ) → List Offer → Bool → Piece
@@ -35,12 +41,15 @@ next_ids ids more = reply_piece (IdBatch more ids)
 
 -- ---- what may be handed in
 
--- an offer of at most 6 MiB, written big-endian from place 0
-abbrev pub IsSmallOffer : Offer → Type 0
-IsSmallOffer o = length (offer.format.writes o Big 0) ≤ 6291456
+-- an item of at most 12 MiB, wherever it is written
+abbrev pub IsShort : {X : Type 0} → (X → Piece) → X → Type 0
+IsShort write x = (order : Order) (place : ℕ) → length (write x order place) ≤ 12582912
+
+abbrev pub AreShort : {X : Type 0} → (X → Piece) → List X → Type 0
+AreShort write xs = AllByRecursion (IsShort write) xs
 
 abbrev pub AreSmallOffers : List Offer → Type 0
-AreSmallOffers offers = AllByRecursion IsSmallOffer offers
+AreSmallOffers offers = AreShort offer.format.writes offers
 
 -- an id of at most 256 bytes
 abbrev pub AreSmallIds : List (List ℕ) → Type 0

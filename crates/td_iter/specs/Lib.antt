@@ -3,3 +3,4 @@ pub mod Desks
 pub mod Filling
 pub mod Heads
 pub mod Lends
+pub mod Truths

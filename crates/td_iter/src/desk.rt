@@ -1,10 +1,12 @@
 //! The iterators that a connection keeps.
 
 ghost use Rattle.std.specs.Prelude.{◌≡◌, ◌<◌, ◌≤◌, ◌^◌, ◌-◌, ◌+◌, ◌++◌, [], length, take, drop, nat_lt, Some, IfOk};
+ghost use Rattle.std.specs.Prelude.{slice_get};
 ghost use Rattle.std.specs.Vec.{vec_capacity};
 ghost use Rattle.std.specs.Option.{option_copied_mut};
 ghost use Rattle.std.specs.Borrow.{Lends, sem};
 ghost use Rattle.td_iter.specs.Desks.{added, is_called, is_live, item_at, item_of, place_of, removed};
+ghost use Rattle.td_iter.specs.Desks.{without_oldest};
 
 use crate::item::Item;
 use std::alloc::Global;
@@ -15,20 +17,29 @@ use td_cdr::{Memory, Text};
 const MOST_ITEMS: usize = 256;
 
 /// An iterator: the name of the trader that answered, its number, and what is left.
-#[derive(Drop)]
-pub struct Entry {
-    pub(crate) trader: Text,
-    pub(crate) number: u64,
-    pub(crate) item: Item,
+pub struct Entry<I> {
+    pub trader: Text,
+    pub number: u64,
+    pub item: I,
 }
 
-impl Entry {
-    ghost use Rattle.td_iter.specs.contracts.desk.Entry as entry;
-    ghost use Rattle.td_iter.specs.contracts.item.Item as an_item;
+// By hand, since a derived drop is written out at each exit, and proved again in each crate above.
+impl<I: Drop> Drop for Entry<I> {
+    fn drop(self) {
+        let Entry {
+            trader: _trader,
+            number: _number,
+            item: _item,
+        } = self;
+    }
+}
+
+impl<I> Entry<I> {
+    ghost use Rattle.td_iter.specs.contracts.desk.Entry.{the_row};
 
     /// What is left.
-    fn item_mut(&mut self) -> &mut Item
-        ensures* writes_back { sem 𝓛 (Lends entry.the_row an_item.the_row self.entry result
+    fn item_mut(&mut self) -> &mut I
+        ensures* writes_back { sem 𝓛 (Lends (the_row I.row) I.row self.entry result
             (λ item. record self.entry.now { item = item })) }
         ensures value { result.now ≡ self.old.item }
     {
@@ -36,15 +47,15 @@ impl Entry {
     }
 }
 
-/// The iterators of a connection, oldest first: at most 256, whose places are taken at once. A new one
+/// Iterators over what is left of answers, oldest first: at most 256, whose places are taken at once. A new one
 /// drops the oldest. Contracts see the list of them, and the number that the next one gets.
-pub struct Desk {
-    entries: Vec<Entry>,
+pub struct Desk<I = Item> {
+    entries: Vec<Entry<I>>,
     next: u64,
 }
 
 // By hand, since a derived drop is written out at each exit, and proved again in each crate above.
-impl Drop for Desk {
+impl<I: Drop> Drop for Desk<I> {
     fn drop(self) {
         let Desk {
             entries: _entries,
@@ -53,24 +64,22 @@ impl Drop for Desk {
     }
 }
 
-impl Model for Desk {
+impl<I> Model for Desk<I> {
     ghost use Rattle.std.specs.Prelude.{List, ℕ, length, ◌≤◌, ◌^◌};
     ghost use Rattle.std.specs.Vec.{vec_capacity};
     ghost use Rattle.std.specs.Coded.{codes};
-    ghost use Rattle.td_codes.specs.contracts.code.TypeCode as code;
-    ghost use Rattle.td_codes.specs.contracts.code.Value as value;
     ghost use Rattle.td_iter.specs.declared.desk.Entry.{Entry as an_entry};
 
-    ghost Value = { List an_entry × ℕ };
+    ghost Value = { List (an_entry I) × ℕ };
 
-    ghost coded = { Prim.hlevel (codes, code.the_row.coded, value.the_row.coded) };
+    ghost coded = { Prim.hlevel (codes, I.code) };
 
     ghost view = { λ d. (d.entries.items, d.next) };
 
     ghost invariant = { λ d. (length d.entries.items ≤ 256) × (256 ≤ vec_capacity d.entries) × (d.next ≤ 2 ^ 63) };
 }
 
-impl Desk {
+impl<I: Drop> Desk<I> {
     ghost use Rattle.td_iter.specs.Lends.{lends_at, lends_item};
 
     /// A desk without iterators, with places for 256. The first one gets this number.
@@ -78,7 +87,7 @@ impl Desk {
     /// # Errors
     ///
     /// `Memory` for want of memory alone.
-    pub fn new(alloc: Global, first: u64) -> Result<Desk, Memory>
+    pub fn new(alloc: Global, first: u64) -> Result<Desk<I>, Memory>
         requires low { 1 ≤ first }
         requires high { first ≤ 2 ^ 62 }
         ensures { IfOk result (λ d. d ≡ ([], first)) }
@@ -97,7 +106,7 @@ impl Desk {
     }
 
     /// Adds an iterator, and answers its number. Of 256 the oldest is dropped. Takes no memory.
-    pub fn add(&mut self, trader: Text, item: Item) -> u64
+    pub fn add(&mut self, trader: Text, item: I) -> u64
         requires { self.old.1 < 2 ^ 63 }
         ensures number { result ≡ self.old.1 }
         ensures added { self.new ≡ added trader item self.old }
@@ -114,8 +123,8 @@ impl Desk {
     }
 
     /// What is left of the iterator of this trader and number, for reading on. Takes no memory.
-    pub fn get_mut(&mut self, trader: &Text, number: u64) -> Option<&mut Item>
-        ensures* writes_back { sem 𝓛 (lends_item self.entry trader.now number result) }
+    pub fn get_mut(&mut self, trader: &Text, number: u64) -> Option<&mut I>
+        ensures* writes_back { sem 𝓛 (lends_item I.row self.entry trader.now number result) }
         ensures value { option_copied_mut result ≡ item_of trader.now number self.old }
     {
         let place = place_of(self.entries.as_slice(), trader, number);
@@ -127,9 +136,9 @@ impl Desk {
     }
 
     /// What is left of the iterator at a place.
-    fn item_mut(&mut self, place: usize) -> &mut Item
+    fn item_mut(&mut self, place: usize) -> &mut I
         requires { place < length self.old.0 }
-        ensures* writes_back { sem 𝓛 (lends_at self.entry place result) }
+        ensures* writes_back { sem 𝓛 (lends_at I.row self.entry place result) }
         ensures value { item_at self.old.0 place ≡ Some result.now }
     {
         self.entries[place].item_mut()
@@ -144,10 +153,32 @@ impl Desk {
         let place = place_of(self.entries.as_slice(), trader, number);
         take_out(&mut self.entries, place)
     }
+
+    /// Takes the oldest iterator away, and gives it. Takes no memory.
+    pub fn pop_front(&mut self) -> Option<Entry<I>>
+        ensures oldest { result ≡ slice_get self.old.0 0 }
+        ensures rest { self.new ≡ without_oldest self.old }
+    {
+        if self.entries.is_empty() {
+            None
+        } else {
+            Some(self.entries.remove(0))
+        }
+    }
+
+    /// Drops all iterators. The next one gets this number. Takes no memory.
+    pub fn restart(&mut self, first: u64)
+        requires low { 1 ≤ first }
+        requires high { first ≤ 2 ^ 62 }
+        ensures { self.new ≡ ([], first) }
+    {
+        self.entries.clear();
+        self.next = first;
+    }
 }
 
 /// Drops the oldest where there are as many as may be.
-fn make_room(entries: &mut Vec<Entry>)
+fn make_room<I: Drop>(entries: &mut Vec<Entry<I>>)
     requires { length entries.old.items ≤ 256 }
     ensures items { entries.new.items ≡ drop (length entries.old.items - 255) entries.old.items }
     ensures capacity { vec_capacity entries.new ≡ vec_capacity entries.old }
@@ -158,7 +189,7 @@ fn make_room(entries: &mut Vec<Entry>)
 }
 
 /// Takes the entry at a place away, and answers whether there was one.
-fn take_out(entries: &mut Vec<Entry>, place: usize) -> bool
+fn take_out<I: Drop>(entries: &mut Vec<Entry<I>>, place: usize) -> bool
     requires { place ≤ length entries.old.items }
     ensures found { result ≡ nat_lt place (length entries.old.items) }
     ensures items { entries.new.items ≡ take place entries.old.items ++ drop (place + 1) entries.old.items }
@@ -172,14 +203,14 @@ fn take_out(entries: &mut Vec<Entry>, place: usize) -> bool
 }
 
 /// Whether an entry has this number and is of this trader.
-fn is_called(entry: &Entry, trader: &Text, number: u64) -> bool
+fn is_called<I>(entry: &Entry<I>, trader: &Text, number: u64) -> bool
     ensures { result ≡ is_called trader.now number entry.now }
 {
     entry.number == number && entry.trader.as_slice() == trader.as_slice()
 }
 
 /// The place of the first that is called so; how many there are, where none is.
-fn place_of(entries: &[Entry], trader: &Text, number: u64) -> usize
+fn place_of<I>(entries: &[Entry<I>], trader: &Text, number: u64) -> usize
     ensures place { result ≡ place_of trader.now number entries.now }
     ensures within { result ≤ length entries.now }
 {

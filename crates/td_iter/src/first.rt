@@ -1,10 +1,10 @@
-//! The results of a query, of `list_offers` and of `list_proxies`: their first batch.
+//! The first batch of an answer: of a query, and of any other call that gives items and the reference of an iterator.
 
 ghost use Rattle.std.specs.Prelude.{◌≡◌, length, take, IfOk, OnErr, if◌then◌else◌};
 ghost use Rattle.td_cdr.specs.Sound.{◌&◌, sequence, text};
 ghost use Rattle.td_codes.specs.References.{reference};
 ghost use Rattle.td_iter.specs.Batches.{PutsBatch, PutsWhole};
-ghost use Rattle.td_iter.specs.Heads.{nil, given_or_nil, offers_found, ids_found, IsSmallReference, AreLimits};
+ghost use Rattle.td_iter.specs.Heads.{nil, given_or_nil, offers_found, items_found, IsSmallReference, AreLimits};
 ghost use Rattle.td_codes.specs.declared.reference.Ior.{Ior as Reference};
 ghost use Rattle.td_iter.specs.declared.limits.TheConstants.{REPLY_START};
 
@@ -177,27 +177,27 @@ fn found_size(
     }
 }
 
-/// Appends the result of `list_offers` or `list_proxies`: the batch for n ids, and the iterator's
-/// reference where something is left. Answers how many ids it has.
+/// Appends the batch for n items, and the iterator's reference where something is left. Answers how many
+/// items it has.
 ///
 /// # Errors
 ///
 /// `Memory` for want of memory alone; the writer is then unchanged.
-pub(crate) fn put_ids(
+pub(crate) fn put_first<T: Spelled>(
     alloc: Global,
     w: &mut Writer,
-    ids: &[Text],
+    items: &[T],
     n: u32,
     iterator: &Ior,
 ) -> Result<usize, Memory>
     requires start { length w.old.bytes ≡ REPLY_START }
     requires reference { IsSmallReference iterator.now }
-    ensures puts { IfOk result (λ k. PutsBatch (ids_found iterator.now) ids.now n w.old w.new k) }
+    ensures puts { IfOk result (λ k. PutsBatch (items_found T.format.writes iterator.now) items.now n w.old w.new k) }
     ensures err { OnErr result (w.new.bytes ≡ w.old.bytes) }
     ensures order { w.new.order ≡ w.old.order }
 {
     let held = w.len();
-    match append_ids(alloc, w, ids, n, iterator) {
+    match append_first(alloc, w, items, n, iterator) {
         Ok(count) => Ok(count),
         Err(memory) => {
             w.cut(held);
@@ -207,24 +207,24 @@ pub(crate) fn put_ids(
 }
 
 /// The same. Where it fails, some may be written.
-fn append_ids(
+fn append_first<T: Spelled>(
     alloc: Global,
     w: &mut Writer,
-    ids: &[Text],
+    items: &[T],
     n: u32,
     iterator: &Ior,
 ) -> Result<usize, Memory>
     requires start { length w.old.bytes ≡ REPLY_START }
     requires reference { IsSmallReference iterator.now }
-    ensures puts { IfOk result (λ k. PutsBatch (ids_found iterator.now) ids.now n w.old w.new k) }
+    ensures puts { IfOk result (λ k. PutsBatch (items_found T.format.writes iterator.now) items.now n w.old w.new k) }
     ensures kept { OnErr result (take (length w.old.bytes) w.new.bytes ≡ w.old.bytes) }
     ensures order { w.new.order ≡ w.old.order }
 {
     let none = nil(alloc);
     let more = reference_size(alloc, w, iterator)?;
     let done = reference_size(alloc, w, &none)?;
-    let count = put_counted(alloc, w, ids, n, Tail { more, done })?;
-    given_or_nil(iterator, &none, count < ids.len()).write(alloc, w)?;
+    let count = put_counted(alloc, w, items, n, Tail { more, done })?;
+    given_or_nil(iterator, &none, count < items.len()).write(alloc, w)?;
     Ok(count)
 }
 

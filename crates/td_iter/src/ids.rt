@@ -5,8 +5,8 @@ ghost use Rattle.td_iter.specs.Batches.{GivesBatch};
 ghost use Rattle.td_iter.specs.Heads.{ids_found, next_ids, AreSmallIds, IsSmallReference};
 ghost use Rattle.td_iter.specs.declared.limits.TheConstants.{REPLY_START};
 
-use crate::first::put_ids;
-use crate::next::put_next;
+use crate::iter::Iter;
+use crate::truth::Truth;
 use std::alloc::Global;
 use std::marker::Model;
 use td_cdr::{List, Memory, Text, Writer};
@@ -15,31 +15,25 @@ use td_value::Ior;
 /// The ids that are left of an answer, which contracts see as their list (OMG's Trading Object
 /// Service, interface OfferIdIterator).
 pub struct IdIter {
-    ids: List<Text>,
-    /// How many of them were given.
-    given: usize,
+    left: Iter<Text>,
 }
 
 // By hand, since a derived drop is written out at each exit, and proved again in each crate above.
 impl Drop for IdIter {
     fn drop(self) {
-        let IdIter {
-            ids: _ids,
-            given: _given,
-        } = self;
+        let IdIter { left: _left } = self;
     }
 }
 
 impl Model for IdIter {
-    ghost use Rattle.std.specs.Prelude.{List as Row, ℕ, drop, length, ◌≤◌, ◌<◌, ◌^◌};
+    ghost use Rattle.std.specs.Prelude.{List as Row, ℕ};
     ghost use Rattle.td_iter.specs.Heads.{AreSmallIds as are_small};
 
     ghost Value = { Row (Row ℕ) };
 
-    ghost view = { λ it. drop it.given it.ids };
+    ghost view = { λ it. it.left };
 
-    ghost invariant = { λ it.
-        (it.given ≤ length it.ids) × (length it.ids < 2 ^ 32) × are_small (drop it.given it.ids) };
+    ghost invariant = { λ it. are_small it.left };
 }
 
 impl IdIter {
@@ -50,8 +44,7 @@ impl IdIter {
         ensures { result ≡ left }
     {
         IdIter {
-            ids: left,
-            given: 0,
+            left: Iter::new(left),
         }
     }
 
@@ -59,7 +52,7 @@ impl IdIter {
     pub fn max_left(&self) -> u32
         ensures { result ≡ length self.now }
     {
-        (self.ids.len() - self.given) as u32
+        self.left.max_left()
     }
 
     /// Appends the result of `list_offers` or `list_proxies`: the batch for n ids, and the iterator's
@@ -85,10 +78,7 @@ impl IdIter {
         ensures err { OnErr result ((self.new ≡ self.old) × (w.new.bytes ≡ w.old.bytes)) }
         ensures order { w.new.order ≡ w.old.order }
     {
-        let (_given, left) = self.ids.as_slice().split_at(self.given);
-        let count = put_ids(alloc, w, left, n, iterator)?;
-        self.given += count;
-        Ok(self.given < self.ids.len())
+        self.left.first_batch(alloc, n, w, iterator)
     }
 
     /// Appends the result of `next_n`: whether something is left behind the batch for n ids, and the
@@ -105,9 +95,6 @@ impl IdIter {
         ensures err { OnErr result ((self.new ≡ self.old) × (w.new.bytes ≡ w.old.bytes)) }
         ensures order { w.new.order ≡ w.old.order }
     {
-        let (_given, left) = self.ids.as_slice().split_at(self.given);
-        let count = put_next(alloc, w, left, n)?;
-        self.given += count;
-        Ok(self.given < self.ids.len())
+        self.left.next_n(alloc, n, w, Truth::SomeLeft)
     }
 }

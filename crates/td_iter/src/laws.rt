@@ -4,7 +4,7 @@ ghost use Rattle.std.specs.Prelude.{◌≡◌, ◌++◌, ℕ, List, Bool, length
 ghost use Rattle.td_cdr.specs.Format.{Piece};
 ghost use Rattle.td_cdr.specs.Writing.{Draft};
 ghost use Rattle.td_cdr.specs.Format.{upwards};
-ghost use Rattle.td_iter.specs.Desks.{Event, Live, numbers_given};
+ghost use Rattle.td_iter.specs.Desks.{Event, LiveOf, numbers_given};
 ghost use Rattle.td_iter.specs.Batches.{Batches, FitsMessage, IsBatch, concatenated};
 
 use td_cdr::Spelled;
@@ -26,7 +26,7 @@ pub fn one_batch<T: Spelled>()
 
 /// Nothing is done: over any list of calls a desk gives the numbers from its next one on, each one more
 /// than the one before. So they rise, and none is given twice.
-pub fn numbers_rise()
-    ensures { (events : List Event) (live : Live) →
+pub fn numbers_rise<I>()
+    ensures { (events : List (Event I)) (live : LiveOf I) →
         numbers_given events live ≡ upwards live.1 (length (numbers_given events live)) }
 {}

@@ -7,13 +7,17 @@ mod filling;
 mod first;
 mod ids;
 mod item;
+mod iter;
 pub mod laws;
 mod limits;
 mod next;
 mod offers;
+mod truth;
 
-pub use desk::Desk;
+pub use desk::{Desk, Entry};
 pub use ids::IdIter;
 pub use item::Item;
+pub use iter::Iter;
 pub use limits::{LARGEST_MESSAGE, REPLY_START};
 pub use offers::OfferIter;
+pub use truth::Truth;

@@ -7,7 +7,8 @@ ghost use Rattle.td_iter.specs.Heads.{offers_found, next_offers, AreSmallOffers,
 ghost use Rattle.td_iter.specs.declared.limits.TheConstants.{REPLY_START};
 
 use crate::first::{put_found, put_whole};
-use crate::next::put_next;
+use crate::iter::Iter;
+use crate::truth::Truth;
 use std::alloc::Global;
 use std::marker::Model;
 use td_cdr::{List, Memory, Text, Writer};
@@ -16,46 +17,42 @@ use td_value::{Ior, Offer};
 /// The offers that are left of an answer, which contracts see as their list (OMG's Trading Object
 /// Service, interface OfferIterator).
 pub struct OfferIter {
-    offers: List<Offer>,
-    /// How many of them were given.
-    given: usize,
+    left: Iter<Offer>,
 }
 
 // By hand, since a derived drop is written out at each exit, and proved again in each crate above.
 impl Drop for OfferIter {
     fn drop(self) {
-        let OfferIter {
-            offers: _offers,
-            given: _given,
-        } = self;
+        let OfferIter { left: _left } = self;
     }
 }
 
 impl Model for OfferIter {
-    ghost use Rattle.std.specs.Prelude.{List as Row, drop, length, ◌≤◌, ◌<◌, ◌^◌};
+    ghost use Rattle.std.specs.Prelude.{List as Row};
     ghost use Rattle.std.specs.Coded.{codes};
     ghost use Rattle.td_codes.specs.contracts.code.TypeCode as code;
     ghost use Rattle.td_codes.specs.contracts.code.Value as value;
     ghost use Rattle.td_value.specs.declared.structures.Offer.{Offer as an_offer};
+    ghost use Rattle.td_iter.specs.Heads.{AreSmallOffers as are_small};
 
     ghost Value = { Row an_offer };
 
     ghost coded = { Prim.hlevel (codes, code.the_row.coded, value.the_row.coded) };
 
-    ghost view = { λ it. drop it.given it.offers };
+    ghost view = { λ it. it.left };
 
-    ghost invariant = { λ it. (it.given ≤ length it.offers) × (length it.offers < 2 ^ 32) };
+    ghost invariant = { λ it. are_small it.left };
 }
 
 impl OfferIter {
-    /// An iterator over these offers.
+    /// An iterator over these offers, each of at most 12 MiB wherever it is written.
     pub fn new(left: List<Offer>) -> OfferIter
-        requires { length left < 2 ^ 32 }
+        requires few { length left < 2 ^ 32 }
+        requires small { AreSmallOffers left }
         ensures { result ≡ left }
     {
         OfferIter {
-            offers: left,
-            given: 0,
+            left: Iter::new(left),
         }
     }
 
@@ -63,13 +60,13 @@ impl OfferIter {
     pub fn max_left(&self) -> u32
         ensures { result ≡ length self.now }
     {
-        (self.offers.len() - self.given) as u32
+        self.left.max_left()
     }
 
     /// Appends the result of a query: the batch for n offers, the iterator's reference where something
     /// is left behind it and nil where nothing is, and the limits. Answers whether something is left.
-    /// The writer holds what stands before the body of a reply. Where each offer has at most 6 MiB, n is
-    /// at least 1 and something is left, the batch isn't empty.
+    /// The writer holds what stands before the body of a reply. Where n is at least 1 and something is
+    /// left, the batch isn't empty.
     ///
     /// # Errors
     ///
@@ -87,15 +84,12 @@ impl OfferIter {
         requires limits { AreLimits limits.now }
         ensures batch { IfOk result (λ more.
             GivesBatch (offers_found iterator.now limits.now) self.old n self.new w.old w.new more) }
-        ensures some { OnOk result
-            (AreSmallOffers self.old → 0 < n → 0 < length self.old → length self.new < length self.old) }
+        ensures some { OnOk result (0 < n → 0 < length self.old → length self.new < length self.old) }
         ensures err { OnErr result ((self.new ≡ self.old) × (w.new.bytes ≡ w.old.bytes)) }
         ensures order { w.new.order ≡ w.old.order }
     {
-        let (_given, left) = self.offers.as_slice().split_at(self.given);
-        let count = put_found(alloc, w, left, n, iterator, limits)?;
-        self.given += count;
-        Ok(self.given < self.offers.len())
+        let count = put_found(alloc, w, self.left.left(), n, iterator, limits)?;
+        Ok(self.left.give(count))
     }
 
     /// Appends the result of a query, where its batch for n has all offers that are left: these, the nil reference and
@@ -119,21 +113,20 @@ impl OfferIter {
         ensures err { OnErr result ((self.new ≡ self.old) × (w.new.bytes ≡ w.old.bytes)) }
         ensures order { w.new.order ≡ w.old.order }
     {
-        let (_given, left) = self.offers.as_slice().split_at(self.given);
-        if (n as usize) < left.len() {
+        let all = self.left.left().len();
+        if (n as usize) < all {
             return Ok(false);
         }
-        let whole = put_whole(alloc, w, left, n, limits)?;
+        let whole = put_whole(alloc, w, self.left.left(), n, limits)?;
         if whole {
-            self.given = self.offers.len();
+            let _more = self.left.give(all);
         }
         Ok(whole)
     }
 
     /// Appends the result of `next_n`: whether something is left behind the batch for n offers, and the
     /// batch. Answers whether something is left. The writer holds what stands before the body of a
-    /// reply. Where each offer has at most 6 MiB, n is at least 1 and something is left, the batch isn't
-    /// empty.
+    /// reply. Where n is at least 1 and something is left, the batch isn't empty.
     ///
     /// # Errors
     ///
@@ -141,14 +134,10 @@ impl OfferIter {
     pub fn next_n(&mut self, alloc: Global, n: u32, w: &mut Writer) -> Result<bool, Memory>
         requires { length w.old.bytes ≡ REPLY_START }
         ensures batch { IfOk result (λ more. GivesBatch next_offers self.old n self.new w.old w.new more) }
-        ensures some { OnOk result
-            (AreSmallOffers self.old → 0 < n → 0 < length self.old → length self.new < length self.old) }
+        ensures some { OnOk result (0 < n → 0 < length self.old → length self.new < length self.old) }
         ensures err { OnErr result ((self.new ≡ self.old) × (w.new.bytes ≡ w.old.bytes)) }
         ensures order { w.new.order ≡ w.old.order }
     {
-        let (_given, left) = self.offers.as_slice().split_at(self.given);
-        let count = put_next(alloc, w, left, n)?;
-        self.given += count;
-        Ok(self.given < self.offers.len())
+        self.left.next_n(alloc, n, w, Truth::SomeLeft)
     }
 }

@@ -1,14 +1,14 @@
 use Rattle.std.proofs.Common.{◌≤◌, ℕ, length, inl, refl, sym, ap, ◌∙◌, arith}
-use Rattle.td_iter.specs.Desks.{Live, item_at, place_of, placed}
+use Rattle.td_iter.specs.Desks.{LiveOf, item_at, place_of, placed}
 use Rattle.td_iter.proofs.Places.{item-found, item-past}
 use Rattle.td_iter.proofs.desk.Desk.get_mut.Goals as goal
 
 pub returns-then-place-len : goal.returns-then-place-len
-returns-then-place-len c =
-    let d : Live = c.args.self.now in
+returns-then-place-len g c =
+    let d : LiveOf g.row.I.Denot = c.args.self.now in
     let same = c.place_of-place.ensures.place
     ∙ ap (place_of c.args.trader.now c.args.number) (c.as_slice.ensures.value
-    ∙ ap (λ (z : Live). z.0) c.self.view_is) in (
+    ∙ ap (λ (z : LiveOf g.row.I.Denot). z.0) c.self.view_is) in (
       ap (λ (place : ℕ). inl (c.item_mut.result.ghost_name, placed place d)) same,
       record {
         writes_back = tt;
@@ -18,9 +18,9 @@ returns-then-place-len c =
     )
 
 pub returns-else-place-len : goal.returns-else-place-len
-returns-else-place-len c =
-    let d : Live = c.args.self.now in
-    let items = ap (λ (z : Live). z.0) c.self.view_is in
+returns-else-place-len g c =
+    let d : LiveOf g.row.I.Denot = c.args.self.now in
+    let items = ap (λ (z : LiveOf g.row.I.Denot). z.0) c.self.view_is in
     let same = c.place_of-place.ensures.place
     ∙ ap (place_of c.args.trader.now c.args.number) (c.as_slice.ensures.value ∙ items) in
     let past : length d.0 ≤ place_of c.args.trader.now c.args.number d.0 =

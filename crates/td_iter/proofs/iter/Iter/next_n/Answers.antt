@@ -1,0 +1,20 @@
+use Rattle.td_iter.specs.Filling.{next_piece}
+use Rattle.td_iter.proofs.Giving.{within, gives-batch, moves-on, next-items-one}
+use Rattle.td_iter.proofs.iter.Iter.next_n.Goals as goal
+
+pub give-requires : goal.give-requires
+give-requires g c =
+    within (next_piece c.args.truth g.T.Spelled.format.writes) c.args.self.now c.left.result.now c.args.self.now c.args.n
+    c.in_ok-count.count c.args.w.now c.put_next.new.w c.left.ensures c.in_ok-count.ensures.puts
+
+pub returns-clause-batch : goal.returns-clause-batch
+returns-clause-batch g c =
+    gives-batch (next_piece c.args.truth g.T.Spelled.format.writes) c.args.self.now c.left.result.now c.give.new.self c.args.n
+    c.in_ok-count.count c.args.w.now c.put_next.new.w c.left.ensures c.in_ok-count.ensures.puts c.give.ensures.left
+    c.give.result c.give.ensures.more
+
+pub returns-clause-some : goal.returns-clause-some
+returns-clause-some g c = λ short.
+    moves-on (next_piece c.args.truth g.T.Spelled.format.writes) c.args.self.now c.give.new.self c.args.n c.args.w.now
+    c.put_next.new.w c.give.result (returns-clause-batch g c)
+    (next-items-one c.args.truth g.T.Spelled.format.writes c.args.self.now c.args.w.now c.requires short)
