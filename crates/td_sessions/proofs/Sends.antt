@@ -11,6 +11,7 @@ use Rattle.td_cdr.proofs.list.List.TheSendSync as list_cross
 use Rattle.td_cdr.proofs.text.Text.TheSendSync as text_cross
 use Rattle.td_codes.proofs.reference.Ior.TheSendSync as ior_cross
 use Rattle.td_iter.specs.contracts.desk.Desk as desk
+use Rattle.td_iter.specs.contracts.item.Item as item
 use Rattle.td_journal.specs.declared.journal.Journal.{Ghosts}
 use Rattle.td_sessions.specs.contracts.session.Served as served
 use Rattle.td_sessions.specs.contracts.session.Session as session
@@ -35,7 +36,7 @@ ruleset valued = (
   ior_cross.the_send,
 )
 
-desk_send : IsSend desk.the_row
+desk_send : IsSend (desk.the_row item.the_row)
 desk_send = search valued depth 40 fits 20000
 
 sub_answer_field : IsSend (sub_answer.the_field).row

@@ -9,7 +9,7 @@ use Rattle.td_turns_laws.proofs.Parts.{each-behind, each-front}
 use Rattle.td_turns_laws.specs.Writable.{AdmitsItem, IsWritableDesk}
 use Rattle.td_types.proofs.Sequences.{each-append, each-found}
 
-abbrev Holds : Entry → Type 0
+abbrev Holds : Entry Item → Type 0
 Holds e = AdmitsItem e.item
 
 pub added-writes : (name : List ℕ) (item : Item) (d : Live) → IsWritableDesk d → AdmitsItem item
@@ -25,7 +25,7 @@ removed-writes name number d h =
     each-append Holds (take place d.0) (drop (place + 1) d.0) (each-front Holds place d.0 h)
     (each-behind Holds (place + 1) d.0 h)
 
-placed-writes : (es : List Entry) (place : ℕ) (item : Item) → AllByRecursion Holds es → AdmitsItem item
+placed-writes : (es : List (Entry Item)) (place : ℕ) (item : Item) → AllByRecursion Holds es → AdmitsItem item
     → AllByRecursion Holds (with_item_at es place item)
 placed-writes [] place item h i = tt
 placed-writes (e ∷ es) zero item h i = (i, h.1)
@@ -40,8 +40,8 @@ abbrev pub AdmitsLeft : Option Item → Type 0
 AdmitsLeft None = Unit {0}
 AdmitsLeft (Some left) = AdmitsItem left
 
-found-left : (found : Option Entry) → ((e : Entry) → found ≡ Some e → Holds e)
-    → AdmitsLeft (option_map (λ (e : Entry). e.item) found)
+found-left : (found : Option (Entry Item)) → ((e : Entry Item) → found ≡ Some e → Holds e)
+    → AdmitsLeft (option_map (λ (e : Entry Item). e.item) found)
 found-left None k = tt
 found-left (Some e) k = k e refl
 
