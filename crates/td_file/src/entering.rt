@@ -3,10 +3,10 @@
 ghost use Rattle.std.specs.Prelude.{◌≡◌, IfOk, OnOk};
 ghost use Rattle.td_changes.specs.Applying.{apply};
 ghost use Rattle.td_changes.specs.Histories.{is_done};
-ghost use Rattle.td_changes.specs.Numbering.{AreNumbered};
 ghost use Rattle.td_file.specs.Openings.{behind, change_of, link_to, store_after};
 ghost use Rattle.td_file.specs.Stages.{Enters};
 ghost use Rattle.td_objects.specs.References.{IsAddress};
+ghost use Rattle.td_trader.specs.OfferLimits.{HasLimitedOffers};
 
 use crate::fault::FileFault;
 use std::alloc::Global;
@@ -69,11 +69,12 @@ fn is_done(outcome: &Outcome) -> bool
 }
 
 /// Does a change, and tells whether it was done.
+#[tactic(auto, using(td_trader::proofs::KeepingLimits::limited_applied, td_trader::proofs::KeepingLimits::limited_same))]
 fn is_applied(alloc: Global, store: &mut Store, change: Change) -> Result<bool, Memory>
-    requires { AreNumbered store.old }
+    requires { HasLimitedOffers store.old }
     ensures told { IfOk result (λ b. b ≡ is_done (apply store.old change).outcome) }
     ensures after { OnOk result (store.new ≡ (apply store.old change).store) }
-    ensures numbered { AreNumbered store.new }
+    ensures limited { HasLimitedOffers store.new }
 {
     let outcome = apply(alloc, store, change)?;
     let passed = is_done(&outcome);
@@ -84,9 +85,9 @@ fn is_applied(alloc: Global, store: &mut Store, change: Change) -> Result<bool, 
 /// Does what an entry asks for.
 fn enter(alloc: Global, home: &Address, store: &mut Store, one: Numbered) -> Result<(), FileFault>
     requires home { IsAddress home.now }
-    requires numbered { AreNumbered store.old }
+    requires limited { HasLimitedOffers store.old }
     ensures enters { Enters (behind home.now store.old one) store.new result }
-    ensures numbered { AreNumbered store.new }
+    ensures limited { HasLimitedOffers store.new }
 {
     let Numbered { line, entry } = one;
     let change = change_of(alloc, home, entry)?;
@@ -105,9 +106,9 @@ pub(crate) fn enter_all(
     entries: List<Numbered>,
 ) -> Result<(), FileFault>
     requires home { IsAddress home.now }
-    requires numbered { AreNumbered store.old }
+    requires limited { HasLimitedOffers store.old }
     ensures enters { Enters (store_after home.now store.old entries) store.new result }
-    ensures numbered { AreNumbered store.new }
+    ensures limited { HasLimitedOffers store.new }
 {
     for one in entries.into_vec() {
         enter(alloc, home, store, one)?;

@@ -1,10 +1,10 @@
 //! The store of a new trader of the file.
 
 ghost use Rattle.std.specs.Prelude.{◌≡◌, [], IfOk};
-ghost use Rattle.td_changes.specs.Numbering.{AreNumbered};
 ghost use Rattle.td_file.specs.Openings.{new_store};
 ghost use Rattle.td_objects.specs.References.{IsAddress, trader_references};
 ghost use Rattle.td_policy.specs.Attributes.{default_attributes};
+ghost use Rattle.td_trader.specs.OfferLimits.{HasLimitedOffers};
 
 use std::alloc::Global;
 use td_cdr::{List, Memory, Text};
@@ -62,7 +62,7 @@ fn offers_and_others(
 }
 
 /// The store of a new trader, with these interfaces.
-#[tactic(auto, unfolding(crate::specs::Openings::new_store))]
+#[tactic(auto, unfolding(crate::specs::Openings::new_store), using(td_trader::proofs::KeepingLimits::no_offers))]
 pub(crate) fn new_store(
     alloc: Global,
     home: &Address,
@@ -71,7 +71,7 @@ pub(crate) fn new_store(
 ) -> Result<Store, Memory>
     requires { IsAddress home.now }
     ensures opens { IfOk result (λ s. s ≡ new_store home.now name.now interfaces) }
-    ensures numbered { IfOk result AreNumbered }
+    ensures limited { IfOk result HasLimitedOffers }
 {
     let types = Types::new(alloc, interfaces)?;
     match offers_and_others(alloc, home, name) {

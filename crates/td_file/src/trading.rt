@@ -1,11 +1,11 @@
 //! The traders of the file, in the stores with which they open.
 
 ghost use Rattle.std.specs.Prelude.{◌≡◌, ◌≤◌, length, IfOk};
-ghost use Rattle.td_changes.specs.Numbering.{AreNumbered};
 ghost use Rattle.td_file.specs.Openings.{all_traders, bounds, new_store, store_after, trader_of};
 ghost use Rattle.td_file.specs.Stages.{Gives};
 ghost use Rattle.td_lines.specs.Laws.{AreShort};
 ghost use Rattle.td_objects.specs.References.{IsAddress};
+ghost use Rattle.td_trader.specs.OfferLimits.{HasLimitedOffers};
 ghost use Rattle.td_trader.specs.PlainTraders.{opened};
 
 use crate::entering::enter_all;
@@ -40,7 +40,7 @@ fn store_of(
 ) -> Result<Store, FileFault>
     requires { IsAddress home.now }
     ensures gives { Gives (store_after home.now (new_store home.now name.now interfaces) entries) result }
-    ensures numbered { IfOk result AreNumbered }
+    ensures limited { IfOk result HasLimitedOffers }
 {
     let mut store = new_store(alloc, home, name, interfaces)?;
     match enter_all(alloc, home, &mut store, entries) {
@@ -54,7 +54,7 @@ fn store_of(
 
 /// A trader in this store, with an empty history and no marks.
 fn trader_in(alloc: Global, name: Text, store: Store) -> Result<Trader, Memory>
-    requires numbered { AreNumbered store }
+    requires limited { HasLimitedOffers store }
     requires stem { length store.attributes.request_id_stem ≤ 64 }
     ensures { IfOk result (λ t. t ≡ opened name store bounds) }
 {

@@ -23,6 +23,7 @@ use Rattle.td_changes.specs.declared.bounds.Bounds.{Bounds}
 use Rattle.td_cell.specs.Lists.{grown}
 use Rattle.td_cell.proofs.Chains.{just}
 use Rattle.td_trader.specs.Beginning.{begin_of, after_begin as marks_after}
+use Rattle.td_trader.specs.OfferLimits.{HasLimitedOffers}
 use Rattle.td_trader.specs.PlainTraders.{PlainTrader, after_outcome, store_of}
 use Rattle.td_trader.specs.Worlds.{Begun, Changes, Looks, View, Watches, after_begin}
 use Rattle.td_trader.specs.Worlds.{after_own, name_at, name_in, number_between, store_seen, view_of, with_view}
@@ -130,6 +131,7 @@ module _ (w u : List View) (k : ℕ) where
     begin =
         t.acts.begins.0
         ∙ ap (λ (v : View). begin_of v.bounds (store_seen v) (length v.history) v.marks q) (sym t.seen_is);
+    limited = subst (λ (v : View). HasLimitedOffers (store_seen v)) (sym t.seen_is) t.acts.limited;
     world =
         t.world
         ∙ ap (with_view w k) (ap (seen-after t.seen t.before) t.acts.begins.1

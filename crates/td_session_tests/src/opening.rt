@@ -74,6 +74,7 @@ pub fn bounded_server(alloc: Global, bounds: Bounds, peers: MemPeers) -> Result<
     }
 }
 
+#[tactic(auto, using(td_trader::proofs::KeepingLimits::no_offers))]
 fn bounded(alloc: Global, bounds: Bounds) -> Result<Trader, Memory>
     requires { AreBounds bounds }
 {

@@ -8,6 +8,7 @@ use Rattle.td_ops.specs.declared.call.Query.{Query}
 use Rattle.td_ops.specs.declared.outcome.Outcome.{Outcome}
 use Rattle.td_changes.specs.Applying.{seek}
 use Rattle.td_trader.specs.Following.{ActsBegin, ActsChange, ActsLook}
+use Rattle.td_trader.specs.OfferLimits.{HasLimitedOffers}
 use Rattle.td_trader.specs.PlainTraders.{AreBounds, PlainTrader, after_begin, after_change, begin_at, outcome_of}
 use Rattle.td_trader.specs.PlainTraders.{store_of}
 use Rattle.td_trader.specs.declared.begin.Begin.{Begin}
@@ -29,9 +30,11 @@ begins t u q (Ok b) told after failed = (told, after)
 begins t u q (Err e) told after failed = failed
 
 pub starts : (t u : PlainTrader) (q : Query) (r : Result Begin Memory) → AreBounds t.bounds → AreMarks t.marks
-    → IfOk r (λ b. b ≡ begin_at t q) → IfOk r (λ b. u ≡ after_begin t q b) → OnErr r (u ≡ t) → StartsQuery t q r u
-starts t u q r bounds marks told after failed = record {
+    → HasLimitedOffers (store_of t) → IfOk r (λ b. b ≡ begin_at t q) → IfOk r (λ b. u ≡ after_begin t q b)
+    → OnErr r (u ≡ t) → StartsQuery t q r u
+starts t u q r bounds marks limited told after failed = record {
   bounds = bounds;
   marks = marks;
+  limited = limited;
   begins = begins t u q r told after failed;
 }

@@ -5,17 +5,19 @@ use Rattle.td_cdr.specs.declared.memory.Memory.{Memory}
 use Rattle.td_marks.specs.Keeping.{IsKept as AreMarks}
 use Rattle.td_ops.specs.declared.call.Query.{Query}
 use Rattle.td_trader.specs.Following.{ActsBegin, ActsChange, ActsLook}
-use Rattle.td_trader.specs.PlainTraders.{AreBounds, PlainTrader}
+use Rattle.td_trader.specs.OfferLimits.{HasLimitedOffers}
+use Rattle.td_trader.specs.PlainTraders.{AreBounds, PlainTrader, store_of}
 use Rattle.td_trader.specs.declared.begin.Begin.{Begin}
 use Rattle.td_stall.specs.declared.stall.Act.{Act}
 use Rattle.td_stall.specs.declared.stall.Act.TheVariants as act
 use Rattle.td_stall.specs.declared.stall.Reply.{Reply}
 use Rattle.td_stall.specs.declared.stall.Reply.TheVariants as reply
 
--- how a query begins at a trader with bounds and marks as each has them, and what it leaves
+-- how a query begins at a trader with bounds, marks and offers as each has them, and what it leaves
 pub record StartsQuery (t : PlainTrader) (q : Query) (r : Result Begin Memory) (u : PlainTrader) : Type 0 where
   pub bounds : AreBounds t.bounds
   pub marks : AreMarks t.marks
+  pub limited : HasLimitedOffers (store_of t)
   pub begins : ActsBegin t q r u
 
 abbrev pub Acts : PlainTrader → Act → Reply → PlainTrader → Type 0

@@ -13,6 +13,7 @@ use td_value::Ior;
 
 /// A trader with an empty store, which gave this number last and accepts so many changes. It remembers two identifiers,
 /// and five queries may begin.
+#[tactic(auto, using(td_trader::proofs::KeepingLimits::no_offers))]
 pub fn opened(alloc: Global, last_offer: u32, changes: u64) -> Result<Trader, Memory> {
     let (name, stem) = names(alloc)?;
     match empty_store(alloc, last_offer) {
