@@ -16,7 +16,8 @@ use Rattle.td_ior.specs.Profiles.{iiop_of}
 use Rattle.td_ior.specs.declared.profile.Iiop.{Iiop}
 use Rattle.td_ops.specs.declared.call.Query.{Query}
 use Rattle.td_trader.specs.Worlds.{View}
-use Rattle.td_walk.specs.Peering.{Exchange, Given, IsNoted, PeerCall, Querying, Evaluating, exchange, is_memory}
+use Rattle.td_walk.specs.Peering.{Exchange, Given, HasSmallOffers, IsNoted, PeerCall, Querying, Evaluating}
+use Rattle.td_walk.specs.Peering.{exchange, is_memory}
 use Rattle.td_walk.specs.Peering.{Answered as Replied, Evaluated as Valued, Failed as Missed}
 use Rattle.td_walk.specs.declared.answer.Next.{Next}
 use Rattle.td_walk.specs.declared.answer.Next.TheVariants.{Evaluate, Forward}
@@ -167,30 +168,30 @@ module _ (e : Ior) (name : List ℕ) (returned : TypeCode) (extra : Any) (calls 
 -- ---- a query
 
 module _ (target : Ior) (q : Query) (calls now : List Exchange) (before middle after : List TraceItem) where
-  is-replied-so : (a : SubAnswer) (faults later : ℕ)
+  is-replied-so : (a : SubAnswer) (faults later : ℕ) → HasSmallOffers a
       → IsNoted (λ x. Replied x) (Querying target q) calls now faults later (Ok a) → middle ≡ before
       → after ≡ middle ++ item.Outside a ∷ [] → IsPeered calls (Forward target q) (answer.Offers a) before after now
-  is-replied-so a faults later noted kept n = record {
+  is-replied-so a faults later small noted kept n = record {
     head = item.Outside a;
     notes = n ∙ ap (λ t. t ++ item.Outside a ∷ []) kept;
     peered = subst (λ (n : List Exchange). Peered calls (Forward target q) (answer.Offers a) (item.Outside a) n)
-        (sym noted.calls) (replied target q a);
+        (sym noted.calls) (replied target q a small);
   }
 
-  pub is-replied : (a : SubAnswer) (faults later : ℕ) (r : Result StepAnswer Wanting)
+  pub is-replied : (a : SubAnswer) (faults later : ℕ) (r : Result StepAnswer Wanting) → HasSmallOffers a
       → IsNoted (λ x. Replied x) (Querying target q) calls now faults later (Ok a) → middle ≡ before
       → after ≡ middle ++ item.Outside a ∷ [] → IfOk r (λ x. x ≡ answer.Offers a)
       → IfOk r (λ x. IsPeered calls (Forward target q) x before after now)
-  is-replied a faults later (Ok x) noted kept n is =
+  is-replied a faults later (Ok x) small noted kept n is =
       subst (λ (y : StepAnswer). IsPeered calls (Forward target q) y before after now) (sym is)
-      (is-replied-so a faults later noted kept n)
-  is-replied a faults later (Err m) noted kept n is = tt
+      (is-replied-so a faults later small noted kept n)
+  is-replied a faults later (Err m) small noted kept n is = tt
 
-  pub replied-so-far : (a : SubAnswer) (faults later : ℕ) (r : Result StepAnswer Wanting)
+  pub replied-so-far : (a : SubAnswer) (faults later : ℕ) (r : Result StepAnswer Wanting) → HasSmallOffers a
       → IsNoted (λ x. Replied x) (Querying target q) calls now faults later (Ok a) → middle ≡ before
       → after ≡ middle ++ item.Outside a ∷ [] → OnErr r (IsPeeredSoFar calls (Forward target q) before after now)
-  replied-so-far a faults later r noted kept n =
-      on-err r (called (answer.Offers a) (is-replied-so a faults later noted kept n))
+  replied-so-far a faults later r small noted kept n =
+      on-err r (called (answer.Offers a) (is-replied-so a faults later small noted kept n))
 
   pub is-unreplied : (f : PeerFault) (faults later : ℕ) (r : Result StepAnswer Wanting)
       → IsNoted {X = SubAnswer} (λ x. Replied x) (Querying target q) calls now faults later (Err f) → middle ≡ before
@@ -216,7 +217,7 @@ module _ {World : Type 0} (Begins : World → (trader : ℕ) → Query → Start
 
   step-of : (question : Next) (r : StepAnswer) (i : TraceItem) (now : List Exchange) → IsForOthers question
       → Peered s.calls question r i now → Step Begins inside s question (i ∷ []) r (record s { calls = now })
-  step-of question r i now others (replied target q a) = outside (others target q refl)
+  step-of question r i now others (replied target q a small) = outside (others target q refl) small
   step-of question r i now others (unreplied target q f other) = unanswered (others target q refl) other
   step-of question r i now others (valued e name returned extra value p is) = evaluated is
   step-of question r i now others (unvalued e name returned extra p f is other) = unevaluated is other

@@ -7,7 +7,7 @@ use Rattle.td_codes.specs.declared.reference.Ior.{Ior}
 use Rattle.td_ior.specs.Profiles.{iiop_of}
 use Rattle.td_ior.specs.declared.profile.Iiop.{Iiop}
 use Rattle.td_ops.specs.declared.call.Query.{Query}
-use Rattle.td_walk.specs.Peering.{Exchange, Querying, Evaluating, is_memory}
+use Rattle.td_walk.specs.Peering.{Exchange, HasSmallOffers, Querying, Evaluating, is_memory}
 use Rattle.td_walk.specs.Peering.{Answered as Replied, Evaluated as Valued, Failed as Missed}
 use Rattle.td_walk.specs.declared.answer.Next.{Next}
 use Rattle.td_walk.specs.declared.answer.Next.TheVariants.{Evaluate, Forward}
@@ -18,10 +18,10 @@ use Rattle.td_walk.specs.declared.fault.PeerFault.{PeerFault}
 use Rattle.td_walk.specs.declared.trace.TraceItem.{TraceItem}
 use Rattle.td_walk.specs.declared.trace.TraceItem.TheVariants as item
 
--- A trader outside replied or the call failed; a dynamic property has a value, the call failed, or its evaluator has no
+-- A trader outside replied, with offers of at most 6 MiB each, or the call failed; a dynamic property has a value, the call failed, or its evaluator has no
 -- IIOP profile and isn't called. A call that wanted memory comes to no answer.
 pub data Peered (calls : List Exchange) : Next → StepAnswer → TraceItem → List Exchange → Type 0 where
-  replied : (target : Ior) (q : Query) (a : SubAnswer)
+  replied : (target : Ior) (q : Query) (a : SubAnswer) → HasSmallOffers a
       → Peered calls (Forward target q) (answer.Offers a) (item.Outside a)
       (calls ++ record { call = Querying target q; gave = Replied a } ∷ [])
   unreplied : (target : Ior) (q : Query) (f : PeerFault) → is_memory f ≡ false

@@ -110,7 +110,7 @@ module _ {others : List Accepted → Type 0} {later : Marks → Marks → Type 0
         {u : Course (List View)} → (step : Step (Begins others later) inside s question t r u)
         → SentWithin (sent s.calls) (sent u.calls) (arrivals_by p step)
     step-sent p (visited i walk) = walk-sent p walk
-    step-sent p (outside {s = s} i) = called-sent s.calls _
+    step-sent p (outside {s = s} i small) = called-sent s.calls _
     step-sent p (unanswered {s = s} i f) = called-sent s.calls _
     step-sent p (evaluated {s = s} i) = called-sent s.calls _
     step-sent p (unevaluated {s = s} i f) = called-sent s.calls _
@@ -177,7 +177,7 @@ module _ {others : List Accepted → Type 0} {later : Marks → Marks → Type 0
         {question : Next} {t : List TraceItem} {r : StepAnswer} {u : Course (List View)}
         → (step : Step (Begins others later) inside s question t r u) → AtEach P (arrivals_by p step) → AllAt P p t
     step-all P plain p (visited i walk) h = walk-all P plain p walk h
-    step-all P plain p (outside {a = a} i) h = (plain p (item.Outside a) refl, tt)
+    step-all P plain p (outside {a = a} i small) h = (plain p (item.Outside a) refl, tt)
     step-all P plain p (unanswered {f = f} i n) h = (plain p (item.Failed f) refl, tt)
     step-all P plain p (evaluated {value = value} i) h = (plain p (item.Evaluated value) refl, tt)
     step-all P plain p (unevaluated {f = f} i n) h = (plain p (item.Failed f) refl, tt)

@@ -389,14 +389,14 @@ mutual
   step-one inside one (visited {s = s} {target = target} {q = q} {k = k} {v = v} {u = u} i walk)
       (visited {k = n} {t = ts} {v = z} {u = x} j other) r rs e =
       visited-one inside s target q k n ts r rs v z u x i j other (λ same. walk-one inside one walk same r rs e)
-  step-one inside one (visited i walk) (outside j) r rs e = absurd (let bad : ⊥ = cc in bad)
+  step-one inside one (visited i walk) (outside j small) r rs e = absurd (let bad : ⊥ = cc in bad)
   step-one inside one (visited i walk) (unanswered j f) r rs e = absurd (let bad : ⊥ = cc in bad)
-  step-one inside one (outside i) (visited j walk) r rs e = absurd (let bad : ⊥ = cc in bad)
-  step-one inside one (outside {s = s} {target = target} {q = q} {a = a} i) (outside {a = b} j) r rs e =
+  step-one inside one (outside i small) (visited j walk) r rs e = absurd (let bad : ⊥ = cc in bad)
+  step-one inside one (outside {s = s} {target = target} {q = q} {a = a} i small) (outside {a = b} j limited) r rs e =
       outside-one s (Querying target q) r rs a b e
-  step-one inside one (outside i) (unanswered j f) r rs e = absurd (let bad : ⊥ = cc in bad)
+  step-one inside one (outside i small) (unanswered j f) r rs e = absurd (let bad : ⊥ = cc in bad)
   step-one inside one (unanswered i f) (visited j walk) r rs e = absurd (let bad : ⊥ = cc in bad)
-  step-one inside one (unanswered i f) (outside j) r rs e = absurd (let bad : ⊥ = cc in bad)
+  step-one inside one (unanswered i f) (outside j small) r rs e = absurd (let bad : ⊥ = cc in bad)
   step-one inside one (unanswered {s = s} {target = target} {q = q} {f = f} i m) (unanswered {f = g} j n) r rs e =
       failed-one s (Querying target q) r rs f g e
   step-one inside one (evaluated {s = s} {e = target} {name = name} {returned = returned} {extra = extra} {value = a} i)

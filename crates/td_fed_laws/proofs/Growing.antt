@@ -135,7 +135,7 @@ mutual
       {t : List TraceItem} {r : StepAnswer} {u : Course (List View)} → Step B inside s question t r u
       → Grown s.world u.world
   step-grows B inside g (visited i walk) = walk-grows B inside g walk
-  step-grows B inside g (outside {s = s} i) = unmoved s.world
+  step-grows B inside g (outside {s = s} i small) = unmoved s.world
   step-grows B inside g (unanswered {s = s} i f) = unmoved s.world
   step-grows B inside g (evaluated {s = s} i) = unmoved s.world
   step-grows B inside g (unevaluated {s = s} i f) = unmoved s.world

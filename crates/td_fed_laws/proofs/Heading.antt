@@ -71,7 +71,7 @@ data HeadsBySteps (B : Beginnings) (inside : Insides) (u : List View) (l : Local
 no-step : (B : Beginnings) (inside : Insides) {s : Course (List View)} {question : Next} {t : List TraceItem}
     {r : StepAnswer} {u : Course (List View)} → Step B inside s question t r u → question ≡ Done → ⊥
 no-step B inside (visited i walk) e = cc
-no-step B inside (outside i) e = cc
+no-step B inside (outside i small) e = cc
 no-step B inside (unanswered i f) e = cc
 no-step B inside (evaluated i) e = cc
 no-step B inside (unevaluated i f) e = cc
@@ -140,7 +140,7 @@ mutual
       {question : Next} {t : List TraceItem} {r : StepAnswer} {u : Course (List View)}
       → Step B inside s question t r u → HeadsByStep B inside u.world question t
   step-heads B inside known g (visited i walk) = came (walk-heads B inside known g walk)
-  step-heads B inside known g (outside i) = went peer_answered
+  step-heads B inside known g (outside i small) = went peer_answered
   step-heads B inside known g (unanswered i f) = went peer_failed
   step-heads B inside known g (evaluated i) = went peer_valued
   step-heads B inside known g (unevaluated i f) = went peer_failed

@@ -95,7 +95,7 @@ mutual
       {u : Course (List View)} → Step B inside s question t r u
       → (visits : List TraceItem) → waiting visits t ≡ visits
   step-even B inside (visited i walk) visits = walk-even B inside walk visits
-  step-even B inside (outside i) visits = refl
+  step-even B inside (outside i small) visits = refl
   step-even B inside (unanswered i f) visits = refl
   step-even B inside (evaluated i) visits = refl
   step-even B inside (unevaluated i f) visits = refl
@@ -201,7 +201,7 @@ mutual
       → ((target : Ior) (sub : Query) → question ≡ Forward target sub → Fits hops visits sub) → Within hops visits t
   step-within B inside known hops (visited {target = target} {q = q} i walk) visits p =
       walk-within B inside known hops walk visits (p target q refl)
-  step-within B inside known hops (outside i) visits p = (tt, tt)
+  step-within B inside known hops (outside i small) visits p = (tt, tt)
   step-within B inside known hops (unanswered i f) visits p = (tt, tt)
   step-within B inside known hops (evaluated i) visits p = (tt, tt)
   step-within B inside known hops (unevaluated i f) visits p = (tt, tt)

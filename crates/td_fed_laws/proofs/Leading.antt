@@ -76,7 +76,7 @@ pub no-step : (inside : Insides) {s : Course (List View)} {question : Next} {t :
     {u : Course (List View)} → Step (Begins nothing unchanged) inside s question t r u
     → question ≡ Done → ⊥
 no-step inside (visited i walk) e = cc
-no-step inside (outside i) e = cc
+no-step inside (outside i small) e = cc
 no-step inside (unanswered i f) e = cc
 no-step inside (evaluated i) e = cc
 no-step inside (unevaluated i f) e = cc
@@ -150,7 +150,7 @@ mutual
       {u : Course (List View)} → Step (Begins nothing unchanged) inside s question t r u
       → LeadsByStep inside s.world question t
   step-leads inside (visited i walk) = came (walk-leads inside walk)
-  step-leads inside (outside i) = went peer_answered
+  step-leads inside (outside i small) = went peer_answered
   step-leads inside (unanswered i f) = went peer_failed
   step-leads inside (evaluated i) = went peer_valued
   step-leads inside (unevaluated i f) = went peer_failed

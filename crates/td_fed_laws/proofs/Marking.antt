@@ -522,7 +522,7 @@ module _ (others : List Accepted → Type 0) (later : Marks → Marks → Type 0
         → Marked id rings Quiet Still p t u.world (arrivals_by p step)
     step-marked p (visited {target = target} {q = q} i walk) passes unmarked h =
         walk-marked p walk (passes target q refl) unmarked h
-    step-marked p (outside {s = s} {a = a} i) passes unmarked h =
+    step-marked p (outside {s = s} {a = a} i small) passes unmarked h =
         aside-marked p (item.Outside a) s.world (λ j x n e. absurd (let bad : ⊥ = cc in bad)) h
     step-marked p (unanswered {s = s} {f = f} i n) passes unmarked h =
         aside-marked p (item.Failed f) s.world (λ j x n e. absurd (let bad : ⊥ = cc in bad)) h

@@ -68,7 +68,7 @@ module _ (others : List Accepted → Type 0) (later : Marks → Marks → Type 0
   no-step : {s : Course (List View)} {question : Next} {t : List TraceItem} {r : StepAnswer}
       {u : Course (List View)} → Step (Begins others later) inside s question t r u → question ≡ Done → ⊥
   no-step (visited i walk) e = cc
-  no-step (outside i) e = cc
+  no-step (outside i small) e = cc
   no-step (unanswered i f) e = cc
   no-step (evaluated i) e = cc
   no-step (unevaluated i f) e = cc
@@ -213,7 +213,7 @@ module _ (others : List Accepted → Type 0) (later : Marks → Marks → Type 0
         → ((target : Ior) (sub : Query) → question ≡ Forward target sub → Says request sub None)
         → Along p s.world (arrivals_by p step) → AllTold (arrivals_by p step)
     step-told p (visited {target = target} {q = q} i walk) passes h = walk-told p walk (passes target q refl) h
-    step-told p (outside i) passes h = none-told
+    step-told p (outside i small) passes h = none-told
     step-told p (unanswered i f) passes h = none-told
     step-told p (evaluated i) passes h = none-told
     step-told p (unevaluated i f) passes h = none-told

@@ -113,7 +113,7 @@ mutual
       → ((target : Ior) (sub : Query) → question ≡ Forward target sub → States id sub)
       → Goes (told id s.world) t (told id u.world)
   step-goes inside id (visited {target = target} {q = q} i walk) p = walk-goes inside id walk (p target q refl)
-  step-goes inside id (outside i) p = record { right = (tt, tt); after_is = refl }
+  step-goes inside id (outside i small) p = record { right = (tt, tt); after_is = refl }
   step-goes inside id (unanswered i f) p = record { right = (tt, tt); after_is = refl }
   step-goes inside id (evaluated i) p = record { right = (tt, tt); after_is = refl }
   step-goes inside id (unevaluated i f) p = record { right = (tt, tt); after_is = refl }

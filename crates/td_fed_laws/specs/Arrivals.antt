@@ -82,7 +82,7 @@ module _ {others : List Accepted → Type 0} {later : Marks → Marks → Type 0
         → {t : List TraceItem} → {r : StepAnswer} → {u : Course (List View)}
         → Step (Begins others later) inside s question t r u → List Arrival
     arrivals_by before (visited there walk) = arrivals before walk
-    arrivals_by before (outside there) = []
+    arrivals_by before (outside there small) = []
     arrivals_by before (unanswered there fault) = []
     arrivals_by before (evaluated reached) = []
     arrivals_by before (unevaluated reached fault) = []

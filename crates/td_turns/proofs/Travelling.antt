@@ -172,7 +172,7 @@ mutual
       {t : List TraceItem} {r : StepAnswer} {u : Course (List View)} → Step B inside s question t r u
       → Travels s u t
   step-travels B inside starts (visited i walk) = walk-travels B inside starts walk
-  step-travels B inside starts (outside {s = s} {target = target} {q = q} {a = a} i) =
+  step-travels B inside starts (outside {s = s} {target = target} {q = q} {a = a} i small) =
       by-call s (Querying target q) (Replied a) (item.Outside a) (λ k. refl) (λ k. refl) refl
   step-travels B inside starts (unanswered {s = s} {target = target} {q = q} {f = f} i n) =
       by-call s (Querying target q) (Missed f) (item.Failed f) (λ k. refl) (λ k. refl) refl

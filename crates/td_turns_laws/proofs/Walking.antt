@@ -99,7 +99,7 @@ mutual
       → IsWritableStep r × IsWritableWorld u.world
   step-writes B inside stays (visited {v = v} i walk) world gifts =
       let h = walk-writes B inside stays walk world gifts in (gives-each v h.0, h.1)
-  step-writes B inside stays (outside i) world gifts = (gifts.0, world)
+  step-writes B inside stays (outside i small) world gifts = (gifts.0, world)
   step-writes B inside stays (unanswered i f) world gifts = (tt, world)
   step-writes B inside stays (evaluated i) world gifts = (gifts.0, world)
   step-writes B inside stays (unevaluated i f) world gifts = (tt, world)

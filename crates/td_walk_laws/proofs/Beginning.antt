@@ -14,7 +14,7 @@ use Rattle.td_walk.specs.declared.answer.StepAnswer.TheVariants as answer
 use Rattle.td_walk.specs.declared.trace.TraceItem.{TraceItem}
 use Rattle.td_walk.specs.declared.trace.TraceItem.TheVariants as item
 use Rattle.td_walk.specs.declared.trace.Visit.{Visit}
-use Rattle.td_walk_laws.proofs.Walking.{next-along, next-over-none}
+use Rattle.td_walk_laws.proofs.Walking.{far_small, next-along, next-over-none}
 use Rattle.td_walk_laws.specs.BeginningExamples.{Alone, ComesSoFar, WorkedBeginnings}
 use Rattle.td_walk_laws.specs.Beginnings.{StepsBegin, WalkBegins, unbegun, watched, whole, unended, no_more, one_more}
 use Rattle.td_walk_laws.specs.Beginnings.{visiting}
@@ -42,7 +42,8 @@ without-leave word =
     let step : Step (BeginsIn (alike (Path along))) nowhere (course word 1 []) (next_of along [])
     (item.Outside given_there ∷ []) (answer.Offers given_there) m =
     subst (λ (n : Next). Step (BeginsIn (alike (Path along))) nowhere (course word 1 []) n
-    (item.Outside given_there ∷ []) (answer.Offers given_there) m) (sym next-along) (outside refl) in
+    (item.Outside given_there ∷ []) (answer.Offers given_there) m) (sym next-along)
+    (outside refl far_small) in
     let steps : StepsBegin (BeginsIn (alike (Path along))) Alone nowhere (course word 1 []) along []
     (item.Outside given_there ∷ []) m = one_more step none in
     unended refl passing steps

@@ -19,7 +19,7 @@ step-stands : {World : Type 0} {Begins : World → (trader : ℕ) → Query → 
     {inside : World → (target : Ior) → Option ℕ} {s : Course World} {q : Next} {t : List TraceItem} {r : StepAnswer}
     {u : Course World} → Step Begins inside s q t r u → q ≡ Done → ⊥
 step-stands (visited i w) e = absurd cc
-step-stands (outside i) e = absurd cc
+step-stands (outside i small) e = absurd cc
 step-stands (unanswered i m) e = absurd cc
 step-stands (evaluated i) e = absurd cc
 step-stands (unevaluated i m) e = absurd cc

@@ -82,7 +82,7 @@ mutual
       {inside : World → (target : Ior) → Option ℕ} {s : Course World} {question : Next} {t : List TraceItem}
       {r : StepAnswer} {u : Course World} → Step Begins inside s question t r u → Shows t s.calls u.calls
   step-shows (visited i w) = walk-shows w
-  step-shows (outside {s = s} {target = target} {q = q} {a = a} i) =
+  step-shows (outside {s = s} {target = target} {q = q} {a = a} i small) =
       one-made (item.Outside a ∷ []) s.calls (record { call = Querying target q; gave = Replied a }) refl
   step-shows (unanswered {s = s} {target = target} {q = q} {f = f} i m) =
       one-made (item.Failed f ∷ []) s.calls (record { call = Querying target q; gave = Missed f }) refl

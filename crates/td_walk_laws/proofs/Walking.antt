@@ -1,6 +1,8 @@
 -- Worked walks, step by step.
 use Rattle.std.proofs.Common.{◌≡◌, ℕ, ◌+◌, List, [], ◌∷◌, ◌++◌, refl, sym, ap, ◌∙◌, subst, arith}
+use Rattle.std.proofs.Common.{length, ltb-false}
 use Rattle.std.specs.Prelude.{Bool, true, ◌&&◌, if◌then◌else◌, Option, None, Some, Ok, is_some, codes}
+use Rattle.td_cdr.specs.declared.order.Order.TheVariants.{Big}
 use Rattle.td_codes.specs.Layers.{value-any, value-code, value-object, value-struct}
 use Rattle.td_codes.specs.declared.code.Any.{Any}
 use Rattle.td_codes.specs.declared.code.TypeCode.TheVariants as code
@@ -13,10 +15,11 @@ use Rattle.td_ior.specs.declared.profile.Iiop.{Iiop}
 use Rattle.td_store.proofs.Shapes.{dynamic-shape}
 use Rattle.td_store.specs.Examples.{nobody, nothing_more, offer, printer}
 use Rattle.td_store.specs.declared.local.Local.{Local}
+use Rattle.td_value.specs.Structures.{offer as offer_format}
 use Rattle.td_value.specs.declared.enumerations.FollowOption.TheVariants.{Always}
 use Rattle.td_value.specs.declared.structures.Property.{Property}
 use Rattle.td_walk.specs.Answers.{AnswersGathered, DrawsGathered, HasDrawn, IsAnswer, IsRankedAnswer, drawn_by}
-use Rattle.td_walk.specs.Peering.{Exchange, Querying}
+use Rattle.td_walk.specs.Peering.{Exchange, HasSmallOffers, Querying}
 use Rattle.td_walk.specs.Peering.{Answered as Replied, Evaluated as Valued, Failed as Missed}
 use Rattle.td_walk.specs.Resolving.{dynamic_named, dynamic_of, may_stand, resolved, value_from}
 use Rattle.td_walk.specs.SubQueries.{link_query, link_step, path_query, proxy_step}
@@ -31,7 +34,7 @@ use Rattle.td_walk.specs.declared.gathering.Gathered.{Gathered}
 use Rattle.td_walk.specs.declared.trace.TraceItem.{TraceItem}
 use Rattle.td_walk.specs.declared.trace.TraceItem.TheVariants as item
 use Rattle.td_walk.specs.declared.trace.Visit.TheVariants as visit
-use Rattle.td_walk_laws.specs.Examples.{along, asked as whole_query, elsewhere, given_there, link, over, plain}
+use Rattle.td_walk_laws.specs.Examples.{along, asked as whole_query, elsewhere, far, given_there, link, over, plain}
 use Rattle.td_walk_laws.specs.Examples.{search, under}
 use Rattle.td_walk_laws.specs.WalkExamples.{Comes, WorkedWalks, alike, answers, at_second, course, evaluating, group}
 use Rattle.td_walk_laws.specs.WalkExamples.{nowhere, offering, one_call, over_queue, queue, told, told_by}
@@ -72,6 +75,10 @@ one-question g inside word start l head question t r gathered a begun calls b o 
     asking b o all last
 
 -- ---- what the visits ask, and what they gather
+
+-- what the other trader gives is small
+pub far_small : HasSmallOffers given_there
+far_small = (ltb-false 6291456 (length (offer_format.format.writes far Big 0)) refl, tt)
 
 pub next-along : next_of along [] ≡ Forward elsewhere (path_query along)
 unfolding next_of visit_of steps link_step proxy_step with_names resolved
@@ -192,7 +199,8 @@ on-the-way word =
     one-question (alike (Path along)) nowhere word (Path along) along (item.Path 0 0)
     (Forward elsewhere (path_query along)) (item.Outside given_there ∷ []) (answer.Offers given_there)
     (record { found = []; given = given_there ∷ [] }) given_there 1
-    (one_call (Querying elsewhere (path_query along)) (Replied given_there)) refl passing next-along (outside refl)
+    (one_call (Querying elsewhere (path_query along)) (Replied given_there)) refl passing next-along
+    (outside refl far_small)
     visit-along refl
     (record { ranked = given_there.offers; in_order = refl; cut = refl; limits = refl })
 

@@ -10,7 +10,7 @@ use Rattle.td_ops.specs.declared.call.Query.{Query}
 use Rattle.td_ops.specs.declared.outcome.Outcome.{Outcome}
 use Rattle.td_store.specs.declared.local.Local.{Local}
 use Rattle.td_walk.specs.Answers.{HasDrawn, IsAnswer}
-use Rattle.td_walk.specs.Peering.{Exchange, Given, PeerCall, Querying, Evaluating, is_memory}
+use Rattle.td_walk.specs.Peering.{Exchange, Given, HasSmallOffers, PeerCall, Querying, Evaluating, is_memory}
 use Rattle.td_walk.specs.Peering.{Answered as Replied, Evaluated as Valued, Failed as Missed}
 use Rattle.td_walk.specs.Visits.{next_of}
 use Rattle.td_walk.specs.declared.answer.Next.{Next}
@@ -112,7 +112,7 @@ mutual
         → inside s.world target ≡ Some k → Walk Begins inside s k q t v u
         → Step Begins inside s (Forward target q) t (answer.Offers (answer_in v)) u
     outside : {s : Course World} {target : Ior} {q : Query} {a : SubAnswer} → inside s.world target ≡ None
-        → Step Begins inside s (Forward target q) (item.Outside a ∷ []) (answer.Offers a)
+        → HasSmallOffers a → Step Begins inside s (Forward target q) (item.Outside a ∷ []) (answer.Offers a)
         (called s (Querying target q) (Replied a))
     unanswered : {s : Course World} {target : Ior} {q : Query} {f : PeerFault} → inside s.world target ≡ None
         → is_memory f ≡ false → Step Begins inside s (Forward target q) (item.Failed f ∷ []) answer.Failed

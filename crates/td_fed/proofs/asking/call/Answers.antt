@@ -17,8 +17,8 @@ returns-in-Ok-clause-peered g c =
     is-replied c.args.target.now c.args.query.now (g.P.Peers.calls c.args.peers.now)
     (g.P.Peers.calls c.query.new.self) c.args.notes.now.items c.reserve.new.self.items
     c.note_offers.new.notes.items c.in-Ok.answer (g.P.Peers.faults c.args.peers.now)
-    (g.P.Peers.faults c.query.new.self) c.note_offers.result c.in-Ok.ensures.noted c.reserve.ensures.items
-    c.note_offers.ensures.noted c.note_offers.ensures.answer
+    (g.P.Peers.faults c.query.new.self) c.note_offers.result c.in-Ok.ensures.small c.in-Ok.ensures.noted
+    c.reserve.ensures.items c.note_offers.ensures.noted c.note_offers.ensures.answer
 
 pub returns-in-Err-clause-peered : goal.returns-in-Err-clause-peered
 returns-in-Err-clause-peered g c =
@@ -59,8 +59,8 @@ returns-in-Ok-clause-so_far g c =
     replied-so-far c.args.target.now c.args.query.now (g.P.Peers.calls c.args.peers.now)
     (g.P.Peers.calls c.query.new.self) c.args.notes.now.items c.reserve.new.self.items
     c.note_offers.new.notes.items c.in-Ok.answer (g.P.Peers.faults c.args.peers.now)
-    (g.P.Peers.faults c.query.new.self) c.note_offers.result c.in-Ok.ensures.noted c.reserve.ensures.items
-    c.note_offers.ensures.noted
+    (g.P.Peers.faults c.query.new.self) c.note_offers.result c.in-Ok.ensures.small c.in-Ok.ensures.noted
+    c.reserve.ensures.items c.note_offers.ensures.noted
 
 pub returns-in-Err-clause-so_far : goal.returns-in-Err-clause-so_far
 returns-in-Err-clause-so_far g c =
