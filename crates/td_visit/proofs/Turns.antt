@@ -1,12 +1,12 @@
 -- How far the other traders were asked, at the beginning and behind each step.
 use Rattle.std.proofs.Common.{◌≡◌, ℕ, suc, ◌+◌, ◌<◌, ◌≤◌, true, List, [], ◌∷◌, ◌++◌, length, get_or, take, drop, map}
-use Rattle.std.proofs.Common.{Option, Some, None, Ok, Err, false, is_some, option_map, ◌-◌, refl, sym, ap, subst, ◌∙◌, arith}
+use Rattle.std.proofs.Common.{Bool, Option, Some, None, Ok, Err, false, is_some, option_map, ◌-◌, refl, sym, ap, subst, ◌∙◌, arith}
 use Rattle.std.proofs.lemmas.List.{drop-drop, drop_all, drop_more, length-append, length-drop, take-append-le}
 use Rattle.td_store.specs.declared.local.Local.{Local}
 use Rattle.td_store.specs.declared.record.LinkRecord.{LinkRecord}
 use Rattle.td_visit.proofs.Forwarding.{skips, passes, stops, ends}
 use Rattle.td_visit.specs.Resuming.{asks_first, first_wanted, steps_left, behind, GoesOn, IsPlaceInSearch}
-use Rattle.td_visit.specs.Resuming.{IsPlaceOnPath, IsPlaceBy, IsPlace, step_asks, passed_by, Forwards, ForwardsBy}
+use Rattle.td_visit.specs.Resuming.{IsPlaceOnPath, IsPlaceBy, IsPlace, step_asks, passed_by, with_answer, Forwards, ForwardsBy}
 use Rattle.td_visit.specs.Resuming.{CallsTo}
 use Rattle.td_visit.specs.declared.progress.Others.{Others}
 use Rattle.td_walk.specs.SubQueries.{link_step, path_query, proxy_step}
@@ -395,6 +395,37 @@ pub passes_some : (step : Option Next) (q : Next) (xs left ys : List StepAnswer)
 passes_some step q xs left ys a others wanted some at more is = rw (some, sym at ∙ more, is) refl
 
 pub ruleset pass_steps = (asks_none, asks_some, passes_none, passes_some)
+
+-- a link's step, by whether there is an answer
+
+pub link_asked : (step question : Option Next) (xs left : List StepAnswer) → left ≡ xs → left ≡ [] → question ≡ step
+    → question ≡ step_asks step xs
+link_asked None question xs left at none is = is
+link_asked (Some q) question xs left at none is = is ∙ rw (sym at ∙ none) refl
+
+pub link_kept : (step : Option Next) (xs left : List StepAnswer) (others : Others) → left ≡ xs → left ≡ []
+    → others ≡ passed_by step xs others
+link_kept None xs left others at none = refl
+link_kept (Some q) xs left others at none = rw (sym at ∙ none) refl
+
+pub link_answered : (step : Option Next) (xs left ys : List StepAnswer) (a : StepAnswer) → left ≡ xs → left ≡ a ∷ ys
+    → None ≡ step_asks step xs
+link_answered None xs left ys a at more = refl
+link_answered (Some q) xs left ys a at more = rw (sym at ∙ more) refl
+
+pub link_passes : (step : Option Next) (asked : Bool) (xs left ys : List StepAnswer) (a : StepAnswer)
+    (others new : Others) → left ≡ xs → left ≡ a ∷ ys → asked ≡ is_some step → asked ≡ true
+    → new ≡ with_answer others (sub_answer a) → new ≡ passed_by step xs others
+link_passes None asked xs left ys a others new at more is so after =
+    let bad : true ≡ false = sym so ∙ is in absurd cc
+link_passes (Some q) asked xs left ys a others new at more is so after = after ∙ rw (sym at ∙ more) refl
+
+pub link_skips : (step : Option Next) (asked : Bool) (xs : List StepAnswer) (others : Others) → asked ≡ is_some step
+    → asked ≡ false → others ≡ passed_by step xs others
+link_skips None asked xs others is never = refl
+link_skips (Some q) asked xs others is never = let bad : true ≡ false = sym is ∙ never in absurd cc
+
+pub ruleset link_steps = (link_asked, link_kept, link_answered, link_passes, link_skips)
 
 pub ruleset called = (call_asked, all_called)
 

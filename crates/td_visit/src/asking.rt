@@ -1,8 +1,9 @@
 //! Which other traders are asked, in order (OMG's Trading Object Service, "Link Follow Behavior" and interface Proxy).
 
-ghost use Rattle.std.specs.Prelude.{◌≡◌, ◌+◌, ◌^◌, ◌<◌, ◌≤◌, ◌∷◌, [], None, cond, drop, length, IfOk, OnOk};
+ghost use Rattle.std.specs.Prelude.{◌≡◌, ◌+◌, ◌^◌, ◌<◌, ◌≤◌, ◌∷◌, [], None, cond, drop, is_some, length, IfOk, OnOk};
 ghost use Rattle.std.specs.List.{list_any};
 ghost use Rattle.td_visit.specs.Resuming.{none_asked, asks_first, first_wanted, step_asks, passed_by};
+ghost use Rattle.td_visit.specs.Resuming.{with_answer};
 ghost use Rattle.td_visit.specs.Resuming.{IsPlaceInSearch, IsPlaceOnPath, IsPlace, CallsTo, Forwards, ForwardsBy};
 ghost use Rattle.td_walk.specs.SubQueries.{link_step, call_of, proxy_step, path_query};
 ghost use Rattle.td_walk.specs.Visits.{count_ordinary, is_ordinary, less, path_step, steps, sub_answer};
@@ -176,9 +177,56 @@ fn pass(step: Option<Next>, answers: &[StepAnswer], others: &mut Others) -> Opti
         None => Some(question),
         Some((answer, _left)) => {
             drop(question);
-            others.wanted = less(others.wanted, answer);
-            others.given += 1;
+            pass_answer(answer, others);
             None
+        }
+    }
+}
+
+/// Whether a link's trader is asked: where offers are wanted, and the link is followed.
+#[tactic(auto, unfolding(td_walk::specs::SubQueries::link_step))]
+fn is_asked(local: &Local, others: &Others, link: &LinkRecord) -> bool
+    ensures { result
+        ≡ is_some (link_step local.now others.now.wanted others.now.local_match link.now) }
+{
+    !is_full(others.wanted) && follows(local, others.local_match, link)
+}
+
+/// One answer more is passed by: its offers are wanted no more.
+fn pass_answer(answer: &StepAnswer, others: &mut Others)
+    requires { others.old.given < 2 ^ 63 }
+    ensures { others.new ≡ with_answer others.old (sub_answer answer.now) }
+{
+    others.wanted = less(others.wanted, answer);
+    others.given += 1;
+}
+
+/// The question to a link's trader, where there is no answer to it. One to which there is an answer isn't put together
+/// again: the answer is passed by.
+#[tactic(auto, using(crate::proofs::Turns::link_steps))]
+fn ask_over_link(
+    alloc: Global,
+    local: &Local,
+    link: &LinkRecord,
+    answers: &[StepAnswer],
+    others: &mut Others,
+) -> Result<Option<Next>, Memory>
+    requires { others.old.given ≤ length answers.now }
+    ensures asks { IfOk result (λ question. question ≡ step_asks
+        (link_step local.now others.old.wanted others.old.local_match link.now)
+        (drop others.old.given answers.now)) }
+    ensures passes { OnOk result (others.new ≡ passed_by
+        (link_step local.now others.old.wanted others.old.local_match link.now)
+        (drop others.old.given answers.now) others.old) }
+{
+    let (_given, left) = answers.split_at(others.given);
+    match left.split_first() {
+        None => link_step(alloc, local, others.wanted, others.local_match, link),
+        Some((answer, _left)) => {
+            if is_asked(local, others, link) {
+                pass_answer(answer, others);
+            }
+            Ok(None)
         }
     }
 }
@@ -227,8 +275,7 @@ fn ask_others(
     }
     let (_passed, links) = local.links.as_slice().split_at(others.links);
     for link in links {
-        let step = link_step(alloc, local, others.wanted, others.local_match, link)?;
-        let question = pass(step, answers, others);
+        let question = ask_over_link(alloc, local, link, answers, others)?;
         if question.is_some() {
             return Ok(question);
         }

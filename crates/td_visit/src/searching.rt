@@ -3,11 +3,11 @@
 
 ghost use Rattle.std.specs.Prelude.{◌≡◌, ◌≤◌, ◌++◌, [], ◌∷◌, drop, length, IfOk, OnOk};
 ghost use Rattle.td_store.specs.Candidates.{has_dynamic};
-ghost use Rattle.td_walk.specs.Told.{Tells, TellsMore, Kept};
+ghost use Rattle.td_walk.specs.Told.{Tells, TellsMore, Kept, made_up_to};
 ghost use Rattle.td_walk.specs.Resolving.{resolved};
 ghost use Rattle.td_visit.specs.Resuming.{tried_on, made_trying, searched_on, searched_up_to, made_completing};
 ghost use Rattle.td_visit.specs.Resuming.{completed_up_to};
-ghost use Rattle.td_walk.specs.Visits.{matches_all, if_matching, completed, all_completed};
+ghost use Rattle.td_walk.specs.Visits.{matches_all, if_matching, completed, all_completed, evaluated};
 ghost use Rattle.td_eval.specs.Mentioning.{names_asked};
 ghost use Rattle.td_eval.specs.Values.{matching};
 
@@ -88,6 +88,28 @@ fn add_matching(
     }
 }
 
+/// Evaluates the dynamic properties among those of these names, as far as there are answers. No name is looked for where
+/// no property is dynamic.
+#[tactic(auto, using(crate::proofs::Resolved::no_evaluations))]
+fn evaluate_dynamic(
+    alloc: Global,
+    properties: &[Property],
+    made: &mut List<Evaluation>,
+    names: &[Text],
+    left: &mut Left<'_>,
+) -> Result<Option<Next>, Memory>
+    ensures told { IfOk result (λ question.
+        Tells (evaluated properties.now made.old names.now left.old.answers.now) question made.new
+        left.new.answers.now) }
+    ensures stopped { OnOk result
+        (made.new ≡ made_up_to properties.now made.old names.now left.old.answers.now) }
+{
+    if !has_dynamic(properties) {
+        return Ok(None);
+    }
+    evaluate_named(alloc, properties, made, names, left)
+}
+
 /// Adds the candidate where it matches, or gives the question to which there is no answer; then the evaluations that
 /// there are answers to are made.
 fn try_candidate(
@@ -112,7 +134,7 @@ fn try_candidate(
         add_found(alloc, offer, made, found)?;
         return Ok(None);
     }
-    let question = evaluate_named(alloc, offer.properties.as_slice(), made, names, left)?;
+    let question = evaluate_dynamic(alloc, offer.properties.as_slice(), made, names, left)?;
     if question.is_some() {
         return Ok(question);
     }

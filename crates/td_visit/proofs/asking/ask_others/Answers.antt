@@ -1,6 +1,7 @@
-use Rattle.std.proofs.Common.{◌≡◌, drop, length, sym, ap, ◌∙◌, arith}
+use Rattle.std.proofs.Common.{◌≡◌, drop, length, refl, sym, ap, ◌∙◌, arith}
 use Rattle.std.proofs.lemmas.List.{length-drop}
 use Rattle.td_visit.proofs.Turns.{at_item, link_passed, link_asks, forwards, call_asked, all_called, all_asked}
+use Rattle.td_walk.specs.SubQueries.{link_step}
 use Rattle.td_visit.proofs.asking.ask_others.Goals as goal
 
 pub returns-then-is_some-clause-asks : goal.returns-then-is_some-clause-asks
@@ -24,10 +25,12 @@ loop-link-preserved c =
     (c.split_at.ensures.back ∙ ap (drop c.call_proxies.new.others.links) c.as_slice.ensures)
     c.loop-link.invariant.1 (omega arith) c.link-item.is in
     let next =
-    link_passed c.args.local.now c.args.found.now c.args.answers.now c.loop-link.others c.pass-question.new.others
-    c.link-item.result c.in_ok-step.step c.pass-question.result
-    (sym c.is_some-in-loop-link.ensures ∙ c.if-is_some-2.false) c.loop-link.invariant.0 at c.in_ok-step.ensures
-    c.pass-question.ensures.asks c.pass-question.ensures.passes c.loop-link.invariant.2 in
+    link_passed c.args.local.now c.args.found.now c.args.answers.now c.loop-link.others c.ask_over_link.new.others
+    c.link-item.result
+    (link_step c.args.local.now c.loop-link.others.wanted c.loop-link.others.local_match c.link-item.result)
+    c.in_ok-question.question
+    (sym c.is_some-in-loop-link.ensures ∙ c.if-is_some-2.false) c.loop-link.invariant.0 at refl
+    c.in_ok-question.ensures.asks c.in_ok-question.ensures.passes c.loop-link.invariant.2 in
     (next.0, omega (arith, c.loop-link.invariant.1, next.1), next.2)
 
 pub returns-then-is_some-2-clause-place : goal.returns-then-is_some-2-clause-place
@@ -38,10 +41,12 @@ returns-then-is_some-2-clause-place c =
     (c.split_at.ensures.back ∙ ap (drop c.call_proxies.new.others.links) c.as_slice.ensures)
     c.loop-link.invariant.1 (omega arith) c.link-item.is in
     let stop =
-    link_asks c.args.local.now c.args.found.now c.args.answers.now c.loop-link.others c.pass-question.new.others
-    c.link-item.result c.in_ok-step.step c.pass-question.result
-    (sym c.is_some-in-loop-link.ensures ∙ c.if-is_some-2.true) c.loop-link.invariant.0 at c.in_ok-step.ensures
-    c.pass-question.ensures.asks c.pass-question.ensures.passes c.loop-link.invariant.2 in
+    link_asks c.args.local.now c.args.found.now c.args.answers.now c.loop-link.others c.ask_over_link.new.others
+    c.link-item.result
+    (link_step c.args.local.now c.loop-link.others.wanted c.loop-link.others.local_match c.link-item.result)
+    c.in_ok-question.question
+    (sym c.is_some-in-loop-link.ensures ∙ c.if-is_some-2.true) c.loop-link.invariant.0 at refl
+    c.in_ok-question.ensures.asks c.in_ok-question.ensures.passes c.loop-link.invariant.2 in
     stop.place
 
 pub returns-then-is_some-2-clause-asks : goal.returns-then-is_some-2-clause-asks
@@ -52,11 +57,13 @@ returns-then-is_some-2-clause-asks c =
     (c.split_at.ensures.back ∙ ap (drop c.call_proxies.new.others.links) c.as_slice.ensures)
     c.loop-link.invariant.1 (omega arith) c.link-item.is in
     let stop =
-    link_asks c.args.local.now c.args.found.now c.args.answers.now c.loop-link.others c.pass-question.new.others
-    c.link-item.result c.in_ok-step.step c.pass-question.result
-    (sym c.is_some-in-loop-link.ensures ∙ c.if-is_some-2.true) c.loop-link.invariant.0 at c.in_ok-step.ensures
-    c.pass-question.ensures.asks c.pass-question.ensures.passes c.loop-link.invariant.2 in
-    forwards c.args.local.now c.args.found.now c.args.answers.now c.pass-question.new.others c.pass-question.result stop
+    link_asks c.args.local.now c.args.found.now c.args.answers.now c.loop-link.others c.ask_over_link.new.others
+    c.link-item.result
+    (link_step c.args.local.now c.loop-link.others.wanted c.loop-link.others.local_match c.link-item.result)
+    c.in_ok-question.question
+    (sym c.is_some-in-loop-link.ensures ∙ c.if-is_some-2.true) c.loop-link.invariant.0 at refl
+    c.in_ok-question.ensures.asks c.in_ok-question.ensures.passes c.loop-link.invariant.2 in
+    forwards c.args.local.now c.args.found.now c.args.answers.now c.ask_over_link.new.others c.in_ok-question.question stop
 
 pub returns-clause-asks : goal.returns-clause-asks
 returns-clause-asks c =
