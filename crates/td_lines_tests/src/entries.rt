@@ -161,7 +161,7 @@ fn are_at(entries: &[Numbered], lines: &[u32]) -> bool {
 fn are_worked(entries: &[Numbered]) -> bool {
     match entries {
         [service_type, offer, proxy, inside, outside, nil] => {
-            are_at(entries, &[5, 8, 12, 14, 15, 16])
+            are_at(entries, &[6, 9, 13, 15, 16, 17])
                 && is_type(service_type)
                 && is_offer(offer)
                 && is_proxy(proxy)
