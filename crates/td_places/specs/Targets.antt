@@ -1,5 +1,5 @@
--- Which target is a trader of the group: one whose profile has the server's host and port, and the key of the Lookup
--- of one of its traders; and in the same way which register is one's.
+-- Which target is a trader of the group: one whose profile, of whatever version, has the server's host and port, and the
+-- key of the Lookup of one of its traders; and in the same way which register is one's.
 use Rattle.std.specs.Prelude.{ℕ, suc, nat_eq, ◌&&◌, if◌then◌else◌, List, [], ◌∷◌, Option, None, Some}
 use Rattle.std.specs.Option.{option_map}
 use Rattle.std.specs.Str.{bytes_eq}
