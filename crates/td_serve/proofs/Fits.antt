@@ -6,24 +6,24 @@ use Rattle.td_cdr.specs.Writing.{Draft, Adds}
 use Rattle.td_giop.specs.Written.{reply_start}
 use Rattle.td_giop.proofs.Lengths.{reply_start_length}
 
-pub started_short : (s : Draft) (order : Order) (room id status : ℕ) (bytes : List ℕ)
-    → s ≡ record { bytes = []; order = order; room = room } → bytes ≡ s.bytes ++ reply_start s.order id status
+pub started_short : (s : Draft) (order : Order) (room minor id status : ℕ) (bytes : List ℕ)
+    → s ≡ record { bytes = []; order = order; room = room } → bytes ≡ s.bytes ++ reply_start s.order minor id status
     → length bytes ≤ 24
-started_short s order room id status bytes e h =
-    let h2 : bytes ≡ [] ++ reply_start order id status = rw e at h in
-    omega (arith, ap (length {A = ℕ}) h2, reply_start_length order id status)
+started_short s order room minor id status bytes e h =
+    let h2 : bytes ≡ [] ++ reply_start order minor id status = rw e at h in
+    omega (arith, ap (length {A = ℕ}) h2, reply_start_length order minor id status)
 
 -- what is written behind the start of a Reply keeps its header
-pub started_long : (order : Order) (id status : ℕ) (before bytes all more : List ℕ)
-    → bytes ≡ before ++ reply_start order id status → all ≡ bytes ++ more → 12 ≤ length all
-started_long order id status before bytes all more started grown =
+pub started_long : (order : Order) (minor id status : ℕ) (before bytes all more : List ℕ)
+    → bytes ≡ before ++ reply_start order minor id status → all ≡ bytes ++ more → 12 ≤ length all
+started_long order minor id status before bytes all more started grown =
     omega (
       arith,
       ap (length {A = ℕ}) started,
       ap (length {A = ℕ}) grown,
       length-append bytes more,
-      length-append before (reply_start order id status),
-      reply_start_length order id status,
+      length-append before (reply_start order minor id status),
+      reply_start_length order minor id status,
     )
 
 pub room_still : (s : Draft) (order : Order) (room then now : ℕ) → s ≡ record { bytes = []; order = order; room = room }

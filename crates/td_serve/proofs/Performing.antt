@@ -23,11 +23,11 @@ use Rattle.td_serve.specs.declared.reply_to.ReplyTo.{ReplyTo}
 use Rattle.td_walk.specs.declared.trace.Address.{Address}
 
 -- a Reply was begun with its head alone
-pub head_length : (before bytes : List ℕ) (order : Order) (id status : ℕ) → before ≡ []
-    → bytes ≡ before ++ reply_start order id status → length bytes ≡ 24
-head_length before bytes order id status none is =
-    ap (λ (xs : List ℕ). length xs) (is ∙ ap (λ (xs : List ℕ). xs ++ reply_start order id status) none)
-    ∙ reply_start_length order id status
+pub head_length : (before bytes : List ℕ) (order : Order) (minor id status : ℕ) → before ≡ []
+    → bytes ≡ before ++ reply_start order minor id status → length bytes ≡ 24
+head_length before bytes order minor id status none is =
+    ap (λ (xs : List ℕ). length xs) (is ∙ ap (λ (xs : List ℕ). xs ++ reply_start order minor id status) none)
+    ∙ reply_start_length order minor id status
 
 -- from one that holds of what can be taken back to another
 pub long_from : (b : ReplyBody) (P Q : Type 0) → (P → Q) → IfLong b P → IfLong b Q
@@ -97,8 +97,8 @@ module _ (others : List Accepted → Type 0) (later : Marks → Marks → Type 0
   pub unbegun_performed : (to : ReplyTo) (written : Draft) (e : Entry) → Unserved others later home j s no_memory e t
       → Performed others later home to j k s (reply_body.Outcome no_memory) e written t
   unbegun_performed to written e h = record {
-    draft = record { bytes = reply_start to.order to.id 0; order = to.order; room = 0 };
+    draft = record { bytes = reply_start to.order to.minor to.id 0; order = to.order; room = 0 };
     begun = record { bytes = refl; is_in = refl };
     performs =
-        memory_performs (record { bytes = reply_start to.order to.id 0; order = to.order; room = 0 }) written e h;
+        memory_performs (record { bytes = reply_start to.order to.minor to.id 0; order = to.order; room = 0 }) written e h;
   }

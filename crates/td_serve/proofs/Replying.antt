@@ -38,29 +38,34 @@ unexpected : (to : ReplyTo) (o : Outcome) → to.answered ≡ false → reply_fo
 unexpected to o e = ap (λ c. cond c (outcome_reply to o) []) e
 
 -- the Reply for a result whose body stands behind the head
-result_bytes : (order : Order) (id status : ℕ) (o : Outcome) (bytes : List ℕ) → status ≡ 0
-    → bytes ≡ reply_start order id 0 ++ outcome_piece o order (length (reply_start order id 0))
-    → sealed order bytes ≡ sealed order (reply_start order id status ++ outcome_piece o order (length (reply_start order
-    id status)))
-result_bytes order id status o bytes done is =
+result_bytes : (order : Order) (minor id status : ℕ) (o : Outcome) (bytes : List ℕ) → status ≡ 0
+    → bytes ≡ reply_start order minor id 0 ++ outcome_piece o order (length (reply_start order minor id 0))
+    → sealed order bytes
+    ≡ sealed order (reply_start order minor id status
+    ++ outcome_piece o order (length (reply_start order minor id status)))
+result_bytes order minor id status o bytes done is =
     subst
-    (λ (n : ℕ). sealed order bytes ≡ sealed order (reply_start order id n ++ outcome_piece o order (length (reply_start
-    order id n)))) (sym done) (ap (sealed order) is)
+    (λ (n : ℕ). sealed order bytes
+    ≡ sealed order (reply_start order minor id n ++ outcome_piece o order (length (reply_start order minor id n))))
+    (sym done) (ap (sealed order) is)
 
 written_bytes : (to : ReplyTo) (o : Outcome) (draft written : Draft) → BeginsReply to draft
     → outcome_status o ≡ 0 → written.bytes ≡ draft.bytes ++ outcome_piece o draft.order (length draft.bytes)
     → written.order ≡ draft.order → sealed written.order written.bytes ≡ outcome_reply to o
 written_bytes to o draft written begun done bytes same =
     let order : Order = to.order in
+    let minor : ℕ = to.minor in
     let id : ℕ = to.id in
     let in_order : written.order ≡ order = same ∙ begun.is_in in
-    let with_head : written.bytes ≡ reply_start order id 0 ++ outcome_piece o draft.order (length (reply_start order id
-    0)) = bytes ∙ ap (λ (xs : List ℕ). xs ++ outcome_piece o draft.order (length xs)) begun.bytes in
-    let whole : written.bytes ≡ reply_start order id 0 ++ outcome_piece o order (length (reply_start order id 0)) =
-    with_head ∙ ap (λ (x : Order). reply_start order id 0 ++ outcome_piece o x (length (reply_start order id 0)))
+    let with_head : written.bytes ≡ reply_start order minor id 0 ++ outcome_piece o draft.order (length (reply_start
+    order minor id 0)) = bytes ∙ ap (λ (xs : List ℕ). xs ++ outcome_piece o draft.order (length xs)) begun.bytes in
+    let whole : written.bytes ≡ reply_start order minor id 0 ++ outcome_piece o order (length (reply_start order minor id 0))
+    =
+    with_head ∙ ap (λ (x : Order). reply_start order minor id 0
+    ++ outcome_piece o x (length (reply_start order minor id 0)))
     begun.is_in in
     ap (λ (x : Order). sealed x written.bytes) in_order
-    ∙ result_bytes order id (outcome_status o) o written.bytes done whole
+    ∙ result_bytes order minor id (outcome_status o) o written.bytes done whole
 
 module _ (others : List Accepted → Type 0) (later : Marks → Marks → Type 0) (home : Address) (to : ReplyTo) where
   serves : (j : Judged) (s t : Scene) (o : Outcome) (e settled : Entry) (draft : Draft) (bytes : List ℕ)
@@ -129,7 +134,7 @@ head_before reply_body.Written o to draft written begun h =
       ap (length {A = ℕ}) h.1,
       ap (length {A = ℕ}) begun.bytes,
       length-append draft.bytes (outcome_piece o draft.order (length draft.bytes)),
-      reply_start_length to.order to.id 0,
+      reply_start_length to.order to.minor to.id 0,
     )
 
 module _ (others : List Accepted → Type 0) (later : Marks → Marks → Type 0) (home : Address) (to : ReplyTo)
@@ -142,7 +147,7 @@ module _ (others : List Accepted → Type 0) (later : Marks → Marks → Type 0
 module _ (others : List Accepted → Type 0) (later : Marks → Marks → Type 0) (home : Address) (to : ReplyTo)
     (s : Scene) where
   abbrev begun_draft : Draft
-  begun_draft = record { bytes = reply_start to.order to.id 0; order = to.order; room = 0 }
+  begun_draft = record { bytes = reply_start to.order to.minor to.id 0; order = to.order; room = 0 }
 
   -- a Request that is refused
   pub refusal_served : (o : Outcome) (e : Entry) (bytes : List ℕ) → e ≡ Plain

@@ -5,4 +5,13 @@ use Rattle.td_serve.specs.Examples.{WorkedReplies}
 
 pub replies : WorkedReplies
 unfolding reply_start locate_reply_written
-replies = record { nothing = refl; truth = refl; refused = refl; unexpected = refl; here = refl; unknown = refl }
+replies = record {
+  nothing = refl;
+  truth = refl;
+  refused = refl;
+  newer = refl;
+  unexpected = refl;
+  here = refl;
+  newer_here = refl;
+  unknown = refl;
+}

@@ -9,7 +9,7 @@ ghost use Rattle.td_reply.specs.Classes.{IsOfClass};
 ghost use Rattle.td_reply.specs.declared.entry.Entry.TheVariants.{Plain};
 ghost use Rattle.td_reply.specs.declared.judging.Judged.{Judged};
 ghost use Rattle.td_reply.specs.declared.judging.Judged.TheVariants.{Refused};
-ghost use Rattle.td_serve.specs.ReplyBytes.{outcome_reply, reply_for};
+ghost use Rattle.td_serve.specs.ReplyBytes.{IsWritable, outcome_reply, reply_for};
 ghost use Rattle.td_serve.specs.Requests.{Served};
 ghost use Rattle.td_serve.specs.Serving.{not_begun};
 ghost use Rattle.td_walk.specs.declared.trace.Address.{Address};
@@ -32,6 +32,7 @@ pub fn refuse_memory<B: Backend>(
     to: ReplyTo,
     class: RequestClass,
 ) -> Entry
+    requires version { IsWritable to }
     ensures served { (home : Address) (j : Judged) (s : Scene) → IsOfClass class j
         → Served B.others B.later home to j s no_memory result replies.new s }
     ensures entry { result ≡ unbegun_entry class }
@@ -69,6 +70,7 @@ pub(crate) fn serve_refusal<B: Backend>(
     to: ReplyTo,
     outcome: Outcome,
 ) -> Entry
+    requires version { IsWritable to }
     ensures served { (home : Address) (s : Scene) → (o : Told) × Served B.others B.later home to
         (Refused outcome) s o result replies.new s }
     ensures entry { result ≡ Plain }
@@ -79,6 +81,7 @@ pub(crate) fn serve_refusal<B: Backend>(
 
 /// Leaves the Reply for an outcome, or NO_MEMORY; no bytes where no reply is expected.
 fn answer_refusal(alloc: Global, replies: &mut Replies, to: ReplyTo, outcome: Outcome)
+    requires version { IsWritable to }
     ensures { (replies.new ≡ reply_for to outcome) ⊎ (replies.new ≡ reply_for to no_memory) }
 {
     if to.answered {
@@ -91,6 +94,7 @@ fn answer_refusal(alloc: Global, replies: &mut Replies, to: ReplyTo, outcome: Ou
 
 /// Leaves NO_MEMORY; no bytes where no reply is expected.
 fn answer_no_memory(alloc: Global, replies: &mut Replies, to: ReplyTo)
+    requires version { IsWritable to }
     ensures { replies.new ≡ reply_for to no_memory }
 {
     if to.answered {
@@ -102,6 +106,7 @@ fn answer_no_memory(alloc: Global, replies: &mut Replies, to: ReplyTo)
 
 /// Leaves the Reply for an outcome, or NO_MEMORY.
 fn tell_refusal(alloc: Global, replies: &mut Replies, to: ReplyTo, outcome: Outcome)
+    requires version { IsWritable to }
     ensures { (replies.new ≡ outcome_reply to outcome) ⊎ (replies.new ≡ outcome_reply to no_memory) }
 {
     let told = tell_outcome(alloc, &mut replies.short, &mut replies.long, to, &outcome);
@@ -114,6 +119,7 @@ fn tell_refusal(alloc: Global, replies: &mut Replies, to: ReplyTo, outcome: Outc
 
 /// Leaves NO_MEMORY, for which there is always room.
 fn tell_no_memory(alloc: Global, replies: &mut Replies, to: ReplyTo)
+    requires version { IsWritable to }
     ensures { replies.new ≡ outcome_reply to no_memory }
 {
     let outcome = no_memory();

@@ -1,8 +1,9 @@
 //! Where the replies of a session are written.
 
-ghost use Rattle.std.specs.Prelude.{◌≡◌, [], IsTrue, IfOk, OnOk};
+ghost use Rattle.std.specs.Prelude.{◌≡◌, ◌≤◌, [], IsTrue, IfOk, OnOk};
+ghost use Rattle.td_giop.specs.declared.header.TheConstants.{NEWEST_MINOR};
 ghost use Rattle.td_ops.specs.Outcomes.{is_short};
-ghost use Rattle.td_serve.specs.ReplyBytes.{locate_reply, outcome_reply};
+ghost use Rattle.td_serve.specs.ReplyBytes.{IsWritable, locate_reply, outcome_reply};
 
 use crate::reply_to::ReplyTo;
 use crate::writing::{write_location, write_short};
@@ -74,16 +75,18 @@ impl Replies {
     }
 
     /// Leaves the LocateReply for a key, for which there is always room.
-    pub fn locate(&mut self, order: Order, id: u32, live: bool)
-        ensures { self.new ≡ locate_reply order id live }
+    pub fn locate(&mut self, order: Order, minor: u8, id: u32, live: bool)
+        requires { minor ≤ NEWEST_MINOR }
+        ensures { self.new ≡ locate_reply order minor id live }
     {
         self.is_long = false;
-        write_location(&mut self.short, order, id, live);
+        write_location(&mut self.short, order, minor, id, live);
     }
 
     /// Leaves the Reply for a short outcome, for which there is always room.
     pub(crate) fn tell_short(&mut self, alloc: Global, to: ReplyTo, outcome: &Outcome)
-        requires { IsTrue (is_short outcome.now) }
+        requires version { IsWritable to }
+        requires short { IsTrue (is_short outcome.now) }
         ensures { self.new ≡ outcome_reply to outcome.now }
     {
         self.is_long = false;

@@ -8,6 +8,8 @@ use td_cdr::Order;
 pub struct ReplyTo {
     /// The byte order of the Request, which its reply has too.
     pub order: Order,
+    /// The minor version of the Request, at most `NEWEST_MINOR`, which its reply has too.
+    pub minor: u8,
     /// The Request's id, which its reply repeats.
     pub id: u32,
     /// Whether a reply is expected.

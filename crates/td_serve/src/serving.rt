@@ -8,6 +8,7 @@ ghost use Rattle.td_reply.specs.Judging.{IsServable};
 ghost use Rattle.td_reply.specs.declared.class.RequestClass.{RequestClass};
 ghost use Rattle.td_reply.specs.declared.judging.Judged.TheVariants as spelled;
 ghost use Rattle.td_serve.specs.Backends.{scene_of};
+ghost use Rattle.td_serve.specs.ReplyBytes.{IsWritable};
 ghost use Rattle.td_serve.specs.Requests.{NotesNoCall, Served};
 ghost use Rattle.td_serve.specs.Serving.{Performed, Performs};
 
@@ -39,6 +40,7 @@ pub fn serve_request<B: Backend>(
     to: ReplyTo,
     judged: Judged,
 ) -> Entry
+    requires version { IsWritable to }
     requires servable { IsServable (B.seen backend.old).world judged }
     requires home { IsAddress home.now }
     requires numbers { desk.old.1 < 2 ^ 63 }
@@ -66,6 +68,7 @@ fn serve_call<B: Backend>(
     object: Object,
     call: Call,
 ) -> Entry
+    requires version { IsWritable to }
     requires servable { IsServable (B.seen backend.old).world (spelled.Call object call) }
     requires home { IsAddress home.now }
     requires numbers { desk.old.1 < 2 ^ 63 }
@@ -108,6 +111,7 @@ fn perform<B: Backend>(
     object: Object,
     call: Call,
 ) -> Answer
+    requires version { IsWritable to }
     requires servable { IsServable (B.seen backend.old).world (spelled.Call object call) }
     requires home { IsAddress home.now }
     requires numbers { desk.old.1 < 2 ^ 63 }
@@ -117,7 +121,7 @@ fn perform<B: Backend>(
         (scene_of (B.seen backend.new) desk.new) }
 {
     w.restart(to.order);
-    match start_reply(w, to.id, NO_EXCEPTION) {
+    match start_reply(w, to.minor, to.id, NO_EXCEPTION) {
         Ok(()) => answer_call(alloc, backend, home, desk, w, object, call),
         Err(_) => {
             let class = class_of(&call);

@@ -5,7 +5,7 @@ ghost use Rattle.td_lookup.specs.Telling.{in_vain};
 ghost use Rattle.td_lookup.specs.Unserved.{wanting};
 ghost use Rattle.td_ops.specs.Outcomes.{is_short};
 ghost use Rattle.td_reply.specs.Answers.{IfLong};
-ghost use Rattle.td_serve.specs.ReplyBytes.{chosen, outcome_reply};
+ghost use Rattle.td_serve.specs.ReplyBytes.{IsWritable, chosen, outcome_reply};
 ghost use Rattle.td_serve.specs.Serving.{HasHead, Settles, SettlesBody, SettlesOutcome};
 
 use crate::backend::Backend;
@@ -36,6 +36,7 @@ pub(crate) fn settle<B: Backend>(
     to: ReplyTo,
     answer: Answer,
 ) -> Settled
+    requires version { IsWritable to }
     requires reserved { 512 ≤ short.old.room }
     requires head { HasHead answer.body long.old }
     requires within { IfLong answer.body (trader < length (B.seen backend.now).world) }
@@ -84,6 +85,7 @@ fn settle_body<B: Backend>(
     body: ReplyBody,
     entry: Entry,
 ) -> Settled
+    requires version { IsWritable to }
     requires reserved { 512 ≤ short.old.room }
     requires head { HasHead body long.old }
     requires within { IfLong body (trader < length (B.seen backend.now).world) }
@@ -116,6 +118,7 @@ fn settle_outcome<B: Backend>(
     outcome: Outcome,
     entry: Entry,
 ) -> Settled
+    requires version { IsWritable to }
     requires reserved { 512 ≤ short.old.room }
     requires within { is_short outcome ≡ false → trader < length (B.seen backend.now).world }
     ensures settles { SettlesOutcome (B.seen backend.now).world trader to outcome entry result.entry
@@ -142,7 +145,8 @@ pub(crate) fn tell_outcome(
     to: ReplyTo,
     outcome: &Outcome,
 ) -> Result<bool, Memory>
-    requires { 512 ≤ short.old.room }
+    requires version { IsWritable to }
+    requires room { 512 ≤ short.old.room }
     ensures ok { IfOk result (λ is_long. chosen is_long short.new long.new ≡ outcome_reply to outcome.now) }
     ensures err { OnErr result (is_short outcome.now ≡ false) }
     ensures reserved { 512 ≤ short.new.room }
@@ -165,6 +169,7 @@ fn settle_in_vain<B: Backend>(
     to: ReplyTo,
     entry: Entry,
 ) -> Settled
+    requires version { IsWritable to }
     requires reserved { 512 ≤ short.old.room }
     requires within { trader < length (B.seen backend.now).world }
     ensures entry { result.entry ≡ in_vain (B.seen backend.now).world trader entry }

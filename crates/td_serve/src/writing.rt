@@ -3,7 +3,8 @@
 ghost use Rattle.std.specs.Prelude.{◌≡◌, ◌≤◌, IsTrue, IsOk, OnOk};
 ghost use Rattle.td_ops.specs.Outcomes.{is_short};
 ghost use Rattle.td_ops.specs.declared.outcome.Outcome.TheVariants.{Done};
-ghost use Rattle.td_serve.specs.ReplyBytes.{locate_reply, outcome_reply};
+ghost use Rattle.td_giop.specs.declared.header.TheConstants.{NEWEST_MINOR};
+ghost use Rattle.td_serve.specs.ReplyBytes.{IsWritable, locate_reply, outcome_reply};
 
 use crate::reply_to::ReplyTo;
 use std::alloc::Global;
@@ -52,12 +53,13 @@ pub(crate) fn write_reply(
     to: ReplyTo,
     outcome: &Outcome,
 ) -> Result<(), Memory>
+    requires version { IsWritable to }
     ensures ok { OnOk result (writer.new.bytes ≡ outcome_reply to outcome.now) }
     ensures room { IsTrue (is_short outcome.now) → writer.old.room ≤ writer.new.room }
     ensures fits { IsTrue (is_short outcome.now) → 512 ≤ writer.old.room → IsOk result }
 {
     writer.restart(to.order);
-    start_reply(writer, to.id, status_of(outcome))?;
+    start_reply(writer, to.minor, to.id, status_of(outcome))?;
     write_outcome(alloc, writer, outcome)?;
     seal(writer);
     Ok(())
@@ -65,6 +67,7 @@ pub(crate) fn write_reply(
 
 /// Writes the Reply for a short outcome, for which there is always room.
 pub(crate) fn write_short(alloc: Global, writer: &mut Writer, to: ReplyTo, outcome: &Outcome)
+    requires version { IsWritable to }
     requires short { IsTrue (is_short outcome.now) }
     requires room { 512 ≤ writer.old.room }
     ensures bytes { writer.new.bytes ≡ outcome_reply to outcome.now }
@@ -74,13 +77,14 @@ pub(crate) fn write_short(alloc: Global, writer: &mut Writer, to: ReplyTo, outco
 }
 
 /// Writes a LocateReply, for which there is always room.
-pub(crate) fn write_location(writer: &mut Writer, order: Order, id: u32, live: bool)
-    requires { 512 ≤ writer.old.room }
-    ensures bytes { writer.new.bytes ≡ locate_reply order id live }
+pub(crate) fn write_location(writer: &mut Writer, order: Order, minor: u8, id: u32, live: bool)
+    requires room { 512 ≤ writer.old.room }
+    requires version { minor ≤ NEWEST_MINOR }
+    ensures bytes { writer.new.bytes ≡ locate_reply order minor id live }
     ensures room { 512 ≤ writer.new.room }
 {
     writer.restart(order);
     let status = u32::from(live);
-    write_locate_reply(writer, id, status).unwrap();
+    write_locate_reply(writer, minor, id, status).unwrap();
     seal(writer);
 }

@@ -8,7 +8,7 @@ use Rattle.td_lookup.specs.Scenes.{Scene}
 use Rattle.td_register.specs.declared.history.Accepted.{Accepted}
 use Rattle.td_reply.specs.declared.entry.Entry.{Entry}
 use Rattle.td_stream.specs.Exchanges.{Exchange, Run as StreamRun}
-use Rattle.td_stream.specs.Messages.{behind, kind_of}
+use Rattle.td_stream.specs.Messages.{behind, kind_of, minor_of}
 use Rattle.td_stream.specs.Outside.{Outside}
 use Rattle.td_stream.specs.Steps.{answers, step_of}
 use Rattle.td_stream.specs.Streams.{Finishes, Streams}
@@ -23,8 +23,8 @@ use Rattle.td_session.proofs.Leading.{journal-append, leads-kept, leads-then}
 
 -- ---- the step of a message that is served
 
-request_answers : (m : List ℕ) (head : Request) (body : At) → kind_of m ≡ 0 → request_at (behind m) ≡ Ok (head, body)
-    → step_of m ≡ answers
+request_answers : (m : List ℕ) (head : Request) (body : At) → kind_of m ≡ 0
+    → request_at (minor_of m) (behind m) ≡ Ok (head, body) → step_of m ≡ answers
 unfolding step_of
 request_answers m head body kind read = rw (kind, read) refl
 

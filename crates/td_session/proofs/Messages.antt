@@ -13,7 +13,7 @@ use Rattle.td_register.specs.declared.history.Accepted.{Accepted}
 use Rattle.td_reply.specs.Linking.{PeersSeen}
 use Rattle.td_reply.specs.declared.entry.Entry.{Entry}
 use Rattle.td_stream.specs.Heads.{IsMessage}
-use Rattle.td_stream.specs.Messages.{order_of}
+use Rattle.td_stream.specs.Messages.{behind, minor_of, order_of}
 use Rattle.td_trader.specs.Worlds.{View}
 use Rattle.td_turns.specs.Turns.{IsTurn, ServesCancel, ServesLocate, ServesRequest}
 use Rattle.td_turns.specs.Turns.{request as request_turn, locate as locate_turn, cancel as cancel_turn}
@@ -27,17 +27,20 @@ first_number d e = omega (arith, ap (λ (x : Live). x.1) e)
 
 module _ (others : List Accepted → Type 0) (later : Marks → Marks → Type 0) where
   noted_so : (s u : Stage) (m : Raw) (reply : List ℕ) (head : Request) (body : At) → IsMessage m → m.kind ≡ 0
-      → request_at (behind_header m.order m.bytes.now) ≡ Ok (head, body)
-      → NotesHead others later m.order head body s reply u → ServesMessage others later s m.bytes.now reply u
+      → request_at m.minor (behind_header m.order m.bytes.now) ≡ Ok (head, body)
+      → NotesHead others later m.order m.minor head body s reply u → ServesMessage others later s m.bytes.now reply u
   noted_so s u m reply head body is kind read notes =
-      let n : NotesHead others later (order_of m.bytes.now) head body s reply u =
-      subst (λ (o : Order). NotesHead others later o head body s reply u) is.order notes in
+      let n : NotesHead others later (order_of m.bytes.now) (minor_of m.bytes.now) head body s reply u =
+      subst (λ (v : ℕ). NotesHead others later (order_of m.bytes.now) v head body s reply u) is.minor
+      (subst (λ (o : Order). NotesHead others later o m.minor head body s reply u) is.order notes) in
       let t = turn_of m.bytes.now (Some n.serves.noted) reply u.scene in
       let serves : ServesRequest others later s.home s.scene t = record {
         head = head;
         body = body;
         kind = sym is.kind ∙ kind;
-        read = subst (λ (o : Order). request_at (behind_header o m.bytes.now) ≡ Ok (head, body)) is.order read;
+        read =
+            subst (λ (n : ℕ). request_at n (behind m.bytes.now) ≡ Ok (head, body)) is.minor
+            (subst (λ (o : Order). request_at m.minor (behind_header o m.bytes.now) ≡ Ok (head, body)) is.order read);
         noted = n.serves.noted;
         request = refl;
         asks = n.serves.asks;
@@ -57,8 +60,8 @@ module _ (others : List Accepted → Type 0) (later : Marks → Marks → Type 0
   -- a Request that is served and noted is answered so, where room was found to note it
   pub request_served : {E : Type 0} (result : Result (Unit {0}) E) (s u : Stage) (m : Raw) (reply : List ℕ)
       (head : Request) (body : At) → IsMessage m → m.kind ≡ 0
-      → request_at (behind_header m.order m.bytes.now) ≡ Ok (head, body)
-      → OnOk result (NotesHead others later m.order head body s reply u)
+      → request_at m.minor (behind_header m.order m.bytes.now) ≡ Ok (head, body)
+      → OnOk result (NotesHead others later m.order m.minor head body s reply u)
       → OnOk result (ServesMessage others later s m.bytes.now reply u)
   request_served (Ok v) s u m reply head body is kind read notes = noted_so s u m reply head body is kind read notes
   request_served (Err f) s u m reply head body is kind read notes = tt

@@ -17,19 +17,19 @@ use Rattle.td_session.specs.Stages.{Stage, Leads, turn_of}
 
 module _ (others : List Accepted → Type 0) (later : Marks → Marks → Type 0) where
   -- The Request is judged and served at this scene; this is noted of it, and these bytes are its reply.
-  pub record ServesHead (home : Address) (order : Order) (head : Request) (body : At) (s : Scene) (e : Entry)
-      (reply : List ℕ) (u : Scene) : Type 0 where
+  pub record ServesHead (home : Address) (order : Order) (minor : ℕ) (head : Request) (body : At) (s : Scene)
+      (e : Entry) (reply : List ℕ) (u : Scene) : Type 0 where
     pub noted : Noted
     pub asks : noted.judged ≡ judged s.world s.desk head.key head.operation body
-    pub served : Served others later home (reply_to order head) noted.judged s noted.outcome noted.entry reply u
+    pub served : Served others later home (reply_to order minor head) noted.judged s noted.outcome noted.entry reply u
     pub no_call : NotesNoCall (request_class s.world s.desk head.key head.operation) noted.judged noted.entry
     pub entry : noted.entry ≡ e
 
   -- and it is noted behind the journal
-  pub record NotesHead (order : Order) (head : Request) (body : At) (s : Stage) (reply : List ℕ) (u : Stage)
-      : Type 0 where
+  pub record NotesHead (order : Order) (minor : ℕ) (head : Request) (body : At) (s : Stage) (reply : List ℕ)
+      (u : Stage) : Type 0 where
     pub entry : Entry
-    pub serves : ServesHead s.home order head body s.scene entry reply u.scene
+    pub serves : ServesHead s.home order minor head body s.scene entry reply u.scene
     pub journal : u.journal ≡ s.journal ++ entry ∷ []
     pub home : u.home ≡ s.home
 

@@ -40,7 +40,14 @@ pub(crate) fn answer_message<B: Backend, J: Journal>(
         (Stays (stage_in (B.seen backend.old) room.old) (stage_in (B.seen backend.new) room.new)) }
 {
     match head {
-        Head::Request(request) => answer_request(alloc, backend, room, message.order, request),
+        Head::Request(request) => answer_request(
+            alloc,
+            backend,
+            room,
+            message.order,
+            message.minor,
+            request,
+        ),
         Head::Locate(id, key) => {
             answer_locate(
                 backend,
@@ -75,5 +82,5 @@ fn answer_locate<B: Backend>(
     ensures desk { desk.new ≡ desk.old }
 {
     let live = backend.find_object(desk, key).is_some();
-    replies.locate(message.order, id, live);
+    replies.locate(message.order, message.minor, id, live);
 }

@@ -1,6 +1,7 @@
 //! A Request: it is served, and what came of it is noted.
 
-ghost use Rattle.std.specs.Prelude.{◌<◌, ◌^◌, OnOk, OnErr};
+ghost use Rattle.std.specs.Prelude.{◌≤◌, ◌<◌, ◌^◌, OnOk, OnErr};
+ghost use Rattle.td_giop.specs.declared.header.TheConstants.{NEWEST_MINOR};
 ghost use Rattle.td_objects.specs.References.{IsAddress};
 ghost use Rattle.td_serve.specs.Backends.{scene_of};
 ghost use Rattle.td_session.specs.Serving.{NotesHead, ServesHead, Stays};
@@ -27,11 +28,13 @@ pub(crate) fn answer_request<B: Backend, J: Journal>(
     backend: &mut B,
     room: &mut Room<J>,
     order: Order,
+    minor: u8,
     head: &RequestHead,
 ) -> Result<(), Memory>
-    requires { room.old.desk.1 < 2 ^ 63 }
+    requires version { minor ≤ NEWEST_MINOR }
+    requires numbers { room.old.desk.1 < 2 ^ 63 }
     ensures same { B.same backend.old backend.new }
-    ensures ok { OnOk result (NotesHead B.others B.later order (asked_of head.now) head.now.body
+    ensures ok { OnOk result (NotesHead B.others B.later order minor (asked_of head.now) head.now.body
         (stage_in (B.seen backend.old) room.old) room.new.replies (stage_in (B.seen backend.new) room.new)) }
     ensures err { OnErr result
         (Stays (stage_in (B.seen backend.old) room.old) (stage_in (B.seen backend.new) room.new)) }
@@ -44,6 +47,7 @@ pub(crate) fn answer_request<B: Backend, J: Journal>(
         &mut room.desk,
         &mut room.replies,
         order,
+        minor,
         head,
     );
     room.journal.note(entry);
@@ -58,16 +62,19 @@ fn serve_head<B: Backend>(
     desk: &mut Desk,
     replies: &mut Replies,
     order: Order,
+    minor: u8,
     head: &RequestHead,
 ) -> Entry
+    requires version { minor ≤ NEWEST_MINOR }
     requires home { IsAddress home.now }
     requires numbers { desk.old.1 < 2 ^ 63 }
     ensures same { B.same backend.old backend.new }
-    ensures serves { ServesHead B.others B.later home.now order (asked_of head.now) head.now.body
+    ensures serves { ServesHead B.others B.later home.now order minor (asked_of head.now) head.now.body
         (scene_of (B.seen backend.old) desk.old) result replies.new (scene_of (B.seen backend.new) desk.new) }
 {
     let to = ReplyTo {
         order,
+        minor,
         id: head.id,
         answered: head.answered,
     };

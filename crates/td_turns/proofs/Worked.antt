@@ -13,7 +13,7 @@ use Rattle.td_reply.specs.Objects.{object_at}
 use Rattle.td_serve.specs.ReplyBytes.{locate_reply}
 use Rattle.td_trader.specs.Worlds.{View}
 use Rattle.td_turns.specs.Examples.{WorkedJournal, WorkedRun, cancelling, locating, unknown}
-use Rattle.td_stream.specs.Messages.{behind, order_of}
+use Rattle.td_stream.specs.Messages.{behind, minor_of, order_of}
 use Rattle.td_turns.specs.Turns.{cancel, is_live, locate}
 use Rattle.td_walk.specs.declared.trace.Address.{Address}
 
@@ -40,12 +40,12 @@ no-object : (w : List View) (d : Live) → is_live w d (120 ∷ []) ≡ false
 unfolding object_at key_of
 no-object w d = refl
 
-reply-told : unknown ≡ locate_reply (order_of locating) 6 false
+reply-told : unknown ≡ locate_reply (order_of locating) (minor_of locating) 6 false
 unfolding locate_reply_written
 reply-told = refl
 
-unknown-told : (s : Scene) → unknown ≡ locate_reply (order_of locating) 6 (is_live s.world s.desk (120 ∷ []))
-unknown-told s = reply-told ∙ ap (λ (b : Bool). locate_reply (order_of locating) 6 b) (sym (no-object s.world s.desk))
+unknown-told : (s : Scene) → unknown ≡ locate_reply (order_of locating) (minor_of locating) 6 (is_live s.world s.desk (120 ∷ []))
+unknown-told s = reply-told ∙ ap (λ (b : Bool). locate_reply (order_of locating) (minor_of locating) 6 b) (sym (no-object s.world s.desk))
 
 pub run : (others : List Accepted → Type 0) (later : Marks → Marks → Type 0) (home : Address) (s : Scene)
     → WorkedRun others later home s

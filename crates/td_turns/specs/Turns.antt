@@ -18,7 +18,7 @@ use Rattle.td_reply.specs.declared.judging.Judged.{Judged}
 use Rattle.td_serve.specs.ReplyBytes.{locate_reply, reply_to}
 use Rattle.td_serve.specs.Requests.{NotesNoCall, Served}
 use Rattle.td_stream.specs.Exchanges.{Exchange, exchange}
-use Rattle.td_stream.specs.Messages.{behind, kind_of, order_of}
+use Rattle.td_stream.specs.Messages.{behind, kind_of, minor_of, order_of}
 use Rattle.td_trader.specs.Worlds.{View}
 use Rattle.td_walk.specs.declared.trace.Address.{Address}
 
@@ -46,7 +46,7 @@ pub record ServesLocate (s : Scene) (t : Turn) : Type 0 where
   pub kind : kind_of t.message ≡ LOCATE_REQUEST
   pub read : locate_at (behind t.message) ≡ Ok (id, key)
   pub request : t.request ≡ None
-  pub told : t.reply ≡ locate_reply (order_of t.message) id (is_live s.world s.desk key)
+  pub told : t.reply ≡ locate_reply (order_of t.message) (minor_of t.message) id (is_live s.world s.desk key)
   pub kept : t.after ≡ s
 
 -- nothing is answered, nothing changes, and nothing is noted
@@ -64,11 +64,11 @@ pub record ServesRequest (others : List Accepted → Type 0) (later : Marks → 
   pub head : Request
   pub body : At
   pub kind : kind_of t.message ≡ REQUEST
-  pub read : request_at (behind t.message) ≡ Ok (head, body)
+  pub read : request_at (minor_of t.message) (behind t.message) ≡ Ok (head, body)
   pub noted : Noted
   pub request : t.request ≡ Some noted
   pub asks : noted.judged ≡ judged s.world s.desk head.key head.operation body
-  pub served : Served others later home (reply_to (order_of t.message) head) noted.judged s noted.outcome noted.entry
+  pub served : Served others later home (reply_to (order_of t.message) (minor_of t.message) head) noted.judged s noted.outcome noted.entry
       t.reply t.after
   pub no_call : NotesNoCall (request_class s.world s.desk head.key head.operation) noted.judged noted.entry
 

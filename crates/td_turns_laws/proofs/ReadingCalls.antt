@@ -20,7 +20,7 @@ use Rattle.td_reply.specs.Objects.{object_at}
 use Rattle.td_reply.specs.declared.judging.Judged.TheVariants.{Call}
 use Rattle.td_reply.specs.declared.objects.Object.{Object}
 use Rattle.td_trader.specs.Worlds.{View}
-use Rattle.td_stream.specs.Messages.{behind}
+use Rattle.td_stream.specs.Messages.{behind, minor_of}
 
 -- a body of octets that stands within its message
 pub record IsBody (body : At) : Type 0 where
@@ -28,10 +28,10 @@ pub record IsBody (body : At) : Type 0 where
   pub within : body.origin ≤ body.place
 
 pub request-body : (message : List ℕ) (head : Request) (body : At) → AreOctets message
-    → request_at (behind message) ≡ Ok (head, body) → IsBody body
+    → request_at (minor_of message) (behind message) ≡ Ok (head, body) → IsBody body
 unfolding request_at
 request-body message head body octets is =
-    let w = request.lawful.found (behind message) head body (omega arith) is in
+    let w = (request (minor_of message)).lawful.found (behind message) head body (omega arith) is in
     record {
       octets = octets-back w.bytes body.rest (subst AreOctets w.parts (octets-drop HEADER_SIZE message octets));
       within = rw w.moved (omega arith);

@@ -33,9 +33,9 @@ told-if : (n : Noted) (to : ReplyTo) (answered : Bool) (bytes : List ℕ) → Is
 told-if n to false bytes ok short is = is
 told-if n to true bytes ok short is =
     let order : Order = to.order in
-    let start : List ℕ = reply_start order to.id (outcome_status n.outcome) in
+    let start : List ℕ = reply_start order to.minor to.id (outcome_status n.outcome) in
     let body : List ℕ = outcome_piece n.outcome order (length start) in
-    let head : length start ≡ 24 = reply_start_length order to.id (outcome_status n.outcome) in
+    let head : length start ≡ 24 = reply_start_length order to.minor to.id (outcome_status n.outcome) in
     let within : length body ≤ length (sealed order (start ++ body)) = sealed-longer order start body (omega arith) in
     let long : length bytes ≡ length (sealed order (start ++ body)) = ap (length {A = ℕ}) is in
     record {

@@ -17,7 +17,7 @@ use Rattle.td_serve.specs.Requests.{Answers, Comes}
 use Rattle.td_trader_laws.specs.WritableWorlds.{OthersAreAdmitted}
 use Rattle.td_turns.specs.Journals.{all_gave}
 use Rattle.td_serve.specs.ReplyBytes.{reply_to}
-use Rattle.td_stream.specs.Messages.{order_of}
+use Rattle.td_stream.specs.Messages.{minor_of, order_of}
 use Rattle.td_turns.specs.Turns.{IsTurn, Noted, Run, ServesRequest, Turn, cancel, locate, noted_in, noted_of, request}
 use Rattle.td_turns_laws.proofs.Calling.{calls-write, unserved-writes}
 use Rattle.td_turns_laws.proofs.Judgements.{judged-fits, refused-writes}
@@ -97,7 +97,7 @@ module _ (others : List Accepted → Type 0) (later : Marks → Marks → Type 0
           head = h.head;
           body = h.body;
           read = h.read;
-          told = reply-told n (reply_to (order_of t.message) h.head) t.reply here.0 sent.short h.served.reply;
+          told = reply-told n (reply_to (order_of t.message) (minor_of t.message) h.head) t.reply here.0 sent.short h.served.reply;
         };
         after = here.1;
       }

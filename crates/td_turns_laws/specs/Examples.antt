@@ -35,7 +35,7 @@ is_one x = record {
 
 -- what the Reply to the Request 5 answers
 abbrev pub to_five : ReplyTo
-to_five = record { order = Big; id = 5; answered = true }
+to_five = record { order = Big; minor = 0; id = 5; answered = true }
 
 -- that Reply, which ends with this octet
 abbrev pub is_one_told : (octet : ℕ) → List ℕ

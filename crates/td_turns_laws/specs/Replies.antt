@@ -10,7 +10,7 @@ use Rattle.td_register.specs.declared.history.Accepted.{Accepted}
 use Rattle.td_serve.specs.ReplyBytes.{reply_to}
 use Rattle.td_trader_laws.specs.WritableWorlds.{OthersAreAdmitted}
 use Rattle.td_turns.specs.Journals.{all_gave}
-use Rattle.td_stream.specs.Messages.{behind, order_of}
+use Rattle.td_stream.specs.Messages.{behind, minor_of, order_of}
 use Rattle.td_turns.specs.Turns.{Noted, Run, Turn, noted_of}
 use Rattle.td_turns_laws.specs.Spelled.{IsAnswered, IsTold}
 use Rattle.td_turns_laws.specs.Writable.{AdmitsGifts, IsWritableScene}
@@ -28,8 +28,8 @@ AreSent ts = AllByRecursion IsSent ts
 pub record IsRequestTold (n : Noted) (t : Turn) : Type 0 where
   pub head : Request
   pub body : At
-  pub read : request_at (behind t.message) ≡ Ok (head, body)
-  pub told : IsTold (reply_to (order_of t.message) head) n t.reply
+  pub read : request_at (minor_of t.message) (behind t.message) ≡ Ok (head, body)
+  pub told : IsTold (reply_to (order_of t.message) (minor_of t.message) head) n t.reply
 
 abbrev pub IsToldOf : Option Noted → Turn → Type 0
 IsToldOf None t = Unit {0}

@@ -83,9 +83,9 @@ SpellsAnswer (Refused r) o order place b = minor_of o < 2 ^ 32 → SpellsSystem 
 -- the bytes are a Reply to the Request of this id, under the outcome's status, whose body spells the outcome
 pub record IsSpelled (to : ReplyTo) (n : Noted) (bytes : List ℕ) : Type 0 where
   pub body : List ℕ
-  pub reply : bytes ≡ sealed to.order (reply_start to.order to.id (outcome_status n.outcome) ++ body)
+  pub reply : bytes ≡ sealed to.order (reply_start to.order to.minor to.id (outcome_status n.outcome) ++ body)
   pub spells : SpellsAnswer n.judged n.outcome to.order
-      (length (reply_start to.order to.id (outcome_status n.outcome))) body
+      (length (reply_start to.order to.minor to.id (outcome_status n.outcome))) body
 
 abbrev pub IsToldIf : (answered : Bool) → ReplyTo → Noted → List ℕ → Type 0
 IsToldIf false to n bytes = bytes ≡ []

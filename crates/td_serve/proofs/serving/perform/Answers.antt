@@ -12,7 +12,7 @@ use Rattle.td_serve.specs.Serving.{Performed}
 
 pub answer_call-requires-clause-start : goal.answer_call-requires-clause-start
 answer_call-requires-clause-start g c =
-    head_length c.restart.new.self.bytes c.start_reply.new.w.bytes c.restart.new.self.order c.args.to.id 0
+    head_length c.restart.new.self.bytes c.start_reply.new.w.bytes c.restart.new.self.order c.args.to.minor c.args.to.id 0
     (ap (λ (d : Draft). d.bytes) c.restart.ensures) c.in-Ok.ensures.done.0
 
 pub returns-in-Err-clause-performed : goal.returns-in-Err-clause-performed

@@ -5,12 +5,12 @@ use Rattle.td_serve.proofs.writing.write_location.Goals as goal
 
 pub unwrap-requires : goal.unwrap-requires
 unwrap-requires c =
-    written_whole _ _ _ _ _ _ c.restart.ensures c.requires
-    (omega (arith, locate_reply_written_length c.restart.new.self.order c.args.id c.from-status.result))
+    written_whole _ _ _ _ _ _ c.restart.ensures c.requires.room
+    (omega (arith, locate_reply_written_length c.restart.new.self.order c.args.minor c.args.id c.from-status.result))
     c.write_locate_reply.ensures
 
 pub seal-requires : goal.seal-requires
 seal-requires c =
     written_long _ _ _ _ _ c.unwrap.ensures
-    (omega (arith, locate_reply_written_length c.restart.new.self.order c.args.id c.from-status.result))
+    (omega (arith, locate_reply_written_length c.restart.new.self.order c.args.minor c.args.id c.from-status.result))
     c.write_locate_reply.ensures

@@ -6,7 +6,8 @@ use Rattle.td_serve.proofs.writing.write_reply.Goals as goal
 pub returns-in_err-start_reply-clause-fits : goal.returns-in_err-start_reply-clause-fits
 returns-in_err-start_reply-clause-fits c = λ short fits.
     absurd (not_refused _ _ (written_whole _ _ _ _ _ _ c.restart.ensures fits
-    (omega (arith, reply_start_length c.restart.new.self.order c.args.to.id c.status_of.result)) c.start_reply.ensures)
+    (omega (arith, reply_start_length c.restart.new.self.order c.args.to.minor c.args.to.id c.status_of.result))
+    c.start_reply.ensures)
     c.in_err-start_reply.was)
 
 pub returns-in_err-write_outcome-clause-room : goal.returns-in_err-write_outcome-clause-room
@@ -18,14 +19,14 @@ pub returns-in_err-write_outcome-clause-fits : goal.returns-in_err-write_outcome
 returns-in_err-write_outcome-clause-fits c = λ short fits.
     let started = c.in_ok-start_reply.ensures.done in
     let begun : length c.start_reply.new.w.bytes ≤ 24 =
-    started_short c.restart.new.self _ _ _ _ c.start_reply.new.w.bytes c.restart.ensures started.0 in
+    started_short c.restart.new.self _ _ _ _ _ c.start_reply.new.w.bytes c.restart.ensures started.0 in
     let room : 512 ≤ c.start_reply.new.w.room =
     room_kept c.restart.new.self c.start_reply.new.w _ _ c.restart.ensures started.2 fits in
     absurd (not_refused _ _ (c.write_outcome.ensures.small short (omega arith)) c.in_err-write_outcome.was)
 
 pub seal-requires : goal.seal-requires
 seal-requires c =
-    started_long _ _ _ _ _ _ _ c.in_ok-start_reply.ensures.done.0 c.in_ok-write_outcome.ensures.appends.done
+    started_long _ _ _ _ _ _ _ _ c.in_ok-start_reply.ensures.done.0 c.in_ok-write_outcome.ensures.appends.done
 
 pub returns-clause-room : goal.returns-clause-room
 returns-clause-room c = λ short.
