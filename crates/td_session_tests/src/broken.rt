@@ -32,7 +32,7 @@ pub const BAD_MAGIC: Story = Story {
     end: End::Broken(88, Cause::BadMagic),
 };
 
-/// A header of version 1.1.
+/// A header of version 1.2.
 pub const BAD_VERSION: Story = Story {
     file: PRINTERS,
     lines: "\
@@ -44,7 +44,7 @@ pub const BAD_VERSION: Story = Story {
         00000000010000000000000012000100000000000268000009000000027032000000000000000000010000000000000000000000\
         00\
         # the message at fault\n\
-        > 47494f500101000000000000\
+        > 47494f500102000000000000\
         < 47494f500100000600000000",
     journal: "A.",
     end: End::Broken(88, Cause::BadVersion),

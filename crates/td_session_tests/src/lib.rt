@@ -39,3 +39,5 @@ mod session_tests;
 mod story;
 #[cfg(test)]
 mod together;
+#[cfg(test)]
+mod versions;

@@ -6,16 +6,24 @@ use std::test::*;
 use td_cdr::Order;
 use td_giop::{FrameFault, Framer};
 
+/// What a header tells.
+#[derive(Clone, Copy)]
+struct Told {
+    minor: u8,
+    kind: u8,
+    order: Order,
+}
+
 /// Whether this message is lent, and again when it is asked for again.
-fn lends(framer: &mut Framer, start: u64, kind: u8, order: Order, bytes: &[u8]) -> bool
+fn lends(framer: &mut Framer, start: u64, told: Told, bytes: &[u8]) -> bool
     ensures { framer.new ≡ framer.old }
 {
     match framer.next_message() {
         Ok(Some(m)) => {
             m.start == start
-                && m.kind == kind
-                && m.order == order
-                && m.minor == 0
+                && m.kind == told.kind
+                && m.order == told.order
+                && m.minor == told.minor
                 && m.bytes == bytes
         }
         _ => false,
@@ -42,11 +50,15 @@ fn refuses(framer: &mut Framer, fault: FrameFault) -> bool
     }
 }
 
-/// A message of this type and order octet, with four bytes behind its header.
-fn message_of(kind: u8, flag: u8) -> [u8; 16] {
-    let (high, low) = if flag % 2 == 0 { (0, 4) } else { (4, 0) };
+/// A message with these flags, and with four bytes behind its header.
+fn message_of(told: Told, flags: u8) -> [u8; 16] {
+    let Told { minor, kind, .. } = told;
+    let (high, low) = match told.order {
+        Order::Big => (0, 4),
+        Order::Little => (4, 0),
+    };
     [
-        b'G', b'I', b'O', b'P', 1, 0, flag, kind, high, 0, 0, low, 9, 8, 7, 6,
+        b'G', b'I', b'O', b'P', 1, minor, flags, kind, high, 0, 0, low, 9, 8, 7, 6,
     ]
 }
 
@@ -61,7 +73,7 @@ fn feeds(framer: &mut Framer, piece: &[u8]) -> bool
 }
 
 /// Whether two messages come out of a stream that is cut there in the first and in the second.
-fn comes_whole(framer: &mut Framer, message: &[u8], cut: usize, kind: u8, order: Order) -> bool
+fn comes_whole(framer: &mut Framer, message: &[u8], cut: usize, told: Told) -> bool
     requires empty { framer.old.start + length framer.old.rest ≡ 0 }
     requires long { length message.now ≡ 16 }
     requires cut { cut ≤ 16 }
@@ -71,22 +83,34 @@ fn comes_whole(framer: &mut Framer, message: &[u8], cut: usize, kind: u8, order:
     let mut good = feeds(framer, front);
     good &= cut == 16 || lends_nothing(framer) && framer.ended_inside() == inside;
     good &= feeds(framer, back) && feeds(framer, front);
-    good &= lends(framer, 0, kind, order, message) && lends(framer, 0, kind, order, message);
+    good &= lends(framer, 0, told, message) && lends(framer, 0, told, message);
     framer.drop_message();
-    good &= feeds(framer, back) && lends(framer, 16, kind, order, message);
+    good &= feeds(framer, back) && lends(framer, 16, told, message);
     framer.drop_message();
     good && lends_nothing(framer) && framer.ended_inside() == None
 }
 
+/// In version 1.0 the lowest bit of the flags counts alone. In version 1.1 the next one is 0 in a message without
+/// fragments.
 #[test]
 fn messages_are_whole_wherever_a_stream_is_cut(rt: HostRuntime) -> Result<(), Fail> {
     let alloc = rt.alloc();
     for kind in 0..7u8 {
-        for (flag, order) in [(0, Order::Big), (1, Order::Little), (0x83, Order::Little)] {
-            let message = message_of(kind, flag);
+        for (minor, flags, order) in [
+            (0, 0, Order::Big),
+            (0, 1, Order::Little),
+            (0, 2, Order::Big),
+            (0, 0x83, Order::Little),
+            (1, 0, Order::Big),
+            (1, 1, Order::Little),
+            (1, 0xfc, Order::Big),
+            (1, 0xfd, Order::Little),
+        ] {
+            let told = Told { minor, kind, order };
+            let message = message_of(told, flags);
             for cut in 0..17usize {
                 let mut framer = Framer::new(alloc, 4).ok().ok_or("a framer")?;
-                assert!(rt; comes_whole(&mut framer, &message, cut, kind, order));
+                assert!(rt; comes_whole(&mut framer, &message, cut, told));
             }
         }
     }
@@ -121,15 +145,11 @@ fn bad_headers_are_refused(rt: HostRuntime) -> Result<(), Fail> {
             FrameFault::BadMagic,
         ),
         (
-            *b"GIOP\x01\x01\x00\x00\x00\x00\x00\x04",
-            FrameFault::BadVersion,
-        ),
-        (
-            *b"GIOP\x01\x01\x02\x07\x00\x00\x00\x05",
-            FrameFault::BadVersion,
-        ),
-        (
             *b"GIOP\x01\x02\x00\x00\x00\x00\x00\x04",
+            FrameFault::BadVersion,
+        ),
+        (
+            *b"GIOP\x01\x02\x02\x07\x00\x00\x00\x05",
             FrameFault::BadVersion,
         ),
         (
@@ -141,6 +161,30 @@ fn bad_headers_are_refused(rt: HostRuntime) -> Result<(), Fail> {
             FrameFault::BadVersion,
         ),
         (
+            *b"GIOP\x01\x01\x02\x00\x00\x00\x00\x04",
+            FrameFault::Fragmented,
+        ),
+        (
+            *b"GIOP\x01\x01\x03\x00\x04\x00\x00\x00",
+            FrameFault::Fragmented,
+        ),
+        (
+            *b"GIOP\x01\x01\xff\x06\x05\x00\x00\x00",
+            FrameFault::Fragmented,
+        ),
+        (
+            *b"GIOP\x01\x01\x02\x07\x00\x00\x00\x05",
+            FrameFault::Fragmented,
+        ),
+        (
+            *b"GIOP\x01\x01\x00\x07\x00\x00\x00\x04",
+            FrameFault::BadType,
+        ),
+        (
+            *b"GIOP\x01\x00\x02\x07\x00\x00\x00\x04",
+            FrameFault::BadType,
+        ),
+        (
             *b"GIOP\x01\x00\x00\x07\x00\x00\x00\x04",
             FrameFault::BadType,
         ),
@@ -150,6 +194,10 @@ fn bad_headers_are_refused(rt: HostRuntime) -> Result<(), Fail> {
         ),
         (
             *b"GIOP\x01\x00\x00\x06\x00\x00\x00\x05",
+            FrameFault::TooLarge,
+        ),
+        (
+            *b"GIOP\x01\x01\xfd\x06\x05\x00\x00\x00",
             FrameFault::TooLarge,
         ),
         (

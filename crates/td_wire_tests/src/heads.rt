@@ -220,30 +220,42 @@ fn without_old_bytes() -> [u8; 45] {
     request
 }
 
-fn writes_request(w: &mut Writer) -> bool
-    requires { w.old.bytes ≡ [] }
+fn writes_request(w: &mut Writer, minor: u8) -> bool
+    requires empty { w.old.bytes ≡ [] }
+    requires minor { minor ≤ 1 }
 {
-    start_request(w, 0, 7, true, b"ab", b"op").is_ok()
+    let mut expected = without_old_bytes();
+    expected[5] = minor;
+    start_request(w, minor, 7, true, b"ab", b"op").is_ok()
         && w.octet(5).is_ok()
-        && seals(w, &without_old_bytes())
+        && seals(w, &expected)
 }
 
-fn writes_reply(w: &mut Writer) -> bool
-    requires { w.old.bytes ≡ [] }
+fn writes_reply(w: &mut Writer, minor: u8) -> bool
+    requires empty { w.old.bytes ≡ [] }
+    requires minor { minor ≤ 1 }
 {
-    start_reply(w, 0, 7, 2).is_ok() && w.octet(6).is_ok() && seals(w, &ANSWER)
+    let mut expected = ANSWER;
+    expected[5] = minor;
+    start_reply(w, minor, 7, 2).is_ok() && w.octet(6).is_ok() && seals(w, &expected)
 }
 
-fn writes_locate(w: &mut Writer) -> bool
-    requires { w.old.bytes ≡ [] }
+fn writes_locate(w: &mut Writer, minor: u8) -> bool
+    requires empty { w.old.bytes ≡ [] }
+    requires minor { minor ≤ 1 }
 {
-    write_locate(w, 0, 3, b"k").is_ok() && seals(w, &LOCATE)
+    let mut expected = LOCATE;
+    expected[5] = minor;
+    write_locate(w, minor, 3, b"k").is_ok() && seals(w, &expected)
 }
 
-fn writes_locate_reply(w: &mut Writer) -> bool
-    requires { w.old.bytes ≡ [] }
+fn writes_locate_reply(w: &mut Writer, minor: u8) -> bool
+    requires empty { w.old.bytes ≡ [] }
+    requires minor { minor ≤ 1 }
 {
-    write_locate_reply(w, 0, 3, 1).is_ok() && seals(w, &LOCATED)
+    let mut expected = LOCATED;
+    expected[5] = minor;
+    write_locate_reply(w, minor, 3, 1).is_ok() && seals(w, &expected)
 }
 
 fn writes_close(w: &mut Writer) -> bool
@@ -255,9 +267,11 @@ fn writes_close(w: &mut Writer) -> bool
 #[test]
 fn messages_are_written(rt: HostRuntime) {
     let alloc = rt.alloc();
-    assert!(rt; writes_request(&mut Writer::new(alloc, Order::Big)));
-    assert!(rt; writes_reply(&mut Writer::new(alloc, Order::Big)));
-    assert!(rt; writes_locate(&mut Writer::new(alloc, Order::Little)));
-    assert!(rt; writes_locate_reply(&mut Writer::new(alloc, Order::Big)));
+    for minor in [0, 1] {
+        assert!(rt; writes_request(&mut Writer::new(alloc, Order::Big), minor));
+        assert!(rt; writes_reply(&mut Writer::new(alloc, Order::Big), minor));
+        assert!(rt; writes_locate(&mut Writer::new(alloc, Order::Little), minor));
+        assert!(rt; writes_locate_reply(&mut Writer::new(alloc, Order::Big), minor));
+    }
     assert!(rt; writes_close(&mut Writer::new(alloc, Order::Little)));
 }
