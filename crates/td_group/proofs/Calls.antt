@@ -22,13 +22,14 @@ use Rattle.td_changes.specs.Laws.{applied_after}
 use Rattle.td_changes.specs.declared.bounds.Bounds.{Bounds}
 use Rattle.td_cell.specs.Lists.{grown}
 use Rattle.td_cell.proofs.Chains.{just}
+use Rattle.td_trader.specs.Admitted.{AreAdmitted}
 use Rattle.td_trader.specs.Beginning.{begin_of, after_begin as marks_after}
 use Rattle.td_trader.specs.OfferLimits.{HasLimitedOffers}
 use Rattle.td_trader.specs.PlainTraders.{PlainTrader, after_outcome, store_of}
 use Rattle.td_trader.specs.Worlds.{Begun, Changes, Looks, View, Watches, after_begin}
 use Rattle.td_trader.specs.Worlds.{after_own, name_at, name_in, number_between, store_seen, view_of, with_view}
 use Rattle.td_trader.specs.declared.begin.Begin.{Begin}
-use Rattle.td_group.specs.Seeing.{TurnAt, anything}
+use Rattle.td_group.specs.Seeing.{TurnAt}
 use Rattle.td_stall.specs.declared.stall.Act.{Act}
 use Rattle.td_stall.specs.declared.stall.Act.TheVariants as act
 use Rattle.td_stall.specs.declared.stall.Reply.{Reply}
@@ -83,7 +84,7 @@ begun v b m is =
 -- ---- the calls
 
 module _ (w u : List View) (k : ℕ) where
-  watched : (a : Act) (r : Reply) (t : TurnAt w k a r u) → t.after ≡ t.before → Watches anything Later w k u
+  watched : (a : Act) (r : Reply) (t : TurnAt w k a r u) → t.after ≡ t.before → Watches AreAdmitted Later w k u
   watched a r t same = record {
     seen = t.seen;
     meanwhile = t.meanwhile;
@@ -91,25 +92,25 @@ module _ (w u : List View) (k : ℕ) where
   }
 
   pub changes_ok : (c : Change) (r : Result Outcome Memory) → TurnAt w k (act.Change c) (reply.Changed r) u
-      → IfOk r (λ o. Changes anything Later w k c o u)
+      → IfOk r (λ o. Changes AreAdmitted Later w k c o u)
   changes_ok c (Ok o) t = record {
     seen = t.seen;
     meanwhile = t.meanwhile;
-    outcome = t.acts.0 ∙ ap (λ (v : View). (applied_after v.bounds v.opening v.history c).outcome) (sym t.seen_is);
+    outcome = t.acts.changes.0 ∙ ap (λ (v : View). (applied_after v.bounds v.opening v.history c).outcome) (sym t.seen_is);
     world =
-        let after : t.after ≡ after_outcome t.before c o = t.acts.1 ∙ ap (after_outcome t.before c) (sym t.acts.0) in
+        let after : t.after ≡ after_outcome t.before c o = t.acts.changes.1 ∙ ap (after_outcome t.before c) (sym t.acts.changes.0) in
         t.world
         ∙ ap (with_view w k) (ap (seen-after t.seen t.before) after ∙ changed t.seen t.before c o t.seen_is);
   }
   changes_ok c (Err e) t = tt
 
   pub changes_err : (c : Change) (r : Result Outcome Memory) → TurnAt w k (act.Change c) (reply.Changed r) u
-      → OnErr r (Watches anything Later w k u)
+      → OnErr r (Watches AreAdmitted Later w k u)
   changes_err c (Ok o) t = tt
-  changes_err c (Err e) t = watched (act.Change c) (reply.Changed (Err e)) t t.acts
+  changes_err c (Err e) t = watched (act.Change c) (reply.Changed (Err e)) t t.acts.changes
 
   pub looks_ok : (l : Look) (r : Result (Outcome × ℕ) Memory) → TurnAt w k (act.Look l) (reply.Looked r) u
-      → IfOk r (λ a. Looks anything Later w k l a u)
+      → IfOk r (λ a. Looks AreAdmitted Later w k l a u)
   looks_ok l (Ok a) t = record {
     seen = t.seen;
     meanwhile = t.meanwhile;
@@ -119,12 +120,12 @@ module _ (w u : List View) (k : ℕ) where
   looks_ok l (Err e) t = tt
 
   pub looks_err : (l : Look) (r : Result (Outcome × ℕ) Memory) → TurnAt w k (act.Look l) (reply.Looked r) u
-      → OnErr r (Watches anything Later w k u)
+      → OnErr r (Watches AreAdmitted Later w k u)
   looks_err l (Ok a) t = tt
   looks_err l (Err e) t = watched (act.Look l) (reply.Looked (Err e)) t t.acts
 
   pub begins_ok : (q : Query) (r : Result Begin Memory) → TurnAt w k (act.Query q) (reply.Begun r) u
-      → IfOk r (λ b. Begun anything Later w k q b u)
+      → IfOk r (λ b. Begun AreAdmitted Later w k q b u)
   begins_ok q (Ok b) t = record {
     seen = t.seen;
     meanwhile = t.meanwhile;
@@ -141,7 +142,7 @@ module _ (w u : List View) (k : ℕ) where
   begins_ok q (Err e) t = tt
 
   pub begins_err : (q : Query) (r : Result Begin Memory) → TurnAt w k (act.Query q) (reply.Begun r) u
-      → OnErr r (Watches anything Later w k u)
+      → OnErr r (Watches AreAdmitted Later w k u)
   begins_err q (Ok b) t = tt
   begins_err q (Err e) t = watched (act.Query q) (reply.Begun (Err e)) t t.acts.begins
 
@@ -161,7 +162,7 @@ set-same [] k x e = refl
 set-same {A} (y ∷ xs) zero x e = ap (λ (z : A). z ∷ xs) (sym (just y x e))
 set-same {A} (y ∷ xs) (suc k) x e = ap (λ (zs : List A). y ∷ zs) (set-same xs k x e)
 
-pub nothing_done : (w : List View) (k : ℕ) → k < length w → Watches anything Later w k w
+pub nothing_done : (w : List View) (k : ℕ) → k < length w → Watches AreAdmitted Later w k w
 nothing_done w k inside =
     let here = some-at w k inside in
     let v = here.0 in

@@ -11,10 +11,10 @@ use Rattle.td_cell.specs.declared.book.Book.{Ghosts}
 use Rattle.td_cell.specs.declared.cell.Cell.{Cell}
 use Rattle.td_cell.specs.declared.pass.Pass.{Pass}
 use Rattle.td_cell.specs.declared.pass.View.{View as Knowledge}
-use Rattle.td_trader.specs.Following.{Follows}
+use Rattle.td_trader.specs.Following.{FollowsWritably}
 use Rattle.td_trader.specs.PlainTraders.{PlainTrader}
 use Rattle.td_trader.specs.Solos.{AreDistinct}
-use Rattle.td_trader.proofs.Growing.{follows-itself}
+use Rattle.td_trader.proofs.Growing.{writable-itself}
 use Rattle.td_group.specs.Grouping.{AreOpening, ClosesOn, IsClosed, IsFresh, IsOpeningOf, IsReady, OpensOn, OpensOne}
 use Rattle.td_group.specs.Grouping.{are_met, size_of}
 use Rattle.td_group.specs.Rows.{Rows}
@@ -93,8 +93,8 @@ module _ {A R : Type 0} {g : Ghosts PlainTrader A R} where
       in record {
         belongs = f.belongs;
         opening = f.opening;
-        seen = subst (λ (x : PlainTrader). Follows x (trader_of p)) (sym f.opened_is) (subst (Follows t) (sym is)
-            (follows-itself t));
+        seen = subst (λ (x : PlainTrader). FollowsWritably x (trader_of p)) (sym f.opened_is) (subst (FollowsWritably t) (sym is)
+            (writable-itself t));
       }
 
   pub opening_all : (ts : List PlainTrader) (cs : List (Cell PlainTrader A R)) (ps : List (Pass PlainTrader A R g))
@@ -195,7 +195,7 @@ module _ {A R : Type 0} {g : Ghosts PlainTrader A R} where
       (subst (λ (us : List (Cell PlainTrader A R)). AllZip IsReady us ps) one z))
 
   pub taken_out : (c : Cell PlainTrader A R) (p : Pass PlainTrader A R g) (t : PlainTrader) → all_met (knowledge
-      p).met ≡ true → Before Follows (knowledge p).seen t → Follows (opened c) t → ((k : ℕ) → size_of (opened c) ≤ k
+      p).met ≡ true → Before FollowsWritably (knowledge p).seen t → FollowsWritably (opened c) t → ((k : ℕ) → size_of (opened c) ≤ k
       → k < size_of t → In k (knowledge p).own) → IsClosed c p t
   taken_out c p t met seen since places = record {
     met = met;
@@ -209,7 +209,7 @@ module _ {A R : Type 0} {g : Ghosts PlainTrader A R} where
       → map (λ (c : Cell PlainTrader A R). (opened c).name) cs ≡ names → IsDistinct bytes_eq names → AreDistinct ts
   distinct_still cs ps ts names r named d =
       let closed : AllZip (λ (c : Cell PlainTrader A R) (t : PlainTrader). t.name ≡ (opened c).name) cs ts = rows_outer
-      IsClosed (λ (c : Cell PlainTrader A R) (t : PlainTrader). t.name ≡ (opened c).name) (λ c p t h. h.since.name) cs
+      IsClosed (λ (c : Cell PlainTrader A R) (t : PlainTrader). t.name ≡ (opened c).name) (λ c p t h. h.since.follows.name) cs
       ps ts r in
       let same : map (λ (t : PlainTrader). t.name) ts ≡ map (λ (c : Cell PlainTrader A R). (opened c).name) cs = zip_map
       (λ (c : Cell PlainTrader A R) (t : PlainTrader). t.name ≡ (opened c).name) (λ (c : Cell PlainTrader A R). (opened

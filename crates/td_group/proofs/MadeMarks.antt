@@ -14,7 +14,7 @@ use Rattle.td_cell.specs.declared.pass.Mark.{Mark}
 use Rattle.td_cell.specs.declared.pass.Pass.{Pass}
 use Rattle.td_cell.specs.declared.pass.View.{View as Knowledge}
 use Rattle.td_cell.proofs.Chains.{just}
-use Rattle.td_trader.specs.Following.{Follows}
+use Rattle.td_trader.specs.Following.{FollowsWritably}
 use Rattle.td_trader.specs.PlainTraders.{PlainTrader}
 use Rattle.td_stall.specs.Acting.{Acts}
 use Rattle.td_stall.specs.Made.{IsMadeAt}
@@ -76,7 +76,7 @@ more-made b c P f m value h made = from (nat_lt b.count c.count) h
 
 module _ {A R : Type 0} {g : Ghosts PlainTrader A R} (ps : List (Pass PlainTrader A R g)) (k : ℕ)
     (p q : Pass PlainTrader A R g) (is : p ≡ slice_index_or ps k p) (a : Act) (r : Reply)
-    (t : Turned Follows size_of marks_of Acts (knowledge p) a r (knowledge q)) where
+    (t : Turned FollowsWritably size_of marks_of Acts (knowledge p) a r (knowledge q)) where
   left : trader_of q ≡ t.after
   left = one_is (knowledge q).seen q.knows t.after (ap (λ (v : Knowledge PlainTrader). v.seen) t.is)
 

@@ -13,9 +13,9 @@ use Rattle.td_cell.specs.declared.cell.Cell.{Cell}
 use Rattle.td_cell.specs.declared.pass.Mark.{Mark}
 use Rattle.td_cell.specs.declared.pass.Pass.{Pass}
 use Rattle.td_cell.specs.declared.pass.View.{View as Knowledge}
-use Rattle.td_trader.specs.Following.{Follows}
+use Rattle.td_trader.specs.Following.{FollowsWritably}
 use Rattle.td_trader.specs.PlainTraders.{PlainTrader}
-use Rattle.td_trader.proofs.Growing.{follows-on}
+use Rattle.td_trader.proofs.Growing.{writable-on}
 use Rattle.td_group.specs.Grouping.{AreOpening, IsAsBefore, IsMetAgain, IsOpeningOf, IsOut, IsUnchanged, Meets}
 use Rattle.td_group.specs.Grouping.{OutStays, SamePasses, SplitsInPart, SplitsOff}
 use Rattle.td_group.specs.Rows.{Beside, Front, LeadsOn, Rows}
@@ -62,7 +62,7 @@ module _ {A R : Type 0} {g : Ghosts PlainTrader A R} where
   still-opening c p q o cell number seen = record {
     belongs = cell ∙ o.belongs;
     opening = number ∙ o.opening;
-    seen = subst (Follows (opened c)) (sym (same_trader p q seen)) o.seen;
+    seen = subst (FollowsWritably (opened c)) (sym (same_trader p q seen)) o.seen;
   }
 
   opening_split : (c : Cell PlainTrader A R) (p t q : Pass PlainTrader A R g) → IsOpeningOf c p → SplitsOff p t q
@@ -81,13 +81,13 @@ module _ {A R : Type 0} {g : Ghosts PlainTrader A R} where
       → IsOpeningOf c q
   opening_met c p t q o m =
       let l = m.learned in
-      let to_book : Follows (trader_of p) l.book = before_one (knowledge p).seen p.knows l.book l.before.0 in
+      let to_book : FollowsWritably (trader_of p) l.book = before_one (knowledge p).seen p.knows l.book l.before.0 in
       let is : trader_of q ≡ l.book = one_is (knowledge q).seen q.knows l.book (ap (λ (v : Knowledge PlainTrader).
       v.seen) l.is) in
       record {
         belongs = m.same_cell ∙ o.belongs;
         opening = m.opening;
-        seen = subst (Follows (opened c)) (sym is) (follows-on (opened c) (trader_of p) l.book o.seen to_book);
+        seen = subst (FollowsWritably (opened c)) (sym is) (writable-on (opened c) (trader_of p) l.book o.seen to_book);
       }
 
   is_out : (p t q : Pass PlainTrader A R g) → SplitsOff p t q → IsOut q t
@@ -344,13 +344,13 @@ module _ {A R : Type 0} {g : Ghosts PlainTrader A R} where
 
   -- the pass is of the cell, and has seen what the cell's trader has become
   abbrev IsOf : Cell PlainTrader A R → Pass PlainTrader A R g → Type 0
-  IsOf c t = Belongs t c × Follows (opened c) (trader_of t)
+  IsOf c t = Belongs t c × FollowsWritably (opened c) (trader_of t)
 
   abbrev SeesAlike : (p t : Pass PlainTrader A R g) → Type 0
   SeesAlike p t = SameCell t p × ((knowledge t).seen ≡ (knowledge p).seen)
 
   is-of : (c : Cell PlainTrader A R) (p t : Pass PlainTrader A R g) → IsOpeningOf c p → SeesAlike p t → IsOf c t
-  is-of c p t o s = (s.0 ∙ o.belongs, subst (Follows (opened c)) (sym (same_trader p t s.1)) o.seen)
+  is-of c p t o s = (s.0 ∙ o.belongs, subst (FollowsWritably (opened c)) (sym (same_trader p t s.1)) o.seen)
 
   split-of : (p t q : Pass PlainTrader A R g) → SplitsOff p t q → SeesAlike p t
   split-of p t q s = (s.of_cell, ap (λ (v : Knowledge PlainTrader). v.seen) s.out)
@@ -371,10 +371,10 @@ module _ {A R : Type 0} {g : Ghosts PlainTrader A R} where
         (opened c).name) cs
     of_names =
         zip_map IsOf (λ (c : Cell PlainTrader A R). (opened c).name) (λ (t : Pass PlainTrader A R g). (trader_of
-        t).name) (λ c t h. h.1.name) cs ts passes-of
+        t).name) (λ c t h. h.1.follows.name) cs ts passes-of
 
     pub of_sound : All (λ (c : Cell PlainTrader A R). IsSound (opened c)) cs
         → All (λ (t : Pass PlainTrader A R g). IsSound (trader_of t)) ts
     of_sound l =
         zip_all IsOf (λ (c : Cell PlainTrader A R). IsSound (opened c)) (λ (t : Pass PlainTrader A R g). IsSound
-        (trader_of t)) (λ c t h k. sound_on (opened c) (trader_of t) h.1 k) cs ts passes-of l
+        (trader_of t)) (λ c t h k. sound_on (opened c) (trader_of t) h.1.follows k) cs ts passes-of l

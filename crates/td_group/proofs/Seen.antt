@@ -13,10 +13,10 @@ use Rattle.td_cell.specs.OwnMarks.{mark_between, marks_between, number_of}
 use Rattle.td_cell.specs.Rules.{Before, Turned, after_turn}
 use Rattle.td_cell.specs.declared.pass.View.{View as Knowledge}
 use Rattle.td_cell.proofs.Chains.{just}
-use Rattle.td_trader.specs.Following.{Follows}
+use Rattle.td_trader.specs.Following.{Follows, FollowsWritably}
 use Rattle.td_trader.specs.PlainTraders.{HasShortReplies, PlainTrader, store_of}
 use Rattle.td_trader.specs.Worlds.{View, after_others, number_between, view_of}
-use Rattle.td_trader.proofs.Growing.{follows-on, legal-append}
+use Rattle.td_trader.proofs.Growing.{legal-append, writable-on}
 use Rattle.td_stall.specs.Acting.{Acts}
 use Rattle.td_stall.specs.BookLaws.{acts_follow}
 use Rattle.td_group.specs.Grouping.{marks_of, size_of}
@@ -36,8 +36,8 @@ pub one_is : {A : Type 0} (o : Option A) (h : IsSome o) (a : A) → o ≡ Some a
 one_is None h a e = absurd (false≢true h)
 one_is (Some b) h a e = just b a e
 
-pub before_one : (o : Option PlainTrader) (h : IsSome o) (t : PlainTrader) → Before Follows o t
-    → Follows (the_one o h) t
+pub before_one : (o : Option PlainTrader) (h : IsSome o) (t : PlainTrader) → Before FollowsWritably o t
+    → FollowsWritably (the_one o h) t
 before_one None h t b = absurd (false≢true h)
 before_one (Some a) h t b = b
 
@@ -95,15 +95,19 @@ view-is w x h t e s =
     ∙ ap (λ (y : Knowledge PlainTrader). view_of t y.own (map number_of y.own_marks)) e
 
 module _ (v w : Knowledge PlainTrader) (hv : IsSome v.seen) (hw : IsSome w.seen) (a : Act) (r : Reply)
-    (t : Turned Follows size_of marks_of Acts v a r w) where
-  others : Follows (the_one v.seen hv) t.before
-  others = before_one v.seen hv t.before t.later_than_seen.0
+    (t : Turned FollowsWritably size_of marks_of Acts v a r w) where
+  since : FollowsWritably (the_one v.seen hv) t.before
+  since = before_one v.seen hv t.before t.later_than_seen.0
+
+  abbrev others : Follows (the_one v.seen hv) t.before
+  others = since.follows
 
   -- what is seen after a turn follows what was seen before
-  pub turn_follows : Follows (the_one v.seen hv) (the_one w.seen hw)
+  pub turn_follows : FollowsWritably (the_one v.seen hv) (the_one w.seen hw)
   turn_follows =
-      subst (Follows (the_one v.seen hv)) (sym (one_is w.seen hw t.after (ap (λ (y : Knowledge PlainTrader). y.seen)
-      t.is))) (follows-on (the_one v.seen hv) t.before t.after others (acts_follow t.before a r t.after t.act))
+      subst (FollowsWritably (the_one v.seen hv)) (sym (one_is w.seen hw t.after (ap (λ (y : Knowledge PlainTrader).
+      y.seen) t.is))) (writable-on (the_one v.seen hv) t.before t.after since (acts_follow t.before a r t.after
+      t.act))
 
   abbrev numbers : List ℕ
   numbers = map number_of v.own_marks
@@ -126,7 +130,7 @@ module _ (v w : Knowledge PlainTrader) (hv : IsSome v.seen) (hw : IsSome w.seen)
       between = others.more;
       marks = t.before.marks;
       is = got f ps k p inside is ∙ ap Some fp;
-      may = tt;
+      may = since.admitted;
       legal = others.legal;
       may_mark = others.marks;
       seen_is = refl;

@@ -11,7 +11,7 @@ use Rattle.td_cell.specs.Rules.{Turned}
 use Rattle.td_cell.specs.declared.book.Book.{Ghosts}
 use Rattle.td_cell.specs.declared.cell.Cell.{Cell}
 use Rattle.td_cell.specs.declared.pass.Pass.{Pass}
-use Rattle.td_trader.specs.Following.{Follows}
+use Rattle.td_trader.specs.Following.{FollowsWritably}
 use Rattle.td_trader.specs.PlainTraders.{PlainTrader}
 use Rattle.td_trader.specs.Worlds.{AdmittedAt, AdmittedIn, LegalAt, LegalIn, View, history_at, history_in, name_at}
 use Rattle.td_stall.specs.Acting.{Acts}
@@ -27,27 +27,27 @@ use Rattle.td_group.proofs.Seen.{some_one, sound_on, turn_at, turn_follows}
 module _ {A R : Type 0} {g : Ghosts PlainTrader A R} where
   -- ---- a turn
 
-  pub pass_follows : (p q : Pass PlainTrader A R g) (a : Act) (r : Reply) → Turned Follows size_of marks_of Acts
-      (knowledge p) a r (knowledge q) → Follows (trader_of p) (trader_of q)
+  pub pass_follows : (p q : Pass PlainTrader A R g) (a : Act) (r : Reply) → Turned FollowsWritably size_of marks_of Acts
+      (knowledge p) a r (knowledge q) → FollowsWritably (trader_of p) (trader_of q)
   pass_follows p q a r t = turn_follows (knowledge p) (knowledge q) p.knows q.knows a r t
 
   module _ (ps : List (Pass PlainTrader A R g)) (k : ℕ) (p q : Pass PlainTrader A R g)
       (is : p ≡ slice_index_or ps k p) where
-    pub stay_sound : k < length ps → Follows (trader_of p) (trader_of q)
+    pub stay_sound : k < length ps → FollowsWritably (trader_of p) (trader_of q)
         → All (λ (x : Pass PlainTrader A R g). IsSound (trader_of x)) ps
         → All (λ (x : Pass PlainTrader A R g). IsSound (trader_of x)) (slice_set ps k q)
     stay_sound inside f all =
-        All-set (λ (x : Pass PlainTrader A R g). IsSound (trader_of x)) ps k q (sound_on (trader_of p) (trader_of q) f
+        All-set (λ (x : Pass PlainTrader A R g). IsSound (trader_of x)) ps k q (sound_on (trader_of p) (trader_of q) f.follows
         (all_at (λ (x : Pass PlainTrader A R g). IsSound (trader_of x)) ps k p all inside is)) all
 
     pub kept_cells : SameCell q p → map (λ (x : Pass PlainTrader A R g). x.seat.table_id) (slice_set ps k q)
         ≡ map (λ (x : Pass PlainTrader A R g). x.seat.table_id) ps
     kept_cells same = kept_at (λ (x : Pass PlainTrader A R g). x.seat.table_id) ps k p q is same
 
-    pub kept_names : Follows (trader_of p) (trader_of q)
+    pub kept_names : FollowsWritably (trader_of p) (trader_of q)
         → map (λ (x : Pass PlainTrader A R g). (trader_of x).name) (slice_set ps k q)
         ≡ map (λ (x : Pass PlainTrader A R g). (trader_of x).name) ps
-    kept_names f = kept_at (λ (x : Pass PlainTrader A R g). (trader_of x).name) ps k p q is f.name
+    kept_names f = kept_at (λ (x : Pass PlainTrader A R g). (trader_of x).name) ps k p q is f.follows.name
 
     pub kept_numbers : (knowledge q).number ≡ (knowledge p).number
         → map (λ (x : Pass PlainTrader A R g). (knowledge x).number) (slice_set ps k q)
@@ -62,7 +62,7 @@ module _ {A R : Type 0} {g : Ghosts PlainTrader A R} where
           ∙ ap (slice_set (map (λ (x : Pass PlainTrader A R g). (knowledge x).turns) ps) k) more;
     }
 
-    pub turn_seen : (a : Act) (r : Reply) → Turned Follows size_of marks_of Acts (knowledge p) a r (knowledge q)
+    pub turn_seen : (a : Act) (r : Reply) → Turned FollowsWritably size_of marks_of Acts (knowledge p) a r (knowledge q)
         → k < length ps → TurnAt (map seen_by ps) k a r (map seen_by (slice_set ps k q))
     turn_seen a r t inside =
         turn_at (knowledge p) (knowledge q) p.knows q.knows a r t seen_by ps k p q refl refl inside is

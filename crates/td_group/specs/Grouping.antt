@@ -10,7 +10,7 @@ use Rattle.td_cell.specs.Rules.{Learns, all_met, first_view, meeting, opener, sp
 use Rattle.td_cell.specs.declared.book.Book.{Ghosts}
 use Rattle.td_cell.specs.declared.cell.Cell.{Cell}
 use Rattle.td_cell.specs.declared.pass.Pass.{Pass}
-use Rattle.td_trader.specs.Following.{Follows}
+use Rattle.td_trader.specs.Following.{FollowsWritably}
 use Rattle.td_trader.specs.PlainTraders.{PlainTrader}
 use Rattle.td_group.specs.Rows.{Front, Rows}
 use Rattle.td_group.specs.Seeing.{trader_of}
@@ -40,7 +40,7 @@ module _ {A R : Type 0} {g : Ghosts PlainTrader A R} where
   pub record IsOpeningOf (c : Cell PlainTrader A R) (p : Pass PlainTrader A R g) : Type 0 where
     pub belongs : Belongs p c
     pub opening : IsOpening p
-    pub seen : Follows (opened c) (trader_of p)
+    pub seen : FollowsWritably (opened c) (trader_of p)
 
   -- the opening passes of the cells, in order
   abbrev pub AreOpening : List (Cell PlainTrader A R) → List (Pass PlainTrader A R g) → Type 0
@@ -102,7 +102,7 @@ module _ {A R : Type 0} {g : Ghosts PlainTrader A R} where
     pub same_cell : SameCell q p
     pub opening : IsOpening q
     pub met : (knowledge q).met ≡ slice_set (knowledge p).met ((knowledge t).number - 1) true
-    pub learned : Learns Follows size_of marks_of (meeting (knowledge p) (knowledge t)) (knowledge q)
+    pub learned : Learns FollowsWritably size_of marks_of (meeting (knowledge p) (knowledge t)) (knowledge q)
 
   -- ---- where memory was wanted
 
@@ -150,8 +150,8 @@ module _ {A R : Type 0} {g : Ghosts PlainTrader A R} where
   -- since the cell was opened is one of the pass's own.
   pub record IsClosed (c : Cell PlainTrader A R) (p : Pass PlainTrader A R g) (t : PlainTrader) : Type 0 where
     pub met : all_met (knowledge p).met ≡ true
-    pub since : Follows (opened c) t
-    pub seen : Follows (trader_of p) t
+    pub since : FollowsWritably (opened c) t
+    pub seen : FollowsWritably (trader_of p) t
     pub places : (k : ℕ) → size_of (opened c) ≤ k → k < size_of t → In k (knowledge p).own
 
   -- what is still to close is closed as all was to be

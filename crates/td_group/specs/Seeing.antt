@@ -2,13 +2,13 @@
 use Rattle.std.specs.Prelude.{◌≡◌, ℕ, List, ◌++◌, map, length, Option, Some, None, IsSome}
 use Rattle.std.proofs.lemmas.Bool.{false≢true}
 use Rattle.td_cdr.specs.Marks.{Later}
-use Rattle.td_register.specs.declared.history.Accepted.{Accepted}
 use Rattle.td_cell.specs.Lists.{grown}
 use Rattle.td_cell.specs.OwnMarks.{number_of}
 use Rattle.td_cell.specs.Passes.{knowledge}
 use Rattle.td_cell.specs.declared.book.Book.{Ghosts}
 use Rattle.td_cell.specs.declared.pass.Pass.{Pass}
 use Rattle.td_cell.specs.declared.pass.View.{View as Knowledge}
+use Rattle.td_trader.specs.Admitted.{AreAdmitted}
 use Rattle.td_trader.specs.PlainTraders.{PlainTrader}
 use Rattle.td_trader.specs.Worlds.{Meanwhile, View, number_between, view_of, with_view}
 use Rattle.td_stall.specs.Acting.{Acts}
@@ -36,15 +36,11 @@ module _ {A R : Type 0} {g : Ghosts PlainTrader A R} where
 
 -- ---- a turn
 
--- others may make any changes that are legal
-abbrev pub anything : List Accepted → Type 0
-anything between = Unit {0}
-
--- One turn at trader k: what others did since the last call is there, and then the act is done, once. Its entry and its
+-- One turn at trader k: what others did since the last call is there, any legal changes that can be written, and then the act is done, once. Its entry and its
 -- mark, where it made one, are one's own.
 pub record TurnAt (w : List View) (k : ℕ) (a : Act) (r : Reply) (u : List View) : Type 0 where
   pub seen : View
-  pub meanwhile : Meanwhile anything Later w k seen
+  pub meanwhile : Meanwhile AreAdmitted Later w k seen
   pub before : PlainTrader
   pub seen_is : seen ≡ view_of before seen.own seen.own_marks
   pub after : PlainTrader

@@ -8,7 +8,8 @@ ghost use Rattle.td_cdr.specs.Marks.{Later};
 ghost use Rattle.td_group.specs.Soundness.{IsSound, all_sound_prop};
 ghost use Rattle.td_group.specs.Grouping.{MakesOneTurn, MakesOneTurnAtMost, SamePasses};
 ghost use Rattle.td_group.specs.MadeMarks.{MarksAt};
-ghost use Rattle.td_group.specs.Seeing.{TurnAt, anything, seen_by, trader_of};
+ghost use Rattle.td_group.specs.Seeing.{TurnAt, seen_by, trader_of};
+ghost use Rattle.td_trader.specs.Admitted.{AdmitsChange, AreAdmitted};
 ghost use Rattle.td_trader.specs.Worlds.{Begun, Changes, Looks, Watches};
 
 use std::alloc::Global;
@@ -16,7 +17,7 @@ use std::sync::Wait;
 use td_cdr::{Memory, Text, Twin};
 use td_cell::{Cell, Pass};
 use td_ops::{Change, Look, Outcome, Query};
-use td_stall::{Act, Reply, Stall};
+use td_stall::{Act, AdmittedChange, Reply, Stall};
 use td_trader::{Begin, Traders};
 
 /// What one session acts on a group of traders through: a pass of each one's cell. Each `change`, `look` and `begin`
@@ -83,9 +84,9 @@ impl<'a, R: Wait> GroupPass<'a, R> {
     fn look_at(&mut self, trader: usize, l: Look) -> Result<(Outcome, u32), Memory>
         requires { trader < length self.old.passes.items }
         ensures same { SamePasses self.old.passes.items self.new.passes.items }
-        ensures ok { IfOk result (λ a. Looks anything Later (map seen_by self.old.passes.items) trader l a
+        ensures ok { IfOk result (λ a. Looks AreAdmitted Later (map seen_by self.old.passes.items) trader l a
             (map seen_by self.new.passes.items)) }
-        ensures err { OnErr result (Watches anything Later (map seen_by self.old.passes.items) trader
+        ensures err { OnErr result (Watches AreAdmitted Later (map seen_by self.old.passes.items) trader
             (map seen_by self.new.passes.items)) }
         ensures once { MakesOneTurn self.old.passes.items trader self.new.passes.items }
     {
@@ -100,9 +101,9 @@ impl<'a, R: Wait> GroupPass<'a, R> {
     fn begin_at(&mut self, trader: usize, q: Query) -> Result<Begin, Memory>
         requires { trader < length self.old.passes.items }
         ensures same { SamePasses self.old.passes.items self.new.passes.items }
-        ensures ok { IfOk result (λ b. Begun anything Later (map seen_by self.old.passes.items) trader q b
+        ensures ok { IfOk result (λ b. Begun AreAdmitted Later (map seen_by self.old.passes.items) trader q b
             (map seen_by self.new.passes.items)) }
-        ensures err { OnErr result (Watches anything Later (map seen_by self.old.passes.items) trader
+        ensures err { OnErr result (Watches AreAdmitted Later (map seen_by self.old.passes.items) trader
             (map seen_by self.new.passes.items)) }
         ensures once { MakesOneTurn self.old.passes.items trader self.new.passes.items }
         ensures marks { MarksAt self.old.passes.items trader self.new.passes.items }
@@ -118,7 +119,7 @@ impl<'a, R: Wait> GroupPass<'a, R> {
 impl<'a, R: Wait> Traders for GroupPass<'a, R> {
     ghost world = { λ s. map seen_by s.passes.items };
 
-    ghost others = { anything };
+    ghost others = { AreAdmitted };
 
     ghost later = { Later };
 
@@ -134,15 +135,16 @@ impl<'a, R: Wait> Traders for GroupPass<'a, R> {
 
     /// Makes one turn, whatever comes of it.
     fn change(&mut self, trader: usize, c: Change) -> Result<Outcome, Memory>
-        requires { trader < length (map seen_by self.old.passes.items) }
+        requires trader { trader < length (map seen_by self.old.passes.items) }
+        requires admitted { AdmitsChange c }
         ensures same { SamePasses self.old.passes.items self.new.passes.items }
-        ensures ok { IfOk result (λ o. Changes anything Later (map seen_by self.old.passes.items) trader c o
+        ensures ok { IfOk result (λ o. Changes AreAdmitted Later (map seen_by self.old.passes.items) trader c o
             (map seen_by self.new.passes.items)) }
-        ensures err { OnErr result (Watches anything Later (map seen_by self.old.passes.items) trader
+        ensures err { OnErr result (Watches AreAdmitted Later (map seen_by self.old.passes.items) trader
             (map seen_by self.new.passes.items)) }
         ensures once { MakesOneTurn self.old.passes.items trader self.new.passes.items }
     {
-        match self.turn(trader, Act::Change(c)) {
+        match self.turn(trader, Act::Change(AdmittedChange::of(c))) {
             Reply::Changed(answer) => answer,
             Reply::Looked(_) => unreachable!(),
             Reply::Begun(_) => unreachable!(),
@@ -153,9 +155,9 @@ impl<'a, R: Wait> Traders for GroupPass<'a, R> {
     fn look(&mut self, trader: usize, l: &Look) -> Result<(Outcome, u32), Memory>
         requires { trader < length (map seen_by self.old.passes.items) }
         ensures same { SamePasses self.old.passes.items self.new.passes.items }
-        ensures ok { IfOk result (λ a. Looks anything Later (map seen_by self.old.passes.items) trader l.now a
+        ensures ok { IfOk result (λ a. Looks AreAdmitted Later (map seen_by self.old.passes.items) trader l.now a
             (map seen_by self.new.passes.items)) }
-        ensures err { OnErr result (Watches anything Later (map seen_by self.old.passes.items) trader
+        ensures err { OnErr result (Watches AreAdmitted Later (map seen_by self.old.passes.items) trader
             (map seen_by self.new.passes.items)) }
         ensures once { OnOk result (MakesOneTurn self.old.passes.items trader self.new.passes.items) }
         ensures most { OnErr result (MakesOneTurnAtMost self.old.passes.items trader self.new.passes.items) }
@@ -170,9 +172,9 @@ impl<'a, R: Wait> Traders for GroupPass<'a, R> {
     fn begin(&mut self, trader: usize, q: &Query) -> Result<Begin, Memory>
         requires { trader < length (map seen_by self.old.passes.items) }
         ensures same { SamePasses self.old.passes.items self.new.passes.items }
-        ensures ok { IfOk result (λ b. Begun anything Later (map seen_by self.old.passes.items) trader q.now b
+        ensures ok { IfOk result (λ b. Begun AreAdmitted Later (map seen_by self.old.passes.items) trader q.now b
             (map seen_by self.new.passes.items)) }
-        ensures err { OnErr result (Watches anything Later (map seen_by self.old.passes.items) trader
+        ensures err { OnErr result (Watches AreAdmitted Later (map seen_by self.old.passes.items) trader
             (map seen_by self.new.passes.items)) }
         ensures once { OnOk result (MakesOneTurn self.old.passes.items trader self.new.passes.items) }
         ensures marks { OnOk result (MarksAt self.old.passes.items trader self.new.passes.items) }
@@ -193,6 +195,8 @@ impl<'a, R: Wait> Traders for GroupPass<'a, R> {
     ghost same_itself = { λ a. (refl, refl) };
 
     ghost same_on = { λ a b c p q. (p.0 ∙ q.0, p.1 ∙ q.1) };
+
+    ghost others_admitted = { λ between admitted. admitted };
 
     ghost later_marks = { λ a b later. later };
 }

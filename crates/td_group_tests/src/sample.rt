@@ -1,5 +1,10 @@
 //! Groups of traders with the type Printer, and what a session does at one of them.
 
+ghost use Rattle.std.specs.Prelude.{IfOk};
+ghost use Rattle.td_cdr.specs.Text.{HasNoNul};
+ghost use Rattle.td_codes.specs.References.{reference};
+ghost use Rattle.td_trader.specs.Admitted.{AdmitsChange};
+
 use std::alloc::Global;
 use td_cdr::{List, Memory, Text, share_owned_three};
 use td_file::{Opened, read_file};
@@ -39,6 +44,17 @@ fn text(alloc: Global, text: &str) -> Result<Text, Memory> {
     Text::from_slice(alloc, text.as_bytes())
 }
 
+/// A text without NUL.
+fn clean(alloc: Global, word: &str) -> Result<Text, Memory>
+    ensures { IfOk result HasNoNul }
+{
+    let bytes = word.as_bytes();
+    if bytes.contains(&0) {
+        return Err(Memory);
+    }
+    Text::from_slice(alloc, bytes)
+}
+
 /// Adds a type at a trader, and says whether it was added.
 pub(crate) fn adds<T: Traders>(alloc: Global, traders: &mut T, at: usize, name: &str) -> bool
     ensures { T.same traders.old traders.new }
@@ -49,9 +65,12 @@ pub(crate) fn adds<T: Traders>(alloc: Global, traders: &mut T, at: usize, name: 
     }
 }
 
-fn added(alloc: Global, name: &str) -> Result<Change, Memory> {
-    let name = text(alloc, name)?;
-    let if_name = text(alloc, INTERFACE)?;
+#[tactic(auto, using(crate::proofs::Admitted::added))]
+fn added(alloc: Global, name: &str) -> Result<Change, Memory>
+    ensures { IfOk result AdmitsChange }
+{
+    let name = clean(alloc, name)?;
+    let if_name = clean(alloc, INTERFACE)?;
     Ok(Change::AddType {
         name,
         if_name,
@@ -70,8 +89,11 @@ pub(crate) fn exports<T: Traders>(alloc: Global, traders: &mut T, at: usize) -> 
     }
 }
 
-fn exported(alloc: Global) -> Result<Change, Memory> {
-    let service_type = text(alloc, "Printer")?;
+#[tactic(auto, using(crate::proofs::Admitted::exported))]
+fn exported(alloc: Global) -> Result<Change, Memory>
+    ensures { IfOk result AdmitsChange }
+{
+    let service_type = clean(alloc, "Printer")?;
     let (reference, (service_type, properties)) = share_owned_three(
         alloc,
         (reference(alloc)?, (service_type, List::new(alloc))),
@@ -84,9 +106,12 @@ fn exported(alloc: Global) -> Result<Change, Memory> {
 }
 
 /// A reference of the interface of the type Printer.
-fn reference(alloc: Global) -> Result<Ior, Memory> {
+#[tactic(auto, using(crate::proofs::Admitted::empty))]
+fn reference(alloc: Global) -> Result<Ior, Memory>
+    ensures { IfOk result (λ r. reference.format.admits r) }
+{
     Ok(Ior {
-        id: text(alloc, INTERFACE)?,
+        id: clean(alloc, INTERFACE)?,
         profiles: List::new(alloc),
     })
 }
@@ -110,6 +135,7 @@ fn told_by(answer: Result<Outcome, Memory>) -> Told {
 }
 
 fn comes_to<T: Traders>(traders: &mut T, at: usize, change: Change, wanted: Told) -> bool
+    requires { AdmitsChange change }
     ensures { T.same traders.old traders.new }
 {
     if at < traders.count() {

@@ -7,17 +7,25 @@ use Rattle.td_ops.specs.declared.call.Look.{Look}
 use Rattle.td_ops.specs.declared.call.Query.{Query}
 use Rattle.td_ops.specs.declared.outcome.Outcome.{Outcome}
 use Rattle.td_changes.specs.Applying.{seek}
+use Rattle.td_trader.specs.Admitted.{AdmitsChange}
 use Rattle.td_trader.specs.Following.{ActsBegin, ActsChange, ActsLook}
 use Rattle.td_trader.specs.OfferLimits.{HasLimitedOffers}
 use Rattle.td_trader.specs.PlainTraders.{AreBounds, PlainTrader, after_begin, after_change, begin_at, outcome_of}
 use Rattle.td_trader.specs.PlainTraders.{store_of}
 use Rattle.td_trader.specs.declared.begin.Begin.{Begin}
-use Rattle.td_stall.specs.Acting.{StartsQuery}
+use Rattle.td_stall.specs.Acting.{ChangesWritably, StartsQuery}
 
-pub changes : (t u : PlainTrader) (c : Change) (r : Result Outcome Memory) → IfOk r (λ o. o ≡ outcome_of t c)
+acted : (t u : PlainTrader) (c : Change) (r : Result Outcome Memory) → IfOk r (λ o. o ≡ outcome_of t c)
     → OnOk r (u ≡ after_change t c) → OnErr r (u ≡ t) → ActsChange t c r u
-changes t u c (Ok o) told after failed = (told, after)
-changes t u c (Err e) told after failed = failed
+acted t u c (Ok o) told after failed = (told, after)
+acted t u c (Err e) told after failed = failed
+
+pub changes : (t u : PlainTrader) (c : Change) (r : Result Outcome Memory) → AdmitsChange c
+    → IfOk r (λ o. o ≡ outcome_of t c) → OnOk r (u ≡ after_change t c) → OnErr r (u ≡ t) → ChangesWritably t c r u
+changes t u c r admitted told after failed = record {
+  admitted = admitted;
+  changes = acted t u c r told after failed;
+}
 
 pub looks : (t : PlainTrader) (l : Look) (r : Result (Outcome × ℕ) Memory) → IfOk r (λ a. a ≡ seek (store_of t) l)
     → ActsLook t l r t

@@ -3,7 +3,10 @@
 use Rattle.std.specs.Prelude.{Result}
 use Rattle.td_cdr.specs.declared.memory.Memory.{Memory}
 use Rattle.td_marks.specs.Keeping.{IsKept as AreMarks}
+use Rattle.td_ops.specs.declared.call.Change.{Change}
 use Rattle.td_ops.specs.declared.call.Query.{Query}
+use Rattle.td_ops.specs.declared.outcome.Outcome.{Outcome}
+use Rattle.td_trader.specs.Admitted.{AdmitsChange}
 use Rattle.td_trader.specs.Following.{ActsBegin, ActsChange, ActsLook}
 use Rattle.td_trader.specs.OfferLimits.{HasLimitedOffers}
 use Rattle.td_trader.specs.PlainTraders.{AreBounds, PlainTrader, store_of}
@@ -13,6 +16,11 @@ use Rattle.td_stall.specs.declared.stall.Act.TheVariants as act
 use Rattle.td_stall.specs.declared.stall.Reply.{Reply}
 use Rattle.td_stall.specs.declared.stall.Reply.TheVariants as reply
 
+-- what a change whose values can be written answers and leaves
+pub record ChangesWritably (t : PlainTrader) (c : Change) (r : Result Outcome Memory) (u : PlainTrader) : Type 0 where
+  pub admitted : AdmitsChange c
+  pub changes : ActsChange t c r u
+
 -- how a query begins at a trader with bounds, marks and offers as each has them, and what it leaves
 pub record StartsQuery (t : PlainTrader) (q : Query) (r : Result Begin Memory) (u : PlainTrader) : Type 0 where
   pub bounds : AreBounds t.bounds
@@ -21,7 +29,7 @@ pub record StartsQuery (t : PlainTrader) (q : Query) (r : Result Begin Memory) (
   pub begins : ActsBegin t q r u
 
 abbrev pub Acts : PlainTrader → Act → Reply → PlainTrader → Type 0
-Acts t (act.Change c) (reply.Changed r) u = ActsChange t c r u
+Acts t (act.Change c) (reply.Changed r) u = ChangesWritably t c r u
 Acts t (act.Change c) (reply.Looked r) u = ⊥
 Acts t (act.Change c) (reply.Begun r) u = ⊥
 Acts t (act.Look l) (reply.Changed r) u = ⊥

@@ -3,9 +3,10 @@ use Rattle.std.proofs.Common.{◌≡◌, ◌+◌, ◌≤◌, inl, inr, List, len
 use Rattle.td_cdr.specs.Marks.{Marks, Later}
 use Rattle.td_register.specs.declared.history.Accepted.{Accepted}
 use Rattle.td_cell.specs.OwnMarks.{LastIsMade, MarksOnce}
-use Rattle.td_trader.specs.Following.{Follows, MarksOnce as MarksAtMostOnce}
+use Rattle.td_trader.specs.Following.{FollowsWritably, MarksOnce as MarksAtMostOnce}
 use Rattle.td_trader.specs.PlainTraders.{PlainTrader, store_of}
-use Rattle.td_trader.proofs.Growing.{begin-once, change-once, follows-itself, follows-on, look-once}
+use Rattle.td_trader.proofs.Growing.{begin-once, begin-writable, change-once, change-writable, look-once}
+use Rattle.td_trader.proofs.Growing.{look-writable, writable-itself, writable-on}
 use Rattle.td_stall.specs.Acting.{Acts}
 use Rattle.td_stall.specs.Made.{MakesAt}
 use Rattle.td_stall.specs.declared.stall.Act.{Act}
@@ -16,30 +17,31 @@ use Rattle.td_stall.specs.MadeLaws.{act_makes}
 
 -- ---- what a trader may become
 
-pub follows_itself : (t : PlainTrader) → Follows t t
-follows_itself t = follows-itself t
+pub follows_itself : (t : PlainTrader) → FollowsWritably t t
+follows_itself t = writable-itself t
 
-pub follows_on : (t u v : PlainTrader) → Follows t u → Follows u v → Follows t v
-follows_on t u v p q = follows-on t u v p q
+pub follows_on : (t u v : PlainTrader) → FollowsWritably t u → FollowsWritably u v → FollowsWritably t v
+follows_on t u v p q = writable-on t u v p q
 
-pub grows : (t u : PlainTrader) → Follows t u → length t.history ≤ length u.history
-grows t u f = rw (f.history, length-append) (omega arith)
+pub grows : (t u : PlainTrader) → FollowsWritably t u → length t.history ≤ length u.history
+grows t u f = rw (f.follows.history, length-append) (omega arith)
 
-pub marks_later : (t u : PlainTrader) → Follows t u → Later t.marks u.marks
-marks_later t u f = f.marks
+pub marks_later : (t u : PlainTrader) → FollowsWritably t u → Later t.marks u.marks
+marks_later t u f = f.follows.marks
 
 -- ---- what an act makes of it
 
-pub acts_follow : (t : PlainTrader) (a : Act) (r : Reply) (u : PlainTrader) → Acts t a r u → Follows t u
-acts_follow t (act.Change c) (reply.Changed r) u h = (change-once t u c r h).follows
+pub acts_follow : (t : PlainTrader) (a : Act) (r : Reply) (u : PlainTrader) → Acts t a r u
+    → FollowsWritably t u
+acts_follow t (act.Change c) (reply.Changed r) u h = change-writable t u c r h.admitted h.changes
 acts_follow t (act.Change c) (reply.Looked r) u h = absurd h
 acts_follow t (act.Change c) (reply.Begun r) u h = absurd h
 acts_follow t (act.Look l) (reply.Changed r) u h = absurd h
-acts_follow t (act.Look l) (reply.Looked r) u h = (look-once t u l r h).follows
+acts_follow t (act.Look l) (reply.Looked r) u h = look-writable t u l r h
 acts_follow t (act.Look l) (reply.Begun r) u h = absurd h
 acts_follow t (act.Query q) (reply.Changed r) u h = absurd h
 acts_follow t (act.Query q) (reply.Looked r) u h = absurd h
-acts_follow t (act.Query q) (reply.Begun r) u h = (begin-once t u q r h.bounds h.marks h.begins).follows
+acts_follow t (act.Query q) (reply.Begun r) u h = begin-writable t u q r h.bounds h.marks h.begins
 
 within : (xs ys : List Accepted) → xs ≡ ys → length xs ≤ length ys + 1
 within xs ys e =
@@ -48,7 +50,7 @@ within xs ys e =
 
 pub acts_within : (t : PlainTrader) (a : Act) (r : Reply) (u : PlainTrader) → Acts t a r u
     → length u.history ≤ length t.history + 1
-acts_within t (act.Change c) (reply.Changed r) u h = (change-once t u c r h).once
+acts_within t (act.Change c) (reply.Changed r) u h = (change-once t u c r h.changes).once
 acts_within t (act.Change c) (reply.Looked r) u h = absurd h
 acts_within t (act.Change c) (reply.Begun r) u h = absurd h
 acts_within t (act.Look l) (reply.Changed r) u h = absurd h
@@ -69,7 +71,7 @@ new_mark m n (inr f) makes = inr (f.new, makes)
 
 pub makes_one_mark : (t : PlainTrader) (a : Act) (r : Reply) (u : PlainTrader) → Acts t a r u
     → MarksOnce t.marks u.marks
-makes_one_mark t (act.Change c) (reply.Changed r) u h = inl (change-once t u c r h).marks
+makes_one_mark t (act.Change c) (reply.Changed r) u h = inl (change-once t u c r h.changes).marks
 makes_one_mark t (act.Change c) (reply.Looked r) u h = absurd h
 makes_one_mark t (act.Change c) (reply.Begun r) u h = absurd h
 makes_one_mark t (act.Look l) (reply.Changed r) u h = absurd h

@@ -98,7 +98,7 @@ starts t u q (Ok b) h =
 starts t u q (Err e) h = same t u (ap (λ (x : PlainTrader). x.marks) h.begins)
 
 pub act_makes : (t : PlainTrader) (a : Act) (r : Reply) (u : PlainTrader) → Acts t a r u → MakesAt t u
-act_makes t (act.Change c) (reply.Changed r) u h = same t u (change-once t u c r h).marks
+act_makes t (act.Change c) (reply.Changed r) u h = same t u (change-once t u c r h.changes).marks
 act_makes t (act.Change c) (reply.Looked r) u h = absurd h
 act_makes t (act.Change c) (reply.Begun r) u h = absurd h
 act_makes t (act.Look l) (reply.Changed r) u h = absurd h

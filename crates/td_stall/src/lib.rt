@@ -4,4 +4,4 @@
 
 mod stall;
 
-pub use stall::{Act, Reply, Stall};
+pub use stall::{Act, AdmittedChange, Reply, Stall};

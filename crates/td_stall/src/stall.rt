@@ -1,6 +1,8 @@
 //! A trader as the book of a cell.
 
-ghost use Rattle.td_stall.specs.Acting.{StartsQuery};
+ghost use Rattle.std.specs.Prelude.{◌≡◌};
+ghost use Rattle.td_stall.specs.Acting.{ChangesWritably, StartsQuery};
+ghost use Rattle.td_trader.specs.Admitted.{AdmitsChange};
 ghost use Rattle.td_trader.specs.Following.{ActsLook};
 
 use std::marker::Model;
@@ -9,10 +11,48 @@ use td_cell::Book;
 use td_ops::{Change, Look, Outcome, Query};
 use td_trader::{Begin, Trader};
 
-/// A call of a trader, with its arguments.
+/// A change whose values can be written. Contracts see the change.
+#[derive(Drop)]
+pub struct AdmittedChange {
+    change: Change,
+}
+
+impl Model for AdmittedChange {
+    ghost use Rattle.td_ops.specs.contracts.call.Change as change_row;
+    ghost use Rattle.td_ops.specs.declared.call.Change.{Change};
+    ghost use Rattle.td_trader.specs.Admitted.{AdmitsChange};
+
+    ghost Value = { Change };
+
+    ghost coded = { change_row.the_row.coded };
+
+    ghost view = { λ c. c.change };
+
+    ghost invariant = { λ c. AdmitsChange c.change };
+}
+
+impl AdmittedChange {
+    /// The change, whose values can be written.
+    pub fn of(change: Change) -> AdmittedChange
+        requires { AdmitsChange change }
+        ensures { result ≡ change }
+    {
+        AdmittedChange { change }
+    }
+
+    /// The change.
+    fn into_change(self) -> Change
+        ensures same { result ≡ self }
+        ensures admitted { AdmitsChange result }
+    {
+        self.change
+    }
+}
+
+/// A call of a trader, with its arguments. Only a change whose values can be written is an act.
 #[derive(Drop)]
 pub enum Act {
-    Change(Change),
+    Change(AdmittedChange),
     Look(Look),
     Query(Query),
 }
@@ -49,20 +89,20 @@ impl Book for Stall {
 
     ghost use Rattle.std.specs.Prelude.{length};
     ghost use Rattle.td_stall.specs.Acting.{Acts};
-    ghost use Rattle.td_trader.specs.Following.{Follows};
+    ghost use Rattle.td_trader.specs.Following.{FollowsWritably};
 
     ghost size = { λ t. length t.history };
 
     ghost remembers = { λ t. t.marks };
 
-    ghost later = { Follows };
+    ghost later = { FollowsWritably };
 
     ghost acts = { Acts };
 
     /// Does what the trader's own method does.
     fn act(&mut self, a: Act) -> Reply {
         match a {
-            Act::Change(c) => Reply::Changed(self.trader.change(c)),
+            Act::Change(c) => Reply::Changed(make(&mut self.trader, c)),
             Act::Look(l) => Reply::Looked(tell(&self.trader, l)),
             Act::Query(q) => Reply::Begun(start(&mut self.trader, q)),
         }
@@ -92,6 +132,13 @@ impl Book for Stall {
     ghost acts_once = { acts_within };
 
     ghost acts_mark = { makes_one_mark };
+}
+
+/// What a change comes to.
+fn make(trader: &mut Trader, c: AdmittedChange) -> Result<Outcome, Memory>
+    ensures { ChangesWritably trader.old c result trader.new }
+{
+    trader.change(c.into_change())
 }
 
 /// What a look is answered with.
