@@ -1,6 +1,9 @@
--- What the tests' scripts hold is small.
-use Rattle.std.proofs.Common.{◌≡◌, List, [], ◌∷◌, ◌++◌, sym, subst}
+-- What the tests' scripts hold is small, and can be written.
+use Rattle.std.proofs.Common.{◌≡◌, ℕ, ◌^◌, ◌<◌, List, [], ◌∷◌, ◌++◌, refl, sym, subst, arith}
 use Rattle.std.specs.List.{AllByRecursion}
+use Rattle.td_codes.specs.References.{profile, reference}
+use Rattle.td_codes.specs.declared.reference.Profile.{Profile}
+use Rattle.td_types.proofs.Sequences.{sequence-from}
 use Rattle.td_value.specs.declared.structures.Offer.{Offer}
 use Rattle.td_walk.specs.Peering.{IsSmallOffer}
 
@@ -9,3 +12,11 @@ pub one_small : (before offers : List Offer) (o : Offer) → before ≡ [] → o
 one_small before offers o none one small =
     subst (AllByRecursion IsSmallOffer) (sym one)
     (subst (λ (b : List Offer). AllByRecursion IsSmallOffer (b ++ o ∷ [])) (sym none) (small, tt))
+
+-- a reference without an id and without profiles can be written
+pub nobody_admitted : (id : List ℕ) (ps : List Profile) → id ≡ [] → ps ≡ []
+    → reference.format.admits (record { id = id; profiles = ps })
+nobody_admitted id ps none empty =
+    subst (λ (i : List ℕ). reference.format.admits (record { id = i; profiles = ps })) (sym none)
+    (subst (λ (l : List Profile). reference.format.admits (record { id = []; profiles = l })) (sym empty)
+    (refl, sequence-from profile [] (omega arith) tt))

@@ -1,7 +1,7 @@
 //! Peers by a script of a few words.
 
 ghost use Rattle.std.specs.Prelude.{IfOk, OnOk};
-ghost use Rattle.td_peers.specs.Scripts.{IsSmall, AreSmall};
+ghost use Rattle.td_peers.specs.Scripts.{IsAllowed, AreAllowed};
 ghost use Rattle.td_walk.specs.Peering.{IsSmallOffer, HasSmallOffers};
 
 use crate::words::{nobody, text};
@@ -89,7 +89,7 @@ pub(crate) fn limited(alloc: Global, limit: &str) -> Result<SubAnswer, Memory>
 
 /// `failed`, `nobody`, which is a reference, `seven`, which is a value, or an answer: `offer`, or what limited it.
 fn scripted(alloc: Global, word: &str) -> Result<Scripted, Memory>
-    ensures { IfOk result IsSmall }
+    ensures { IfOk result IsAllowed }
 {
     match word {
         "failed" => Ok(Scripted::Failed),
@@ -103,8 +103,8 @@ fn scripted(alloc: Global, word: &str) -> Result<Scripted, Memory>
 /// One entry more, as `KEY:ENTRY`.
 #[tactic(auto, using(td_peers::proofs::Smallness::small_next))]
 fn add(alloc: Global, script: &mut List<(Octets, Scripted)>, word: &str) -> Result<(), Memory>
-    requires { AreSmall script.old }
-    ensures { OnOk result (AreSmall script.new) }
+    requires { AreAllowed script.old }
+    ensures { OnOk result (AreAllowed script.new) }
 {
     let (key, entry) = word.split_once(':').unwrap_or((word, ""));
     let key = Octets::from_slice(alloc, key.as_bytes())?;
@@ -114,7 +114,7 @@ fn add(alloc: Global, script: &mut List<(Octets, Scripted)>, word: &str) -> Resu
 
 /// A script of entries with blanks between them.
 fn script(alloc: Global, words: &str) -> Result<List<(Octets, Scripted)>, Memory>
-    ensures { IfOk result AreSmall }
+    ensures { IfOk result AreAllowed }
 {
     let mut script = List::new(alloc);
     for word in words.split(' ') {

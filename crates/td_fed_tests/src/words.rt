@@ -1,5 +1,7 @@
 //! Texts, references, policies and queries from words.
 
+ghost use Rattle.td_codes.specs.References.{reference};
+
 use std::alloc::Global;
 use td_cdr::{Boxed, List, Memory, Text};
 use td_ops::{Desired, Query};
@@ -17,7 +19,10 @@ pub(crate) fn two(words: &str) -> (&str, &str) {
 }
 
 /// A reference without an id and without profiles.
-pub(crate) fn nobody(alloc: Global) -> Ior {
+#[tactic(auto, using(crate::proofs::Small::nobody_admitted))]
+pub(crate) fn nobody(alloc: Global) -> Ior
+    ensures { reference.format.admits result }
+{
     Ior {
         id: Text::new(alloc),
         profiles: List::new(alloc),

@@ -3,7 +3,7 @@ use Rattle.std.proofs.Common.{◌≡◌, ℕ, zero, suc, ◌<◌, List, [], ◌�
 use Rattle.std.proofs.lemmas.Option.{slice_get_read}
 use Rattle.std.specs.List.{remove, slice_get}
 use Rattle.std.specs.Prelude.{Option, None, Some, IfSome, option_map}
-use Rattle.td_peers.specs.Scripts.{AreSmall, IsSmall, Script, entry_at, rest_of}
+use Rattle.td_peers.specs.Scripts.{AreAllowed, IsAllowed, Script, entry_at, rest_of}
 use Rattle.td_peers.specs.declared.scripted.Scripted.{Scripted}
 
 -- an entry that is taken out is the one that stands there
@@ -12,29 +12,29 @@ pub taken : (s : Script) (i : ℕ) (e : List ℕ × Scripted) → i < length s �
 taken s i e within is =
     sym (ap (option_map (λ (x : List ℕ × Scripted). x.1)) (slice_get_read s (length s) i e refl within is))
 
-all-small-next : (s : Script) (e : List ℕ × Scripted) → AreSmall s → IsSmall e.1 → AreSmall (s ++ e ∷ [])
+all-small-next : (s : Script) (e : List ℕ × Scripted) → AreAllowed s → IsAllowed e.1 → AreAllowed (s ++ e ∷ [])
 all-small-next [] e all small = (small, tt)
 all-small-next (x ∷ s) e all small = (all.0, all-small-next s e all.1 small)
 
 -- an entry more at the end
-pub small_next : (s new : Script) (e : List ℕ × Scripted) → new ≡ s ++ e ∷ [] → AreSmall s → IsSmall e.1 → AreSmall new
-small_next s new e is all small = subst AreSmall (sym is) (all-small-next s e all small)
+pub small_next : (s new : Script) (e : List ℕ × Scripted) → new ≡ s ++ e ∷ [] → AreAllowed s → IsAllowed e.1 → AreAllowed new
+small_next s new e is all small = subst AreAllowed (sym is) (all-small-next s e all small)
 
-small-without : (s : Script) (i : ℕ) → AreSmall s → AreSmall (remove s i)
+small-without : (s : Script) (i : ℕ) → AreAllowed s → AreAllowed (remove s i)
 small-without [] zero all = tt
 small-without [] (suc i) all = tt
 small-without (x ∷ s) zero all = all.1
 small-without (x ∷ s) (suc i) all = (all.0, small-without s i all.1)
 
-pub rest_small : (s : Script) (place : Option ℕ) → AreSmall s → AreSmall (rest_of s place)
+pub rest_small : (s : Script) (place : Option ℕ) → AreAllowed s → AreAllowed (rest_of s place)
 rest_small s None all = all
 rest_small s (Some i) all = small-without s i all
 
-small-at : (s : Script) (i : ℕ) → AreSmall s → IfSome (option_map (λ e. e.1) (slice_get s i)) IsSmall
+small-at : (s : Script) (i : ℕ) → AreAllowed s → IfSome (option_map (λ e. e.1) (slice_get s i)) IsAllowed
 small-at [] i all = tt
 small-at (x ∷ s) zero all = all.0
 small-at (x ∷ s) (suc i) all = small-at s i all.1
 
-pub entry_small : (s : Script) (place : Option ℕ) → AreSmall s → IfSome (entry_at s place) IsSmall
+pub entry_small : (s : Script) (place : Option ℕ) → AreAllowed s → IfSome (entry_at s place) IsAllowed
 entry_small s None all = tt
 entry_small s (Some i) all = small-at s i all

@@ -3,6 +3,7 @@ use Rattle.std.specs.Prelude.{◌≡◌, ℕ, nat_eq, Bool, true, false, if◌th
 use Rattle.std.specs.Prelude.{Result, Ok, Err, option_map, option_and_then}
 use Rattle.std.specs.List.{AllByRecursion, list_any, position, remove, slice_get}
 use Rattle.std.specs.Str.{bytes_eq}
+use Rattle.td_codes.specs.References.{reference}
 use Rattle.td_codes.specs.declared.reference.Ior.{Ior}
 use Rattle.td_ior.specs.Profiles.{iiop_of}
 use Rattle.td_out.specs.Causes.{raised}
@@ -104,12 +105,13 @@ IsPlayed given call target old new (Err fault.Memory) = new ≡ old
 IsPlayed given call target old new (Err f) =
     (gives call (next_entry old target) ≡ Failed f) × (new ≡ after old target call)
 
--- ---- small offers
+-- ---- small offers, and references that can be written
 
-abbrev pub IsSmall : Scripted → Type 0
-IsSmall (scripted.Offers a) = HasSmallOffers a
-IsSmall other = Unit {0}
+abbrev pub IsAllowed : Scripted → Type 0
+IsAllowed (scripted.Offers a) = HasSmallOffers a
+IsAllowed (scripted.Reference r) = reference.format.admits r
+IsAllowed other = Unit {0}
 
--- each offer of the script has at most 6 MiB
-abbrev pub AreSmall : Script → Type 0
-AreSmall script = AllByRecursion (λ entry. IsSmall entry.1) script
+-- each offer of the script has at most 6 MiB, and each reference can be written
+abbrev pub AreAllowed : Script → Type 0
+AreAllowed script = AllByRecursion (λ entry. IsAllowed entry.1) script

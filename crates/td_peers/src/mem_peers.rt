@@ -1,8 +1,9 @@
 //! Peers in memory.
 
 ghost use Rattle.std.specs.Prelude.{◌≡◌, ◌≤◌, ◌<◌, [], length, IfOk, OnOk, OnErr, IfSome};
+ghost use Rattle.td_codes.specs.References.{reference};
 ghost use Rattle.td_peers.specs.Noted.{call_of};
-ghost use Rattle.td_peers.specs.Scripts.{IsPlayed, IsSmall, AreSmall, after, entry_at, faults_after, gives};
+ghost use Rattle.td_peers.specs.Scripts.{IsPlayed, IsAllowed, AreAllowed, after, entry_at, faults_after, gives};
 ghost use Rattle.td_peers.specs.Scripts.{next_entry, place_for, with_call, without};
 ghost use Rattle.td_walk.specs.Peering.{IsNoted, HasSmallOffers, Querying, Evaluating, RegisterOf, Resolving};
 ghost use Rattle.td_walk.specs.Peering.{Answered, Evaluated, Referred};
@@ -45,7 +46,7 @@ impl Model for MemPeers {
         code_row.the_row.coded any_row.the_row.coded answer_row.the_row.coded fault_row.the_row.coded };
 
     ghost use Rattle.td_peers.specs.Noted.{exchanges};
-    ghost use Rattle.td_peers.specs.Scripts.{AreSmall};
+    ghost use Rattle.td_peers.specs.Scripts.{AreAllowed};
 
     ghost view = { λ p. record {
       script = p.script.items;
@@ -55,7 +56,7 @@ impl Model for MemPeers {
       faults = p.faults;
     } };
 
-    ghost invariant = { λ p. AreSmall p.script.items };
+    ghost invariant = { λ p. AreAllowed p.script.items };
 }
 
 /// A count of faults after a call.
@@ -71,12 +72,13 @@ fn faults_after(faults: u64, given: bool) -> u64
 }
 
 impl MemPeers {
-    /// Peers that answer by this script, of which no offer has more than 6 MiB. Each object gives its entries in order;
+    /// Peers that answer by this script, of which no offer has more than 6 MiB, and each reference can be written. Each
+    /// object gives its entries in order;
     /// `failing` has the numbers of the calls that fail, counted from 1, and these leave the script as it is. A call
     /// that fails, one of an object without an IIOP profile or without an entry, and one for which the next entry is
     /// `Failed` or of another kind are a fault of the wire.
     pub fn new(alloc: Global, script: List<(Octets, Scripted)>, failing: List<u64>) -> MemPeers
-        requires { AreSmall script }
+        requires { AreAllowed script }
         ensures { result ≡ record { script = script; calls = []; failing = failing; made = 0; faults = 0 } }
     {
         MemPeers {
@@ -140,7 +142,7 @@ impl MemPeers {
         requires { IfSome place (λ i. i < length self.old.script) }
         ensures entry { result ≡ entry_at self.old.script place }
         ensures rest { self.new ≡ without self.old place }
-        ensures small { IfSome result IsSmall }
+        ensures small { IfSome result IsAllowed }
     {
         take_entry(&mut self.script, place)
     }
@@ -156,7 +158,7 @@ impl MemPeers {
         ensures left { OnOk result (self.new ≡ after self.old target.now (call_of call)) }
         ensures kept { OnErr result (self.new ≡ self.old) }
         ensures later { self.old.faults ≤ self.new.faults }
-        ensures small { IfOk result (λ entry. IfSome entry IsSmall) }
+        ensures small { IfOk result (λ entry. IfSome entry IsAllowed) }
     {
         let place = self.place_for(alloc, target)?;
         self.note(place, call)?;
@@ -222,6 +224,7 @@ impl Peers for MemPeers {
         ensures same { Unit {0} }
         ensures noted { IsNoted (λ r. Referred r) (RegisterOf lookup.now) self.old.calls self.new.calls self.old.faults
             self.new.faults result }
+        ensures admitted { IfOk result (λ r. reference.format.admits r) }
         ensures exact { IsPlayed (λ r. Referred r) (RegisterOf lookup.now) lookup.now self.old self.new result }
     {
         let call = CallNote::Register {
@@ -242,6 +245,7 @@ impl Peers for MemPeers {
         ensures same { Unit {0} }
         ensures noted { IsNoted (λ r. Referred r) (Resolving register.now name.now) self.old.calls self.new.calls
             self.old.faults self.new.faults result }
+        ensures admitted { IfOk result (λ r. reference.format.admits r) }
         ensures exact { IsPlayed (λ r. Referred r) (Resolving register.now name.now) register.now self.old self.new
             result }
     {

@@ -1,11 +1,12 @@
 //! What peers in memory answer.
 
 ghost use Rattle.std.specs.Prelude.{◌≡◌, ℕ, List, IfSome, option_copied};
+ghost use Rattle.td_codes.specs.References.{reference};
 ghost use Rattle.td_codes.specs.declared.code.Any.{Any};
 ghost use Rattle.td_codes.specs.declared.code.TypeCode.{TypeCode};
 ghost use Rattle.td_codes.specs.declared.reference.Ior.{Ior};
 ghost use Rattle.td_ops.specs.declared.call.Query.{Query};
-ghost use Rattle.td_peers.specs.Scripts.{gives, given_by, is_given, IsSmall};
+ghost use Rattle.td_peers.specs.Scripts.{gives, given_by, is_given, IsAllowed};
 ghost use Rattle.td_walk.specs.Peering.{Querying, Evaluating, RegisterOf, Resolving, Answered, Evaluated, Referred};
 ghost use Rattle.td_walk.specs.Peering.{HasSmallOffers};
 
@@ -29,7 +30,7 @@ pub enum Scripted {
 /// The entry's offers.
 pub(crate) fn offers_in(entry: Option<Scripted>) -> Option<SubAnswer>
     ensures given { (t : Ior) (q : Query) → gives (Querying t q) entry ≡ given_by (λ a. Answered a) result }
-    ensures small { IfSome entry IsSmall → IfSome result (λ a. HasSmallOffers a) }
+    ensures small { IfSome entry IsAllowed → IfSome result (λ a. HasSmallOffers a) }
 {
     match entry? {
         Scripted::Offers(answer) => Some(answer),
@@ -56,6 +57,7 @@ pub(crate) fn value_in(entry: Option<Scripted>) -> Option<Boxed<Any>>
 pub(crate) fn reference_in(entry: Option<Scripted>) -> Option<Ior>
     ensures register { (t : Ior) → gives (RegisterOf t) entry ≡ given_by (λ r. Referred r) result }
     ensures resolved { (t : Ior) (n : List (List ℕ)) → gives (Resolving t n) entry ≡ given_by (λ r. Referred r) result }
+    ensures admitted { IfSome entry IsAllowed → IfSome result (λ r. reference.format.admits r) }
 {
     match entry? {
         Scripted::Reference(reference) => Some(reference),

@@ -1,12 +1,13 @@
 //! Peers outside, by a script of a few words.
 
 ghost use Rattle.std.specs.Prelude.{IfOk, OnOk};
-ghost use Rattle.td_peers.specs.Scripts.{AreSmall, IsSmall};
+ghost use Rattle.td_codes.specs.References.{reference};
+ghost use Rattle.td_peers.specs.Scripts.{AreAllowed, IsAllowed};
 ghost use Rattle.td_walk.specs.Peering.{HasSmallOffers};
 
 use std::alloc::Global;
 use td_cdr::{Boxed, List, Memory, Octets, Text};
-use td_ior::read_text;
+use td_ior::make_ior;
 use td_peers::{MemPeers, Scripted};
 use td_value::{Any, Ior, TypeCode, Value};
 use td_walk::SubAnswer;
@@ -33,29 +34,30 @@ fn limited(alloc: Global) -> Result<SubAnswer, Memory>
     })
 }
 
-fn reference(alloc: Global, text: &[u8]) -> Result<Ior, Memory> {
-    match read_text(alloc, text) {
-        Ok(reference) => Ok(reference),
-        Err(_) => Err(Memory),
-    }
+/// The reference to the object of this key.
+#[tactic(auto, using(crate::proofs::Answering::made_admitted))]
+fn reference(alloc: Global, key: &[u8]) -> Result<Ior, Memory>
+    ensures { IfOk result (λ r. reference.format.admits r) }
+{
+    make_ior(alloc, b"IDL:R:1.0", b"x", 9, key, 0)
 }
 
-/// `two`, which is a value, `limited`, an answer without offers, or the text of a reference.
+/// `two`, which is a value, `limited`, an answer without offers, or a reference, by its key.
 fn scripted(alloc: Global, word: &str) -> Result<Scripted, Memory>
-    ensures { IfOk result IsSmall }
+    ensures { IfOk result IsAllowed }
 {
     match word {
         "two" => Ok(Scripted::Evaluated(two(alloc)?)),
         "limited" => Ok(Scripted::Offers(limited(alloc)?)),
-        text => Ok(Scripted::Reference(reference(alloc, text.as_bytes())?)),
+        key => Ok(Scripted::Reference(reference(alloc, key.as_bytes())?)),
     }
 }
 
 /// One entry more, as `KEY:ENTRY`.
 #[tactic(auto, using(td_peers::proofs::Smallness::small_next))]
 fn add(alloc: Global, script: &mut List<(Octets, Scripted)>, word: &str) -> Result<(), Memory>
-    requires { AreSmall script.old }
-    ensures { OnOk result (AreSmall script.new) }
+    requires { AreAllowed script.old }
+    ensures { OnOk result (AreAllowed script.new) }
 {
     let (key, entry) = word.split_once(':').unwrap_or((word, ""));
     let key = Octets::from_slice(alloc, key.as_bytes())?;
@@ -78,8 +80,8 @@ pub fn evaluator(alloc: Global) -> Result<MemPeers, Memory> {
 /// A trader Z: its Lookup names the Register, and answers a query; the Register resolves a name.
 pub fn trader_outside(alloc: Global) -> Result<MemPeers, Memory> {
     let mut script = List::new(alloc);
-    add(alloc, &mut script, "Z/L:ref:IDL:R:1.0,x,9,Z/R")?;
-    add(alloc, &mut script, "Z/R:ref:IDL:R:1.0,x,9,Y/R")?;
+    add(alloc, &mut script, "Z/L:Z/R")?;
+    add(alloc, &mut script, "Z/R:Y/R")?;
     add(alloc, &mut script, "Z/L:limited")?;
     Ok(MemPeers::new(alloc, script, List::new(alloc)))
 }
