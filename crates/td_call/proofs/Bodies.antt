@@ -7,12 +7,22 @@ use Rattle.td_cdr.specs.ValueFaults.{is_memory}
 use Rattle.td_cdr.specs.declared.value_fault.ValueFault.{ValueFault}
 use Rattle.td_codes.specs.declared.code.Any.{Any}
 use Rattle.td_codes.specs.declared.code.TypeCode.{TypeCode}
+use Rattle.td_ops.specs.Answers.{answer_of}
+use Rattle.td_ops.specs.Called.{operation_in}
+use Rattle.td_ops.specs.declared.call.Call.{Call}
 use Rattle.td_ops.specs.declared.outcome.Answered.{Answered}
 use Rattle.td_walk.specs.declared.fault.PeerFault.{PeerFault}
 use Rattle.td_walk.specs.declared.fault.PeerFault.TheVariants as fault
 use Rattle.td_call.specs.Replies.{Reading}
-use Rattle.td_call.specs.Readings.{exception_given, may_stand, standing, value_given}
+use Rattle.td_call.specs.Readings.{AdmitsTold, exception_given, may_stand, standing, value_given}
 use Rattle.td_call.specs.Fetching.{IsRead}
+
+-- ---- an answer
+
+-- what was read by its status can be written
+pub told_admitted : (c : Call) (status : ℕ) (a : Answered) → (answer_of (operation_in c) status).format.admits a
+    → AdmitsTold c a
+told_admitted c status a h = (status, h)
 
 -- ---- a value
 

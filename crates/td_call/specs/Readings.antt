@@ -1,6 +1,6 @@
 -- What the body of a reply tells, by its status (CORBA, chapter on General Inter-ORB Protocol, "Reply Body"; OMG's
 -- Trading Object Service, interface DynamicPropEval).
-use Rattle.std.specs.Prelude.{Bool, ◌&&◌, nat_eq, nat_le, if◌then◌else◌, length, Option, Some, None}
+use Rattle.std.specs.Prelude.{ℕ, Bool, ◌&&◌, nat_eq, nat_le, if◌then◌else◌, length, Option, Some, None}
 use Rattle.std.specs.Prelude.{Result, Ok, Err}
 use Rattle.td_cdr.specs.declared.order.Order.TheVariants.{Big}
 use Rattle.td_cdr.specs.declared.value_fault.ValueFault.{ValueFault}
@@ -13,7 +13,8 @@ use Rattle.td_codes.specs.declared.code.TypeCode.{TypeCode}
 use Rattle.td_ops.specs.declared.call.Call.{Call}
 use Rattle.td_ops.specs.declared.call.Call.TheVariants.{NonExistent}
 use Rattle.td_ops.specs.declared.outcome.Answered.{Answered}
-use Rattle.td_ops.specs.Answers.{outcome_read}
+use Rattle.td_ops.specs.Answers.{answer_of, outcome_read}
+use Rattle.td_ops.specs.Called.{operation_in}
 use Rattle.td_walk.specs.Resolving.{longest_value}
 use Rattle.td_call.specs.Replies.{Reading}
 
@@ -24,6 +25,10 @@ without_fault (Err e) = None
 -- what a reply to a call tells: a result, or an exception
 abbrev pub outcome_told : Call → Reading Answered
 outcome_told c status a = without_fault (outcome_read c status a)
+
+-- it can be written, as the body of a reply to this call
+abbrev pub AdmitsTold : Call → Answered → Type 0
+AdmitsTold c a = (status : ℕ) × (answer_of (operation_in c) status).format.admits a
 
 -- ---- what an evaluator gives
 

@@ -1,11 +1,11 @@
 //! One call of an object over a connection of its own.
 
-ghost use Rattle.std.specs.Prelude.{◌≡◌, ◌≤◌, ◌↔◌, [], option_map, IsTrue};
+ghost use Rattle.std.specs.Prelude.{◌≡◌, ◌≤◌, ◌↔◌, [], option_map, IfOk, IsTrue};
 ghost use Rattle.td_ior.specs.Profiles.{iiop_of};
 ghost use Rattle.td_call.specs.Calling.{Called, CalledAt, Connected, first_id};
 ghost use Rattle.td_call.specs.Fetching.{IsRead};
 ghost use Rattle.td_call.specs.Moving.{Leaves, LeavesAt, StaysDisconnected};
-ghost use Rattle.td_call.specs.Readings.{outcome_told, evaluation_told};
+ghost use Rattle.td_call.specs.Readings.{AdmitsTold, outcome_told, evaluation_told};
 ghost use Rattle.td_wire.specs.Connections.{ended};
 ghost use Rattle.td_call.specs.Requests.{request_of, evaluation_of};
 
@@ -87,7 +87,7 @@ fn is_spent(framer: &mut Framer) -> bool
 
 /// Calls an object over a connection of its own: writes one Request, and reads its reply. It isn't tried again:
 /// whatever comes of it, no more than one connection was made, and no more than the one Request written over it. The
-/// connection has ended when the call is done.
+/// connection has ended when the call is done. What is answered can be written.
 ///
 /// # Errors
 ///
@@ -103,6 +103,7 @@ pub fn call_over<L: Wire>(
     ensures same { L.same wire.old wire.new }
     ensures called { Called (outcome_told call.now) (λ key. request_of first_id key call.now) target.now
         (L.told wire.old) (L.told wire.new) (L.faults wire.old) (L.faults wire.new) result }
+    ensures admitted { IfOk result (λ a. AdmitsTold call.now a) }
     ensures leaves { Leaves (λ key. request_of first_id key call.now) target.now (L.told wire.old) (L.told wire.new) }
     ensures disconnected { StaysDisconnected (L.told wire.old) (L.told wire.new) }
     ensures later { L.faults wire.old ≤ L.faults wire.new }
@@ -123,6 +124,7 @@ fn call_at<L: Wire>(
     ensures same { L.same wire.old wire.new }
     ensures called { CalledAt (outcome_told call.now) (request_of first_id profile.now.key call.now) profile.now
         (L.told wire.old) (L.told wire.new) (L.faults wire.old) (L.faults wire.new) result }
+    ensures admitted { IfOk result (λ a. AdmitsTold call.now a) }
     ensures leaves { LeavesAt (request_of first_id profile.now.key call.now) profile.now (L.told wire.old)
         (L.told wire.new) }
     ensures later { L.faults wire.old ≤ L.faults wire.new }

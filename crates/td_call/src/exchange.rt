@@ -1,9 +1,9 @@
 //! One request over a connection that stands, and its reply.
 
-ghost use Rattle.std.specs.Prelude.{◌≡◌, ◌+◌, ◌<◌, ◌≤◌, ◌^◌, length, option_map};
+ghost use Rattle.std.specs.Prelude.{◌≡◌, ◌+◌, ◌<◌, ◌≤◌, ◌^◌, length, option_map, IfOk};
 ghost use Rattle.td_call.specs.Fetching.{Exchanges, Fetches};
 ghost use Rattle.td_call.specs.Moving.{Moves};
-ghost use Rattle.td_call.specs.Readings.{outcome_told, evaluation_told};
+ghost use Rattle.td_call.specs.Readings.{AdmitsTold, outcome_told, evaluation_told};
 ghost use Rattle.td_call.specs.Replies.{reply_limit};
 ghost use Rattle.td_call.specs.Requests.{request_of};
 ghost use Rattle.td_wire.specs.Connections.{wrote};
@@ -62,6 +62,7 @@ fn exchange_outcome<L: Wire>(
     ensures same { L.same wire.old wire.new }
     ensures exchanges { Exchanges (outcome_told call.now) id request.now framer.old.rest framer.new.rest
         (L.told wire.old) (L.told wire.new) (L.faults wire.old) (L.faults wire.new) result }
+    ensures admitted { IfOk result (λ a. AdmitsTold call.now a) }
     ensures moves { Moves request.now (L.told wire.old) (L.told wire.new) }
     ensures later { L.faults wire.old ≤ L.faults wire.new }
     ensures grows { framer.new.start + length framer.new.rest
@@ -99,6 +100,7 @@ pub fn exchange_call<L: Wire>(
     ensures same { L.same wire.old wire.new }
     ensures exchanges { Exchanges (outcome_told call.now) id (request_of id key.now call.now) framer.old.rest
         framer.new.rest (L.told wire.old) (L.told wire.new) (L.faults wire.old) (L.faults wire.new) result }
+    ensures admitted { IfOk result (λ a. AdmitsTold call.now a) }
     ensures moves { Moves (request_of id key.now call.now) (L.told wire.old) (L.told wire.new) }
     ensures later { L.faults wire.old ≤ L.faults wire.new }
     ensures grows { framer.new.start + length framer.new.rest

@@ -1,9 +1,9 @@
 //! The message in front of what came, as the reply to a request.
 
-ghost use Rattle.std.specs.Prelude.{◌≡◌, MatchOption};
+ghost use Rattle.std.specs.Prelude.{◌≡◌, IfOk, MatchOption};
 ghost use Rattle.td_giop.specs.Heads.{IsReadable};
 ghost use Rattle.td_call.specs.Replies.{body_of, reply_head, reply_body, message_read, reply_limit};
-ghost use Rattle.td_call.specs.Readings.{outcome_told, evaluation_told};
+ghost use Rattle.td_call.specs.Readings.{AdmitsTold, outcome_told, evaluation_told};
 ghost use Rattle.td_call.specs.Fetching.{IsRead, ReadsFront};
 
 use crate::reading::{evaluation_told, outcome_told};
@@ -52,8 +52,9 @@ fn read_outcome_in(
     call: &Call,
 ) -> Result<Answered, PeerFault>
     requires { IsReadable message.now.bytes.now }
-    ensures { IsRead (message_read (outcome_told call.now) id message.now.kind message.now.order
+    ensures reads { IsRead (message_read (outcome_told call.now) id message.now.kind message.now.order
         message.now.bytes.now) result }
+    ensures admitted { IfOk result (λ a. AdmitsTold call.now a) }
 {
     match reply_body(message, id) {
         None => Err(PeerFault::Grammar),
@@ -99,6 +100,7 @@ pub(crate) fn front_outcome(
     requires { framer.old.limit ≡ reply_limit }
     ensures framer { framer.new ≡ framer.old }
     ensures reads { ReadsFront (outcome_told call.now) id framer.old.rest result }
+    ensures admitted { IfOk result (λ a. AdmitsTold call.now a) }
 {
     match framer.next_message() {
         Err(_) => Err(PeerFault::Grammar),

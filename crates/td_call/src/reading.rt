@@ -7,7 +7,7 @@ ghost use Rattle.td_codes.specs.Values.{any_value};
 ghost use Rattle.td_ops.specs.declared.call.Call.TheVariants.{NonExistent};
 ghost use Rattle.td_walk.specs.declared.fault.PeerFault.TheVariants as peer;
 ghost use Rattle.td_call.specs.Fetching.{IsRead};
-ghost use Rattle.td_call.specs.Readings.{outcome_told, may_stand, standing, value_given};
+ghost use Rattle.td_call.specs.Readings.{AdmitsTold, outcome_told, may_stand, standing, value_given};
 ghost use Rattle.td_call.specs.Readings.{exception_given, evaluation_told};
 
 use std::alloc::Global;
@@ -16,18 +16,20 @@ use td_ops::{Answered, Call, OpsFault, read_outcome};
 use td_value::{Any, TypeCode, any_size, read_any, same_type};
 use td_walk::{LONGEST_VALUE, PeerFault};
 
-/// What a reply of this status to a call tells.
+/// What a reply of this status to a call tells. It can be written.
 ///
 /// # Errors
 ///
 /// `Grammar` where the body can't be read, and `Memory`.
+#[tactic(auto, using(crate::proofs::Bodies::told_admitted))]
 pub(crate) fn outcome_told(
     alloc: Global,
     call: &Call,
     status: u32,
     body: &mut Reader,
 ) -> Result<Answered, PeerFault>
-    ensures { IsRead (outcome_told call.now status body.old) result }
+    ensures reads { IsRead (outcome_told call.now status body.old) result }
+    ensures admitted { IfOk result (λ a. AdmitsTold call.now a) }
 {
     match read_outcome(alloc, call, status, body) {
         Ok(answer) => Ok(answer),

@@ -8,6 +8,7 @@ ghost use Rattle.td_call.specs.Requests.{request_of, evaluation_of};
 ghost use Rattle.td_client.specs.Meanings.{offers_meant, reference_meant, register_call, resolve_call, value_meant};
 ghost use Rattle.td_client.specs.Meanings.{with_meaning};
 ghost use Rattle.td_client.specs.Noted.{count_after, exchanges};
+ghost use Rattle.td_codes.specs.References.{reference};
 ghost use Rattle.td_codes.specs.declared.code.Any.{Any};
 ghost use Rattle.td_gather.specs.Asking.{Asks};
 ghost use Rattle.td_gather.specs.Writing.{AskLeaves};
@@ -113,6 +114,7 @@ impl<L: Wire> Peers for Caller<L> {
         ensures count { self.new.faults ≡ count_after self.old.faults result }
         ensures noted { IsNoted (λ r. Referred r) (RegisterOf lookup.now) (exchanges self.old.notes)
             (exchanges self.new.notes) self.old.faults self.new.faults result }
+        ensures admitted { IfOk result (λ r. reference.format.admits r) }
         ensures exact { (r : Result Told PeerFault) × Called (outcome_told register_call)
             (λ key. request_of first_id key register_call) lookup.now (L.told self.old.wire) (L.told self.new.wire)
             (L.faults self.old.wire) (L.faults self.new.wire) r × (result ≡ with_meaning reference_meant r) }
@@ -140,6 +142,7 @@ impl<L: Wire> Peers for Caller<L> {
         ensures count { self.new.faults ≡ count_after self.old.faults result }
         ensures noted { IsNoted (λ r. Referred r) (Resolving register.now name.now) (exchanges self.old.notes)
             (exchanges self.new.notes) self.old.faults self.new.faults result }
+        ensures admitted { IfOk result (λ r. reference.format.admits r) }
         ensures exact { (r : Result Told PeerFault) × Called (outcome_told (resolve_call name.now))
             (λ key. request_of first_id key (resolve_call name.now)) register.now (L.told self.old.wire)
             (L.told self.new.wire) (L.faults self.old.wire) (L.faults self.new.wire) r

@@ -1,9 +1,9 @@
 //! Calls that give a reference.
 
-ghost use Rattle.std.specs.Prelude.{◌≡◌};
+ghost use Rattle.std.specs.Prelude.{◌≡◌, IfOk};
 ghost use Rattle.td_call.specs.Calling.{Called, first_id};
 ghost use Rattle.td_call.specs.Moving.{Leaves, StaysDisconnected};
-ghost use Rattle.td_call.specs.Readings.{outcome_told};
+ghost use Rattle.td_call.specs.Readings.{AdmitsTold, outcome_told};
 ghost use Rattle.td_call.specs.Requests.{request_of};
 ghost use Rattle.td_client.specs.Meanings.{register_call, resolve_call};
 
@@ -28,6 +28,7 @@ pub(crate) fn ask_register<L: Wire>(
     ensures same { L.same wire.old wire.new }
     ensures called { Called (outcome_told register_call) (λ key. request_of first_id key register_call) lookup.now
         (L.told wire.old) (L.told wire.new) (L.faults wire.old) (L.faults wire.new) result }
+    ensures admitted { IfOk result (λ a. AdmitsTold register_call a) }
     ensures leaves { Leaves (λ key. request_of first_id key register_call) lookup.now (L.told wire.old)
         (L.told wire.new) }
     ensures disconnected { StaysDisconnected (L.told wire.old) (L.told wire.new) }
@@ -54,6 +55,7 @@ pub(crate) fn ask_to_resolve<L: Wire>(
     ensures called { Called (outcome_told (resolve_call name.now))
         (λ key. request_of first_id key (resolve_call name.now)) register.now (L.told wire.old) (L.told wire.new)
         (L.faults wire.old) (L.faults wire.new) result }
+    ensures admitted { IfOk result (λ a. AdmitsTold (resolve_call name.now) a) }
     ensures leaves { Leaves (λ key. request_of first_id key (resolve_call name.now)) register.now (L.told wire.old)
         (L.told wire.new) }
     ensures disconnected { StaysDisconnected (L.told wire.old) (L.told wire.new) }

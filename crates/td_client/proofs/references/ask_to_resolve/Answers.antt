@@ -1,6 +1,7 @@
-use Rattle.std.proofs.Common.{subst}
+use Rattle.std.proofs.Common.{IfOk, subst}
 use Rattle.td_call.specs.Calling.{first_id}
 use Rattle.td_call.specs.Moving.{Leaves}
+use Rattle.td_call.specs.Readings.{AdmitsTold}
 use Rattle.td_call.specs.Requests.{request_of}
 use Rattle.td_client.specs.Meanings.{resolve_call}
 use Rattle.td_client.proofs.references.ask_to_resolve.Goals as goal
@@ -13,3 +14,8 @@ returns-in-Ok-clause-leaves g c =
 
 pub returns-in-Err-clause-disconnected : goal.returns-in-Err-clause-disconnected
 returns-in-Err-clause-disconnected g c = λ none. none
+
+pub returns-in-Ok-clause-admitted : goal.returns-in-Ok-clause-admitted
+returns-in-Ok-clause-admitted g c =
+    subst (λ name. IfOk c.call_over-answer.result (λ a. AdmitsTold (resolve_call name) a)) c.in-Ok.ensures
+    c.call_over-answer.ensures.admitted
