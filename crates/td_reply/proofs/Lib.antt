@@ -1,3 +1,4 @@
+pub mod Admitted
 pub mod Backing
 pub mod Classes
 pub mod FirstBatch

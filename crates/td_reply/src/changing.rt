@@ -4,6 +4,7 @@
 ghost use Rattle.std.specs.Prelude.{◌≡◌, ◌<◌, length, IfOk, OnErr};
 ghost use Rattle.td_reply.specs.Answers.{IfLong, IsToldPlainly};
 ghost use Rattle.td_reply.specs.Changing.{ChangeComes, changes_before};
+ghost use Rattle.td_trader.specs.Admitted.{AdmitsChange};
 ghost use Rattle.td_trader.specs.Worlds.{AdmittedAt, Watches, history_at};
 
 use crate::answer::{Answer, ReplyBody};
@@ -23,7 +24,8 @@ pub fn answer_change<T: Traders>(
     trader: usize,
     c: Change,
 ) -> Result<Answer, Memory>
-    requires { trader < length (T.world traders.old) }
+    requires trader { trader < length (T.world traders.old) }
+    requires admitted { AdmitsChange c }
     ensures same { T.same traders.old traders.new }
     ensures ok { IfOk result (λ a. IsToldPlainly (λ o e.
         ChangeComes T.others T.later (T.world traders.old) trader c o e (T.world traders.new)) a) }

@@ -1,7 +1,10 @@
 //! `add_link` (OMG's Trading Object Service, interface Link).
 
 ghost use Rattle.std.specs.Prelude.{◌≡◌, ◌⊎◌, ◌≤◌, ◌<◌, false, List, length, None, Some, Ok, IfOk, IfErr, OnErr};
+ghost use Rattle.td_codes.specs.References.{reference};
 ghost use Rattle.td_objects.specs.References.{IsAddress, register_reference};
+ghost use Rattle.td_ops.specs.Calls.{AdmitsCall};
+ghost use Rattle.td_ops.specs.declared.call.Call.TheVariants as asked;
 ghost use Rattle.td_ops.specs.declared.call.Change.{Change as a_change};
 ghost use Rattle.td_reply.specs.Answers.{IfLong, IsToldPlainly};
 ghost use Rattle.td_reply.specs.Changing.{ChangeComes, Rests};
@@ -9,6 +12,7 @@ ghost use Rattle.td_reply.specs.Linking.{AddLinkComes, AskedInVain, ChangeNoted,
 ghost use Rattle.td_reply.specs.Linking.{link_change, peers_seen, register_given};
 ghost use Rattle.td_reply.specs.Targets.{target_of};
 ghost use Rattle.td_reply.specs.declared.target.Target.TheVariants.{Outside};
+ghost use Rattle.td_trader.specs.Admitted.{AdmitsChange, AdmitsRegister};
 ghost use Rattle.td_trader.specs.Worlds.{View, Watches, name_at};
 ghost use Rattle.td_walk.specs.Peering.{IsNoted, Referred, RegisterOf, is_memory};
 
@@ -42,6 +46,7 @@ pub fn answer_add_link<T: Traders, P: Peers>(
 ) -> Result<Answer, Memory>
     requires inside { trader < length (T.world traders.old) }
     requires home { IsAddress home.now }
+    requires admitted { AdmitsCall (asked.AddLink call) }
     ensures same { T.same traders.old traders.new }
     ensures same_peers { P.same peers.old peers.new }
     ensures ok { IfOk result (λ a. IsToldPlainly (λ o e.
@@ -68,8 +73,10 @@ pub fn answer_add_link<T: Traders, P: Peers>(
 }
 
 /// The change that the call comes to, once the register is known.
+#[tactic(auto, using(crate::proofs::Admitted::link_admitted))]
 fn link_change(call: AddLink, register: Option<Ior>) -> Change
-    ensures { result ≡ link_change call register }
+    ensures same { result ≡ link_change call register }
+    ensures admitted { AdmitsCall (asked.AddLink call) → AdmitsRegister register → AdmitsChange result }
 {
     Change::AddLink {
         name: call.name,
@@ -92,6 +99,7 @@ fn add_inside<T: Traders>(
     requires trader { trader < length (T.world traders.old) }
     requires inside { inside < length (T.world traders.old) }
     requires home { IsAddress home.now }
+    requires admitted { AdmitsCall (asked.AddLink call) }
     ensures same { T.same traders.old traders.new }
     ensures ok { IfOk result (λ a. IsToldPlainly (λ o e. ChangeComes T.others T.later (T.world traders.old) trader
         (link_change call (Some (register_reference home.now (name_at (T.world traders.old) inside)))) o e
@@ -127,6 +135,7 @@ fn add_outside<T: Traders, P: Peers>(
 ) -> Result<Answer, Memory>
     requires inside { trader < length (T.world traders.old) }
     requires outside { target_of home.now (T.world traders.old) call.target ≡ Outside }
+    requires admitted { AdmitsCall (asked.AddLink call) }
     ensures same { T.same traders.old traders.new }
     ensures same_peers { P.same peers.old peers.new }
     ensures ok { IfOk result (λ a. IsToldPlainly (λ o e.
@@ -163,6 +172,7 @@ fn ask<P: Peers>(
     ensures noted { IfOk result (λ gave. IsNoted (λ r. Referred r) (RegisterOf lookup.now) (P.calls peers.old)
         (P.calls peers.new) (P.faults peers.old) (P.faults peers.new) gave) }
     ensures answered { IfOk result (λ gave. IfErr gave (λ f. is_memory f ≡ false)) }
+    ensures admitted { IfOk result (λ gave. IfOk gave (λ r. reference.format.admits r)) }
     ensures unasked { OnErr result (P.calls peers.new ≡ P.calls peers.old) }
     ensures faults { P.faults peers.old ≤ P.faults peers.new }
 {
@@ -183,7 +193,9 @@ fn add_given<T: Traders>(
     call: AddLink,
     gave: Result<Ior, PeerFault>,
 ) -> Answer
-    requires { trader < length (T.world traders.old) }
+    requires trader { trader < length (T.world traders.old) }
+    requires admitted { AdmitsCall (asked.AddLink call) }
+    requires given { IfOk gave (λ r. reference.format.admits r) }
     ensures same { T.same traders.old traders.new }
     ensures linked { IsToldPlainly (λ o e.
         LinkedAs T.others T.later (T.world traders.old) trader call gave o e (T.world traders.new)
@@ -232,7 +244,8 @@ fn add_as<T: Traders>(
     c: Change,
     gave: Result<Ior, PeerFault>,
 ) -> Answer
-    requires { trader < length (T.world traders.old) }
+    requires trader { trader < length (T.world traders.old) }
+    requires admitted { AdmitsChange c }
     ensures same { T.same traders.old traders.new }
     ensures changed { IsToldPlainly (λ o e.
         ChangeNoted T.others T.later (T.world traders.old) trader c gave o e (T.world traders.new)

@@ -7,6 +7,7 @@ ghost use Rattle.td_iter.specs.Desks.{Live};
 ghost use Rattle.td_iter.specs.declared.limits.TheConstants.{REPLY_START};
 ghost use Rattle.td_lookup.specs.Telling.{in_vain};
 ghost use Rattle.td_objects.specs.References.{IsAddress};
+ghost use Rattle.td_ops.specs.Calls.{AdmitsCall};
 ghost use Rattle.td_ops.specs.declared.call.Call.TheVariants as call;
 ghost use Rattle.td_register.specs.declared.history.Accepted.{Accepted};
 ghost use Rattle.td_reply.specs.Classes.{IsOfClass, request_class};
@@ -65,9 +66,10 @@ pub trait Backend {
             IsOfClass c (judged (seen self.now).world desk.old key.now operation.now body.now)) }
         ensures desk { desk.new ≡ desk.old };
 
-    /// A change.
+    /// A change, as it was read.
     fn serve_change(&mut self, object: Object, c: Change) -> Answer
-        requires { object.trader < length (seen self.old).world }
+        requires inside { object.trader < length (seen self.old).world }
+        requires admitted { AdmitsCall (call.Change c) }
         ensures same { same self.old self.new }
         ensures performs { (home : Home) (draft written : Draft) (desk : Live)
             → Performs others later home (Call object (call.Change c)) object.trader draft
@@ -91,7 +93,7 @@ pub trait Backend {
         ensures performs { Performs others later home.now (Call object (call.Look look)) object.trader w.old
             (scene_of (seen self.old) desk.old) result.body result.entry w.new (scene_of (seen self.new) desk.new) };
 
-    /// `add_link`.
+    /// `add_link`, as it was read.
     fn serve_add_link(
         &mut self,
         alloc: Global,
@@ -101,6 +103,7 @@ pub trait Backend {
     ) -> Answer
         requires inside { object.trader < length (seen self.old).world }
         requires home { IsAddress home.now }
+        requires admitted { AdmitsCall (call.AddLink link) }
         ensures same { same self.old self.new }
         ensures performs { (draft written : Draft) (desk : Live)
             → Performs others later home.now (Call object (call.AddLink link)) object.trader draft

@@ -15,3 +15,6 @@ returns-in-Ok-Outside-clause-ok g c =
     (peers_seen (g.P.Peers.calls c.args.peers.now) (g.P.Peers.faults c.args.peers.now))
     (peers_seen (g.P.Peers.calls c.add_outside.new.peers) (g.P.Peers.faults c.add_outside.new.peers))
     (sym c.in-Ok-Outside.ensures ∙ c.in-Ok-Outside.field-0-is) c.add_outside.ensures.ok
+
+pub answer_change-requires-clause-admitted : goal.answer_change-requires-clause-admitted
+answer_change-requires-clause-admitted g c = c.link_change.ensures.admitted c.requires.admitted tt
