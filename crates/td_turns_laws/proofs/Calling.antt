@@ -24,7 +24,7 @@ use Rattle.td_reply.specs.declared.judging.Judged.TheVariants.{Call, Refused}
 use Rattle.td_reply.specs.declared.objects.Object.{Object}
 use Rattle.td_serve.specs.Requests.{CallComes, number_in}
 use Rattle.td_trader.specs.Worlds.{name_at}
-use Rattle.td_trader_laws.proofs.ReadAdmitted.{read-admitted}
+use Rattle.td_trader.proofs.ReadAdmitted.{read_admitted}
 use Rattle.td_trader_laws.proofs.WritingWorlds.{worlds-change}
 use Rattle.td_trader_laws.specs.WritableWorlds.{IsWritableWorld, OthersAreAdmitted}
 use Rattle.td_turns_laws.proofs.Desks.{left-writes}
@@ -33,7 +33,8 @@ use Rattle.td_turns_laws.proofs.Judgements.{FitsCall}
 use Rattle.td_turns_laws.proofs.Linked.{link-writes}
 use Rattle.td_turns_laws.proofs.Looked.{look-writes}
 use Rattle.td_turns_laws.proofs.Querying.{query-writes}
-use Rattle.td_turns_laws.proofs.Read.{read-link, read-look, read-names, read-query}
+use Rattle.td_turns_laws.proofs.Read.{read-look, read-names, read-query}
+use Rattle.td_reply.proofs.Admitted.{read_link}
 use Rattle.td_turns_laws.proofs.Resolved.{name-writes}
 use Rattle.td_turns_laws.proofs.Worlds.{goes-writes}
 use Rattle.td_turns_laws.specs.Spelled.{AdmitsAnswer, AdmitsShaped}
@@ -78,7 +79,7 @@ module _ (others : List Accepted → Type 0) (later : Marks → Marks → Type 0
       → AdmitsAnswer (Call x c) o × IsWritableScene t
   calls-write (call.Change c) draft s t o e admitted w a fits r g =
       let changed =
-      worlds-change others later s.world t.world x.trader c o admitted w.world (read-admitted c a) r.0.changes in (
+      worlds-change others later admitted s.world t.world x.trader c o w.world (read_admitted c a) r.0.changes in (
         shaped (operation_in (call.Change c)) o changed.0,
         record { world = changed.1; desk = subst (λ (y : Scene). IsWritableDesk y.desk) (sym r.1) w.desk },
       )
@@ -89,7 +90,7 @@ module _ (others : List Accepted → Type 0) (later : Marks → Marks → Type 0
       (shaped (operation_in (call.Look l)) o looked.0, record { world = looked.1; desk = looked.2 })
   calls-write (call.AddLink l) draft s t o e admitted w a fits r g =
       let linked =
-      link-writes others later home s.world x.trader l s.peers t.peers o e t.world admitted w.world (read-link l a) g
+      link-writes others later home s.world x.trader l s.peers t.peers o e t.world admitted w.world (read_link l a) g
       r.0 in (
         shaped (operation_in (call.AddLink l)) o linked.0,
         record { world = linked.1; desk = subst IsWritableDesk (sym r.1) w.desk },

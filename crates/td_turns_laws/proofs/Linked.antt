@@ -1,14 +1,9 @@
 -- What add_link comes to can be written: the register of its link is the server's own, one that a peer gave, or none.
-use Rattle.std.proofs.Common.{ℕ, Bool, true, false, cond, List, length, Option, Some, None, Ok, Err, refl, subst}
+use Rattle.std.proofs.Common.{ℕ, List, length, Option, Some, None, Ok, Err, refl, subst}
 use Rattle.td_cdr.specs.Marks.{Marks}
-use Rattle.td_codes.specs.References.{reference}
 use Rattle.td_codes.specs.declared.reference.Ior.{Ior}
-use Rattle.td_ior.specs.Keys.{written_key}
-use Rattle.td_ior.specs.Nil.{is_nil}
 use Rattle.td_lookup.specs.Unserved.{gave_in}
-use Rattle.td_objects.specs.Interfaces.{interface_id}
 use Rattle.td_objects.specs.References.{register_reference}
-use Rattle.td_objects.specs.declared.interface.Interface.TheVariants.{Register}
 use Rattle.td_ops.specs.Answers.{AdmitsOutcome}
 use Rattle.td_ops.specs.Parameters.{add_link}
 use Rattle.td_ops.specs.declared.call.AddLink.{AddLink}
@@ -24,26 +19,16 @@ use Rattle.td_reply.specs.declared.target.Target.{Target}
 use Rattle.td_reply.specs.declared.target.Target.TheVariants.{Inside, Outside, Unreachable}
 use Rattle.td_trader.specs.Worlds.{Changes, View, name_at}
 use Rattle.td_trader_laws.proofs.WritingWorlds.{worlds-change}
-use Rattle.td_trader_laws.specs.Writable.{AdmitsRegister}
+use Rattle.td_trader.specs.Admitted.{AdmitsRegister}
 use Rattle.td_trader_laws.specs.WritableWorlds.{IsWritableWorld, OthersAreAdmitted}
-use Rattle.td_turns_laws.proofs.Parts.{made-writes}
+use Rattle.td_reply.proofs.Admitted.{register_admitted, register_writes}
 use Rattle.td_turns_laws.specs.Writable.{AdmitsGifts}
-use Rattle.td_value.specs.declared.key.Kind.TheVariants as kind
 use Rattle.td_walk.specs.declared.trace.Address.{Address}
-
-register-writes : (home : Address) (name : List ℕ) → reference.format.admits (register_reference home name)
-register-writes home name =
-    made-writes (interface_id Register) home.host home.port
-    (written_key (record { trader = name; kind = kind.Register })) home.minor refl
-
-unless-nil : (nil : Bool) (r : Ior) → reference.format.admits r → AdmitsRegister (cond nil None (Some r))
-unless-nil true r h = tt
-unless-nil false r h = h
 
 -- what a peer gave
 given-register : (k point : ℕ) (gave : Gave) → AdmitsGifts (gave_in (Asked k point gave))
     → AdmitsRegister (register_given gave)
-given-register k point (Ok r) h = unless-nil (is_nil r) r h.0
+given-register k point (Ok r) h = register_admitted (Ok r) (register_given (Ok r)) refl h.0
 given-register k point (Err f) h = tt
 
 module _ (others : List Accepted → Type 0) (later : Marks → Marks → Type 0) (home : Address) where
@@ -52,7 +37,7 @@ module _ (others : List Accepted → Type 0) (later : Marks → Marks → Type 0
       → Changes others later w k (link_change l register) o u
       → AdmitsOutcome (Link link.AddLink) o × IsWritableWorld u
   linked w k l register o u admitted h p r c =
-      worlds-change others later w u k (link_change l register) o admitted h (p, r) c
+      worlds-change others later admitted w u k (link_change l register) o h (p, r) c
 
   by-target : (t : Target) (w : List View) (k : ℕ) (l : AddLink) (before after : PeersSeen) (o : Outcome) (e : Entry)
       (u : List View) → OthersAreAdmitted others → IsWritableWorld w → add_link.format.admits l
@@ -60,7 +45,7 @@ module _ (others : List Accepted → Type 0) (later : Marks → Marks → Type 0
       → AdmitsOutcome (Link link.AddLink) o × IsWritableWorld u
   by-target (Inside j) w k l before after o e u admitted h p g r =
       linked w k l (Some (register_reference home (name_at w j))) o u admitted h p
-      (register-writes home (name_at w j)) r.0.changes
+      (register_writes home (name_at w j)) r.0.changes
   by-target Unreachable w k l before after o e u admitted h p g r = linked w k l None o u admitted h p tt r.0.changes
   by-target Outside w k l before after o e u admitted h p g r =
       let noted = subst (λ (x : Entry). AdmitsGifts (gave_in x)) r.linked.noted g in

@@ -29,7 +29,8 @@ use Rattle.td_trader_laws.proofs.WritingWorlds.{worlds-look}
 use Rattle.td_trader_laws.specs.Writable.{AdmitsLook}
 use Rattle.td_trader_laws.specs.WritableWorlds.{IsWritableWorld, OthersAreAdmitted}
 use Rattle.td_turns_laws.proofs.Desks.{added-writes}
-use Rattle.td_turns_laws.proofs.Parts.{given-writes, made-writes, sequence-behind, sequence-front}
+use Rattle.td_turns_laws.proofs.Parts.{given-writes, sequence-behind, sequence-front}
+use Rattle.td_reply.proofs.Admitted.{made_writes}
 use Rattle.td_turns_laws.specs.Writable.{IsWritableDesk}
 use Rattle.td_value.specs.declared.key.Kind.TheVariants as kind
 use Rattle.td_walk.specs.declared.trace.Address.{Address}
@@ -38,7 +39,7 @@ use Rattle.td_walk.specs.declared.trace.Address.{Address}
 pub iterator-writes : (home : Address) (name : List ℕ) (n : ℕ)
     → reference.format.admits (iterator_reference home name n)
 iterator-writes home name n =
-    made-writes (interface_id OfferIdIterator) home.host home.port
+    made_writes (interface_id OfferIdIterator) home.host home.port
     (written_key (record { trader = name; kind = kind.Iterator n })) home.minor refl
 
 kept-writes : (name : List ℕ) (left : List (List ℕ)) (d : Live) → IsWritableDesk d
@@ -91,7 +92,7 @@ module _ (others : List Accepted → Type 0) (later : Marks → Marks → Type 0
       → LookComes others later home w d k l draft o e u after
       → AdmitsOutcome (look_operation l) o × IsWritableWorld u × IsWritableDesk after
   look-writes w d k l draft o e u after admitted h desk p r =
-      let looked = worlds-look others later w u k l (r.found, r.max_list) admitted h p r.looks in
+      let looked = worlds-look others later admitted w u k l (r.found, r.max_list) h p r.looks in
       let cut =
       cut-writes (look_operation l) home (name_at u k) (min (how_many l) r.max_list) r.found draft d o after looked.0
       desk r.cuts in

@@ -3,11 +3,9 @@ use Rattle.std.proofs.Common.{◌≡◌, ℕ, zero, suc, ◌^◌, ◌<◌, ◌�
 use Rattle.std.proofs.Common.{slice_get, slice_set, Some, subst, arith, refl}
 use Rattle.std.specs.List.{AllByRecursion}
 use Rattle.td_cdr.specs.Sound.{Sound, sequence}
-use Rattle.td_cdr.specs.Text.{HasNoNul}
 use Rattle.td_cdr.specs.declared.value_fault.ValueFault.{ValueFault}
 use Rattle.td_codes.specs.References.{profile, reference}
 use Rattle.td_codes.specs.declared.reference.Ior.{Ior}
-use Rattle.td_ior.specs.Profiles.{made_profile, made_reference}
 use Rattle.td_iter.specs.Heads.{given_or_nil}
 use Rattle.td_types.proofs.Sequences.{sequence-each, sequence-from}
 
@@ -67,13 +65,7 @@ sequence-behind g n xs h =
 
 -- ---- references
 
--- one that the server makes
-pub made-writes : (id host : List ℕ) (port : ℕ) (key : List ℕ) (minor : ℕ) → HasNoNul id
-    → reference.format.admits (made_reference id host port key minor)
-made-writes id host port key minor n =
-    (n, sequence-from profile (made_profile host port key minor ∷ []) (omega arith) ((omega arith, tt), tt))
-
--- or nil where nothing is left
+-- one that the server makes, or nil where nothing is left
 pub given-writes : (r : Ior) (more : Bool) → reference.format.admits r → reference.format.admits (given_or_nil r more)
 given-writes r true h = h
 given-writes r false h = (refl, sequence-from profile [] (omega arith) tt)

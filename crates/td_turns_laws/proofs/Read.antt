@@ -4,8 +4,7 @@ use Rattle.td_cdr.specs.Sound.{Sound, sequence, text}
 use Rattle.td_cdr.specs.declared.value_fault.ValueFault.{ValueFault}
 use Rattle.td_ops.specs.Called.{of_look}
 use Rattle.td_ops.specs.Calls.{AdmitsCall}
-use Rattle.td_ops.specs.Parameters.{add_link, query}
-use Rattle.td_ops.specs.declared.call.AddLink.{AddLink}
+use Rattle.td_ops.specs.Parameters.{query}
 use Rattle.td_ops.specs.declared.call.Call.{Call}
 use Rattle.td_ops.specs.declared.call.Call.TheVariants as call
 use Rattle.td_ops.specs.declared.call.Look.{Look}
@@ -45,11 +44,6 @@ read-look (look.FullyDescribeType name) h =
     (of_look (elim [ look.FullyDescribeType x ↦ Some x | _ ↦ None ])) text
     (call.Look (look.FullyDescribeType name)) name (λ _. refl) refl h
 read-look (look.Get attribute) h = tt
-
-pub read-link : (l : AddLink) → AdmitsCall (call.AddLink l) → add_link.format.admits l
-read-link l h =
-    carried (λ p. call.AddLink p) (elim [ call.AddLink x ↦ Some x | _ ↦ None ]) add_link (call.AddLink l) l (λ _. refl)
-    refl h
 
 pub read-query : (q : Query) → AdmitsCall (call.Query q) → query.format.admits q
 read-query q h =

@@ -76,7 +76,7 @@ module _ (others : List Accepted → Type 0) (later : Marks → Marks → Type 0
   looked-writes : (w : List View) (k : ℕ) (name : List ℕ) (register : Option Ior) (u : List View)
       → OthersAreAdmitted others → IsWritableWorld w → LooksUp others later w k name register u → IsWritableWorld u
   looked-writes w k name register u admitted h looks =
-      worlds-watch others later w u k admitted h
+      worlds-watch others later admitted w u k h
       (record { seen = looks.seen; meanwhile = looks.meanwhile; world = looks.world })
 
 -- what stands at the end, and the traders as they are seen then

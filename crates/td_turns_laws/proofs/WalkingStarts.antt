@@ -127,5 +127,5 @@ module _ (others : List Accepted → Type 0) (later : Marks → Marks → Type 0
 
   pub start-refused : query.format.admits q → Begins others later w k q start u → TellsRefused start
   start-refused p b =
-      let told = (worlds-begin others later w u k q b.begin admitted h p b.begun).0 in
+      let told = (worlds-begin others later admitted w u k q b.begin h p b.begun).0 in
       subst TellsRefused (sym b.is) (tells-refused (length (history_at u k)) b.begin told)

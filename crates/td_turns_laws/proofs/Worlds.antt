@@ -9,7 +9,8 @@ use Rattle.td_trader.specs.Worlds.{Begun, Meanwhile, View, after_begin, after_ot
 use Rattle.td_trader.specs.declared.begin.Begin.{Begin}
 use Rattle.td_trader_laws.proofs.WritingWorlds.{worlds-watch}
 use Rattle.td_trader_laws.proofs.Written.{after-written}
-use Rattle.td_trader_laws.specs.Writable.{AdmitsChange, AreAdmitted, IsWritableStore}
+use Rattle.td_trader_laws.specs.Writable.{IsWritableStore}
+use Rattle.td_trader.specs.Admitted.{AdmitsChange, AreAdmitted}
 use Rattle.td_trader_laws.specs.WritableWorlds.{IsWritableView, IsWritableWorld, OthersAreAdmitted}
 use Rattle.td_turns_laws.proofs.Parts.{each-at, each-set}
 use Rattle.td_types.proofs.Sequences.{each-append}
@@ -51,4 +52,4 @@ goes-writes others later w u admitted h stays = h
 goes-writes others later w u admitted h (began {u = m} k q b begun rest) =
     goes-writes others later m u admitted (begun-writes others later w m k q b admitted h begun) rest
 goes-writes others later w u admitted h (watched {u = m} k seen rest) =
-    goes-writes others later m u admitted (worlds-watch others later w m k admitted h seen) rest
+    goes-writes others later m u admitted (worlds-watch others later admitted w m k h seen) rest

@@ -135,12 +135,13 @@ module _ (others : List Accepted → Type 0) (later : Marks → Marks → Type 0
 
 -- ---- the laws
 
-module _ (others : List Accepted → Type 0) (later : Marks → Marks → Type 0) where
-  pub outcomes-writable : OutcomesAreWritable others later
-  outcomes-writable home s u ts begins run =
-      let all = run-writes others later home ts s u begins.others_are begins.scene begins.sent begins.gifts run in
-      (all.answered, all.after)
+module _ (others : List Accepted → Type 0) (later : Marks → Marks → Type 0) (admitted : OthersAreAdmitted others)
+  where
+    pub outcomes-writable : OutcomesAreWritable others later
+    outcomes-writable home s u ts begins run =
+        let all = run-writes others later home ts s u admitted begins.scene begins.sent begins.gifts run in
+        (all.answered, all.after)
 
-  pub replies-spell : RepliesSpell others later
-  replies-spell home s u ts begins run =
-      (run-writes others later home ts s u begins.others_are begins.scene begins.sent begins.gifts run).told
+    pub replies-spell : RepliesSpell others later
+    replies-spell home s u ts begins run =
+        (run-writes others later home ts s u admitted begins.scene begins.sent begins.gifts run).told

@@ -8,7 +8,6 @@ use Rattle.td_giop.specs.Heads.{Request, request_at}
 use Rattle.td_lookup.specs.Scenes.{Scene}
 use Rattle.td_register.specs.declared.history.Accepted.{Accepted}
 use Rattle.td_serve.specs.ReplyBytes.{reply_to}
-use Rattle.td_trader_laws.specs.WritableWorlds.{OthersAreAdmitted}
 use Rattle.td_turns.specs.Journals.{all_gave}
 use Rattle.td_stream.specs.Messages.{behind, minor_of, order_of}
 use Rattle.td_turns.specs.Turns.{Noted, Run, Turn, noted_of}
@@ -38,10 +37,8 @@ IsToldOf (Some n) t = IsRequestTold n t
 abbrev pub IsTurnTold : Turn → Type 0
 IsTurnTold t = IsToldOf t.request t
 
--- Where a session begins at traders whose values can be written, others make only changes whose values can be, and
--- peers give only such values.
-pub record BeginsWritably (others : List Accepted → Type 0) (s : Scene) (ts : List Turn) : Type 0 where
-  pub others_are : OthersAreAdmitted others
+-- Where a session begins at traders whose values can be written, and peers give only such values.
+pub record BeginsWritably (s : Scene) (ts : List Turn) : Type 0 where
   pub scene : IsWritableScene s
   pub sent : AreSent ts
   pub gifts : AdmitsGifts (all_gave (noted_of ts))
@@ -50,11 +47,16 @@ module _ (others : List Accepted → Type 0) (later : Marks → Marks → Type 0
   -- each Request has an outcome that can be written, and what it leaves can be written again
   abbrev pub OutcomesAreWritable : Type 0
   OutcomesAreWritable =
-      (home : Address) (s u : Scene) (ts : List Turn) → BeginsWritably others s ts → Run others later home s ts u
+      (home : Address) (s u : Scene) (ts : List Turn) → BeginsWritably s ts → Run others later home s ts u
       → AllByRecursion IsAnswered (noted_of ts) × IsWritableScene u
 
   -- each reply spells the outcome of its Request
   abbrev pub RepliesSpell : Type 0
   RepliesSpell =
-      (home : Address) (s u : Scene) (ts : List Turn) → BeginsWritably others s ts → Run others later home s ts u
+      (home : Address) (s u : Scene) (ts : List Turn) → BeginsWritably s ts → Run others later home s ts u
       → AllByRecursion IsTurnTold ts
+
+-- Where its messages are octets and its replies short, and what peers gave can be written, each reply spells the outcome
+-- of its Request.
+abbrev pub SpellsReplies : List Turn → Type 0
+SpellsReplies ts = AreSent ts → AdmitsGifts (all_gave (noted_of ts)) → AllByRecursion IsTurnTold ts

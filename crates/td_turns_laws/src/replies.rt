@@ -4,9 +4,9 @@ ghost use Rattle.td_turns_laws.specs.Replies.{OutcomesAreWritable, RepliesSpell}
 
 use td_trader::Traders;
 
-/// Where a session begins at traders whose values can be written, others make only changes whose values can be, and
-/// peers give only such values: each outcome can be written as one of its Request's call, and what is left can be
-/// written again.
+/// Where a session begins at traders whose values can be written, and peers give only such values: each outcome can be
+/// written as one of its Request's call, and what is left can be written again. Others make only changes whose values
+/// can be, as each group of traders promises.
 pub fn outcomes_are_writable<T: Traders>()
     ensures { OutcomesAreWritable T.others T.later }
 {}
