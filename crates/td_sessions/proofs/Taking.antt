@@ -12,22 +12,26 @@ use Rattle.td_group.proofs.Seen.{before_one, one_is, some_one}
 use Rattle.td_group.specs.Grouping.{IsClosed, IsFresh, Meets, SplitsOff}
 use Rattle.td_group.specs.Rows.{Rows}
 use Rattle.td_group.specs.Seeing.{seen_by, trader_of, view_by}
-use Rattle.td_trader.specs.Following.{Follows}
+use Rattle.td_trader.specs.Following.{FollowsWritably}
 use Rattle.td_trader.specs.PlainTraders.{PlainTrader}
 use Rattle.td_trader.specs.Worlds.{View, view_of}
 use Rattle.td_sessions.specs.Sessions.{Closes, Continues, Joins, bare}
 use Rattle.td_sessions.specs.Whole.{opened_views}
 
 -- what follows is seen to follow
-seen_follows : (t u : PlainTrader) (o p m n : List ℕ) → Follows t u → Continues (view_of t o m) (view_of u p n)
+seen_follows : (t u : PlainTrader) (o p m n : List ℕ) → FollowsWritably t u
+    → Continues (view_of t o m) (view_of u p n)
 seen_follows t u o p m n f = record {
-  name = f.name;
-  opening = f.opening;
-  bounds = f.bounds;
-  more = f.more;
-  history = f.history;
-  legal = f.legal;
-  marks = f.marks;
+  follows = record {
+    name = f.follows.name;
+    opening = f.follows.opening;
+    bounds = f.follows.bounds;
+    more = f.follows.more;
+    history = f.follows.history;
+    legal = f.follows.legal;
+    marks = f.follows.marks;
+  };
+  admitted = f.admitted;
 }
 
 -- what is seen is the trader with what is one's own
@@ -85,12 +89,12 @@ module _ {A R : Type 0} {g : Ghosts PlainTrader A R} where
         before =
             seen_follows (trader_of p) (trader_of q) (knowledge p).own (knowledge q).own
             (map number_of (knowledge p).own_marks) (map number_of (knowledge q).own_marks)
-            (subst (Follows (trader_of p)) (sym same)
+            (subst (FollowsWritably (trader_of p)) (sym same)
             (before_one (knowledge p).seen p.knows book m.learned.before.0));
         seen =
             seen_follows (trader_of t) (trader_of q) (knowledge t).own (knowledge q).own
             (map number_of (knowledge t).own_marks) (map number_of (knowledge q).own_marks)
-            (subst (Follows (trader_of t)) (sym same)
+            (subst (FollowsWritably (trader_of t)) (sym same)
             (before_one (knowledge t).seen t.knows book m.learned.before.1));
         own = own;
         apart = subst (Rises itself) (sym own) m.learned.places;

@@ -6,7 +6,7 @@ use Rattle.td_cell.proofs.Lists.{has-merge, in-merge, merge-apart}
 use Rattle.td_cell.specs.Lists.{Rises, itself, merge}
 use Rattle.td_fed.specs.Trails.{own_at}
 use Rattle.td_group.specs.Rows.{Rows}
-use Rattle.td_trader.proofs.Growing.{follows-itself, follows-on}
+use Rattle.td_trader.proofs.Growing.{writable-itself, writable-on}
 use Rattle.td_trader.specs.Worlds.{View}
 use Rattle.td_sessions.specs.Sessions.{Continues, Joins, as_trader, bare}
 
@@ -17,11 +17,11 @@ continue_on [] (y ∷ u) v p q = absurd p
 continue_on (x ∷ w) [] v p q = absurd p
 continue_on (x ∷ w) (y ∷ u) [] p q = absurd q
 continue_on (x ∷ w) (y ∷ u) (z ∷ v) p q =
-    (follows-on (as_trader x) (as_trader y) (as_trader z) p.0 q.0, continue_on w u v p.1 q.1)
+    (writable-on (as_trader x) (as_trader y) (as_trader z) p.0 q.0, continue_on w u v p.1 q.1)
 
 pub continue_itself : (w : List View) → AllZip Continues w w
 continue_itself [] = tt
-continue_itself (x ∷ w) = (follows-itself (as_trader x), continue_itself w)
+continue_itself (x ∷ w) = (writable-itself (as_trader x), continue_itself w)
 
 -- what is one's own doesn't matter there
 pub continue_bare : (w u : List View) → AllZip Continues w u → AllZip Continues w (map bare u)

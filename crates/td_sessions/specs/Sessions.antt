@@ -5,7 +5,6 @@ use Rattle.td_accept.specs.Doors.{Comes, Door}
 use Rattle.td_cdr.specs.Marks.{In, Later, Marks}
 use Rattle.td_cell.specs.Lists.{Rises, itself, merge}
 use Rattle.td_group.specs.Rows.{Rows}
-use Rattle.td_group.specs.Seeing.{anything}
 use Rattle.td_lookup.specs.Scenes.{Scene, scene}
 use Rattle.td_out.specs.Causes.{Rose}
 use Rattle.td_out.specs.RandomWords.{Seeding}
@@ -16,7 +15,8 @@ use Rattle.td_stream.specs.declared.end.End.{End}
 use Rattle.td_stream.specs.Outside.{Outside}
 use Rattle.td_session.specs.Sessions.{Serves}
 use Rattle.td_trader.specs.declared.solo.Solo.{Solo}
-use Rattle.td_trader.specs.Following.{Follows}
+use Rattle.td_trader.specs.Admitted.{AreAdmitted}
+use Rattle.td_trader.specs.Following.{FollowsWritably}
 use Rattle.td_trader.specs.PlainTraders.{PlainTrader}
 use Rattle.td_trader.specs.Worlds.{View, view_of}
 use Rattle.td_walk.specs.declared.trace.Address.{Address}
@@ -67,9 +67,9 @@ as_trader v = record {
   reserved = false;
 }
 
--- the second may be what the first has become
+-- the second may be what the first has become, by changes that can be written
 abbrev pub Continues : View → View → Type 0
-Continues v u = Follows (as_trader v) (as_trader u)
+Continues v u = FollowsWritably (as_trader v) (as_trader u)
 
 -- What was seen of a trader before a session was taken in and what the session has seen of it lead to what is seen
 -- then. What is own is own of both, and no place is in both.
@@ -82,7 +82,7 @@ pub record Joins (v session u : View) : Type 0 where
 -- The trader that was opened has become this one in the end, which goes on from what was seen last. Each change since
 -- the opening is one's own.
 pub record Closes (opened : PlainTrader) (v : View) (closed : PlainTrader) : Type 0 where
-  pub since : Follows opened closed
+  pub since : FollowsWritably opened closed
   pub seen : Continues v (view_of closed [] [])
   pub places : (k : ℕ) → length opened.history ≤ k → k < length closed.history → In k v.own
 
@@ -120,11 +120,11 @@ pub record ServesOver (others : List Accepted → Type 0) (later : Marks → Mar
   pub serves : Serves others later home (scene first ([], 1) (peers_seen [] 0) words) scene_after journal end before
       after
 
--- The session was served, whatever others did to the traders meanwhile. Its words are those that come after a seeding
+-- The session was served, whatever others did to the traders meanwhile, by changes that can be written. Its words are those that come after a seeding
 -- with the seed and its number.
 abbrev pub Serving : {X : Type 0} → (X → Outside) → (X → Seeded) → Begun X → Ended X → Type 0
 Serving outside_of seeded b e =
-    ServesOver anything Later b.home b.first (seeded b.visitor (record { key = b.seed; stream = b.number }))
+    ServesOver AreAdmitted Later b.home b.first (seeded b.visitor (record { key = b.seed; stream = b.number }))
     e.journal e.end (outside_of b.visitor) (outside_of e.visitor) e.last
 
 -- ---- the sessions of a server

@@ -8,7 +8,6 @@ use Rattle.std.specs.List.{All, AllZip, flat_map}
 use Rattle.td_accept.specs.Doors.{Door}
 use Rattle.td_cdr.specs.Marks.{In, Later}
 use Rattle.td_fed.specs.Trails.{own_at, own_in}
-use Rattle.td_group.specs.Seeing.{anything}
 use Rattle.td_group.specs.Rows.{Rows}
 use Rattle.td_lookup.specs.Scenes.{scene}
 use Rattle.td_reply.specs.Linking.{peers_seen}
@@ -23,6 +22,7 @@ use Rattle.td_sessions_laws.proofs.Views.{IsThere, SeenLast, as-many, bare-own, 
 use Rattle.td_sessions_laws.proofs.Views.{has-trader, opened-own, opening-seen}
 use Rattle.td_sessions_laws.specs.OneHistory.{AreOfSessions, EntriesAreOfSessions, IsKept, IsMadeOnce}
 use Rattle.td_sessions_laws.specs.OneHistory.{MakesEntry, SessionRequest, all_requests, noted_by, request_in}
+use Rattle.td_trader.specs.Admitted.{AreAdmitted}
 use Rattle.td_trader.specs.PlainTraders.{PlainTrader}
 use Rattle.td_trader.specs.Worlds.{View}
 use Rattle.td_turns.specs.Journals.{all_places_in, is_accepted, places_in}
@@ -140,11 +140,11 @@ module _ {X : Type 0} (outside_of : X → Outside) (seeded : X → Seeded) (open
 
 -- ---- from what holds of each session
 
-every-all : {X : Type 0} (P : X → Type 0) (xs : List X) → Every P xs → All P xs
+pub every-all : {X : Type 0} (P : X → Type 0) (xs : List X) → Every P xs → All P xs
 every-all P [] h = All-nil P
 every-all P (x ∷ xs) h = All-cons P x xs h.0 (every-all P xs h.1)
 
-all-every : {X Y : Type 0} (P : Y → Type 0) (f : X → Y) (xs : List X) → All P (map f xs)
+pub all-every : {X Y : Type 0} (P : Y → Type 0) (f : X → Y) (xs : List X) → All P (map f xs)
     → Every (λ (x : X). P (f x)) xs
 all-every P f [] h = tt
 all-every P f (x ∷ xs) h =
@@ -171,7 +171,7 @@ module _ {X : Type 0} (outside_of : X → Outside) (seeded : X → Seeded) (star
             ap (λ (w : List View). own_at w k) (sym p.seen)
             ∙ h.places k
             ∙ ap (λ (l : List ℕ). l ++ all_places_in k (noted_of p.serves.turns)) none;
-        safe = all-safe anything Later b.home first p.scene_after p.serves.turns h opened closed k low front;
+        safe = all-safe AreAdmitted Later b.home first p.scene_after p.serves.turns h opened closed k low front;
       }
 
   all-right : (vs : List (Visit X)) (each : Every (λ (v : Visit X). Serving outside_of seeded v.begun v.ended) vs)
@@ -249,7 +249,7 @@ module _ {X : Type 0} (outside_of : X → Outside) (seeded : X → Seeded) (trad
       every-both (λ (p : SessionRequest). is_accepted p.request ≡ true → HasPlace traders items p)
       (map (request_in b.number) ns) (all_requests outside_of seeded vs each.1)
       (ones-places p.scene_after.world last b.number ns
-      (all-somewhere anything Later b.home first p.scene_after p.serves.turns p.serves.headline))
+      (all-somewhere AreAdmitted Later b.home first p.scene_after p.serves.turns p.serves.headline))
       (all-places vs each.1 seen.1)
 
 -- ---- what the journals have noted
@@ -336,7 +336,7 @@ module _ {X : Type 0} (outside_of : X → Outside) (seeded : X → Seeded) (home
     count = as-many traders s.end.world items s.hands.closes;
     noted = all-journals outside_of seeded s.whole.visits s.whole.each;
     each = λ k o c is_o is_c. record {
-      follows = (last k o c is_o is_c).closes.since;
+      follows = (last k o c is_o is_c).closes.since.follows;
       entries = made k o c is_o is_c;
     };
     kept =

@@ -144,14 +144,14 @@ pub front-of : (last world : List View) (k : ℕ) (t u : PlainTrader) → AllZip
     → SeenLast t (slice_get world k) u → IsFront (history_at last k) u.history
 front-of last world k t u p c =
     let x = earlier-at last world k c.view p c.is in
-    let seen = c.closes.seen in
+    let seen = c.closes.seen.follows in
     record {
-      more = x.on.more ++ seen.more;
+      more = x.on.follows.more ++ seen.more;
       is =
           seen.history
-          ∙ ap (λ (h : List Accepted). h ++ seen.more) x.on.history
-          ∙ append_assoc x.view.history x.on.more seen.more
-          ∙ ap (λ (o : Option View). history_in o ++ (x.on.more ++ seen.more)) (sym x.is);
+          ∙ ap (λ (h : List Accepted). h ++ seen.more) x.on.follows.history
+          ∙ append_assoc x.view.history x.on.follows.more seen.more
+          ∙ ap (λ (o : Option View). history_in o ++ (x.on.follows.more ++ seen.more)) (sym x.is);
     }
 
 -- a session has seen the history of the opening at least
@@ -160,5 +160,6 @@ pub opening-seen : (ts : List PlainTrader) (first : List View) (k : ℕ) (t : Pl
     → length t.history ≤ length (history_at first k)
 opening-seen ts first k t p is =
     let x = later-at (opened_views ts) first k (view_of t [] []) p (opened-at ts k t is) in
-    let h : length t.history ≤ length x.view.history = no-shorter t.history x.on.more x.view.history x.on.history in
+    let h : length t.history ≤ length x.view.history =
+    no-shorter t.history x.on.follows.more x.view.history x.on.follows.history in
     subst (λ (o : Option View). length t.history ≤ length (history_in o)) (sym x.is) h
