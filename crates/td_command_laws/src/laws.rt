@@ -2,6 +2,7 @@
 
 ghost use Rattle.td_command_laws.specs.Ending.{DrillsAreNotRefused};
 ghost use Rattle.td_command_laws.specs.Growing.{HistoriesGrowByOwn};
+ghost use Rattle.td_command_laws.specs.Spelling.{RunsSpellReplies};
 
 /// Of each trader that a file opens, what comes to its history in a session are the session's accepted changes, each at
 /// its point, and nothing else: no other session has the traders.
@@ -10,6 +11,12 @@ pub fn histories_grow_by_own_changes()
 {
     td_turns::alone_histories_grow_by_own_changes();
 }
+
+/// Where the stores that a file opens can be written, each reply of a session over them spells the outcome of its
+/// Request, if the session's messages are octets, its replies shorter than 2^32, and what peers gave it can be written.
+pub fn replies_spell_outcomes()
+    ensures { RunsSpellReplies }
+{}
 
 /// `drill N` has status 0, 7 where its line can't be printed, or 9 for want of memory: never 3, since the file that
 /// `make N` prints opens and isn't too long.

@@ -3,4 +3,4 @@
 
 mod laws;
 
-pub use laws::{drills_are_not_refused, histories_grow_by_own_changes};
+pub use laws::{drills_are_not_refused, histories_grow_by_own_changes, replies_spell_outcomes};

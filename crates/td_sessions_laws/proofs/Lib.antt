@@ -1,5 +1,6 @@
 mod AllSessions
 mod OneSession
 mod Places
+mod Spelling
 mod Views
 mod Worked

@@ -1,0 +1,24 @@
+-- Each reply of a session over the traders of a file spells its outcome.
+use Rattle.std.proofs.Common.{List, [], ◌∷◌, map}
+use Rattle.std.specs.List.{AllByRecursion}
+use Rattle.td_command.specs.Runs.{beginning}
+use Rattle.td_command_laws.specs.Spelling.{RunsSpellReplies}
+use Rattle.td_trader.specs.PlainTraders.{PlainTrader}
+use Rattle.td_trader.specs.Solos.{nothing, nothing_admitted, solo_view, unchanged}
+use Rattle.td_trader_laws.specs.WritableTraders.{IsWritableTrader}
+use Rattle.td_trader_laws.specs.WritableWorlds.{IsWritableWorld}
+use Rattle.td_turns_laws.proofs.WritingRuns.{replies-spell}
+
+alone-writes : (ts : List PlainTrader) → AllByRecursion IsWritableTrader ts → IsWritableWorld (map solo_view ts)
+alone-writes [] h = tt
+alone-writes (t ∷ ts) h = (record { opening = h.0.opening; changes = h.0.changes }, alone-writes ts h.1)
+
+pub runs-spell : RunsSpellReplies
+runs-spell o seeded end before after s opens = λ sent gifts.
+    replies-spell nothing unchanged nothing_admitted o.home (beginning o seeded) s.later s.serves.turns
+    (record {
+      scene = record { world = alone-writes o.traders opens; desk = tt };
+      sent = sent;
+      gifts = gifts;
+    })
+    s.serves.run
