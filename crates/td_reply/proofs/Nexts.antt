@@ -1,5 +1,5 @@
 -- Calls of iterators.
-use Rattle.std.proofs.Common.{◌≡◌, ℕ, Bool, List, take, drop, refl, ap}
+use Rattle.std.proofs.Common.{◌≡◌, ℕ, zero, suc, ◌<◌, Bool, List, length, take, drop, refl, ap, arith}
 use Rattle.td_cdr.specs.Writing.{Draft}
 use Rattle.td_codes.specs.Formats.{is_some}
 use Rattle.td_iter.specs.Batches.{GivesBatch}
@@ -18,29 +18,39 @@ use Rattle.td_reply.specs.declared.answer.ReplyBody.TheVariants as reply_body
 use Rattle.td_reply.specs.declared.entry.Entry.{Entry}
 use Rattle.td_reply.specs.declared.entry.Entry.TheVariants.{Plain}
 
+-- what is less than all has something before it
+dropped-some : {X : Type 0} (k : ℕ) (left rest : List X) → rest ≡ drop k left → length rest < length left → 0 < k
+dropped-some zero left rest e less =
+    let same = ap length e in absurd (let no : ⊥ = omega (arith, same, less) in no)
+dropped-some (suc k) left rest e less = omega arith
+
 pub next_of_offers : (n : ℕ) (left rest : List Offer) (old new : Draft) (more : Bool)
-    → GivesBatch next_offers left n rest old new more → PutsNext n (Offers left) old new (Offers rest)
-next_of_offers n left rest old new more g = record {
+    → GivesBatch next_offers left n rest old new more → (0 < n → 0 < length left → length rest < length left)
+    → PutsNext n (Offers left) old new (Offers rest)
+next_of_offers n left rest old new more g some = record {
   outcome = Done (reply.Batch (is_some (drop g.count left)) (take g.count left));
   next = record {
     count = g.count;
     batch = g.puts.is_batch;
     outcome = refl;
     rest = ap (λ (xs : List Offer). Offers xs) g.rest_is;
+    some = λ asked there. dropped-some g.count left rest g.rest_is (some asked there);
   };
   status = refl;
   bytes = g.puts.bytes;
 }
 
 pub next_of_ids : (n : ℕ) (left rest : List (List ℕ)) (old new : Draft) (more : Bool)
-    → GivesBatch next_ids left n rest old new more → PutsNext n (Ids left) old new (Ids rest)
-next_of_ids n left rest old new more g = record {
+    → GivesBatch next_ids left n rest old new more → (0 < n → 0 < length left → length rest < length left)
+    → PutsNext n (Ids left) old new (Ids rest)
+next_of_ids n left rest old new more g some = record {
   outcome = Done (reply.IdBatch (is_some (drop g.count left)) (take g.count left));
   next = record {
     count = g.count;
     batch = g.puts.is_batch;
     outcome = refl;
     rest = ap (λ (xs : List (List ℕ)). Ids xs) g.rest_is;
+    some = λ asked there. dropped-some g.count left rest g.rest_is (some asked there);
   };
   status = refl;
   bytes = g.puts.bytes;

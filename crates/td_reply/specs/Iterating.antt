@@ -1,6 +1,6 @@
 -- What the calls of iterators come to (OMG's Trading Object Service, interfaces OfferIterator and
 -- OfferIdIterator).
-use Rattle.std.specs.Prelude.{◌≡◌, ℕ, ◌++◌, Bool, List, length, drop, take, Option, None, Some}
+use Rattle.std.specs.Prelude.{◌≡◌, ℕ, ◌<◌, ◌++◌, Bool, List, length, drop, take, Option, None, Some}
 use Rattle.td_cdr.specs.Writing.{Draft}
 use Rattle.td_codes.specs.Formats.{is_some}
 use Rattle.td_iter.specs.Batches.{Head, IsBatch}
@@ -36,13 +36,14 @@ told_left (Some n) = Done (reply.Number n)
 told_left None = gone
 
 -- The outcome has the batch for n of what is left, and tells whether more is left behind it, which the iterator then
--- has.
+-- has. Where n is at least 1 and something is left, the batch isn't empty.
 pub record GivesNext {X : Type 0} (head : Head X) (told : Bool → List X → Reply) (over : List X → Item) (n : ℕ)
     (left : List X) (old : Draft) (o : Outcome) (after : Item) : Type 0 where
   pub count : ℕ
   pub batch : IsBatch head left old n count
   pub outcome : o ≡ Done (told (is_some (drop count left)) (take count left))
   pub rest : after ≡ over (drop count left)
+  pub some : 0 < n → 0 < length left → 0 < count
 
 -- next_n, of offers or of ids
 abbrev pub NextOf : (n : ℕ) → (left : Item) → (old : Draft) → Outcome → (after : Item) → Type 0
