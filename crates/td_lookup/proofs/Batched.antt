@@ -1,6 +1,6 @@
 -- The first batch of offers.
-use Rattle.std.proofs.Common.{◌≡◌, ℕ, Bool, true, false, if◌then◌else◌, List, ◌++◌, Result, Ok, Err, OnOk, OnErr}
-use Rattle.std.proofs.Common.{length, refl, sym, ap, subst, ◌∙◌}
+use Rattle.std.proofs.Common.{◌≡◌, ℕ, zero, suc, ◌<◌, Bool, true, false, if◌then◌else◌, List, ◌++◌, Result, Ok, Err, OnOk, OnErr}
+use Rattle.std.proofs.Common.{length, drop, refl, sym, ap, subst, ◌∙◌, arith}
 use Rattle.std.proofs.Math.Seq.{drop-length}
 use Rattle.std.proofs.lemmas.Bool.{both_ways}
 use Rattle.td_cdr.specs.Format.{Piece}
@@ -9,7 +9,7 @@ use Rattle.td_cdr.specs.declared.memory.Memory.{Memory as Wanting}
 use Rattle.td_cdr.specs.declared.order.Order.{Order}
 use Rattle.td_codes.specs.Formats.{is_some}
 use Rattle.td_codes.specs.declared.reference.Ior.{Ior}
-use Rattle.td_iter.specs.Batches.{GivesWhole, IsBatch, PutsBatch}
+use Rattle.td_iter.specs.Batches.{GivesBatch, GivesWhole, IsBatch, PutsBatch}
 use Rattle.td_iter.specs.Desks.{Live, added}
 use Rattle.td_iter.specs.Heads.{offers_found}
 use Rattle.td_iter.specs.declared.item.Item.TheVariants.{Offers}
@@ -22,12 +22,30 @@ use Rattle.td_value.specs.declared.structures.Offer.{Offer}
 use Rattle.td_walk.specs.declared.trace.Address.{Address}
 
 -- what is left behind a batch is kept
-pub rest_kept : (name : List ℕ) (left rest : List Offer) (more : Bool) (d e : Live)
+rest_kept : (name : List ℕ) (left rest : List Offer) (more : Bool) (d e : Live)
     → e ≡ (if more then added name (Offers rest) d else d) → rest ≡ left → more ≡ is_some rest
     → e ≡ offers_kept name left d
 rest_kept name left rest more d e made same told =
     subst (λ (xs : List Offer). e ≡ offers_kept name xs d) same
     (subst (λ (b : Bool). e ≡ (if b then added name (Offers rest) d else d)) told made)
+
+-- what is less than all has something before it
+dropped-some : (k : ℕ) (left rest : List Offer) → rest ≡ drop k left → length rest < length left → 0 < k
+dropped-some zero left rest e less =
+    let same = ap length e in absurd (let no : ⊥ = omega (arith, same, less) in no)
+dropped-some (suc k) left rest e less = omega arith
+
+-- the first batch was given, and the rest is kept
+pub batched : (reference : Ior) (limits : List (List ℕ)) (name : List ℕ) (n : ℕ) (left rest : List Offer)
+    (old new : Draft) (d e : Live) (more : Bool) → GivesBatch (offers_found reference limits) left n rest old new more
+    → (0 < n → 0 < length left → length rest < length left)
+    → e ≡ (if more then added name (Offers rest) d else d) → PutsBatched reference limits name n left old new d e
+batched reference limits name n left rest old new d e more g some made = record {
+  count = g.count;
+  puts = g.puts;
+  kept = rest_kept name (drop g.count left) rest more d e made g.rest_is g.more_is;
+  some = λ asked there. dropped-some g.count left rest g.rest_is (some asked there);
+}
 
 -- where a batch hasn't all that is left, nothing was written and all is left
 pub nothing_written : (head : List Offer → Bool → Piece) (left rest : List Offer) (n : ℕ) (old new : Draft)
@@ -49,7 +67,7 @@ module _ (home : Address) (name : List ℕ) (n : ℕ) (limits : List (List ℕ))
       let q : PutsBatched (offer_iterator home name d.1) limits name n offers old new d e =
       subst (λ (x : Ior). PutsBatched x limits name n offers old new d e) r
       (subst (λ (x : List ℕ). PutsBatched reference limits x n offers old new d e) t p) in
-      record { count = q.count; batch = q.puts.is_batch; bytes = q.puts.bytes; kept = q.kept }
+      record { count = q.count; batch = q.puts.is_batch; bytes = q.puts.bytes; kept = q.kept; some = q.some }
 
   pub tell_first : (trader : List ℕ) (number : ℕ) (reference : Ior) (old new : Draft) (d e : Live)
       (r : Result ReplyBody Wanting) → trader ≡ name → reference ≡ offer_iterator home name number → number ≡ d.1
@@ -74,6 +92,7 @@ module _ (home : Address) (name : List ℕ) (n : ℕ) (limits : List (List ℕ))
         batch = p.is_batch;
         bytes = p.bytes;
         kept = ap (λ (xs : List Offer). offers_kept name xs d) (sym (drop-length offers));
+        some = λ asked there. there;
       }
 
   -- what was tried before and wrote nothing doesn't matter
@@ -91,6 +110,7 @@ module _ (home : Address) (name : List ℕ) (n : ℕ) (limits : List (List ℕ))
         batch = subst (Batched old.bytes) order (subst (λ (xs : List ℕ). Batched xs mid.order) bytes q.batch);
         bytes = subst (Written old.bytes) order (subst (λ (xs : List ℕ). Written xs mid.order) bytes q.bytes);
         kept = q.kept;
+        some = q.some;
       }
 
   pub tell_after : (left : List Offer) (old mid new : Draft) (d e : Live) (r : Result ReplyBody Wanting) → left ≡ offers

@@ -4,4 +4,5 @@ pub mod Followed
 pub mod Limited
 pub mod Moved
 pub mod Queried
+pub mod Small
 pub mod Worked

@@ -47,7 +47,7 @@ module _ (home : Address) (name : List ℕ) (q : Query) (a : SubAnswer) (max_lis
         subst (λ (x : ReplyBody). TellsVisit home name q (visit.Answered a max_list) old d x new e) (sym is)
         (record {
           outcome = first_offers home name d.1 a.limits (map (chosen q.desired) a.offers) p.count;
-          told = record { count = p.count; batch = p.batch; outcome = refl; kept = p.kept };
+          told = record { count = p.count; batch = p.batch; outcome = refl; kept = p.kept; some = p.some };
           tells = (refl, p.bytes);
         })
 

@@ -1,7 +1,7 @@
 -- What a query is answered with: each offer that the walk gives has the properties that are asked for, the first batch
 -- of them stands in the result, and the connection keeps the others for an iterator (OMG's Trading Object Service,
 -- interface Lookup, query, and interface OfferIterator).
-use Rattle.std.specs.Prelude.{◌≡◌, ℕ, if◌then◌else◌, List, map, take, drop, min}
+use Rattle.std.specs.Prelude.{◌≡◌, ℕ, ◌<◌, if◌then◌else◌, List, length, map, take, drop, min}
 use Rattle.td_cdr.specs.Marks.{Marks}
 use Rattle.td_cdr.specs.Writing.{Draft}
 use Rattle.td_codes.specs.Formats.{is_some}
@@ -40,13 +40,15 @@ abbrev pub offers_kept : (name : List ℕ) → (left : List Offer) → Live → 
 offers_kept name left d = if is_some left then added name (Offers left) d else d
 
 module _ (home : Address) (name : List ℕ) (n : ℕ) where
-  -- This is the outcome of a batch for n of the offers, and the others are kept.
+  -- This is the outcome of a batch for n of the offers, and the others are kept. Where n is at least 1 and there are
+  -- offers, the batch isn't empty.
   pub record IsFirst (limits : List (List ℕ)) (offers : List Offer) (old : Draft) (d : Live) (o : Outcome) (e : Live)
       : Type 0 where
     pub count : ℕ
     pub batch : IsBatch (offers_found (offer_iterator home name d.1) limits) offers old n count
     pub outcome : o ≡ first_offers home name d.1 limits offers count
     pub kept : e ≡ offers_kept name (drop count offers) d
+    pub some : 0 < n → 0 < length offers → 0 < count
 
 -- what a visit is answered with: a refusal as it is, offers in batches for the lesser of how_many and max_list
 abbrev pub VisitTold : Address → (name : List ℕ) → Query → Visit → Draft → Live → Outcome → Live → Type 0

@@ -1,5 +1,6 @@
 -- How an answer is told: of a visit, of names, and where memory is wanted.
-use Rattle.std.specs.Prelude.{◌≡◌, ◌⊎◌, ℕ, ◌++◌, Bool, true, false, if◌then◌else◌, List, length, drop, Result, Ok, Err}
+use Rattle.std.specs.Prelude.{◌≡◌, ◌⊎◌, ℕ, ◌<◌, ◌++◌, Bool, true, false, if◌then◌else◌, List, length, map, drop}
+use Rattle.std.specs.Prelude.{Result, Ok, Err}
 use Rattle.td_cdr.specs.Marks.{Marks}
 use Rattle.td_cdr.specs.Writing.{Draft}
 use Rattle.td_cdr.specs.declared.memory.Memory.{Memory as Wanting}
@@ -7,8 +8,9 @@ use Rattle.td_codes.specs.declared.reference.Ior.{Ior}
 use Rattle.td_fed.specs.declared.resolving.NameAnswer.{NameAnswer}
 use Rattle.td_iter.specs.Batches.{IsBatch, PutsBatch}
 use Rattle.td_iter.specs.Desks.{Live}
-use Rattle.td_iter.specs.Heads.{AreLimits, offers_found}
+use Rattle.td_iter.specs.Heads.{AreLimits, AreSmallOffers, offers_found}
 use Rattle.td_objects.specs.References.{offer_iterator}
+use Rattle.td_lookup.specs.Choosing.{chosen}
 use Rattle.td_lookup.specs.Naming.{NameComes, name_entry}
 use Rattle.td_lookup.specs.Querying.{QueryComes, VisitTold, first_offers, offers_kept}
 use Rattle.td_lookup.specs.Scenes.{Scene}
@@ -43,12 +45,19 @@ abbrev pub HasLimits : Visit → Type 0
 HasLimits (visit.Answered a max_list) = AreLimits a.limits
 HasLimits (visit.Refused o) = Unit {0}
 
--- the first batch for n of these offers was written, with this reference where any are left, and those are kept
+-- each offer of the answer, with the properties that are asked for, is short enough for a batch
+abbrev pub GivesSmall : Query → Visit → Type 0
+GivesSmall q (visit.Answered a max_list) = AreSmallOffers (map (chosen q.desired) a.offers)
+GivesSmall q (visit.Refused o) = Unit {0}
+
+-- the first batch for n of these offers was written, with this reference where any are left, and those are kept; where
+-- n is at least 1 and there are offers, it isn't empty
 pub record PutsBatched (reference : Ior) (limits : List (List ℕ)) (name : List ℕ) (n : ℕ) (offers : List Offer)
     (old new : Draft) (d e : Live) : Type 0 where
   pub count : ℕ
   pub puts : PutsBatch (offers_found reference limits) offers n old new count
   pub kept : e ≡ offers_kept name (drop count offers) d
+  pub some : 0 < n → 0 < length offers → 0 < count
 
 -- the first batch for n of the offers was written, with the reference of the desk's next iterator, and the others are
 -- kept
@@ -59,6 +68,7 @@ pub record PutsFirst (home : Address) (name : List ℕ) (n : ℕ) (limits : List
   pub bytes : new.bytes ≡
       old.bytes ++ outcome_piece (first_offers home name d.1 limits offers count) old.order (length old.bytes)
   pub kept : e ≡ offers_kept name (drop count offers) d
+  pub some : 0 < n → 0 < length offers → 0 < count
 
 -- ---- a visit
 

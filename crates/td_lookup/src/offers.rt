@@ -3,7 +3,7 @@
 ghost use Rattle.std.specs.Prelude.{◌≡◌, ◌<◌, ◌^◌, length, map, min, if◌then◌else◌, IfOk, IfSome, OnOk, OnErr};
 ghost use Rattle.td_cdr.specs.Names.{IsTraderName};
 ghost use Rattle.td_iter.specs.Desks.{added};
-ghost use Rattle.td_iter.specs.Heads.{AreLimits, IsSmallReference};
+ghost use Rattle.td_iter.specs.Heads.{AreLimits, AreSmallOffers, IsSmallReference};
 ghost use Rattle.td_iter.specs.declared.item.Item.TheVariants.{Offers};
 ghost use Rattle.td_iter.specs.declared.limits.TheConstants.{REPLY_START};
 ghost use Rattle.td_lookup.specs.Choosing.{chosen};
@@ -44,6 +44,7 @@ pub(crate) fn tell_offers(
     requires home { IsAddress home.now }
     requires name { IsTraderName name.now }
     requires limits { AreLimits limits.now }
+    requires small { AreSmallOffers (map (chosen q.now.desired) offers) }
     requires start { length w.old.bytes ≡ REPLY_START }
     requires numbers { desk.old.1 < 2 ^ 63 }
     ensures written { IfOk result (λ b. b ≡ ReplyBody.Written) }
@@ -79,6 +80,7 @@ fn put_offers(
     requires home { IsAddress home.now }
     requires name { IsTraderName name.now }
     requires limits { AreLimits limits.now }
+    requires small { AreSmallOffers offers }
     requires start { length w.old.bytes ≡ REPLY_START }
     requires numbers { desk.old.1 < 2 ^ 63 }
     ensures written { IfOk result (λ b. b ≡ ReplyBody.Written) }
@@ -135,6 +137,7 @@ fn put_some(
 
 /// An iterator over these offers, where it can hold them.
 fn over_offers(offers: List<Offer>) -> Option<OfferIter>
+    requires { AreSmallOffers offers }
     ensures { IfSome result (λ left. left ≡ offers) }
 {
     if offers.len() <= MOST_OFFERS {

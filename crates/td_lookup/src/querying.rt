@@ -1,11 +1,12 @@
 //! Queries (OMG's Trading Object Service, interface Lookup, query).
 
-ghost use Rattle.std.specs.Prelude.{◌≡◌, ◌<◌, ◌≤◌, ◌^◌, length, IfOk, OnOk, OnErr};
+ghost use Rattle.std.specs.Prelude.{◌≡◌, ◌<◌, ◌≤◌, ◌^◌, length, map, IfOk, OnOk, OnErr};
 ghost use Rattle.td_cdr.specs.Names.{IsTraderName};
-ghost use Rattle.td_iter.specs.Heads.{AreLimits};
+ghost use Rattle.td_iter.specs.Heads.{AreLimits, AreSmallOffers};
 ghost use Rattle.td_iter.specs.declared.limits.TheConstants.{REPLY_START};
 ghost use Rattle.td_lookup.specs.Scenes.{scene};
-ghost use Rattle.td_lookup.specs.Telling.{HasLimits, IfOutcome, QueryTold, TakenBack, TellsVisit, TellsVisited};
+ghost use Rattle.td_lookup.specs.Choosing.{chosen};
+ghost use Rattle.td_lookup.specs.Telling.{GivesSmall, HasLimits, IfOutcome, QueryTold, TakenBack, TellsVisit, TellsVisited};
 ghost use Rattle.td_lookup.specs.Telling.{walked};
 ghost use Rattle.td_objects.specs.References.{IsAddress};
 ghost use Rattle.td_ops.specs.declared.call.Call.TheVariants as call;
@@ -102,6 +103,7 @@ fn tell_visited(
     requires home { IsAddress home.now }
     requires name { IsTraderName name.now }
     requires limits { IfOk visited HasLimits }
+    requires small { IfOk visited (GivesSmall q.now) }
     requires start { length w.old.bytes ≡ REPLY_START }
     requires numbers { desk.old.1 < 2 ^ 63 }
     ensures told { IfOk result (λ b.
@@ -129,6 +131,7 @@ fn tell_visit(
     requires home { IsAddress home.now }
     requires name { IsTraderName name.now }
     requires limits { HasLimits visit }
+    requires small { GivesSmall q.now visit }
     requires start { length w.old.bytes ≡ REPLY_START }
     requires numbers { desk.old.1 < 2 ^ 63 }
     ensures told { IfOk result (λ b. TellsVisit home.now name.now q.now visit w.old desk.old b w.new desk.new) }
@@ -158,6 +161,7 @@ fn tell_answer(
     requires home { IsAddress home.now }
     requires name { IsTraderName name.now }
     requires limits { AreLimits answer.limits }
+    requires small { AreSmallOffers (map (chosen q.now.desired) answer.offers) }
     requires start { length w.old.bytes ≡ REPLY_START }
     requires numbers { desk.old.1 < 2 ^ 63 }
     ensures told { IfOk result (λ b.

@@ -3,6 +3,7 @@ use Rattle.td_cdr.specs.Names.{IsTraderName}
 use Rattle.td_lookup.proofs.Limited.{visited_limits}
 use Rattle.td_lookup.proofs.Moved.{still_named, still_within}
 use Rattle.td_lookup.proofs.Queried.{query_back, query_told}
+use Rattle.td_lookup.proofs.Small.{visited_small}
 use Rattle.td_lookup.proofs.querying.answer_query.Goals as goal
 use Rattle.td_lookup.specs.Scenes.{scene}
 use Rattle.td_reply.specs.Linking.{peers_seen}
@@ -21,6 +22,11 @@ tell_visited-told-requires-clause-name g c =
 pub tell_visited-told-requires-clause-limits : goal.tell_visited-told-requires-clause-limits
 tell_visited-told-requires-clause-limits g c =
     visited_limits g.T.Traders.others g.T.Traders.later c.args.home.now _ _ c.args.trader c.args.q.now _ _
+    c.visit-visited.result c.visit-visited.ensures.visited
+
+pub tell_visited-told-requires-clause-small : goal.tell_visited-told-requires-clause-small
+tell_visited-told-requires-clause-small g c =
+    visited_small g.T.Traders.others g.T.Traders.later c.args.home.now _ _ c.args.trader c.args.q.now _ _
     c.visit-visited.result c.visit-visited.ensures.visited
 
 pub returns-clause-told : goal.returns-clause-told
