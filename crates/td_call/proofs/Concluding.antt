@@ -143,16 +143,16 @@ unconnected reads request p before after f0 f1 fault.Grammar no_way = absurd no_
 unconnected reads request p before after f0 f1 fault.Exception no_way = absurd no_way
 unconnected reads request p before after f0 f1 fault.Memory wanted = tt
 
-pub called_of : {A : Type 0} (reads : Reading A) (request : (key : List ℕ) → List ℕ) (target : Ior) (p : Iiop)
+pub called_of : {A : Type 0} (reads : Reading A) (request : Iiop → List ℕ) (target : Ior) (p : Iiop)
     (before after : Option Traffic) (f0 f1 : ℕ) (r : Result A PeerFault) → iiop_of target ≡ Some p
-    → CalledAt reads (request p.key) p before after f0 f1 r → Called reads request target before after f0 f1 r
+    → CalledAt reads (request p) p before after f0 f1 r → Called reads request target before after f0 f1 r
 called_of reads request target p before after f0 f1 (Ok a) found x = (p, found, x)
 called_of reads request target p before after f0 f1 (Err fault.Wire) found x = x
 called_of reads request target p before after f0 f1 (Err fault.Grammar) found x = inr x
 called_of reads request target p before after f0 f1 (Err fault.Exception) found x = x
 called_of reads request target p before after f0 f1 (Err fault.Memory) found x = tt
 
-pub uncalled : {A : Type 0} (reads : Reading A) (request : (key : List ℕ) → List ℕ) (target : Ior)
+pub uncalled : {A : Type 0} (reads : Reading A) (request : Iiop → List ℕ) (target : Ior)
     (before after : Option Traffic) (f0 f1 : ℕ) (e : PeerFault) → IsRead (iiop_of target) (Err e)
     → Called {A = A} reads request target before after f0 f1 (Err e)
 uncalled reads request target before after f0 f1 fault.Wire no_way = absurd no_way

@@ -118,7 +118,7 @@ leaves_over request p s before mid last after f0 f1 made m over_now =
     over last (subst (λ (x : Option Traffic). Moves request x last) made.1 m) over_now
 
 -- an object that isn't called
-pub left_untouched : (request : (key : List ℕ) → List ℕ) (target : Ior) (t : Option Traffic) → Leaves request target t t
+pub left_untouched : (request : Iiop → List ℕ) (target : Ior) (t : Option Traffic) → Leaves request target t t
 left_untouched request target t = untouched refl
 
 -- ---- whether a connection stands

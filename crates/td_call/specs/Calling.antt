@@ -55,10 +55,10 @@ CalledAt reads request p before after f0 f1 (Err fault.Memory) = ⊤
 
 -- What a call of an object answers, by what the wire tells and by its count of faults. An object without an IIOP
 -- profile is outside the grammar, and isn't called.
-abbrev pub Called : {A : Type 0} → Reading A → (request : (key : List ℕ) → List ℕ) → (target : Ior)
+abbrev pub Called : {A : Type 0} → Reading A → (request : Iiop → List ℕ) → (target : Ior)
     → (before after : Option Traffic) → (f0 f1 : ℕ) → Result A PeerFault → Type 0
 Called reads request target before after f0 f1 (Ok a) =
-    (p : Iiop) × (iiop_of target ≡ Some p) × IfSome before (λ t. Answers reads (request p.key) p t after a)
+    (p : Iiop) × (iiop_of target ≡ Some p) × IfSome before (λ t. Answers reads (request p) p t after a)
 Called reads request target before after f0 f1 (Err fault.Wire) =
     Rose f0 f1 ⊎ IfSome before (λ t. replied reads first_id (next_given t) ≡ short)
 Called reads request target before after f0 f1 (Err fault.Grammar) =

@@ -101,10 +101,10 @@ pub fn call_over<L: Wire>(
     call: &Call,
 ) -> Result<Answered, PeerFault>
     ensures same { L.same wire.old wire.new }
-    ensures called { Called (outcome_told call.now) (λ key. request_of first_id key call.now) target.now
+    ensures called { Called (outcome_told call.now) (λ p. request_of first_id p call.now) target.now
         (L.told wire.old) (L.told wire.new) (L.faults wire.old) (L.faults wire.new) result }
     ensures admitted { IfOk result (λ a. AdmitsTold call.now a) }
-    ensures leaves { Leaves (λ key. request_of first_id key call.now) target.now (L.told wire.old) (L.told wire.new) }
+    ensures leaves { Leaves (λ p. request_of first_id p call.now) target.now (L.told wire.old) (L.told wire.new) }
     ensures disconnected { StaysDisconnected (L.told wire.old) (L.told wire.new) }
     ensures later { L.faults wire.old ≤ L.faults wire.new }
 {
@@ -122,10 +122,10 @@ fn call_at<L: Wire>(
     call: &Call,
 ) -> Result<Answered, PeerFault>
     ensures same { L.same wire.old wire.new }
-    ensures called { CalledAt (outcome_told call.now) (request_of first_id profile.now.key call.now) profile.now
+    ensures called { CalledAt (outcome_told call.now) (request_of first_id profile.now call.now) profile.now
         (L.told wire.old) (L.told wire.new) (L.faults wire.old) (L.faults wire.new) result }
     ensures admitted { IfOk result (λ a. AdmitsTold call.now a) }
-    ensures leaves { LeavesAt (request_of first_id profile.now.key call.now) profile.now (L.told wire.old)
+    ensures leaves { LeavesAt (request_of first_id profile.now call.now) profile.now (L.told wire.old)
         (L.told wire.new) }
     ensures later { L.faults wire.old ≤ L.faults wire.new }
 {
@@ -133,8 +133,7 @@ fn call_at<L: Wire>(
         Err(fault) => Err(fault),
         Ok(framer) => {
             let mut framer = framer;
-            let key = profile.key.as_slice();
-            let answer = exchange_call(alloc, wire, &mut framer, FIRST_ID, key, call);
+            let answer = exchange_call(alloc, wire, &mut framer, FIRST_ID, profile, call);
             finish(wire, &mut framer, answer.is_ok());
             answer
         }
@@ -157,9 +156,9 @@ pub fn evaluate_over<L: Wire>(
 ) -> Result<Option<Boxed<Any>>, PeerFault>
     ensures same { L.same wire.old wire.new }
     ensures called { Called (evaluation_told returned.now)
-        (λ key. evaluation_of first_id key name.now returned.now extra.now) evaluator.now
+        (λ p. evaluation_of first_id p name.now returned.now extra.now) evaluator.now
         (L.told wire.old) (L.told wire.new) (L.faults wire.old) (L.faults wire.new) result }
-    ensures leaves { Leaves (λ key. evaluation_of first_id key name.now returned.now extra.now) evaluator.now
+    ensures leaves { Leaves (λ p. evaluation_of first_id p name.now returned.now extra.now) evaluator.now
         (L.told wire.old) (L.told wire.new) }
     ensures disconnected { StaysDisconnected (L.told wire.old) (L.told wire.new) }
     ensures later { L.faults wire.old ≤ L.faults wire.new }
@@ -182,14 +181,13 @@ fn evaluate_at<L: Wire>(
 ) -> Result<Option<Boxed<Any>>, PeerFault>
     ensures same { L.same wire.old wire.new }
     ensures called { CalledAt (evaluation_told returned.now)
-        (evaluation_of first_id profile.now.key name.now returned.now extra.now) profile.now
+        (evaluation_of first_id profile.now name.now returned.now extra.now) profile.now
         (L.told wire.old) (L.told wire.new) (L.faults wire.old) (L.faults wire.new) result }
-    ensures leaves { LeavesAt (evaluation_of first_id profile.now.key name.now returned.now extra.now) profile.now
+    ensures leaves { LeavesAt (evaluation_of first_id profile.now name.now returned.now extra.now) profile.now
         (L.told wire.old) (L.told wire.new) }
     ensures later { L.faults wire.old ≤ L.faults wire.new }
 {
-    let key = profile.key.as_slice();
-    match evaluation_request(alloc, FIRST_ID, key, name, returned, extra) {
+    match evaluation_request(alloc, FIRST_ID, profile, name, returned, extra) {
         Err(_) => Err(PeerFault::Memory),
         Ok(request) => ask_at(alloc, wire, profile, request.bytes(), returned),
     }

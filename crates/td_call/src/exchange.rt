@@ -15,6 +15,7 @@ use crate::sending::write_all;
 use std::alloc::Global;
 use td_cdr::Boxed;
 use td_giop::Framer;
+use td_ior::Iiop;
 use td_ops::{Answered, Call};
 use td_value::{Any, TypeCode};
 use td_walk::PeerFault;
@@ -79,8 +80,8 @@ fn exchange_outcome<L: Wire>(
     }
 }
 
-/// Writes the Request for a call of the object with this key, and reads its reply. What came behind the reply stays
-/// in the framer.
+/// Writes the Request for a call of the object with this profile, and reads its reply. The Request is of GIOP 1.0 where
+/// the profile is, and else of 1.1; its reply may be of either. What came behind the reply stays in the framer.
 ///
 /// # Errors
 ///
@@ -92,22 +93,22 @@ pub fn exchange_call<L: Wire>(
     wire: &mut L,
     framer: &mut Framer,
     id: u32,
-    key: &[u8],
+    profile: &Iiop,
     call: &Call,
 ) -> Result<Answered, PeerFault>
     requires limit { framer.old.limit ≡ reply_limit }
     requires room { framer.old.start + length framer.old.rest + 2 ^ 27 < 2 ^ 64 }
     ensures same { L.same wire.old wire.new }
-    ensures exchanges { Exchanges (outcome_told call.now) id (request_of id key.now call.now) framer.old.rest
+    ensures exchanges { Exchanges (outcome_told call.now) id (request_of id profile.now call.now) framer.old.rest
         framer.new.rest (L.told wire.old) (L.told wire.new) (L.faults wire.old) (L.faults wire.new) result }
     ensures admitted { IfOk result (λ a. AdmitsTold call.now a) }
-    ensures moves { Moves (request_of id key.now call.now) (L.told wire.old) (L.told wire.new) }
+    ensures moves { Moves (request_of id profile.now call.now) (L.told wire.old) (L.told wire.new) }
     ensures later { L.faults wire.old ≤ L.faults wire.new }
     ensures grows { framer.new.start + length framer.new.rest
         ≤ framer.old.start + length framer.old.rest + 2 ^ 27 }
     ensures kept { framer.new.limit ≡ framer.old.limit }
 {
-    match call_request(alloc, id, key, call) {
+    match call_request(alloc, id, profile, call) {
         Err(_) => Err(PeerFault::Memory),
         Ok(request) => exchange_outcome(alloc, wire, framer, id, request.bytes(), call),
     }

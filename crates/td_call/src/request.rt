@@ -1,21 +1,28 @@
 //! The Requests that a client writes.
 
 ghost use Rattle.std.specs.Prelude.{◌≡◌, ◌≤◌, [], ◌++◌, length, IfOk};
-ghost use Rattle.td_call.specs.Requests.{request_of, evaluation_of};
+ghost use Rattle.td_giop.specs.declared.header.TheConstants.{NEWEST_MINOR};
+ghost use Rattle.td_call.specs.Requests.{request_of, evaluation_of, spoken};
 
 use std::alloc::Global;
 use td_cdr::{Memory, Order, Text, Writer, put_three};
 use td_giop::{seal, start_request};
+use td_ior::Iiop;
 use td_ops::{Call, operation_of, write_call};
 use td_value::{Any, TypeCode};
-
-/// The minor version of GIOP that a client writes its Requests in.
-const SPOKEN: u8 = 0;
 
 /// The operation of a dynamic property's evaluator (OMG's Trading Object Service, interface DynamicPropEval).
 const EVAL_DP: &str = "evalDP";
 
-/// The Request for a call of the object with this key.
+/// The minor version of GIOP that an object is called in: 0 where its profile is of IIOP 1.0, else 1.
+fn spoken(profile: &Iiop) -> u8
+    ensures spoken { result ≡ spoken profile.now.minor }
+    ensures written { result ≤ NEWEST_MINOR }
+{
+    if profile.minor == 0 { 0 } else { 1 }
+}
+
+/// The Request for a call of the object with this profile.
 ///
 /// # Errors
 ///
@@ -24,19 +31,21 @@ const EVAL_DP: &str = "evalDP";
 pub(crate) fn call_request(
     alloc: Global,
     id: u32,
-    key: &[u8],
+    profile: &Iiop,
     call: &Call,
 ) -> Result<Writer, Memory>
-    ensures { IfOk result (λ w. w.bytes ≡ request_of id key.now call.now) }
+    ensures { IfOk result (λ w. w.bytes ≡ request_of id profile.now call.now) }
 {
     let mut w = Writer::new(alloc, Order::Big);
-    start_request(&mut w, SPOKEN, id, true, key, operation_of(call).as_bytes())?;
+    let key = profile.key.as_slice();
+    let operation = operation_of(call).as_bytes();
+    start_request(&mut w, spoken(profile), id, true, key, operation)?;
     write_call(alloc, &mut w, call)?;
     seal(&mut w);
     Ok(w)
 }
 
-/// The Request for an evaluation by the object with this key.
+/// The Request for an evaluation by the object with this profile.
 ///
 /// # Errors
 ///
@@ -45,15 +54,16 @@ pub(crate) fn call_request(
 pub(crate) fn evaluation_request(
     alloc: Global,
     id: u32,
-    key: &[u8],
+    profile: &Iiop,
     name: &Text,
     returned: &TypeCode,
     extra: &Any,
 ) -> Result<Writer, Memory>
-    ensures { IfOk result (λ w. w.bytes ≡ evaluation_of id key.now name.now returned.now extra.now) }
+    ensures { IfOk result (λ w. w.bytes ≡ evaluation_of id profile.now name.now returned.now extra.now) }
 {
     let mut w = Writer::new(alloc, Order::Big);
-    start_request(&mut w, SPOKEN, id, true, key, EVAL_DP.as_bytes())?;
+    let key = profile.key.as_slice();
+    start_request(&mut w, spoken(profile), id, true, key, EVAL_DP.as_bytes())?;
     put_three(alloc, &mut w, name, returned, extra)?;
     seal(&mut w);
     Ok(w)

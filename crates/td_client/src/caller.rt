@@ -55,9 +55,9 @@ impl<L: Wire> Caller<L> {
     /// Each but `Memory` raises the caller's own count.
     pub fn call(&mut self, alloc: Global, target: &Ior, call: &Call) -> Result<Answered, PeerFault>
         ensures same { L.same self.old.wire self.new.wire }
-        ensures called { Called (outcome_told call.now) (λ key. request_of first_id key call.now) target.now
+        ensures called { Called (outcome_told call.now) (λ p. request_of first_id p call.now) target.now
             (L.told self.old.wire) (L.told self.new.wire) (L.faults self.old.wire) (L.faults self.new.wire) result }
-        ensures leaves { Leaves (λ key. request_of first_id key call.now) target.now (L.told self.old.wire)
+        ensures leaves { Leaves (λ p. request_of first_id p call.now) target.now (L.told self.old.wire)
             (L.told self.new.wire) }
         ensures disconnected { StaysDisconnected (L.told self.old.wire) (L.told self.new.wire) }
         ensures notes { self.new.notes ≡ self.old.notes }

@@ -82,10 +82,10 @@ impl<L: Wire> Peers for Caller<L> {
         ensures noted { IsNoted (λ v. Evaluated v) (Evaluating evaluator.now name.now returned.now extra.now)
             (exchanges self.old.notes) (exchanges self.new.notes) self.old.faults self.new.faults result }
         ensures exact { (r : Result (Option Any) PeerFault) × Called (evaluation_told returned.now)
-            (λ key. evaluation_of first_id key name.now returned.now extra.now) evaluator.now (L.told self.old.wire)
+            (λ p. evaluation_of first_id p name.now returned.now extra.now) evaluator.now (L.told self.old.wire)
             (L.told self.new.wire) (L.faults self.old.wire) (L.faults self.new.wire) r
             × (result ≡ with_meaning value_meant r) }
-        ensures leaves { Leaves (λ key. evaluation_of first_id key name.now returned.now extra.now) evaluator.now
+        ensures leaves { Leaves (λ p. evaluation_of first_id p name.now returned.now extra.now) evaluator.now
             (L.told self.old.wire) (L.told self.new.wire) }
         ensures disconnected { StaysDisconnected (L.told self.old.wire) (L.told self.new.wire) }
     {
@@ -116,9 +116,9 @@ impl<L: Wire> Peers for Caller<L> {
             (exchanges self.new.notes) self.old.faults self.new.faults result }
         ensures admitted { IfOk result (λ r. reference.format.admits r) }
         ensures exact { (r : Result Told PeerFault) × Called (outcome_told register_call)
-            (λ key. request_of first_id key register_call) lookup.now (L.told self.old.wire) (L.told self.new.wire)
+            (λ p. request_of first_id p register_call) lookup.now (L.told self.old.wire) (L.told self.new.wire)
             (L.faults self.old.wire) (L.faults self.new.wire) r × (result ≡ with_meaning reference_meant r) }
-        ensures leaves { Leaves (λ key. request_of first_id key register_call) lookup.now (L.told self.old.wire)
+        ensures leaves { Leaves (λ p. request_of first_id p register_call) lookup.now (L.told self.old.wire)
             (L.told self.new.wire) }
         ensures disconnected { StaysDisconnected (L.told self.old.wire) (L.told self.new.wire) }
     {
@@ -144,10 +144,10 @@ impl<L: Wire> Peers for Caller<L> {
             (exchanges self.new.notes) self.old.faults self.new.faults result }
         ensures admitted { IfOk result (λ r. reference.format.admits r) }
         ensures exact { (r : Result Told PeerFault) × Called (outcome_told (resolve_call name.now))
-            (λ key. request_of first_id key (resolve_call name.now)) register.now (L.told self.old.wire)
+            (λ p. request_of first_id p (resolve_call name.now)) register.now (L.told self.old.wire)
             (L.told self.new.wire) (L.faults self.old.wire) (L.faults self.new.wire) r
             × (result ≡ with_meaning reference_meant r) }
-        ensures leaves { Leaves (λ key. request_of first_id key (resolve_call name.now)) register.now
+        ensures leaves { Leaves (λ p. request_of first_id p (resolve_call name.now)) register.now
             (L.told self.old.wire) (L.told self.new.wire) }
         ensures disconnected { StaysDisconnected (L.told self.old.wire) (L.told self.new.wire) }
     {

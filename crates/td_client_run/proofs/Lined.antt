@@ -106,7 +106,7 @@ sent (wish.Call target c) t v w (Answered a) known tells s =
     let came =
     subst
     (λ (before : Option Traffic).
-    IfSome before (λ u. Answers (outcome_told c) (request_of first_id p.key c) p u w.told a))
+    IfSome before (λ u. Answers (outcome_told c) (request_of first_id p c) p u w.told a))
     tells s.called.2 in
     subst (λ (x : Comes Told). AllTold HasLines x) came.is
     (replied_told HasLines (outcome_told c) (λ status at. outcome_lined c status at known) first_id (next_given t))

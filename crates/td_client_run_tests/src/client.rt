@@ -3,3 +3,4 @@
 mod asking;
 mod messages;
 mod rows;
+mod versions;

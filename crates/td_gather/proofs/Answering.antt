@@ -27,22 +27,22 @@ use Rattle.td_gather.specs.declared.gathered.Gathered.TheVariants.{Offers, Refus
 -- ---- over a connection of which nothing came yet
 
 -- the request for the query, as a part of what was written
-abbrev query_request : (key : List ℕ) → Call → List ℕ
-query_request key c = request_of first_id key c
+abbrev query_request : (profile : Iiop) → Call → List ℕ
+query_request profile c = request_of first_id profile c
 
-pub from_fresh : (key : List ℕ) (c : Call) (s : Stream) (held : List ℕ) (before now : Option Traffic) (f0 f1 : ℕ)
+pub from_fresh : (profile : Iiop) (c : Call) (s : Stream) (held : List ℕ) (before now : Option Traffic) (f0 f1 : ℕ)
     (r : Result Answered PeerFault) → s ≡ fresh_stream
-    → Exchanges (outcome_told c) first_id (query_request key c) s.rest held before now f0 f1 r
-    → Exchanges (outcome_told c) first_id (query_request key c) [] held before now f0 f1 r
-from_fresh key c s held before now f0 f1 r is x =
-    subst (λ (h : List ℕ). Exchanges (outcome_told c) first_id (query_request key c) h held before now f0 f1 r)
+    → Exchanges (outcome_told c) first_id (query_request profile c) s.rest held before now f0 f1 r
+    → Exchanges (outcome_told c) first_id (query_request profile c) [] held before now f0 f1 r
+from_fresh profile c s held before now f0 f1 r is x =
+    subst (λ (h : List ℕ). Exchanges (outcome_told c) first_id (query_request profile c) h held before now f0 f1 r)
     (ap (λ (u : Stream). u.rest) is) x
 
 -- what the query comes to, by what is held and left behind its reply
-asked_is : (key : List ℕ) (c : Call) (held : List ℕ) (t : Traffic) (now : Option Traffic) (reply : Reply)
-    (x : Replies (outcome_told c) first_id (query_request key c) [] held t now (Done reply))
-    → asked c (left_of t) ≡ reply_ends reply (held ++ left_of (with_left x.rest (wrote (query_request key c) t)))
-asked_is key c held t now reply x =
+asked_is : (profile : Iiop) (c : Call) (held : List ℕ) (t : Traffic) (now : Option Traffic) (reply : Reply)
+    (x : Replies (outcome_told c) first_id (query_request profile c) [] held t now (Done reply))
+    → asked c (left_of t) ≡ reply_ends reply (held ++ left_of (with_left x.rest (wrote (query_request profile c) t)))
+asked_is profile c held t now reply x =
     ap (after_query (left_of t)) x.is ∙ ap (reply_ends reply) (sym x.behind)
     ∙ ap (λ (left : List ℕ). reply_ends reply (held ++ left)) (sym x.left)
 
@@ -53,23 +53,23 @@ ends_here : (held : List ℕ) (u : Traffic) (now : Option Traffic) (reply : Repl
 ends_here held u now reply f0 f1 r is e =
     subst (λ (x : Option Traffic). EndsSo (reply_ends reply) held x f0 f1 r) is e
 
-through_some : (key : List ℕ) (c : Call) (held : List ℕ) (t : Traffic) (now : Option Traffic) (f0 f1 f2 : ℕ)
+through_some : (profile : Iiop) (c : Call) (held : List ℕ) (t : Traffic) (now : Option Traffic) (f0 f1 f2 : ℕ)
     (reply : Reply) (r : Result Gathered PeerFault) → f0 ≤ f1
-    → (x : Replies (outcome_told c) first_id (query_request key c) [] held t now (Done reply))
-    → EndsSo (reply_ends reply) held (Some (with_left x.rest (wrote (query_request key c) t))) f1 f2 r
+    → (x : Replies (outcome_told c) first_id (query_request profile c) [] held t now (Done reply))
+    → EndsSo (reply_ends reply) held (Some (with_left x.rest (wrote (query_request profile c) t))) f1 f2 r
     → AsksThrough c (Some t) f0 f2 r
-through_some key c held t now f0 f1 f2 reply (Ok (Offers a)) later x e = asked_is key c held t now reply x ∙ e
-through_some key c held t now f0 f1 f2 reply (Ok (Refused answer)) later x e =
-    asked_is key c held t now reply x ∙ e
-through_some key c held t now f0 f1 f2 reply (Err fault.Wire) later x e =
+through_some profile c held t now f0 f1 f2 reply (Ok (Offers a)) later x e = asked_is profile c held t now reply x ∙ e
+through_some profile c held t now f0 f1 f2 reply (Ok (Refused answer)) later x e =
+    asked_is profile c held t now reply x ∙ e
+through_some profile c held t now f0 f1 f2 reply (Err fault.Wire) later x e =
     elim e [
       | inl rose ↦ inl (Rose-later f0 f1 f2 later rose)
-      | inr ended ↦ inr (asked_is key c held t now reply x ∙ ended)
+      | inr ended ↦ inr (asked_is profile c held t now reply x ∙ ended)
     ]
-through_some key c held t now f0 f1 f2 reply (Err fault.Grammar) later x e =
-    asked_is key c held t now reply x ∙ e
-through_some key c held t now f0 f1 f2 reply (Err fault.Exception) later x e = absurd e
-through_some key c held t now f0 f1 f2 reply (Err fault.Memory) later x e = tt
+through_some profile c held t now f0 f1 f2 reply (Err fault.Grammar) later x e =
+    asked_is profile c held t now reply x ∙ e
+through_some profile c held t now f0 f1 f2 reply (Err fault.Exception) later x e = absurd e
+through_some profile c held t now f0 f1 f2 reply (Err fault.Memory) later x e = tt
 
 through_none : (c : Call) (held : List ℕ) (now : Option Traffic) (f0 f1 f2 : ℕ) (reply : Reply)
     (r : Result Gathered PeerFault) → f0 ≤ f1 → EndsSo (reply_ends reply) held now f1 f2 r → AsksThrough c None f0 f2 r
@@ -81,35 +81,35 @@ through_none c held now f0 f1 f2 reply (Err fault.Grammar) later e = tt
 through_none c held now f0 f1 f2 reply (Err fault.Exception) later e = absurd e
 through_none c held now f0 f1 f2 reply (Err fault.Memory) later e = tt
 
-pub through_done : (key : List ℕ) (c : Call) (held : List ℕ) (before now : Option Traffic) (f0 f1 f2 : ℕ)
+pub through_done : (profile : Iiop) (c : Call) (held : List ℕ) (before now : Option Traffic) (f0 f1 f2 : ℕ)
     (reply : Reply) (r : Result Gathered PeerFault) → f0 ≤ f1
-    → Exchanges (outcome_told c) first_id (query_request key c) [] held before now f0 f1 (Ok (Done reply))
+    → Exchanges (outcome_told c) first_id (query_request profile c) [] held before now f0 f1 (Ok (Done reply))
     → EndsSo (reply_ends reply) held now f1 f2 r → AsksThrough c before f0 f2 r
-through_done key c held None now f0 f1 f2 reply r later x e =
+through_done profile c held None now f0 f1 f2 reply r later x e =
     through_none c held now f0 f1 f2 reply r later e
-through_done key c held (Some t) now f0 f1 f2 reply r later x e =
-    through_some key c held t now f0 f1 f2 reply r later x
-    (ends_here held (with_left x.rest (wrote (query_request key c) t)) now reply f1 f2 r x.wire e)
+through_done profile c held (Some t) now f0 f1 f2 reply r later x e =
+    through_some profile c held t now f0 f1 f2 reply r later x
+    (ends_here held (with_left x.rest (wrote (query_request profile c) t)) now reply f1 f2 r x.wire e)
 
 -- an exception
-pub through_refused : (key : List ℕ) (c : Call) (held : List ℕ) (before now : Option Traffic) (f0 f1 : ℕ)
+pub through_refused : (profile : Iiop) (c : Call) (held : List ℕ) (before now : Option Traffic) (f0 f1 : ℕ)
     (answer : Answered) → ((left : List ℕ) → query_ends answer left ≡ raised answer)
-    → Exchanges (outcome_told c) first_id (query_request key c) [] held before now f0 f1 (Ok answer)
+    → Exchanges (outcome_told c) first_id (query_request profile c) [] held before now f0 f1 (Ok answer)
     → AsksThrough c before f0 f1 (Ok (Refused answer))
-through_refused key c held None now f0 f1 answer is x = tt
-through_refused key c held (Some t) now f0 f1 answer is x =
+through_refused profile c held None now f0 f1 answer is x = tt
+through_refused profile c held (Some t) now f0 f1 answer is x =
     ap (after_query (left_of t)) x.is ∙ is (drop x.size (left_of t))
 
-pub through_fault : (key : List ℕ) (c : Call) (held : List ℕ) (before now : Option Traffic) (f0 f1 : ℕ)
-    (e : PeerFault) → Exchanges (outcome_told c) first_id (query_request key c) [] held before now f0 f1 (Err e)
+pub through_fault : (profile : Iiop) (c : Call) (held : List ℕ) (before now : Option Traffic) (f0 f1 : ℕ)
+    (e : PeerFault) → Exchanges (outcome_told c) first_id (query_request profile c) [] held before now f0 f1 (Err e)
     → AsksThrough c before f0 f1 (Err e)
-through_fault key c held None now f0 f1 fault.Wire x = elim x [ inl rose ↦ inl rose | inr ended ↦ inr tt ]
-through_fault key c held (Some t) now f0 f1 fault.Wire x =
+through_fault profile c held None now f0 f1 fault.Wire x = elim x [ inl rose ↦ inl rose | inr ended ↦ inr tt ]
+through_fault profile c held (Some t) now f0 f1 fault.Wire x =
     elim x [ inl rose ↦ inl rose | inr ended ↦ inr (ap (after_query (left_of t)) ended) ]
-through_fault key c held None now f0 f1 fault.Grammar x = tt
-through_fault key c held (Some t) now f0 f1 fault.Grammar x = ap (after_query (left_of t)) x
-through_fault key c held before now f0 f1 fault.Exception x = absurd x
-through_fault key c held before now f0 f1 fault.Memory x = tt
+through_fault profile c held None now f0 f1 fault.Grammar x = tt
+through_fault profile c held (Some t) now f0 f1 fault.Grammar x = ap (after_query (left_of t)) x
+through_fault profile c held before now f0 f1 fault.Exception x = absurd x
+through_fault profile c held before now f0 f1 fault.Memory x = tt
 
 -- ---- over a new connection
 
@@ -121,7 +121,7 @@ all_written requests t after w =
 
 asks_fresh : (p : Iiop) (c : Call) (before last after : Option Traffic) (f0 f1 f2 : ℕ) (r : Result Gathered PeerFault)
     → f0 ≤ f1 → AsksThrough c (option_map (opened p.host p.port) before) f1 f2 r
-    → WritesBy (gives_all r) (asked_requests p.key c) [] (option_map (opened p.host p.port) before) last
+    → WritesBy (gives_all r) (asked_requests p c) [] (option_map (opened p.host p.port) before) last
     → after ≡ option_map ended last → AsksAt p c before after f0 f2 r
 asks_fresh p c None last after f0 f1 f2 (Ok (Offers a)) later x w over = tt
 asks_fresh p c (Some t) last after f0 f1 f2 (Ok (Offers a)) later x w over =
@@ -131,7 +131,7 @@ asks_fresh p c (Some t) last after f0 f1 f2 (Ok (Offers a)) later x w over =
       wire =
           over ∙ ap (option_map ended) w.0.wire
           ∙ ap (λ (x : List ℕ). Some (ended (with_left w.0.rest (wrote x (opened p.host p.port t)))))
-          (all_written (asked_requests p.key c (next_given t)) (opened p.host p.port t) last w);
+          (all_written (asked_requests p c (next_given t)) (opened p.host p.port t) last w);
     }
 asks_fresh p c None last after f0 f1 f2 (Ok (Refused answer)) later x w over = tt
 asks_fresh p c (Some t) last after f0 f1 f2 (Ok (Refused answer)) later x w over = x
@@ -146,12 +146,12 @@ asks_fresh p c before last after f0 f1 f2 (Err fault.Memory) later x w over = tt
 
 pub asks_then : (p : Iiop) (c : Call) (s : Stream) (before mid last after : Option Traffic) (f0 f1 f2 : ℕ)
     (r : Result Gathered PeerFault) → Connected p before mid f0 f1 (Ok s) → f0 ≤ f1
-    → AsksThrough c mid f1 f2 r → WritesBy (gives_all r) (asked_requests p.key c) [] mid last
+    → AsksThrough c mid f1 f2 r → WritesBy (gives_all r) (asked_requests p c) [] mid last
     → after ≡ option_map ended last → AsksAt p c before after f0 f2 r
 asks_then p c s before mid last after f0 f1 f2 r made later x w over =
     asks_fresh p c before last after f0 f1 f2 r later
     (subst (λ (u : Option Traffic). AsksThrough c u f1 f2 r) made.1 x)
-    (subst (λ (u : Option Traffic). WritesBy (gives_all r) (asked_requests p.key c) [] u last) made.1 w) over
+    (subst (λ (u : Option Traffic). WritesBy (gives_all r) (asked_requests p c) [] u last) made.1 w) over
 
 pub unconnected : (p : Iiop) (c : Call) (before after : Option Traffic) (f0 f1 : ℕ) (e : PeerFault)
     → Connected p before after f0 f1 (Err e) → AsksAt p c before after f0 f1 (Err e)

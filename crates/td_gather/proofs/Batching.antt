@@ -5,6 +5,7 @@ use Rattle.std.proofs.Common.{ap, arith, leb-true, length-append, nat_le}
 use Rattle.td_giop.proofs.Cond.{both_true}
 use Rattle.std.specs.List.{list_all}
 use Rattle.std.specs.Prelude.{◌↔◌, IsTrue}
+use Rattle.td_ior.specs.declared.profile.Iiop.{Iiop}
 use Rattle.td_ops.specs.declared.outcome.Answered.{Answered}
 use Rattle.td_ops.specs.declared.outcome.Answered.TheVariants.{Done}
 use Rattle.td_ops.specs.declared.outcome.Reply.TheVariants.{Batch}
@@ -98,14 +99,14 @@ asked_behind next count size given answer goes comes is follows =
     ap (λ (x : Comes Answered). suc (batches_behind next count given x)) is
     ∙ ap (λ (b : Bool). suc (cond b (next (count + batch_length answer) (drop size given)) 0)) follows
 
-pub turned : (key : List ℕ) (id : ℕ) (held held_after : List ℕ) (before after : Option Traffic) (f0 f1 : ℕ)
+pub turned : (profile : Iiop) (id : ℕ) (held held_after : List ℕ) (before after : Option Traffic) (f0 f1 : ℕ)
     (old new : List Offer) (answer : Answered) (r : Result Turn PeerFault)
-    → Exchanges (outcome_told next_batch) id (request_of id key next_batch) held held_after before after f0 f1
+    → Exchanges (outcome_told next_batch) id (request_of id profile next_batch) held held_after before after f0 f1
     (Ok answer)
-    → Takes answer old new r → Turns key id held held_after before after f0 f1 old new r
+    → Takes answer old new r → Turns profile id held held_after before after f0 f1 old new r
 unfolding drained batches_asked
-turned key id held held_after None after f0 f1 old new answer (Ok More) x taken = (taken.0, taken.1, tt)
-turned key id held held_after (Some t) after f0 f1 old new answer (Ok More) x taken =
+turned profile id held held_after None after f0 f1 old new answer (Ok More) x taken = (taken.0, taken.1, tt)
+turned profile id held held_after (Some t) after f0 f1 old new answer (Ok More) x taken =
     let grows : length new ≡ length old + batch_length answer =
     ap (length {A = Offer}) taken.1.is ∙ length-append old taken.0
     ∙ ap (λ (n : ℕ). length old + n) (sym taken.2) in (
@@ -125,8 +126,8 @@ turned key id held held_after (Some t) after f0 f1 old new answer (Ok More) x ta
             ∙ (λ i. suc (batches_asked batches (id + 1) (sym grows i) (sym x.behind i)));
       },
     )
-turned key id held held_after None after f0 f1 old new answer (Ok Last) x taken = (taken.0, taken.1, tt)
-turned key id held held_after (Some t) after f0 f1 old new answer (Ok Last) x taken = (
+turned profile id held held_after None after f0 f1 old new answer (Ok Last) x taken = (taken.0, taken.1, tt)
+turned profile id held held_after (Some t) after f0 f1 old new answer (Ok Last) x taken = (
   taken.0,
   taken.1,
   record {
@@ -143,62 +144,62 @@ turned key id held held_after (Some t) after f0 f1 old new answer (Ok Last) x ta
         taken.2;
   },
 )
-turned key id held held_after None after f0 f1 old new answer (Ok (Refused other)) x taken = tt
-turned key id held held_after (Some t) after f0 f1 old new answer (Ok (Refused other)) x taken =
+turned profile id held held_after None after f0 f1 old new answer (Ok (Refused other)) x taken = tt
+turned profile id held held_after (Some t) after f0 f1 old new answer (Ok (Refused other)) x taken =
     λ batches. ap (after_batch (drained batches (id + 1)) id (length old) (held ++ left_of t)) x.is ∙ taken _ _
-turned key id held held_after before after f0 f1 old new answer (Err fault.Wire) x taken = absurd taken
-turned key id held held_after None after f0 f1 old new answer (Err fault.Grammar) x taken = tt
-turned key id held held_after (Some t) after f0 f1 old new answer (Err fault.Grammar) x taken =
+turned profile id held held_after before after f0 f1 old new answer (Err fault.Wire) x taken = absurd taken
+turned profile id held held_after None after f0 f1 old new answer (Err fault.Grammar) x taken = tt
+turned profile id held held_after (Some t) after f0 f1 old new answer (Err fault.Grammar) x taken =
     λ batches. ap (after_batch (drained batches (id + 1)) id (length old) (held ++ left_of t)) x.is ∙ taken _ _
-turned key id held held_after before after f0 f1 old new answer (Err fault.Exception) x taken = absurd taken
-turned key id held held_after before after f0 f1 old new answer (Err fault.Memory) x taken = tt
+turned profile id held held_after before after f0 f1 old new answer (Err fault.Exception) x taken = absurd taken
+turned profile id held held_after before after f0 f1 old new answer (Err fault.Memory) x taken = tt
 
-pub unturned : (key : List ℕ) (id : ℕ) (held held_after : List ℕ) (before after : Option Traffic) (f0 f1 : ℕ)
+pub unturned : (profile : Iiop) (id : ℕ) (held held_after : List ℕ) (before after : Option Traffic) (f0 f1 : ℕ)
     (old new : List Offer) (e : PeerFault)
-    → Exchanges (outcome_told next_batch) id (request_of id key next_batch) held held_after before after f0 f1
+    → Exchanges (outcome_told next_batch) id (request_of id profile next_batch) held held_after before after f0 f1
     (Err e)
-    → Turns key id held held_after before after f0 f1 old new (Err e)
+    → Turns profile id held held_after before after f0 f1 old new (Err e)
 unfolding drained
-unturned key id held held_after None after f0 f1 old new fault.Wire x =
+unturned profile id held held_after None after f0 f1 old new fault.Wire x =
     elim x [ inl rose ↦ inl rose | inr ended ↦ inr tt ]
-unturned key id held held_after (Some t) after f0 f1 old new fault.Wire x =
+unturned profile id held held_after (Some t) after f0 f1 old new fault.Wire x =
     elim x [
       | inl rose ↦ inl rose
       | inr ended ↦ inr (λ batches.
           ap (after_batch (drained batches (id + 1)) id (length old) (held ++ left_of t)) ended)
     ]
-unturned key id held held_after None after f0 f1 old new fault.Grammar x = tt
-unturned key id held held_after (Some t) after f0 f1 old new fault.Grammar x =
+unturned profile id held held_after None after f0 f1 old new fault.Grammar x = tt
+unturned profile id held held_after (Some t) after f0 f1 old new fault.Grammar x =
     λ batches. ap (after_batch (drained batches (id + 1)) id (length old) (held ++ left_of t)) x
-unturned key id held held_after before after f0 f1 old new fault.Exception x = absurd x
-unturned key id held held_after before after f0 f1 old new fault.Memory x = tt
+unturned profile id held held_after before after f0 f1 old new fault.Exception x = absurd x
+unturned profile id held held_after before after f0 f1 old new fault.Memory x = tt
 
 -- ---- the iterator is destroyed
 
-pub destroyed_so : (key : List ℕ) (id : ℕ) (held held_after : List ℕ) (before after : Option Traffic) (f0 f1 : ℕ)
+pub destroyed_so : (profile : Iiop) (id : ℕ) (held held_after : List ℕ) (before after : Option Traffic) (f0 f1 : ℕ)
     (answer : Answered) (r : Result (Option Answered) PeerFault)
-    → Exchanges (outcome_told destroy) id (request_of id key destroy) held held_after before after f0 f1 (Ok answer)
-    → Destroyed (destroy_ends answer) r → Destroys key id held before after f0 f1 r
-destroyed_so key id held held_after None after f0 f1 answer (Ok None) x d = tt
-destroyed_so key id held held_after (Some t) after f0 f1 answer (Ok None) x d =
+    → Exchanges (outcome_told destroy) id (request_of id profile destroy) held held_after before after f0 f1 (Ok answer)
+    → Destroyed (destroy_ends answer) r → Destroys profile id held before after f0 f1 r
+destroyed_so profile id held held_after None after f0 f1 answer (Ok None) x d = tt
+destroyed_so profile id held held_after (Some t) after f0 f1 answer (Ok None) x d =
     (x.rest, x.wire, ap after_destroy x.is ∙ d)
-destroyed_so key id held held_after None after f0 f1 answer (Ok (Some other)) x d = tt
-destroyed_so key id held held_after (Some t) after f0 f1 answer (Ok (Some other)) x d = ap after_destroy x.is ∙ d
-destroyed_so key id held held_after before after f0 f1 answer (Err fault.Wire) x d = absurd d
-destroyed_so key id held held_after None after f0 f1 answer (Err fault.Grammar) x d = tt
-destroyed_so key id held held_after (Some t) after f0 f1 answer (Err fault.Grammar) x d = ap after_destroy x.is ∙ d
-destroyed_so key id held held_after before after f0 f1 answer (Err fault.Exception) x d = absurd d
-destroyed_so key id held held_after before after f0 f1 answer (Err fault.Memory) x d = absurd d
+destroyed_so profile id held held_after None after f0 f1 answer (Ok (Some other)) x d = tt
+destroyed_so profile id held held_after (Some t) after f0 f1 answer (Ok (Some other)) x d = ap after_destroy x.is ∙ d
+destroyed_so profile id held held_after before after f0 f1 answer (Err fault.Wire) x d = absurd d
+destroyed_so profile id held held_after None after f0 f1 answer (Err fault.Grammar) x d = tt
+destroyed_so profile id held held_after (Some t) after f0 f1 answer (Err fault.Grammar) x d = ap after_destroy x.is ∙ d
+destroyed_so profile id held held_after before after f0 f1 answer (Err fault.Exception) x d = absurd d
+destroyed_so profile id held held_after before after f0 f1 answer (Err fault.Memory) x d = absurd d
 
-pub undestroyed : (key : List ℕ) (id : ℕ) (held held_after : List ℕ) (before after : Option Traffic) (f0 f1 : ℕ)
+pub undestroyed : (profile : Iiop) (id : ℕ) (held held_after : List ℕ) (before after : Option Traffic) (f0 f1 : ℕ)
     (e : PeerFault)
-    → Exchanges (outcome_told destroy) id (request_of id key destroy) held held_after before after f0 f1 (Err e)
-    → Destroys key id held before after f0 f1 (Err e)
-undestroyed key id held held_after None after f0 f1 fault.Wire x =
+    → Exchanges (outcome_told destroy) id (request_of id profile destroy) held held_after before after f0 f1 (Err e)
+    → Destroys profile id held before after f0 f1 (Err e)
+undestroyed profile id held held_after None after f0 f1 fault.Wire x =
     elim x [ inl rose ↦ inl rose | inr ended ↦ inr tt ]
-undestroyed key id held held_after (Some t) after f0 f1 fault.Wire x =
+undestroyed profile id held held_after (Some t) after f0 f1 fault.Wire x =
     elim x [ inl rose ↦ inl rose | inr ended ↦ inr (ap after_destroy ended) ]
-undestroyed key id held held_after None after f0 f1 fault.Grammar x = tt
-undestroyed key id held held_after (Some t) after f0 f1 fault.Grammar x = ap after_destroy x
-undestroyed key id held held_after before after f0 f1 fault.Exception x = absurd x
-undestroyed key id held held_after before after f0 f1 fault.Memory x = tt
+undestroyed profile id held held_after None after f0 f1 fault.Grammar x = tt
+undestroyed profile id held held_after (Some t) after f0 f1 fault.Grammar x = ap after_destroy x
+undestroyed profile id held held_after before after f0 f1 fault.Exception x = absurd x
+undestroyed profile id held held_after before after f0 f1 fault.Memory x = tt

@@ -19,17 +19,17 @@ use Rattle.td_gather.specs.Draining.{next_batch}
 use Rattle.td_gather.specs.Examples.{GivesBatches, WorkedBatches, WorkedException, WorkedNil}
 use Rattle.td_gather.proofs.Batching.{asked_behind}
 
-pub no_iterator : (key : List ℕ) (c : Call) (given : List ℕ) (size : ℕ) → WorkedNil key c given size
+pub no_iterator : (trader : Iiop) (c : Call) (given : List ℕ) (size : ℕ) → WorkedNil trader c given size
 unfolding may_join
-no_iterator key c given size is =
-    ap (λ (x : Comes Answered). request_of first_id key c ++ requests_behind given x) is
-    ∙ append-nil (request_of first_id key c)
+no_iterator trader c given size is =
+    ap (λ (x : Comes Answered). request_of first_id trader c ++ requests_behind given x) is
+    ∙ append-nil (request_of first_id trader c)
 
-pub exception : (key : List ℕ) (c : Call) (given : List ℕ) (size : ℕ) (id : List ℕ)
-    → WorkedException key c given size id
-exception key c given size id is =
-    ap (λ (x : Comes Answered). request_of first_id key c ++ requests_behind given x) is
-    ∙ append-nil (request_of first_id key c)
+pub exception : (trader : Iiop) (c : Call) (given : List ℕ) (size : ℕ) (id : List ℕ)
+    → WorkedException trader c given size id
+exception trader c given size id is =
+    ap (λ (x : Comes Answered). request_of first_id trader c ++ requests_behind given x) is
+    ∙ append-nil (request_of first_id trader c)
 
 -- how many batches are asked for: one, and those behind its reply
 step : (batches id count size : ℕ) (given : List ℕ) (answer : Answered) (goes : Bool)
@@ -55,16 +55,16 @@ two_in_all c given p iterator o g =
     let most : most_batches ≡ suc (suc 999999) = omega arith in
     ap (λ (n : ℕ). batches_asked n second_id 0 (drop g.reply given)) most ∙ two 999999 c given p iterator o g
 
-pub batches : (key : List ℕ) (c : Call) (given : List ℕ) (p : Iiop) (iterator : Ior) (o : Offer)
-    → WorkedBatches key c given p iterator o
+pub batches : (trader : Iiop) (c : Call) (given : List ℕ) (p : Iiop) (iterator : Ior) (o : Offer)
+    → WorkedBatches trader c given p iterator o
 unfolding may_join
-batches key c given p iterator o g =
-    let first : List ℕ = request_of first_id key c in
+batches trader c given p iterator o g =
+    let first : List ℕ = request_of first_id trader c in
     ap (λ (x : Comes Answered). first ++ requests_behind given x) g.found
     ∙ ap (λ (b : Bool). first ++ cond b [] (iterator_requests (iiop_of iterator) 0 (drop g.reply given))) g.some
     ∙ ap (λ (o : Option Iiop). first ++ iterator_requests o 0 (drop g.reply given)) g.profile
-    ∙ ap (λ (n : ℕ). first ++ drain_requests p.key second_id n) (two_in_all c given p iterator o g)
+    ∙ ap (λ (n : ℕ). first ++ drain_requests p second_id n) (two_in_all c given p iterator o g)
     ∙ ap (λ (x : List ℕ). first ++ x)
-    (append_assoc (request_of 2 p.key next_batch) (request_of 3 p.key next_batch ++ []) (request_of 4 p.key destroy)
-    ∙ ap (λ (x : List ℕ). request_of 2 p.key next_batch ++ (x ++ request_of 4 p.key destroy))
-    (append-nil (request_of 3 p.key next_batch)))
+    (append_assoc (request_of 2 p next_batch) (request_of 3 p next_batch ++ []) (request_of 4 p destroy)
+    ∙ ap (λ (x : List ℕ). request_of 2 p next_batch ++ (x ++ request_of 4 p destroy))
+    (append-nil (request_of 3 p next_batch)))

@@ -101,31 +101,31 @@ writes_none requests held (Some t) =
 -- ---- an iterator's requests
 
 -- those of some batches, and those of the batches behind them
-requests_split : (key : List ℕ) (id a b n : ℕ) → n ≡ a + b
-    → batch_requests key id n ≡ batch_requests key id a ++ batch_requests key (id + a) b
-requests_split key id zero b n is =
+requests_split : (profile : Iiop) (id a b n : ℕ) → n ≡ a + b
+    → batch_requests profile id n ≡ batch_requests profile id a ++ batch_requests profile (id + a) b
+requests_split profile id zero b n is =
     let count : n ≡ b = omega (arith, is) in
-    let place : id ≡ id + 0 = omega arith in (λ i. batch_requests key (place i) (count i))
-requests_split key id (suc a) b n is =
+    let place : id ≡ id + 0 = omega arith in (λ i. batch_requests profile (place i) (count i))
+requests_split profile id (suc a) b n is =
     let count : n ≡ suc (a + b) = omega (arith, is) in
     let place : id + 1 + a ≡ id + suc a = omega arith in
-    ap (batch_requests key id) count
-    ∙ ap (λ (x : List ℕ). request_of id key next_batch ++ x) (requests_split key (id + 1) a b (a + b) refl)
-    ∙ ap (λ (i : ℕ). request_of id key next_batch ++ (batch_requests key (id + 1) a ++ batch_requests key i b)) place
-    ∙ sym (append_assoc (request_of id key next_batch) (batch_requests key (id + 1) a)
-    (batch_requests key (id + suc a) b))
+    ap (batch_requests profile id) count
+    ∙ ap (λ (x : List ℕ). request_of id profile next_batch ++ x) (requests_split profile (id + 1) a b (a + b) refl)
+    ∙ ap (λ (i : ℕ). request_of id profile next_batch ++ (batch_requests profile (id + 1) a ++ batch_requests profile i b)) place
+    ∙ sym (append_assoc (request_of id profile next_batch) (batch_requests profile (id + 1) a)
+    (batch_requests profile (id + suc a) b))
 
 -- behind some batches another one is asked for, and then the rest
-one_ahead : (key : List ℕ) (id turns k n : ℕ) → n ≡ turns + suc k
-    → drain_requests key id n
-    ≡ batch_requests key id turns ++ (request_of (id + turns) key next_batch
-    ++ (batch_requests key (id + turns + 1) k ++ request_of (id + n) key destroy))
-one_ahead key id turns k n is =
-    let last : List ℕ = request_of (id + n) key destroy in
-    ap (λ (x : List ℕ). x ++ last) (requests_split key id turns (suc k) n is)
-    ∙ append_assoc (batch_requests key id turns) (batch_requests key (id + turns) (suc k)) last
-    ∙ ap (λ (x : List ℕ). batch_requests key id turns ++ x)
-    (append_assoc (request_of (id + turns) key next_batch) (batch_requests key (id + turns + 1) k) last)
+one_ahead : (profile : Iiop) (id turns k n : ℕ) → n ≡ turns + suc k
+    → drain_requests profile id n
+    ≡ batch_requests profile id turns ++ (request_of (id + turns) profile next_batch
+    ++ (batch_requests profile (id + turns + 1) k ++ request_of (id + n) profile destroy))
+one_ahead profile id turns k n is =
+    let last : List ℕ = request_of (id + n) profile destroy in
+    ap (λ (x : List ℕ). x ++ last) (requests_split profile id turns (suc k) n is)
+    ∙ append_assoc (batch_requests profile id turns) (batch_requests profile (id + turns) (suc k)) last
+    ∙ ap (λ (x : List ℕ). batch_requests profile id turns ++ x)
+    (append_assoc (request_of (id + turns) profile next_batch) (batch_requests profile (id + turns + 1) k) last)
 
 asks_one : (batches id count : ℕ) (given : List ℕ) → (k : ℕ) × (batches_asked (suc batches) id count given ≡ suc k)
 unfolding batches_asked
@@ -133,13 +133,13 @@ asks_one batches id count given =
     (batches_behind (batches_asked batches (id + 1)) count given (replied (outcome_told next_batch) id given), refl)
 
 -- how many batches are asked for in all
-asked_in_all : (key held0 held : List ℕ) (t : Traffic) (now : Option Traffic) (old mid : List Offer) (id : ℕ)
+asked_in_all : (profile : Iiop) (held0 held : List ℕ) (t : Traffic) (now : Option Traffic) (old mid : List Offer) (id : ℕ)
     (n : (batches : ℕ) → ℕ) → length mid ≤ most_offers → id + length old ≤ second_id + length mid
-    → (s : Stands key held0 held t now old mid id)
+    → (s : Stands profile held0 held t now old mid id)
     → ((batches : ℕ) → batches_asked (suc batches) id (length mid) (held ++ s.rest) ≡ n batches)
     → (batches : ℕ)
     × (batches_asked most_batches second_id (length old) (held0 ++ left_of t) ≡ s.turns + n batches)
-asked_in_all key held0 held t now old mid id n most few s next =
+asked_in_all profile held0 held t now old mid id n most few s next =
     let one = one_left s.turns id (length old) (length mid) s.id_is few most in (
       one.0,
       ap (λ (m : ℕ). batches_asked m second_id (length old) (held0 ++ left_of t)) (sym one.1) ∙ s.asks (suc one.0)
@@ -147,54 +147,54 @@ asked_in_all key held0 held t now old mid id n most few s next =
     )
 
 -- a batch was asked for, and it isn't known what came
-pub writes_turn : (key held0 held : List ℕ) (before now after : Option Traffic) (f0 f1 : ℕ) (old mid : List Offer)
-    (id : ℕ) → Came key held0 held before now f0 f1 old mid id → Moves (request_of id key next_batch) now after
+pub writes_turn : (profile : Iiop) (held0 held : List ℕ) (before now after : Option Traffic) (f0 f1 : ℕ) (old mid : List Offer)
+    (id : ℕ) → Came profile held0 held before now f0 f1 old mid id → Moves (request_of id profile next_batch) now after
     → WritesBy false
-    (λ left. drain_requests key second_id (batches_asked most_batches second_id (length old) left)) held0 before after
-writes_turn key held0 held None now after f0 f1 old mid id came m = tt
-writes_turn key held0 held (Some t) now after f0 f1 old mid id came m =
+    (λ left. drain_requests profile second_id (batches_asked most_batches second_id (length old) left)) held0 before after
+writes_turn profile held0 held None now after f0 f1 old mid id came m = tt
+writes_turn profile held0 held (Some t) now after f0 f1 old mid id came m =
     let s = came.stands in
-    let first : List ℕ = batch_requests key second_id s.turns in
+    let first : List ℕ = batch_requests profile second_id s.turns in
     let asked : ℕ = batches_asked most_batches second_id (length old) (held0 ++ left_of t) in
     let all =
-    asked_in_all key held0 held t now old mid id
+    asked_in_all profile held0 held t now old mid id
     (λ batches. suc (asks_one batches id (length mid) (held ++ s.rest)).0) came.most came.few s
     (λ batches. (asks_one batches id (length mid) (held ++ s.rest)).1) in
     let k : ℕ = (asks_one all.0 id (length mid) (held ++ s.rest)).0 in
     let tail : List ℕ =
-    batch_requests key (second_id + s.turns + 1) k ++ request_of (second_id + asked) key destroy in
-    let is : drain_requests key second_id asked ≡ first ++ (request_of id key next_batch ++ tail) =
-    one_ahead key second_id s.turns k asked all.1
-    ∙ ap (λ (i : ℕ). first ++ (request_of i key next_batch ++ tail)) (sym s.id_is) in
+    batch_requests profile (second_id + s.turns + 1) k ++ request_of (second_id + asked) profile destroy in
+    let is : drain_requests profile second_id asked ≡ first ++ (request_of id profile next_batch ++ tail) =
+    one_ahead profile second_id s.turns k asked all.1
+    ∙ ap (λ (i : ℕ). first ++ (request_of i profile next_batch ++ tail)) (sym s.id_is) in
     let u : Traffic = with_left s.rest (wrote first t) in
-    let here : Moves (request_of id key next_batch) (Some u) after =
-    subst (λ (x : Option Traffic). Moves (request_of id key next_batch) x after) s.wire m in
-    behind_first first (request_of id key next_batch ++ tail) (drain_requests key second_id asked) s.rest t after false
-    is (in_part (request_of id key next_batch ++ tail) u after
-    (front_moved (request_of id key next_batch) tail (request_of id key next_batch ++ tail) u after refl here))
+    let here : Moves (request_of id profile next_batch) (Some u) after =
+    subst (λ (x : Option Traffic). Moves (request_of id profile next_batch) x after) s.wire m in
+    behind_first first (request_of id profile next_batch ++ tail) (drain_requests profile second_id asked) s.rest t after false
+    is (in_part (request_of id profile next_batch ++ tail) u after
+    (front_moved (request_of id profile next_batch) tail (request_of id profile next_batch ++ tail) u after refl here))
 
 -- the iterator was asked to end
-destroy_writes : (key : List ℕ) (id : ℕ) (held : List ℕ) (v : Traffic) (after : Option Traffic) (f0 f1 : ℕ)
-    (r : Result (Option Answered) PeerFault) → Destroys key id held (Some v) after f0 f1 r
-    → Moves (request_of id key destroy) (Some v) after → Writes (drains_all r) (request_of id key destroy) v after
-destroy_writes key id held v after f0 f1 (Ok None) d m = (
+destroy_writes : (profile : Iiop) (id : ℕ) (held : List ℕ) (v : Traffic) (after : Option Traffic) (f0 f1 : ℕ)
+    (r : Result (Option Answered) PeerFault) → Destroys profile id held (Some v) after f0 f1 r
+    → Moves (request_of id profile destroy) (Some v) after → Writes (drains_all r) (request_of id profile destroy) v after
+destroy_writes profile id held v after f0 f1 (Ok None) d m = (
   record {
-    written = request_of id key destroy;
+    written = request_of id profile destroy;
     unwritten = [];
-    front = sym (append-nil (request_of id key destroy));
+    front = sym (append-nil (request_of id profile destroy));
     rest = d.0;
     wire = d.1;
   },
   λ e. refl,
 )
-destroy_writes key id held v after f0 f1 (Ok (Some answer)) d m =
-    in_part (request_of id key destroy) v after
-    (front_moved (request_of id key destroy) [] (request_of id key destroy) v after
-    (sym (append-nil (request_of id key destroy))) m)
-destroy_writes key id held v after f0 f1 (Err e) d m =
-    in_part (request_of id key destroy) v after
-    (front_moved (request_of id key destroy) [] (request_of id key destroy) v after
-    (sym (append-nil (request_of id key destroy))) m)
+destroy_writes profile id held v after f0 f1 (Ok (Some answer)) d m =
+    in_part (request_of id profile destroy) v after
+    (front_moved (request_of id profile destroy) [] (request_of id profile destroy) v after
+    (sym (append-nil (request_of id profile destroy))) m)
+destroy_writes profile id held v after f0 f1 (Err e) d m =
+    in_part (request_of id profile destroy) v after
+    (front_moved (request_of id profile destroy) [] (request_of id profile destroy) v after
+    (sym (append-nil (request_of id profile destroy))) m)
 
 one_later : (m n : ℕ) → m ≡ n + 1 → m ≡ suc n
 one_later m n is = omega (arith, is)
@@ -203,38 +203,38 @@ next_id : (asked turns id : ℕ) → id ≡ second_id + turns → asked ≡ suc 
 next_id asked turns id place count = omega (arith, place, count)
 
 -- the last batch came, and the iterator was asked to end
-pub writes_last : (key held0 held held_after : List ℕ) (before now then after : Option Traffic) (f0 f1 f2 f3 : ℕ)
+pub writes_last : (profile : Iiop) (held0 held held_after : List ℕ) (before now then after : Option Traffic) (f0 f1 f2 f3 : ℕ)
     (old mid new : List Offer) (id : ℕ) (r : Result (Option Answered) PeerFault)
-    → Came key held0 held before now f0 f1 old mid id
-    → Turns key id held held_after now then f1 f2 mid new (Ok Last)
-    → Destroys key (id + 1) held_after then after f2 f3 r → Moves (request_of (id + 1) key destroy) then after
+    → Came profile held0 held before now f0 f1 old mid id
+    → Turns profile id held held_after now then f1 f2 mid new (Ok Last)
+    → Destroys profile (id + 1) held_after then after f2 f3 r → Moves (request_of (id + 1) profile destroy) then after
     → WritesBy (drains_all r)
-    (λ left. drain_requests key second_id (batches_asked most_batches second_id (length old) left)) held0 before after
-writes_last key held0 held held_after None now then after f0 f1 f2 f3 old mid new id r came turned d m = tt
-writes_last key held0 held held_after (Some t) now then after f0 f1 f2 f3 old mid new id r came turned d m =
+    (λ left. drain_requests profile second_id (batches_asked most_batches second_id (length old) left)) held0 before after
+writes_last profile held0 held held_after None now then after f0 f1 f2 f3 old mid new id r came turned d m = tt
+writes_last profile held0 held held_after (Some t) now then after f0 f1 f2 f3 old mid new id r came turned d m =
     let s = came.stands in
-    let f = finish_here key held0 held held_after t now then old mid id turned.0 s turned.2 in
-    let first : List ℕ = batch_requests key second_id s.turns in
-    let one : List ℕ = request_of id key next_batch in
-    let last : List ℕ = request_of (id + 1) key destroy in
+    let f = finish_here profile held0 held held_after t now then old mid id turned.0 s turned.2 in
+    let first : List ℕ = batch_requests profile second_id s.turns in
+    let one : List ℕ = request_of id profile next_batch in
+    let last : List ℕ = request_of (id + 1) profile destroy in
     let asked : ℕ = batches_asked most_batches second_id (length old) (held0 ++ left_of t) in
     let all =
-    asked_in_all key held0 held t now old mid id (λ batches. 1) came.most came.few s
+    asked_in_all profile held0 held t now old mid id (λ batches. 1) came.most came.few s
     (λ batches. ap (λ (x : List ℕ). batches_asked (suc batches) id (length mid) (held ++ x)) (sym s.left)
     ∙ f.asks batches) in
     let count : asked ≡ suc s.turns = one_later asked s.turns all.1 in
-    let batches : first ++ one ≡ batch_requests key second_id (suc s.turns) =
-    ap (λ (i : ℕ). first ++ request_of i key next_batch) s.id_is ∙ one_more key second_id s.turns in
+    let batches : first ++ one ≡ batch_requests profile second_id (suc s.turns) =
+    ap (λ (i : ℕ). first ++ request_of i profile next_batch) s.id_is ∙ one_more profile second_id s.turns in
     let place : second_id + asked ≡ id + 1 = next_id asked s.turns id s.id_is count in
-    let is : drain_requests key second_id asked ≡ first ++ one ++ last =
-    (λ i. batch_requests key second_id (count i) ++ request_of (place i) key destroy)
+    let is : drain_requests profile second_id asked ≡ first ++ one ++ last =
+    (λ i. batch_requests profile second_id (count i) ++ request_of (place i) profile destroy)
     ∙ ap (λ (x : List ℕ). x ++ last) (sym batches) in
     let v : Traffic = with_left f.rest (wrote one (with_left s.rest (wrote first t))) in
     let w : Writes (drains_all r) last v after =
-    destroy_writes key (id + 1) held_after v after f2 f3 r
-    (subst (λ (x : Option Traffic). Destroys key (id + 1) held_after x after f2 f3 r) f.wire d)
+    destroy_writes profile (id + 1) held_after v after f2 f3 r
+    (subst (λ (x : Option Traffic). Destroys profile (id + 1) held_after x after f2 f3 r) f.wire d)
     (subst (λ (x : Option Traffic). Moves last x after) f.wire m) in
-    behind_first (first ++ one) last (drain_requests key second_id asked) f.rest t after (drains_all r) is
+    behind_first (first ++ one) last (drain_requests profile second_id asked) f.rest t after (drains_all r) is
     (subst (λ (x : Traffic). Writes (drains_all r) last x after) (moved_twice first one s.rest f.rest t) w)
 
 -- ---- an iterator's reference
@@ -254,7 +254,7 @@ writes_nil iterator count held (Some t) nil =
 profile_requests : (iterator : Ior) (p : Iiop) (count : ℕ) (given : List ℕ) → is_nil iterator ≡ false
     → iiop_of iterator ≡ Some p
     → left_requests iterator count given
-    ≡ drain_requests p.key second_id (batches_asked most_batches second_id count given)
+    ≡ drain_requests p second_id (batches_asked most_batches second_id count given)
 profile_requests iterator p count given some found =
     ap (λ (b : Bool). cond b [] (iterator_requests (iiop_of iterator) count given)) some
     ∙ ap (λ (o : Option Iiop). iterator_requests o count given) found
@@ -268,7 +268,7 @@ writes_same all requests others t after is w =
 pub writes_drained : (iterator : Ior) (p : Iiop) (count : ℕ) (held : List ℕ) (before after : Option Traffic)
     (all : Bool) → is_nil iterator ≡ false → iiop_of iterator ≡ Some p
     → WritesBy all
-    (λ left. drain_requests p.key second_id (batches_asked most_batches second_id count left)) held before after
+    (λ left. drain_requests p second_id (batches_asked most_batches second_id count left)) held before after
     → WritesBy all (λ left. left_requests iterator count left) held before after
 writes_drained iterator p count held None after all some found w = tt
 writes_drained iterator p count held (Some t) after all some found w =
@@ -294,34 +294,34 @@ writes_found offers old iterator held (Some t) after all joins is w =
 -- ---- a query
 
 -- its request was written, in part or whole, and its reply asks for no more
-pub writes_query : (key : List ℕ) (c : Call) (before after : Option Traffic)
-    → Moves (request_of first_id key c) before after
-    → WritesBy false (λ left. asked_requests key c left) [] before after
-writes_query key c None after m = tt
-writes_query key c (Some t) after m =
-    in_part (asked_requests key c (left_of t)) t after
-    (front_moved (request_of first_id key c)
+pub writes_query : (profile : Iiop) (c : Call) (before after : Option Traffic)
+    → Moves (request_of first_id profile c) before after
+    → WritesBy false (λ left. asked_requests profile c left) [] before after
+writes_query profile c None after m = tt
+writes_query profile c (Some t) after m =
+    in_part (asked_requests profile c (left_of t)) t after
+    (front_moved (request_of first_id profile c)
     (requests_behind (left_of t) (replied (outcome_told c) first_id (left_of t)))
-    (asked_requests key c (left_of t)) t after refl m)
+    (asked_requests profile c (left_of t)) t after refl m)
 
 -- its reply came, and what that asks for was written
-pub writes_asked : (key : List ℕ) (c : Call) (held : List ℕ) (before now after : Option Traffic) (f0 f1 : ℕ)
+pub writes_asked : (profile : Iiop) (c : Call) (held : List ℕ) (before now after : Option Traffic) (f0 f1 : ℕ)
     (reply : Reply) (all : Bool)
-    → Exchanges (outcome_told c) first_id (request_of first_id key c) [] held before now f0 f1 (Ok (Done reply))
+    → Exchanges (outcome_told c) first_id (request_of first_id profile c) [] held before now f0 f1 (Ok (Done reply))
     → WritesBy all (λ left. reply_requests reply left) held now after
-    → WritesBy all (λ left. asked_requests key c left) [] before after
-writes_asked key c held None now after f0 f1 reply all x w = tt
-writes_asked key c held (Some t) now after f0 f1 reply all x w =
-    let first : List ℕ = request_of first_id key c in
+    → WritesBy all (λ left. asked_requests profile c left) [] before after
+writes_asked profile c held None now after f0 f1 reply all x w = tt
+writes_asked profile c held (Some t) now after f0 f1 reply all x w =
+    let first : List ℕ = request_of first_id profile c in
     let u : Traffic = with_left x.rest (wrote first t) in
     let more : List ℕ = reply_requests reply (held ++ left_of u) in
     let here : Writes all more u after =
     subst (λ (y : Option Traffic). WritesBy all (λ left. reply_requests reply left) held y after) x.wire w in
-    let is : asked_requests key c (left_of t) ≡ first ++ more =
+    let is : asked_requests profile c (left_of t) ≡ first ++ more =
     ap (λ (y : Comes Answered). first ++ requests_behind (left_of t) y) x.is
     ∙ ap (λ (left : List ℕ). first ++ reply_requests reply left) (sym x.behind)
     ∙ ap (λ (left : List ℕ). first ++ reply_requests reply (held ++ left)) (sym x.left) in
-    behind_first first more (asked_requests key c (left_of t)) x.rest t after all is here
+    behind_first first more (asked_requests profile c (left_of t)) x.rest t after all is here
 
 -- ---- over a connection of its own
 
@@ -333,17 +333,17 @@ leaves_unconnected p c before after f0 f1 fault.Exception no_way = absurd no_way
 leaves_unconnected p c None after f0 f1 fault.Memory made = over None tt made
 leaves_unconnected p c (Some t) after f0 f1 fault.Memory made =
     over (Some (opened p.host p.port t))
-    (front_none (asked_requests p.key c (next_given t)) (opened p.host p.port t)).0 made
+    (front_none (asked_requests p c (next_given t)) (opened p.host p.port t)).0 made
 
 pub leaves_asked : (p : Iiop) (c : Call) (s : Stream) (before mid last after : Option Traffic) (f0 f1 : ℕ) (all : Bool)
-    → Connected p before mid f0 f1 (Ok s) → WritesBy all (asked_requests p.key c) [] mid last
+    → Connected p before mid f0 f1 (Ok s) → WritesBy all (asked_requests p c) [] mid last
     → after ≡ option_map ended last → AskLeavesAt p c before after
 leaves_asked p c s before mid last after f0 f1 all made w is =
-    over last (go before (subst (λ (x : Option Traffic). WritesBy all (asked_requests p.key c) [] x last) made.1 w)) is
+    over last (go before (subst (λ (x : Option Traffic). WritesBy all (asked_requests p c) [] x last) made.1 w)) is
   where
     go : (t : Option Traffic)
-        → WritesBy all (asked_requests p.key c) [] (option_map (opened p.host p.port) t) last
-        → IfSome t (λ u. WritesFront (asked_requests p.key c (next_given u)) (opened p.host p.port u) last)
+        → WritesBy all (asked_requests p c) [] (option_map (opened p.host p.port) t) last
+        → IfSome t (λ u. WritesFront (asked_requests p c (next_given u)) (opened p.host p.port u) last)
     go None w = tt
     go (Some u) w = w.0
 

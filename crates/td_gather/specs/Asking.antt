@@ -83,7 +83,7 @@ asked c given = after_query given (replied (outcome_told c) first_id given)
 -- iterator is destroyed.
 abbrev pub iterator_requests : Option Iiop → (count : ℕ) → (given : List ℕ) → List ℕ
 iterator_requests (Some p) count given =
-    drain_requests p.key second_id (batches_asked most_batches second_id count given)
+    drain_requests p second_id (batches_asked most_batches second_id count given)
 iterator_requests None count given = []
 
 -- a nil iterator isn't asked
@@ -107,10 +107,10 @@ requests_behind given (told answer size) = answer_requests answer (drop size giv
 requests_behind given strange = []
 requests_behind given short = []
 
--- all requests of a query to the trader with this key, by the bytes that its connection gives
-abbrev pub asked_requests : (key : List ℕ) → Call → (given : List ℕ) → List ℕ
-asked_requests key c given =
-    request_of first_id key c ++ requests_behind given (replied (outcome_told c) first_id given)
+-- all requests of a query to the trader with this profile, by the bytes that its connection gives
+abbrev pub asked_requests : (profile : Iiop) → Call → (given : List ℕ) → List ℕ
+asked_requests profile c given =
+    request_of first_id profile c ++ requests_behind given (replied (outcome_told c) first_id given)
 
 -- ---- what a query answers
 
@@ -119,7 +119,7 @@ asked_requests key c given =
 pub record Gathers (c : Call) (p : Iiop) (t : Traffic) (after : Option Traffic) (a : SubAnswer) : Type 0 where
   pub is : asked c (next_given t) ≡ gave a
   pub rest : List ℕ
-  pub wire : after ≡ Some (ended (with_left rest (wrote (asked_requests p.key c (next_given t))
+  pub wire : after ≡ Some (ended (with_left rest (wrote (asked_requests p c (next_given t))
       (opened p.host p.port t))))
 
 -- each offer that is given has at most 6 MiB

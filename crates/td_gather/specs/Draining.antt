@@ -4,6 +4,7 @@ use Rattle.std.specs.Prelude.{ℕ, zero, suc, ◌+◌, ◌&&◌, nat_le, Bool, t
 use Rattle.std.specs.Prelude.{length, drop}
 use Rattle.std.specs.List.{AllByRecursion, list_all}
 use Rattle.td_cdr.specs.declared.order.Order.TheVariants.{Big}
+use Rattle.td_ior.specs.declared.profile.Iiop.{Iiop}
 use Rattle.td_ops.specs.declared.call.Call.{Call}
 use Rattle.td_ops.specs.declared.call.Call.TheVariants.{Iter}
 use Rattle.td_ops.specs.declared.call.IterCall.TheVariants.{NextN, Destroy}
@@ -144,10 +145,10 @@ batches_asked zero id count given = 0
 batches_asked (suc batches) id count given =
     suc (batches_behind (batches_asked batches (id + 1)) count given (replied (outcome_told next_batch) id given))
 
-abbrev pub batch_requests : (key : List ℕ) → (id batches : ℕ) → List ℕ
-batch_requests key id zero = []
-batch_requests key id (suc batches) = request_of id key next_batch ++ batch_requests key (id + 1) batches
+abbrev pub batch_requests : (profile : Iiop) → (id batches : ℕ) → List ℕ
+batch_requests profile id zero = []
+batch_requests profile id (suc batches) = request_of id profile next_batch ++ batch_requests profile (id + 1) batches
 
 -- so many batches are asked for, and then the iterator is destroyed
-abbrev pub drain_requests : (key : List ℕ) → (id batches : ℕ) → List ℕ
-drain_requests key id batches = batch_requests key id batches ++ request_of (id + batches) key destroy
+abbrev pub drain_requests : (profile : Iiop) → (id batches : ℕ) → List ℕ
+drain_requests profile id batches = batch_requests profile id batches ++ request_of (id + batches) profile destroy

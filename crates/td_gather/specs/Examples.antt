@@ -15,17 +15,17 @@ use Rattle.td_call.specs.Requests.{request_of}
 use Rattle.td_gather.specs.Asking.{asked_requests}
 use Rattle.td_gather.specs.Draining.{destroy, may_join, next_batch}
 
--- ---- a query of the trader with this key, whose reply names a nil iterator, or is an exception
+-- ---- a query of the trader with this profile, whose reply names a nil iterator, or is an exception
 
-module _ (key : List ℕ) (c : Call) (given : List ℕ) (size : ℕ) where
+module _ (trader : Iiop) (c : Call) (given : List ℕ) (size : ℕ) where
   abbrev pub WorkedNil : Type 0
   WorkedNil =
       replied (outcome_told c) first_id given ≡ told (Done (Found [] nil [])) size
-      → asked_requests key c given ≡ request_of 1 key c
+      → asked_requests trader c given ≡ request_of 1 trader c
 
   abbrev pub WorkedException : (id : List ℕ) → Type 0
   WorkedException id =
-      replied (outcome_told c) first_id given ≡ told (User id) size → asked_requests key c given ≡ request_of 1 key c
+      replied (outcome_told c) first_id given ≡ told (User id) size → asked_requests trader c given ≡ request_of 1 trader c
 
 -- ---- one whose iterator gives an offer with TRUE, and then none with FALSE
 
@@ -40,9 +40,9 @@ pub record GivesBatches (c : Call) (given : List ℕ) (p : Iiop) (iterator : Ior
   pub end : ℕ
   pub last : replied (outcome_told next_batch) 3 (drop batch (drop reply given)) ≡ told (Done (Batch false [])) end
 
-abbrev pub WorkedBatches : (key : List ℕ) → Call → (given : List ℕ) → Iiop → Ior → Offer → Type 0
-WorkedBatches key c given p iterator o =
+abbrev pub WorkedBatches : (trader : Iiop) → Call → (given : List ℕ) → Iiop → Ior → Offer → Type 0
+WorkedBatches trader c given p iterator o =
     GivesBatches c given p iterator o
-    → asked_requests key c given
-    ≡ request_of 1 key c ++ (request_of 2 p.key next_batch ++ (request_of 3 p.key next_batch
-    ++ request_of 4 p.key destroy))
+    → asked_requests trader c given
+    ≡ request_of 1 trader c ++ (request_of 2 p next_batch ++ (request_of 3 p next_batch
+    ++ request_of 4 p destroy))

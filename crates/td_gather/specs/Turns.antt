@@ -1,6 +1,7 @@
 -- What one call of an iterator does to what was gathered.
 use Rattle.std.specs.Prelude.{◌≡◌, ◌⊎◌, ℕ, suc, ◌+◌, ◌*◌, ◌<◌, ◌≤◌, ◌^◌, ◌&&◌, Bool, true, false, List, []}
 use Rattle.std.specs.Prelude.{◌++◌, length, Option, Some, None, IfSome, Result, Ok, Err, ⊤}
+use Rattle.td_ior.specs.declared.profile.Iiop.{Iiop}
 use Rattle.td_ops.specs.declared.outcome.Answered.{Answered}
 use Rattle.td_out.specs.Causes.{Rose}
 use Rattle.td_value.specs.declared.structures.Offer.{Offer}
@@ -62,42 +63,42 @@ abbrev pub bytes_limit : ℕ → ℕ
 bytes_limit id = id * 2 ^ 27
 
 -- what a batch makes of a draining, whatever the most batches are
-pub record GoesOn (key : List ℕ) (id : ℕ) (held held_after : List ℕ) (t : Traffic) (after : Option Traffic)
+pub record GoesOn (profile : Iiop) (id : ℕ) (held held_after : List ℕ) (t : Traffic) (after : Option Traffic)
     (old new offers : List Offer) : Type 0 where
   pub rest : List ℕ
-  pub wire : after ≡ Some (with_left rest (wrote (request_of id key next_batch) t))
-  pub left : left_of (with_left rest (wrote (request_of id key next_batch) t)) ≡ rest
+  pub wire : after ≡ Some (with_left rest (wrote (request_of id profile next_batch) t))
+  pub left : left_of (with_left rest (wrote (request_of id profile next_batch) t)) ≡ rest
   pub is : (batches : ℕ) → drained (suc batches) id (length old) (held ++ left_of t)
       ≡ behind offers (drained batches (id + 1) (length new) (held_after ++ rest))
   pub asks : (batches : ℕ) → batches_asked (suc batches) id (length old) (held ++ left_of t)
       ≡ suc (batches_asked batches (id + 1) (length new) (held_after ++ rest))
 
-pub record Finishes (key : List ℕ) (id : ℕ) (held held_after : List ℕ) (t : Traffic) (after : Option Traffic)
+pub record Finishes (profile : Iiop) (id : ℕ) (held held_after : List ℕ) (t : Traffic) (after : Option Traffic)
     (old offers : List Offer) : Type 0 where
   pub rest : List ℕ
-  pub wire : after ≡ Some (with_left rest (wrote (request_of id key next_batch) t))
-  pub left : left_of (with_left rest (wrote (request_of id key next_batch) t)) ≡ rest
+  pub wire : after ≡ Some (with_left rest (wrote (request_of id profile next_batch) t))
+  pub left : left_of (with_left rest (wrote (request_of id profile next_batch) t)) ≡ rest
   pub is : (batches : ℕ) → drained (suc batches) id (length old) (held ++ left_of t)
       ≡ behind offers (after_destroy (replied (outcome_told destroy) (id + 1) (held_after ++ rest)))
   pub asks : (batches : ℕ) → batches_asked (suc batches) id (length old) (held ++ left_of t) ≡ 1
 
-abbrev pub Turns : (key : List ℕ) → (id : ℕ) → (held held_after : List ℕ) → (before after : Option Traffic)
+abbrev pub Turns : (profile : Iiop) → (id : ℕ) → (held held_after : List ℕ) → (before after : Option Traffic)
     → (f0 f1 : ℕ) → (old new : List Offer) → Result Turn PeerFault → Type 0
-Turns key id held held_after before after f0 f1 old new (Ok More) =
+Turns profile id held held_after before after f0 f1 old new (Ok More) =
     (offers : List Offer) × Grew old new offers
-    × IfSome before (λ t. GoesOn key id held held_after t after old new offers)
-Turns key id held held_after before after f0 f1 old new (Ok Last) =
+    × IfSome before (λ t. GoesOn profile id held held_after t after old new offers)
+Turns profile id held held_after before after f0 f1 old new (Ok Last) =
     (offers : List Offer) × (new ≡ old ++ offers)
-    × IfSome before (λ t. Finishes key id held held_after t after old offers)
-Turns key id held held_after before after f0 f1 old new (Ok (Refused answer)) =
+    × IfSome before (λ t. Finishes profile id held held_after t after old offers)
+Turns profile id held held_after before after f0 f1 old new (Ok (Refused answer)) =
     IfSome before (λ t. (batches : ℕ) → drained (suc batches) id (length old) (held ++ left_of t) ≡ raised answer)
-Turns key id held held_after before after f0 f1 old new (Err fault.Wire) =
+Turns profile id held held_after before after f0 f1 old new (Err fault.Wire) =
     Rose f0 f1
     ⊎ IfSome before (λ t. (batches : ℕ) → drained (suc batches) id (length old) (held ++ left_of t) ≡ cut)
-Turns key id held held_after before after f0 f1 old new (Err fault.Grammar) =
+Turns profile id held held_after before after f0 f1 old new (Err fault.Grammar) =
     IfSome before (λ t. (batches : ℕ) → drained (suc batches) id (length old) (held ++ left_of t) ≡ unclear)
-Turns key id held held_after before after f0 f1 old new (Err fault.Exception) = ⊥
-Turns key id held held_after before after f0 f1 old new (Err fault.Memory) = ⊤
+Turns profile id held held_after before after f0 f1 old new (Err fault.Exception) = ⊥
+Turns profile id held held_after before after f0 f1 old new (Err fault.Memory) = ⊤
 
 -- an answer to destroy
 abbrev pub Destroyed : Ended (List Offer) → Result (Option Answered) PeerFault → Type 0
@@ -109,20 +110,20 @@ Destroyed ending (Err fault.Exception) = ⊥
 Destroyed ending (Err fault.Memory) = ⊥
 
 -- the reply to destroy
-abbrev pub Destroys : (key : List ℕ) → (id : ℕ) → (held : List ℕ) → (before after : Option Traffic) → (f0 f1 : ℕ)
+abbrev pub Destroys : (profile : Iiop) → (id : ℕ) → (held : List ℕ) → (before after : Option Traffic) → (f0 f1 : ℕ)
     → Result (Option Answered) PeerFault → Type 0
-Destroys key id held before after f0 f1 (Ok None) =
-    IfSome before (λ t. (rest : List ℕ) × (after ≡ Some (with_left rest (wrote (request_of id key destroy) t)))
+Destroys profile id held before after f0 f1 (Ok None) =
+    IfSome before (λ t. (rest : List ℕ) × (after ≡ Some (with_left rest (wrote (request_of id profile destroy) t)))
     × (after_destroy (replied (outcome_told destroy) id (held ++ left_of t)) ≡ gave []))
-Destroys key id held before after f0 f1 (Ok (Some answer)) =
+Destroys profile id held before after f0 f1 (Ok (Some answer)) =
     IfSome before (λ t. after_destroy (replied (outcome_told destroy) id (held ++ left_of t)) ≡ raised answer)
-Destroys key id held before after f0 f1 (Err fault.Wire) =
+Destroys profile id held before after f0 f1 (Err fault.Wire) =
     Rose f0 f1
     ⊎ IfSome before (λ t. after_destroy (replied (outcome_told destroy) id (held ++ left_of t)) ≡ cut)
-Destroys key id held before after f0 f1 (Err fault.Grammar) =
+Destroys profile id held before after f0 f1 (Err fault.Grammar) =
     IfSome before (λ t. after_destroy (replied (outcome_told destroy) id (held ++ left_of t)) ≡ unclear)
-Destroys key id held before after f0 f1 (Err fault.Exception) = ⊥
-Destroys key id held before after f0 f1 (Err fault.Memory) = ⊤
+Destroys profile id held before after f0 f1 (Err fault.Exception) = ⊥
+Destroys profile id held before after f0 f1 (Err fault.Memory) = ⊤
 
 -- what of an iterator is drained: which offers are gathered in the end, or the exception of a call
 abbrev pub Drains : (id batches : ℕ) → (held : List ℕ) → (before : Option Traffic) → (f0 f1 : ℕ)

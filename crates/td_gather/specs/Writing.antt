@@ -54,7 +54,7 @@ pub data AskLeavesAt (p : Iiop) (c : Call) (before after : Option Traffic) : Typ
   unopened : Unopened before after → AskLeavesAt p c before after
   -- one was made, which has ended, and a front of the query's requests was written over it
   over : (last : Option Traffic)
-      → IfSome before (λ t. WritesFront (asked_requests p.key c (next_given t)) (opened p.host p.port t) last)
+      → IfSome before (λ t. WritesFront (asked_requests p c (next_given t)) (opened p.host p.port t) last)
       → after ≡ option_map ended last → AskLeavesAt p c before after
 
 pub data AskLeavesBy (target : Ior) (c : Call) (before after : Option Traffic) : Type 0 where

@@ -102,7 +102,7 @@ fn ask_at<L: Wire>(
         Err(fault) => Err(fault),
         Ok(framer) => {
             let mut framer = framer;
-            let answer = ask_through(alloc, wire, &mut framer, profile.key.as_slice(), call);
+            let answer = ask_through(alloc, wire, &mut framer, profile, call);
             finish(wire, &mut framer, gives_all(&answer));
             answer
         }
@@ -125,18 +125,18 @@ fn ask_through<L: Wire>(
     alloc: Global,
     wire: &mut L,
     framer: &mut Framer,
-    key: &[u8],
+    profile: &Iiop,
     call: &Call,
 ) -> Result<Gathered, PeerFault>
     requires { framer.old ≡ fresh_stream }
     ensures same { L.same wire.old wire.new }
     ensures asks { AsksThrough call.now (L.told wire.old) (L.faults wire.old) (L.faults wire.new) result }
-    ensures writes { WritesBy (gives_all result) (λ left. asked_requests key.now call.now left) [] (L.told wire.old)
+    ensures writes { WritesBy (gives_all result) (λ left. asked_requests profile.now call.now left) [] (L.told wire.old)
         (L.told wire.new) }
     ensures later { L.faults wire.old ≤ L.faults wire.new }
     ensures small { IfOk result (λ g. GivesSmallOffers g) }
 {
-    match exchange_call(alloc, wire, framer, FIRST_ID, key, call) {
+    match exchange_call(alloc, wire, framer, FIRST_ID, profile, call) {
         Err(fault) => Err(fault),
         Ok(Answered::Done(reply)) => gather(alloc, wire, framer, reply),
         Ok(Answered::User(id)) => Ok(Gathered::Refused(Answered::User(id))),
@@ -266,6 +266,6 @@ fn drain_reference<L: Wire>(
     }
     match profile_of(alloc, iterator) {
         Err(fault) => Err(fault),
-        Ok(profile) => drain(alloc, wire, framer, profile.key.as_slice(), gathered),
+        Ok(profile) => drain(alloc, wire, framer, &profile, gathered),
     }
 }

@@ -18,6 +18,7 @@ use std::alloc::Global;
 use td_call::exchange_call;
 use td_cdr::List;
 use td_giop::Framer;
+use td_ior::Iiop;
 use td_ops::{Answered, Call, IterCall, Reply};
 use td_value::Offer;
 use td_walk::PeerFault;
@@ -140,7 +141,7 @@ fn join_answer(
     }
 }
 
-/// Calls the iterator with this key, and reads the reply.
+/// Calls the iterator with this profile, and reads the reply.
 ///
 /// # Errors
 ///
@@ -150,22 +151,22 @@ fn call_iterator<L: Wire>(
     wire: &mut L,
     framer: &mut Framer,
     id: u32,
-    key: &[u8],
+    profile: &Iiop,
     call: IterCall,
 ) -> Result<Answered, PeerFault>
     requires limit { framer.old.limit ≡ reply_limit }
     requires room { framer.old.start + length framer.old.rest + 2 ^ 27 < 2 ^ 64 }
     ensures same { L.same wire.old wire.new }
-    ensures exchanges { Exchanges (outcome_told (Iter call)) id (request_of id key.now (Iter call)) framer.old.rest
+    ensures exchanges { Exchanges (outcome_told (Iter call)) id (request_of id profile.now (Iter call)) framer.old.rest
         framer.new.rest (L.told wire.old) (L.told wire.new) (L.faults wire.old) (L.faults wire.new) result }
-    ensures moves { Moves (request_of id key.now (Iter call)) (L.told wire.old) (L.told wire.new) }
+    ensures moves { Moves (request_of id profile.now (Iter call)) (L.told wire.old) (L.told wire.new) }
     ensures later { L.faults wire.old ≤ L.faults wire.new }
     ensures grows { framer.new.start + length framer.new.rest
         ≤ framer.old.start + length framer.old.rest + 2 ^ 27 }
     ensures kept { framer.new.limit ≡ framer.old.limit }
 {
     let call = Call::Iter(call);
-    let answer = exchange_call(alloc, wire, framer, id, key, &call);
+    let answer = exchange_call(alloc, wire, framer, id, profile, &call);
     drop(call);
     answer
 }
@@ -180,7 +181,7 @@ fn take_batch<L: Wire>(
     wire: &mut L,
     framer: &mut Framer,
     id: u32,
-    key: &[u8],
+    profile: &Iiop,
     gathered: &mut Vec<Offer>,
 ) -> Result<Turn, PeerFault>
     requires limit { framer.old.limit ≡ reply_limit }
@@ -188,16 +189,16 @@ fn take_batch<L: Wire>(
     requires few { id ≤ most_batches + 1 }
     requires small { AreSmall gathered.old.items }
     ensures same { L.same wire.old wire.new }
-    ensures turns { Turns key.now id framer.old.rest framer.new.rest (L.told wire.old) (L.told wire.new)
+    ensures turns { Turns profile.now id framer.old.rest framer.new.rest (L.told wire.old) (L.told wire.new)
         (L.faults wire.old) (L.faults wire.new) gathered.old.items gathered.new.items result }
-    ensures moves { Moves (request_of id key.now next_batch) (L.told wire.old) (L.told wire.new) }
+    ensures moves { Moves (request_of id profile.now next_batch) (L.told wire.old) (L.told wire.new) }
     ensures later { L.faults wire.old ≤ L.faults wire.new }
     ensures grows { framer.new.start + length framer.new.rest ≤ bytes_limit (id + 1) }
     ensures kept { framer.new.limit ≡ framer.old.limit }
     ensures small { OnOk result (AreSmall gathered.new.items) }
 {
     let next = IterCall::NextN { n: BATCH_SIZE };
-    match call_iterator(alloc, wire, framer, id, key, next) {
+    match call_iterator(alloc, wire, framer, id, profile, next) {
         Err(fault) => Err(fault),
         Ok(answer) => join_answer(alloc, gathered, answer),
     }
@@ -213,18 +214,18 @@ fn destroy<L: Wire>(
     wire: &mut L,
     framer: &mut Framer,
     id: u32,
-    key: &[u8],
+    profile: &Iiop,
 ) -> Result<Option<Answered>, PeerFault>
     requires limit { framer.old.limit ≡ reply_limit }
     requires room { framer.old.start + length framer.old.rest ≤ bytes_limit id }
     requires few { id ≤ most_batches + 2 }
     ensures same { L.same wire.old wire.new }
-    ensures destroys { Destroys key.now id framer.old.rest (L.told wire.old) (L.told wire.new) (L.faults wire.old)
+    ensures destroys { Destroys profile.now id framer.old.rest (L.told wire.old) (L.told wire.new) (L.faults wire.old)
         (L.faults wire.new) result }
-    ensures moves { Moves (request_of id key.now destroy_call) (L.told wire.old) (L.told wire.new) }
+    ensures moves { Moves (request_of id profile.now destroy_call) (L.told wire.old) (L.told wire.new) }
     ensures later { L.faults wire.old ≤ L.faults wire.new }
 {
-    match call_iterator(alloc, wire, framer, id, key, IterCall::Destroy) {
+    match call_iterator(alloc, wire, framer, id, profile, IterCall::Destroy) {
         Err(fault) => Err(fault),
         Ok(answer) => destroyed(answer),
     }
@@ -259,8 +260,8 @@ fn destroyed(answer: Answered) -> Result<Option<Answered>, PeerFault>
     }
 }
 
-/// Drains the iterator with this key over the connection, with requests from this id on, and destroys it. Its offers
-/// join those that were gathered. An exception that a call was answered with ends it, and is answered.
+/// Drains the iterator with this profile over the connection, with requests from this id on, and destroys it. Its
+/// offers join those that were gathered. An exception that a call was answered with ends it, and is answered.
 ///
 /// # Errors
 ///
@@ -269,7 +270,7 @@ pub(crate) fn drain<L: Wire>(
     alloc: Global,
     wire: &mut L,
     framer: &mut Framer,
-    key: &[u8],
+    profile: &Iiop,
     gathered: &mut Vec<Offer>,
 ) -> Result<Option<Answered>, PeerFault>
     requires limit { framer.old.limit ≡ reply_limit }
@@ -279,7 +280,7 @@ pub(crate) fn drain<L: Wire>(
     ensures same { L.same wire.old wire.new }
     ensures drains { Drains second_id most_batches framer.old.rest (L.told wire.old) (L.faults wire.old)
         (L.faults wire.new) gathered.old.items gathered.new.items result }
-    ensures writes { WritesBy (drains_all result) (λ left. drain_requests key.now second_id
+    ensures writes { WritesBy (drains_all result) (λ left. drain_requests profile.now second_id
         (batches_asked most_batches second_id (length gathered.old.items) left)) framer.old.rest (L.told wire.old)
         (L.told wire.new) }
     ensures later { L.faults wire.old ≤ L.faults wire.new }
@@ -287,10 +288,10 @@ pub(crate) fn drain<L: Wire>(
 {
     let mut id: u32 = 2;
     'batches: loop {
-        match take_batch(alloc, wire, framer, id, key, gathered) {
+        match take_batch(alloc, wire, framer, id, profile, gathered) {
             Err(fault) => return Err(fault),
             Ok(Turn::Refused(answer)) => return Ok(Some(answer)),
-            Ok(Turn::Last) => return destroy(alloc, wire, framer, id + 1, key),
+            Ok(Turn::Last) => return destroy(alloc, wire, framer, id + 1, profile),
             Ok(Turn::More) => id += 1,
         }
     }

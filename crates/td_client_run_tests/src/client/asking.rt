@@ -4,7 +4,7 @@ use std::alloc::Global;
 use td_call::{call_over, evaluate_over};
 use td_cdr::{List, Memory, Text};
 use td_client::{Caller, Gathered};
-use td_ior::make_ior;
+use td_ior::{make_ior, read_text};
 use td_ops::{Answered, Call, Desired, Query, Reply};
 use td_value::{Any, Ior, TypeCode, Value};
 use td_walk::{PeerFault, Peers, SubAnswer};
@@ -17,14 +17,20 @@ pub enum Asked {
     Call,
     /// The same of the nil reference.
     CallOfNil,
+    /// The same of the reference with this text.
+    CallOf(&'static [u8]),
     /// The same by a caller.
     CallerCall,
     /// evalDP of Cost, by `evaluate_over`.
     Evaluate,
+    /// The same of the reference with this text.
+    EvaluateOf(&'static [u8]),
     /// The same by a caller as the peers of a visit.
     VisitEvaluate,
     /// A query for ten printers, by a caller.
     Ask,
+    /// The same of the reference with this text.
+    AskOf(&'static [u8]),
     /// The same by a caller as the peers of a visit.
     VisitAsk,
     /// The register of a Lookup.
@@ -61,6 +67,12 @@ fn target_of(alloc: Global, asked: Asked) -> Result<Ior, Memory> {
             id: Text::new(alloc),
             profiles: List::new(alloc),
         }),
+        Asked::CallOf(text) | Asked::EvaluateOf(text) | Asked::AskOf(text) => {
+            match read_text(alloc, text) {
+                Ok(target) => Ok(target),
+                Err(_) => Err(Memory),
+            }
+        }
         Asked::Evaluate | Asked::VisitEvaluate => make_ior(alloc, b"IDL:E:1.0", b"h", 9, b"E", 0),
         Asked::Resolve => make_ior(alloc, b"IDL:R:1.0", b"h", 9, b"A/R", 0),
         _ => make_ior(alloc, b"IDL:L:1.0", b"h", 9, b"A/L", 0),
@@ -82,11 +94,11 @@ fn told_of(
     target: &Ior,
 ) -> Result<Told, PeerFault> {
     match asked {
-        Asked::Call | Asked::CallOfNil => call(alloc, wire, target),
+        Asked::Call | Asked::CallOfNil | Asked::CallOf(_) => call(alloc, wire, target),
         Asked::CallerCall => caller_call(alloc, wire, target),
-        Asked::Evaluate => evaluate(alloc, wire, target),
+        Asked::Evaluate | Asked::EvaluateOf(_) => evaluate(alloc, wire, target),
         Asked::VisitEvaluate => visit_evaluate(alloc, wire, target),
-        Asked::Ask => ask(alloc, wire, target),
+        Asked::Ask | Asked::AskOf(_) => ask(alloc, wire, target),
         Asked::VisitAsk => visit_ask(alloc, wire, target),
         Asked::Register => register(alloc, wire, target),
         Asked::Resolve => resolve(alloc, wire, target),

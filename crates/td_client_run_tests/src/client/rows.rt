@@ -10,16 +10,16 @@ use td_walk::PeerFault;
 
 /// What is asked, what the connection gives, which calls of the wire fail, what the call comes to, and which parts are
 /// written over the one connection (none where there is no connection). The connection has ended then.
-struct Row {
-    what: &'static str,
-    asked: Asked,
-    given: &'static [&'static [u8]],
-    failing: &'static [u64],
-    told: Result<Told, PeerFault>,
-    wrote: &'static [&'static [u8]],
+pub struct Row {
+    pub what: &'static str,
+    pub asked: Asked,
+    pub given: &'static [&'static [u8]],
+    pub failing: &'static [u64],
+    pub told: Result<Told, PeerFault>,
+    pub wrote: &'static [&'static [u8]],
 }
 
-const GRAMMAR: Result<Told, PeerFault> = Err(PeerFault::Grammar);
+pub const GRAMMAR: Result<Told, PeerFault> = Err(PeerFault::Grammar);
 
 const WIRE: Result<Told, PeerFault> = Err(PeerFault::Wire);
 
@@ -46,7 +46,7 @@ const FOUR: Result<Told, PeerFault> = Ok(Told::Offers {
 });
 
 /// The offer a.
-const ONE: Result<Told, PeerFault> = Ok(Told::Offers {
+pub const ONE: Result<Told, PeerFault> = Ok(Told::Offers {
     count: 1,
     last: b'a',
     limits: 0,
@@ -407,7 +407,7 @@ const ROWS: [Row; 44] = [
     },
 ];
 
-fn passes(alloc: Global, row: &Row) -> Result<bool, Memory> {
+pub fn passes(alloc: Global, row: &Row) -> Result<bool, Memory> {
     let mut wire = wire_of(alloc, row.given, row.failing)?;
     let told = came(alloc, &mut wire, row.asked);
     let wrote = has_written(&wire, row.wrote);

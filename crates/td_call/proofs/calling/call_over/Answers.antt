@@ -10,14 +10,14 @@ use Rattle.td_call.proofs.calling.call_over.Goals as goal
 pub returns-in-Err-clause-called : goal.returns-in-Err-clause-called
 returns-in-Err-clause-called g c =
     uncalled (outcome_told c.args.call.now)
-    (λ key. request_of first_id key c.args.call.now)
+    (λ p. request_of first_id p c.args.call.now)
     c.args.target.now (g.L.Wire.told c.args.wire.now) (g.L.Wire.told c.args.wire.now) (g.L.Wire.faults c.args.wire.now)
     (g.L.Wire.faults c.args.wire.now) c.in-Err.fault c.in-Err.ensures
 
 pub returns-in-Ok-clause-called : goal.returns-in-Ok-clause-called
 returns-in-Ok-clause-called g c =
     called_of (outcome_told c.args.call.now)
-    (λ key. request_of first_id key c.args.call.now)
+    (λ p. request_of first_id p c.args.call.now)
     c.args.target.now c.in-Ok.profile (g.L.Wire.told c.args.wire.now) (g.L.Wire.told c.call_at.new.wire)
     (g.L.Wire.faults c.args.wire.now) (g.L.Wire.faults c.call_at.new.wire) c.call_at.result c.in-Ok.ensures
     c.call_at.ensures.called

@@ -10,7 +10,7 @@ use Rattle.td_call.proofs.calling.evaluate_over.Goals as goal
 pub returns-in-Err-clause-called : goal.returns-in-Err-clause-called
 returns-in-Err-clause-called g c =
     uncalled (evaluation_told c.args.returned.now)
-    (λ key. evaluation_of first_id key c.args.name.now c.args.returned.now c.args.extra.now)
+    (λ p. evaluation_of first_id p c.args.name.now c.args.returned.now c.args.extra.now)
     c.args.evaluator.now (g.L.Wire.told c.args.wire.now) (g.L.Wire.told c.args.wire.now)
     (g.L.Wire.faults c.args.wire.now)
     (g.L.Wire.faults c.args.wire.now) c.in-Err.fault c.in-Err.ensures
@@ -18,7 +18,7 @@ returns-in-Err-clause-called g c =
 pub returns-in-Ok-clause-called : goal.returns-in-Ok-clause-called
 returns-in-Ok-clause-called g c =
     called_of (evaluation_told c.args.returned.now)
-    (λ key. evaluation_of first_id key c.args.name.now c.args.returned.now c.args.extra.now)
+    (λ p. evaluation_of first_id p c.args.name.now c.args.returned.now c.args.extra.now)
     c.args.evaluator.now c.in-Ok.profile (g.L.Wire.told c.args.wire.now) (g.L.Wire.told c.evaluate_at.new.wire)
     (g.L.Wire.faults c.args.wire.now) (g.L.Wire.faults c.evaluate_at.new.wire) c.evaluate_at.result c.in-Ok.ensures
     c.evaluate_at.ensures.called

@@ -8,7 +8,7 @@ use Rattle.td_client.proofs.references.ask_to_resolve.Goals as goal
 
 pub returns-in-Ok-clause-leaves : goal.returns-in-Ok-clause-leaves
 returns-in-Ok-clause-leaves g c =
-    subst (λ name. Leaves (λ key. request_of first_id key (resolve_call name)) c.args.register.now
+    subst (λ name. Leaves (λ p. request_of first_id p (resolve_call name)) c.args.register.now
     (g.L.Wire.told c.args.wire.now) (g.L.Wire.told c.call_over-answer.new.wire)) c.in-Ok.ensures
     c.call_over-answer.ensures.leaves
 

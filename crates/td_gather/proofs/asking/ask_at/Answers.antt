@@ -17,7 +17,7 @@ returns-in-Ok-clause-asks g c =
     (g.L.Wire.told c.finish.new.wire) (g.L.Wire.faults c.args.wire.now) (g.L.Wire.faults c.connect.new.wire)
     (g.L.Wire.faults c.finish.new.wire) c.ask_through-answer.result c.in-Ok.ensures.connected c.in-Ok.ensures.later
     (rw (sym c.finish.ensures.faults) at c.ask_through-answer.ensures.asks)
-    (rw c.as_slice.ensures at c.ask_through-answer.ensures.writes) c.finish.ensures.told
+    c.ask_through-answer.ensures.writes c.finish.ensures.told
 
 pub returns-in-Err-clause-disconnected : goal.returns-in-Err-clause-disconnected
 returns-in-Err-clause-disconnected g c =
@@ -40,4 +40,4 @@ returns-in-Ok-clause-leaves g c =
     leaves_asked c.args.profile.now c.args.call.now c.in-Ok.framer (g.L.Wire.told c.args.wire.now)
     (g.L.Wire.told c.connect.new.wire) (g.L.Wire.told c.ask_through-answer.new.wire) (g.L.Wire.told c.finish.new.wire)
     (g.L.Wire.faults c.args.wire.now) (g.L.Wire.faults c.connect.new.wire) (gives_all c.ask_through-answer.result)
-    c.in-Ok.ensures.connected (rw c.as_slice.ensures at c.ask_through-answer.ensures.writes) c.finish.ensures.told
+    c.in-Ok.ensures.connected c.ask_through-answer.ensures.writes c.finish.ensures.told

@@ -37,4 +37,4 @@ pub returns-in-Ok-clause-writes : goal.returns-in-Ok-clause-writes
 returns-in-Ok-clause-writes g c =
     writes_drained c.args.iterator.now c.in-Ok.profile (length c.args.gathered.now.items) c.args.framer.now.rest
     (g.L.Wire.told c.args.wire.now) (g.L.Wire.told c.drain.new.wire) (drains_all c.drain.result)
-    (sym c.is_nil.ensures ∙ c.if-is_nil.false) c.in-Ok.ensures (rw c.as_slice.ensures at c.drain.ensures.writes)
+    (sym c.is_nil.ensures ∙ c.if-is_nil.false) c.in-Ok.ensures c.drain.ensures.writes

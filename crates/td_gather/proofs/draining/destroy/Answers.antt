@@ -3,7 +3,7 @@ use Rattle.td_gather.proofs.draining.destroy.Goals as goal
 
 pub returns-in-Err-clause-destroys : goal.returns-in-Err-clause-destroys
 returns-in-Err-clause-destroys g c =
-    undestroyed c.args.key.now c.args.id c.args.framer.now.rest c.call_iterator.new.framer.rest
+    undestroyed c.args.profile.now c.args.id c.args.framer.now.rest c.call_iterator.new.framer.rest
     (g.L.Wire.told c.args.wire.now) (g.L.Wire.told c.call_iterator.new.wire) (g.L.Wire.faults c.args.wire.now)
     (g.L.Wire.faults c.call_iterator.new.wire) c.in-Err.fault c.in-Err.ensures.exchanges
 

@@ -24,7 +24,7 @@ destroy-requires-clause-few g c =
 
 pub returns-in-Err-clause-drains : goal.returns-in-Err-clause-drains
 returns-in-Err-clause-drains g c =
-    ends_fault c.args.key.now c.args.framer.now.rest c.batches.framer.rest c.take_batch.new.framer.rest
+    ends_fault c.args.profile.now c.args.framer.now.rest c.batches.framer.rest c.take_batch.new.framer.rest
     (g.L.Wire.told c.args.wire.now) (g.L.Wire.told c.batches.wire) (g.L.Wire.told c.take_batch.new.wire)
     (g.L.Wire.faults c.args.wire.now) (g.L.Wire.faults c.batches.wire) (g.L.Wire.faults c.take_batch.new.wire)
     c.args.gathered.now.items c.batches.gathered.items c.take_batch.new.gathered.items c.batches.id c.in-Err.fault
@@ -62,21 +62,21 @@ batches-preserved g c = record {
 
 pub returns-in-Err-clause-writes : goal.returns-in-Err-clause-writes
 returns-in-Err-clause-writes g c =
-    writes_turn c.args.key.now c.args.framer.now.rest c.batches.framer.rest (g.L.Wire.told c.args.wire.now)
+    writes_turn c.args.profile.now c.args.framer.now.rest c.batches.framer.rest (g.L.Wire.told c.args.wire.now)
     (g.L.Wire.told c.batches.wire) (g.L.Wire.told c.take_batch.new.wire) (g.L.Wire.faults c.args.wire.now)
     (g.L.Wire.faults c.batches.wire) c.args.gathered.now.items c.batches.gathered.items c.batches.id
     c.batches.invariant.came c.take_batch.ensures.moves
 
 pub returns-in-Ok-Refused-clause-writes : goal.returns-in-Ok-Refused-clause-writes
 returns-in-Ok-Refused-clause-writes g c =
-    writes_turn c.args.key.now c.args.framer.now.rest c.batches.framer.rest (g.L.Wire.told c.args.wire.now)
+    writes_turn c.args.profile.now c.args.framer.now.rest c.batches.framer.rest (g.L.Wire.told c.args.wire.now)
     (g.L.Wire.told c.batches.wire) (g.L.Wire.told c.take_batch.new.wire) (g.L.Wire.faults c.args.wire.now)
     (g.L.Wire.faults c.batches.wire) c.args.gathered.now.items c.batches.gathered.items c.batches.id
     c.batches.invariant.came c.take_batch.ensures.moves
 
 pub returns-in-Ok-Last-clause-writes : goal.returns-in-Ok-Last-clause-writes
 returns-in-Ok-Last-clause-writes g c =
-    writes_last c.args.key.now c.args.framer.now.rest c.batches.framer.rest c.take_batch.new.framer.rest
+    writes_last c.args.profile.now c.args.framer.now.rest c.batches.framer.rest c.take_batch.new.framer.rest
     (g.L.Wire.told c.args.wire.now) (g.L.Wire.told c.batches.wire) (g.L.Wire.told c.take_batch.new.wire)
     (g.L.Wire.told c.destroy.new.wire) (g.L.Wire.faults c.args.wire.now) (g.L.Wire.faults c.batches.wire)
     (g.L.Wire.faults c.take_batch.new.wire) (g.L.Wire.faults c.destroy.new.wire) c.args.gathered.now.items

@@ -13,7 +13,7 @@ invariant-batches g l = record {
   room : l.framer.start + length l.framer.rest ≤ bytes_limit l.id;
   small : AreSmall l.gathered.items;
   came :
-      Came l.key l.initial.framer.rest l.framer.rest (g.L.Wire.told l.initial.wire) (g.L.Wire.told l.wire)
+      Came l.profile l.initial.framer.rest l.framer.rest (g.L.Wire.told l.initial.wire) (g.L.Wire.told l.wire)
       (g.L.Wire.faults l.initial.wire) (g.L.Wire.faults l.wire) l.initial.gathered.items l.gathered.items l.id;
 }
 

@@ -3,7 +3,7 @@ use Rattle.td_gather.proofs.draining.take_batch.Goals as goal
 
 pub returns-in-Err-clause-turns : goal.returns-in-Err-clause-turns
 returns-in-Err-clause-turns g c =
-    unturned c.args.key.now c.args.id c.args.framer.now.rest c.call_iterator.new.framer.rest
+    unturned c.args.profile.now c.args.id c.args.framer.now.rest c.call_iterator.new.framer.rest
     (g.L.Wire.told c.args.wire.now) (g.L.Wire.told c.call_iterator.new.wire) (g.L.Wire.faults c.args.wire.now)
     (g.L.Wire.faults c.call_iterator.new.wire) c.args.gathered.now.items c.args.gathered.now.items c.in-Err.fault
     c.in-Err.ensures.exchanges
