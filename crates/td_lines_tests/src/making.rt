@@ -1,8 +1,9 @@
 //! Offers, ids and writers for the tests.
 
 ghost use Rattle.std.specs.Prelude.{◌≡◌, ◌<◌, ◌≤◌, ◌^◌, length, IfOk, OnOk};
-ghost use Rattle.td_iter.specs.Heads.{AreSmallIds, IsSmallReference, AreLimits};
+ghost use Rattle.td_iter.specs.Heads.{AreSmallIds, AreSmallOffers, IsSmallReference, AreLimits};
 ghost use Rattle.td_iter.specs.declared.limits.TheConstants.{REPLY_START};
+ghost use Rattle.td_lines_tests.specs.Bare.{bare_offer};
 
 use std::alloc::Global;
 use std::test::Fail;
@@ -41,7 +42,9 @@ pub fn started(alloc: Global, order: Order) -> Result<Writer, Fail>
 }
 
 /// An offer without properties whose reference has this id.
-pub fn offer(alloc: Global, id: &[u8]) -> Result<Offer, Fail> {
+fn offer(alloc: Global, id: &[u8]) -> Result<Offer, Fail>
+    ensures { IfOk result (λ o. o ≡ bare_offer id.now) }
+{
     let reference = Ior {
         id: Text::from_slice(alloc, id)?,
         profiles: List::new(alloc),
@@ -54,11 +57,36 @@ pub fn offer(alloc: Global, id: &[u8]) -> Result<Offer, Fail> {
     })
 }
 
+/// One offer more.
+#[tactic(auto, using(crate::proofs::Pushed::offers_pushed))]
+fn add_offer(alloc: Global, offers: &mut List<Offer>, id: &[u8]) -> Result<(), Fail>
+    requires { AreSmallOffers offers.old }
+    ensures { OnOk result (AreSmallOffers offers.new) }
+{
+    if id.len() > 1048563 {
+        return Err("too long".into());
+    }
+    offers.push(offer(alloc, id)?)?;
+    Ok(())
+}
+
 /// An iterator over offers, an id for each.
 pub fn offers(alloc: Global, ids: &[u8]) -> Result<OfferIter, Fail> {
     let mut left = List::new(alloc);
     for i in 0..ids.len() {
-        left.push(offer(alloc, &ids[i..i + 1])?)?;
+        add_offer(alloc, &mut left, &ids[i..i + 1])?;
+    }
+    if left.len() > 1000 {
+        return Err("too many".into());
+    }
+    Ok(OfferIter::new(left))
+}
+
+/// An iterator over so many offers, each the same.
+pub fn same_offers(alloc: Global, count: usize, id: &[u8]) -> Result<OfferIter, Fail> {
+    let mut left = List::new(alloc);
+    for _ in 0..count {
+        add_offer(alloc, &mut left, id)?;
     }
     if left.len() > 1000 {
         return Err("too many".into());

@@ -1,6 +1,6 @@
 //! Batches of offers.
 
-use crate::making::{is_body, nil, no_limits, offers, started};
+use crate::making::{is_body, nil, no_limits, offers, same_offers, started};
 use std::alloc::Global;
 use std::process::Abort;
 use std::test::Fail;
@@ -113,4 +113,28 @@ fn takes_both(alloc: Global, left: &mut OfferIter) -> Result<bool, Fail> {
             && gives_whole(alloc, left, 3, FIRST, true)?
             && left.max_left() == 0,
     )
+}
+
+/// Whether `next_n` leaves so many.
+fn leaves(alloc: Global, left: &mut OfferIter, n: u32, count: u32) -> Result<bool, Fail> {
+    let mut w = started(alloc, Order::Big)?;
+    left.next_n(alloc, n, &mut w)?;
+    Ok(left.max_left() == count)
+}
+
+/// Of offers of 1 MiB each, the largest that a store takes, fifteen fit into a message.
+fn gives_some(alloc: Global) -> Result<bool, Fail> {
+    let id = vec![in alloc; 55; 1048563]?;
+    let mut left = same_offers(alloc, 20, id.as_slice())?;
+    Ok(
+        leaves(alloc, &mut left, 1, 19)?
+            && leaves(alloc, &mut left, 100, 4)?
+            && leaves(alloc, &mut left, 100, 0)?,
+    )
+}
+
+#[test]
+fn the_largest_offers_fill_batches(rt: HostRuntime) -> Result<(), Fail> {
+    assert!(rt; gives_some(rt.alloc())?);
+    Ok(())
 }
