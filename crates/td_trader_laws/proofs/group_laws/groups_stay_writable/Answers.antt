@@ -2,13 +2,13 @@ use Rattle.td_trader_laws.proofs.WritingWorlds.{worlds-begin, worlds-change, wor
 use Rattle.td_trader_laws.proofs.group_laws.groups_stay_writable.Goals as goal
 
 pub returns-clause-change : goal.returns-clause-change
-returns-clause-change g c = worlds-change g.T.Traders.others g.T.Traders.later g.T.Traders.others_admitted
+returns-clause-change g c = worlds-change g.T.Traders.others g.T.Traders.later g.met.T.Traders.others_admitted
 
 pub returns-clause-look : goal.returns-clause-look
-returns-clause-look g c = worlds-look g.T.Traders.others g.T.Traders.later g.T.Traders.others_admitted
+returns-clause-look g c = worlds-look g.T.Traders.others g.T.Traders.later g.met.T.Traders.others_admitted
 
 pub returns-clause-begin : goal.returns-clause-begin
-returns-clause-begin g c = worlds-begin g.T.Traders.others g.T.Traders.later g.T.Traders.others_admitted
+returns-clause-begin g c = worlds-begin g.T.Traders.others g.T.Traders.later g.met.T.Traders.others_admitted
 
 pub returns-clause-wanting : goal.returns-clause-wanting
-returns-clause-wanting g c = worlds-watch g.T.Traders.others g.T.Traders.later g.T.Traders.others_admitted
+returns-clause-wanting g c = worlds-watch g.T.Traders.others g.T.Traders.later g.met.T.Traders.others_admitted

@@ -2,4 +2,4 @@ use Rattle.td_turns_laws.proofs.WritingRuns.{replies-spell}
 use Rattle.td_turns_laws.proofs.replies.replies_spell_outcomes.Goals as goal
 
 pub returns : goal.returns
-returns g c = replies-spell g.T.Traders.others g.T.Traders.later g.T.Traders.others_admitted
+returns g c = replies-spell g.T.Traders.others g.T.Traders.later g.met.T.Traders.others_admitted
