@@ -111,7 +111,7 @@ walks-write others later home s u k q t v admitted world asked walk gifts =
 iterator-admitted : (home : Address) (name : List ℕ) (n : ℕ) → reference.format.admits (offer_iterator home name n)
 iterator-admitted home name n =
     made-admitted (interface_id interface.OfferIterator) home.host
-    (written_key (record { trader = name; kind = kind.Iterator n })) home.port refl
+    (written_key (record { trader = name; kind = kind.Iterator n })) home.port home.minor refl
 
 desk-when : (b : Bool) (x d : Live) → IsWritableDesk x → IsWritableDesk d → IsWritableDesk (if b then x else d)
 desk-when true x d h k = h
