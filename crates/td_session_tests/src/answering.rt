@@ -35,7 +35,7 @@ fn limited(alloc: Global) -> Result<SubAnswer, Memory>
 }
 
 /// The reference to the object of this key.
-#[tactic(auto, using(crate::proofs::Answering::made_admitted))]
+#[tactic(auto, using(crate::proofs::MadeReferences::made_admitted))]
 fn reference(alloc: Global, key: &[u8]) -> Result<Ior, Memory>
     ensures { IfOk result (λ r. reference.format.admits r) }
 {
