@@ -51,11 +51,17 @@ fn bad_headers_break_a_stream_off(rt: HostRuntime) -> Result<(), Fail> {
     };
     assert!(rt; comes(alloc, &magic)?, "magic");
     let version = Story {
-        sent: &[REQUEST, b"GIOP\x01\x01\x00\x00\x00\x00\x00\x00"],
+        sent: &[REQUEST, b"GIOP\x01\x02\x00\x00\x00\x00\x00\x00"],
         end: End::Broken(47, Cause::BadVersion),
         ..magic
     };
     assert!(rt; comes(alloc, &version)?, "version");
+    let fragments = Story {
+        sent: &[REQUEST, b"GIOP\x01\x01\x02\x07\x00\x00\x00\x00"],
+        end: End::Broken(47, Cause::Fragmented),
+        ..magic
+    };
+    assert!(rt; comes(alloc, &fragments)?, "flags before type");
     let kind = Story {
         sent: &[REQUEST, b"GIOP\x01\x00\x00\x07\x00\x00\x00\x00"],
         end: End::Broken(47, Cause::BadType),
