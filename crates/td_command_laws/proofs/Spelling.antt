@@ -14,11 +14,10 @@ alone-writes [] h = tt
 alone-writes (t ∷ ts) h = (record { opening = h.0.opening; changes = h.0.changes }, alone-writes ts h.1)
 
 pub runs-spell : RunsSpellReplies
-runs-spell o seeded end before after s opens = λ sent gifts.
+runs-spell o seeded end before after s opens = λ gifts.
     replies-spell nothing unchanged nothing_admitted o.home (beginning o seeded) s.later s.serves.turns
     (record {
       scene = record { world = alone-writes o.traders opens; desk = tt };
-      sent = sent;
       gifts = gifts;
     })
     s.serves.run

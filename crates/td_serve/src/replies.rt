@@ -1,6 +1,6 @@
 //! Where the replies of a session are written.
 
-ghost use Rattle.std.specs.Prelude.{◌≡◌, ◌≤◌, [], IsTrue, IfOk, OnOk};
+ghost use Rattle.std.specs.Prelude.{◌≡◌, ◌<◌, ◌≤◌, ◌^◌, [], length, IsTrue, IfOk, OnOk};
 ghost use Rattle.td_giop.specs.declared.header.TheConstants.{NEWEST_MINOR};
 ghost use Rattle.td_ops.specs.Outcomes.{is_short};
 ghost use Rattle.td_serve.specs.ReplyBytes.{IsWritable, locate_reply, outcome_reply};
@@ -55,14 +55,15 @@ impl Replies {
         })
     }
 
-    /// The bytes of the reply; none where the message gets no reply.
+    /// The bytes of the reply, fewer than 2^32; none where the message gets no reply.
     pub fn bytes(&self) -> &[u8]
-        ensures { result.now ≡ self.now }
+        ensures bytes { result.now ≡ self.now }
+        ensures short { length self.now < 2 ^ 32 }
     {
         if self.is_long {
-            self.long.bytes()
+            bytes_of(&self.long)
         } else {
-            self.short.bytes()
+            bytes_of(&self.short)
         }
     }
 
@@ -92,4 +93,13 @@ impl Replies {
         self.is_long = false;
         write_short(alloc, &mut self.short, to, outcome);
     }
+}
+
+/// The bytes that were written, which are fewer than 2^32, as the writer's length tells.
+fn bytes_of(w: &Writer) -> &[u8]
+    ensures bytes { result.now ≡ w.now.bytes }
+    ensures short { length w.now.bytes < 2 ^ 32 }
+{
+    let _len = w.len();
+    w.bytes()
 }

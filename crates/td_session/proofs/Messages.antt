@@ -46,6 +46,8 @@ module _ (others : List Accepted → Type 0) (later : Marks → Marks → Type 0
         asks = n.serves.asks;
         served = n.serves.served;
         no_call = n.serves.no_call;
+        octets = n.octets;
+        short = n.short;
       } in
       record {
         noted = Some n.serves.noted;

@@ -1,5 +1,6 @@
 -- How a session serves one message.
-use Rattle.std.specs.Prelude.{◌≡◌, ℕ, List, ◌∷◌, [], ◌++◌, Option}
+use Rattle.std.specs.Prelude.{◌≡◌, ◌<◌, ◌^◌, ℕ, List, ◌∷◌, [], ◌++◌, length, Option}
+use Rattle.td_cdr.specs.Lawful.{AreOctets}
 use Rattle.td_cdr.specs.Marks.{Marks}
 use Rattle.td_cdr.specs.Place.{At}
 use Rattle.td_cdr.specs.declared.order.Order.{Order}
@@ -25,13 +26,15 @@ module _ (others : List Accepted → Type 0) (later : Marks → Marks → Type 0
     pub no_call : NotesNoCall (request_class s.world s.desk head.key head.operation) noted.judged noted.entry
     pub entry : noted.entry ≡ e
 
-  -- and it is noted behind the journal
+  -- and it is noted behind the journal; its body is octets, and its reply has fewer than 2^32 of them
   pub record NotesHead (order : Order) (minor : ℕ) (head : Request) (body : At) (s : Stage) (reply : List ℕ)
       (u : Stage) : Type 0 where
     pub entry : Entry
     pub serves : ServesHead s.home order minor head body s.scene entry reply u.scene
     pub journal : u.journal ≡ s.journal ++ entry ∷ []
     pub home : u.home ≡ s.home
+    pub octets : AreOctets body.rest
+    pub short : length reply < 2 ^ 32
 
   -- the message is served with this reply
   pub record ServesMessage (s : Stage) (message reply : List ℕ) (u : Stage) : Type 0 where

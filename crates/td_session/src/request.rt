@@ -1,6 +1,7 @@
 //! A Request: it is served, and what came of it is noted.
 
-ghost use Rattle.std.specs.Prelude.{◌≤◌, ◌<◌, ◌^◌, OnOk, OnErr};
+ghost use Rattle.std.specs.Prelude.{◌≤◌, ◌<◌, ◌^◌, length, OnOk, OnErr};
+ghost use Rattle.td_cdr.specs.Lawful.{AreOctets};
 ghost use Rattle.td_giop.specs.declared.header.TheConstants.{NEWEST_MINOR};
 ghost use Rattle.td_objects.specs.References.{IsAddress};
 ghost use Rattle.td_serve.specs.Backends.{scene_of};
@@ -10,7 +11,7 @@ ghost use Rattle.td_stream.specs.Heads.{asked_of};
 
 use crate::room::Room;
 use std::alloc::Global;
-use td_cdr::{Memory, Order};
+use td_cdr::{Memory, Order, Reader};
 use td_giop::RequestHead;
 use td_iter::Desk;
 use td_journal::Journal;
@@ -51,7 +52,17 @@ pub(crate) fn answer_request<B: Backend, J: Journal>(
         head,
     );
     room.journal.note(entry);
+    message_bounds(&head.body, &room.replies);
     Ok(())
+}
+
+/// What the types of a message's parts say: a body's bytes are octets, and a reply has fewer than 2^32 of them.
+fn message_bounds(body: &Reader<'_>, replies: &Replies)
+    ensures octets { AreOctets body.now.rest }
+    ensures short { length replies.now < 2 ^ 32 }
+{
+    let _body = body.copied();
+    let _reply = replies.bytes();
 }
 
 /// Serves a Request, and tells what is noted of it.

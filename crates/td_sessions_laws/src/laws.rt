@@ -12,8 +12,7 @@ pub fn each_entry_is_of_one_session<V>()
 {}
 
 /// Of all sessions of a server whose traders were opened with stores that can be written: each reply spells the outcome
-/// of its Request, whatever the other sessions do meanwhile, where the session's messages are octets, its replies shorter
-/// than 2^32, and what peers gave it can be written.
+/// of its Request, whatever the other sessions do meanwhile, where what peers gave the session can be written.
 pub fn each_reply_spells_its_outcome<V>()
     ensures { SessionsSpellReplies V }
 {}

@@ -1,7 +1,9 @@
 -- What a session makes of its messages, one after the other (CORBA, chapter on General Inter-ORB Protocol, "GIOP
 -- Messages"): a Request is served, a LocateRequest is told whether its key is that of a live object, and a
 -- CancelRequest is ignored.
-use Rattle.std.specs.Prelude.{◌≡◌, ℕ, Bool, List, [], ◌∷◌, ◌++◌, map, Option, None, Some, Ok, is_some}
+use Rattle.std.specs.Prelude.{◌≡◌, ◌<◌, ◌^◌, ℕ, Bool, List, [], ◌∷◌, ◌++◌, length, map, Option, None, Some, Ok}
+use Rattle.std.specs.Prelude.{is_some}
+use Rattle.td_cdr.specs.Lawful.{AreOctets}
 use Rattle.td_cdr.specs.Marks.{Marks}
 use Rattle.td_cdr.specs.Place.{At}
 use Rattle.td_giop.specs.Heads.{Request, request_at, locate_at, cancel_at}
@@ -58,7 +60,8 @@ pub record ServesCancel (s : Scene) (t : Turn) : Type 0 where
   pub told : t.reply ≡ []
   pub kept : t.after ≡ s
 
--- a Request is judged at how everything stands, and served as it asks
+-- A Request is judged at how everything stands, and served as it asks. Its body is octets, and its reply has fewer than
+-- 2^32 of them.
 pub record ServesRequest (others : List Accepted → Type 0) (later : Marks → Marks → Type 0) (home : Address)
     (s : Scene) (t : Turn) : Type 0 where
   pub head : Request
@@ -71,6 +74,8 @@ pub record ServesRequest (others : List Accepted → Type 0) (later : Marks → 
   pub served : Served others later home (reply_to (order_of t.message) (minor_of t.message) head) noted.judged s noted.outcome noted.entry
       t.reply t.after
   pub no_call : NotesNoCall (request_class s.world s.desk head.key head.operation) noted.judged noted.entry
+  pub octets : AreOctets body.rest
+  pub short : length t.reply < 2 ^ 32
 
 -- the message is served
 pub data IsTurn (others : List Accepted → Type 0) (later : Marks → Marks → Type 0) (home : Address) (s : Scene)

@@ -3,11 +3,9 @@ use Rattle.std.proofs.Common.{◌≡◌, ℕ, ◌-◌, ◌≤◌, List, Option, 
 use Rattle.td_cdr.specs.Format.{Read}
 use Rattle.td_cdr.specs.Lawful.{AreOctets}
 use Rattle.td_cdr.specs.LawfulFormats.{read-admitted}
-use Rattle.td_cdr.specs.Octets.{octets-back, octets-drop}
 use Rattle.td_cdr.specs.Place.{At}
 use Rattle.td_cdr.specs.declared.value_fault.ValueFault.{ValueFault}
 use Rattle.td_giop.specs.Heads.{Request, request, request_at}
-use Rattle.td_giop.specs.declared.header.TheConstants.{HEADER_SIZE}
 use Rattle.td_iter.specs.Desks.{Live}
 use Rattle.td_ops.proofs.Tags.{called}
 use Rattle.td_ops.specs.Calls.{AdmitsCall, body_of, read_under}
@@ -27,13 +25,13 @@ pub record IsBody (body : At) : Type 0 where
   pub octets : AreOctets body.rest
   pub within : body.origin ≤ body.place
 
-pub request-body : (message : List ℕ) (head : Request) (body : At) → AreOctets message
+pub request-body : (message : List ℕ) (head : Request) (body : At) → AreOctets body.rest
     → request_at (minor_of message) (behind message) ≡ Ok (head, body) → IsBody body
 unfolding request_at
 request-body message head body octets is =
     let w = (request (minor_of message)).lawful.found (behind message) head body (omega arith) is in
     record {
-      octets = octets-back w.bytes body.rest (subst AreOctets w.parts (octets-drop HEADER_SIZE message octets));
+      octets = octets;
       within = rw w.moved (omega arith);
     }
 

@@ -23,7 +23,7 @@ use Rattle.td_turns_laws.proofs.Calling.{calls-write, unserved-writes}
 use Rattle.td_turns_laws.proofs.Judgements.{judged-fits, refused-writes}
 use Rattle.td_turns_laws.proofs.ReadingCalls.{IsBody, judged-admits, request-body}
 use Rattle.td_turns_laws.proofs.TellingReplies.{reply-told}
-use Rattle.td_turns_laws.specs.Replies.{AreSent, IsSent, IsToldOf, IsTurnTold, OutcomesAreWritable, RepliesSpell}
+use Rattle.td_turns_laws.specs.Replies.{IsToldOf, IsTurnTold, OutcomesAreWritable, RepliesSpell}
 use Rattle.td_turns_laws.specs.Spelled.{AdmitsAnswer, IsAnswered}
 use Rattle.td_turns_laws.specs.Writable.{AdmitsGift, AdmitsGifts, IsWritableScene}
 use Rattle.td_walk.specs.declared.trace.Address.{Address}
@@ -83,11 +83,10 @@ module _ (others : List Accepted → Type 0) (later : Marks → Marks → Type 0
       unserved-writes others later home j s t o e admitted scene unserved
 
   request-writes : (s : Scene) (t : Turn) → (h : ServesRequest others later home s t) → OthersAreAdmitted others
-      → IsWritableScene s → IsSent t → AdmitsGifts (all_gave (noted_in (Some h.noted)))
-      → TurnWrites (Some h.noted) t
-  request-writes s t h admitted scene sent gifts =
+      → IsWritableScene s → AdmitsGifts (all_gave (noted_in (Some h.noted))) → TurnWrites (Some h.noted) t
+  request-writes s t h admitted scene gifts =
       let n = h.noted in
-      let body = request-body t.message h.head h.body sent.octets h.read in
+      let body = request-body t.message h.head h.body h.octets h.read in
       let here =
       answers-write h.head.key h.head.operation h.body body admitted n.judged h.served.draft s t.after
       n.outcome n.entry h.asks scene (subst AdmitsGifts (append-nil (gave_in n.entry)) gifts) h.served.answers in
@@ -97,19 +96,19 @@ module _ (others : List Accepted → Type 0) (later : Marks → Marks → Type 0
           head = h.head;
           body = h.body;
           read = h.read;
-          told = reply-told n (reply_to (order_of t.message) (minor_of t.message) h.head) t.reply here.0 sent.short h.served.reply;
+          told = reply-told n (reply_to (order_of t.message) (minor_of t.message) h.head) t.reply here.0 h.short h.served.reply;
         };
         after = here.1;
       }
 
-  turn-writes : (s : Scene) (t : Turn) → OthersAreAdmitted others → IsWritableScene s → IsSent t
+  turn-writes : (s : Scene) (t : Turn) → OthersAreAdmitted others → IsWritableScene s
       → AdmitsGifts (all_gave (noted_in t.request)) → IsTurn others later home s t → TurnWrites t.request t
-  turn-writes s t admitted scene sent gifts (request h) =
+  turn-writes s t admitted scene gifts (request h) =
       subst (λ (o : Option Noted). TurnWrites o t) (sym h.request)
-      (request-writes s t h admitted scene sent
+      (request-writes s t h admitted scene
       (subst (λ (o : Option Noted). AdmitsGifts (all_gave (noted_in o))) h.request gifts))
-  turn-writes s t admitted scene sent gifts (locate h) = quiet-writes s t h.request h.kept scene
-  turn-writes s t admitted scene sent gifts (cancel h) = quiet-writes s t h.request h.kept scene
+  turn-writes s t admitted scene gifts (locate h) = quiet-writes s t h.request h.kept scene
+  turn-writes s t admitted scene gifts (cancel h) = quiet-writes s t h.request h.kept scene
 
 -- ---- a run
 
@@ -119,14 +118,14 @@ record RunWrites (ts : List Turn) (u : Scene) : Type 0 where
   after : IsWritableScene u
 
 module _ (others : List Accepted → Type 0) (later : Marks → Marks → Type 0) (home : Address) where
-  run-writes : (ts : List Turn) (s u : Scene) → OthersAreAdmitted others → IsWritableScene s → AreSent ts
+  run-writes : (ts : List Turn) (s u : Scene) → OthersAreAdmitted others → IsWritableScene s
       → AdmitsGifts (all_gave (noted_of ts)) → Run others later home s ts u → RunWrites ts u
-  run-writes [] s u admitted scene sent gifts run =
+  run-writes [] s u admitted scene gifts run =
       record { answered = tt; told = tt; after = subst IsWritableScene (sym run) scene }
-  run-writes (t ∷ ts) s u admitted scene sent gifts run =
+  run-writes (t ∷ ts) s u admitted scene gifts run =
       let parts = gifts-parts (noted_in t.request) (noted_of ts) gifts in
-      let first = turn-writes others later home s t admitted scene sent.0 parts.0 run.0 in
-      let rest = run-writes ts t.after u admitted first.after sent.1 parts.1 run.1 in
+      let first = turn-writes others later home s t admitted scene parts.0 run.0 in
+      let rest = run-writes ts t.after u admitted first.after parts.1 run.1 in
       record {
         answered = all-joined IsAnswered (noted_in t.request) (noted_of ts) first.answered rest.answered;
         told = (first.told, rest.told);
@@ -139,9 +138,9 @@ module _ (others : List Accepted → Type 0) (later : Marks → Marks → Type 0
   where
     pub outcomes-writable : OutcomesAreWritable others later
     outcomes-writable home s u ts begins run =
-        let all = run-writes others later home ts s u admitted begins.scene begins.sent begins.gifts run in
+        let all = run-writes others later home ts s u admitted begins.scene begins.gifts run in
         (all.answered, all.after)
 
     pub replies-spell : RepliesSpell others later
     replies-spell home s u ts begins run =
-        (run-writes others later home ts s u admitted begins.scene begins.sent begins.gifts run).told
+        (run-writes others later home ts s u admitted begins.scene begins.gifts run).told

@@ -1,7 +1,6 @@
 -- Each reply of a session spells its outcome, where what its traders opened with can be written.
-use Rattle.std.specs.Prelude.{◌≡◌, ◌^◌, ◌<◌, List, length, Option, None, Some, Ok}
+use Rattle.std.specs.Prelude.{◌≡◌, List, Option, None, Some, Ok}
 use Rattle.std.specs.List.{AllByRecursion}
-use Rattle.td_cdr.specs.Lawful.{AreOctets}
 use Rattle.td_cdr.specs.Marks.{Marks}
 use Rattle.td_cdr.specs.Place.{At}
 use Rattle.td_giop.specs.Heads.{Request, request_at}
@@ -14,14 +13,6 @@ use Rattle.td_turns.specs.Turns.{Noted, Run, Turn, noted_of}
 use Rattle.td_turns_laws.specs.Spelled.{IsAnswered, IsTold}
 use Rattle.td_turns_laws.specs.Writable.{AdmitsGifts, IsWritableScene}
 use Rattle.td_walk.specs.declared.trace.Address.{Address}
-
--- messages and replies as they go over a wire: octets, and fewer than 2^32 of them
-pub record IsSent (t : Turn) : Type 0 where
-  pub octets : AreOctets t.message
-  pub short : length t.reply < 2 ^ 32
-
-abbrev pub AreSent : List Turn → Type 0
-AreSent ts = AllByRecursion IsSent ts
 
 -- what a turn answers a Request with, by its head: a Reply under its id that spells the outcome, or nothing
 pub record IsRequestTold (n : Noted) (t : Turn) : Type 0 where
@@ -40,7 +31,6 @@ IsTurnTold t = IsToldOf t.request t
 -- Where a session begins at traders whose values can be written, and peers give only such values.
 pub record BeginsWritably (s : Scene) (ts : List Turn) : Type 0 where
   pub scene : IsWritableScene s
-  pub sent : AreSent ts
   pub gifts : AdmitsGifts (all_gave (noted_of ts))
 
 module _ (others : List Accepted → Type 0) (later : Marks → Marks → Type 0) where
@@ -56,7 +46,6 @@ module _ (others : List Accepted → Type 0) (later : Marks → Marks → Type 0
       (home : Address) (s u : Scene) (ts : List Turn) → BeginsWritably s ts → Run others later home s ts u
       → AllByRecursion IsTurnTold ts
 
--- Where its messages are octets and its replies short, and what peers gave can be written, each reply spells the outcome
--- of its Request.
+-- Where what peers gave can be written, each reply spells the outcome of its Request.
 abbrev pub SpellsReplies : List Turn → Type 0
-SpellsReplies ts = AreSent ts → AdmitsGifts (all_gave (noted_of ts)) → AllByRecursion IsTurnTold ts
+SpellsReplies ts = AdmitsGifts (all_gave (noted_of ts)) → AllByRecursion IsTurnTold ts
