@@ -1,6 +1,6 @@
 //! Where the replies of a session are written.
 
-ghost use Rattle.std.specs.Prelude.{◌≡◌, ◌<◌, ◌≤◌, ◌^◌, [], length, IsTrue, IfOk, OnOk};
+ghost use Rattle.std.specs.Prelude.{◌≡◌, ◌<◌, ◌≤◌, ◌^◌, [], length, IsTrue, IfOk};
 ghost use Rattle.td_giop.specs.declared.header.TheConstants.{NEWEST_MINOR};
 ghost use Rattle.td_ops.specs.Outcomes.{is_short};
 ghost use Rattle.td_serve.specs.ReplyBytes.{IsWritable, locate_reply, outcome_reply};

@@ -81,7 +81,8 @@ fn answer_sending<'p, 'h, T: Traders, P: Peers, G: SendsHeld, W: Words, J: Journ
     ensures same_words { W.same words.old words.new }
     ensures ok { OnOk result (ServesMessage T.others T.later
         (stage_in (backend_seen (T.world traders.old)
-        (peers_seen (P.calls sending.old.peers.now) (P.faults sending.old.peers.now)) (W.word words.old)) room.old) message.now.bytes.now room.new.replies
+        (peers_seen (P.calls sending.old.peers.now) (P.faults sending.old.peers.now)) (W.word words.old)) room.old)
+        message.now.bytes.now room.new.replies
         (stage_in (backend_seen (T.world traders.new)
         (peers_seen (P.calls sending.new.peers.now) (P.faults sending.new.peers.now)) (W.word words.new)) room.new)) }
     ensures err { OnErr result (Stays
