@@ -71,8 +71,8 @@ pub record ServesRequest (others : List Accepted → Type 0) (later : Marks → 
   pub noted : Noted
   pub request : t.request ≡ Some noted
   pub asks : noted.judged ≡ judged s.world s.desk head.key head.operation body
-  pub served : Served others later home (reply_to (order_of t.message) (minor_of t.message) head) noted.judged s noted.outcome noted.entry
-      t.reply t.after
+  pub served : Served others later home (reply_to (order_of t.message) (minor_of t.message) head) noted.judged s
+      noted.outcome noted.entry t.reply t.after
   pub no_call : NotesNoCall (request_class s.world s.desk head.key head.operation) noted.judged noted.entry
   pub octets : AreOctets body.rest
   pub short : length t.reply < 2 ^ 32
