@@ -221,15 +221,20 @@ class Program:
         return own
 
     def sockets(self, port, *states):
-        """The rows of the system's table of its host's sockets with this port at their own side and in these states."""
+        """The rows of the system's table of its host's sockets in these states, with this port at their own side."""
         rows = []
         with open(f"/proc/{self.process.pid}/net/tcp", encoding="ascii") as table:
             next(table)
             for row in table:
                 words = row.split()
-                if words[1].endswith(f":{port:04X}") and words[3] in states:
+                if words[3] in states and (port is None or words[1].endswith(f":{port:04X}")):
                     rows.append(words)
         return rows
+
+    def sessions(self):
+        """The connections that it has accepted and not closed."""
+        states = {row[9]: row[3] for row in self.sockets(None, "01", "08")}
+        return [it for it in self.own_sockets() if it in states]
 
     def held(self, port):
         """How many connections its host has at this port, those that wait to be accepted and ended ones included."""
