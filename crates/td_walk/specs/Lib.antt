@@ -4,6 +4,7 @@ pub mod Lent
 pub mod Passing
 pub mod Peering
 pub mod Resolving
+pub mod Storing
 pub mod SubQueries
 pub mod Told
 pub mod Visits

@@ -4,6 +4,8 @@ use Rattle.std.specs.Prelude.{◌≡◌, ℕ, ◌≤◌, Bool, true, false, List
 use Rattle.std.specs.List.{AllByRecursion}
 use Rattle.td_cdr.specs.Format.{Unless}
 use Rattle.td_cdr.specs.declared.order.Order.TheVariants.{Big}
+use Rattle.td_codes.specs.References.{reference}
+use Rattle.td_codes.specs.Values.{any_value}
 use Rattle.td_codes.specs.declared.code.Any.{Any}
 use Rattle.td_codes.specs.declared.code.TypeCode.{TypeCode}
 use Rattle.td_codes.specs.declared.reference.Ior.{Ior}
@@ -63,3 +65,22 @@ IsSmallOffer o = length (offer.format.writes o Big 0) ≤ 6291456
 
 abbrev pub HasSmallOffers : SubAnswer → Type 0
 HasSmallOffers a = AllByRecursion IsSmallOffer a.offers
+
+-- ---- what can be written of it (CORBA, chapter on General Inter-ORB Protocol, "CDR Transfer Syntax")
+
+abbrev pub HasWritableOffers : SubAnswer → Type 0
+HasWritableOffers a = AllByRecursion offer.format.admits a.offers
+
+-- what a call gave: offers, a value or a reference; a fault is nothing to write
+abbrev pub AdmitsGift : Given → Type 0
+AdmitsGift (Answered a) = HasWritableOffers a
+AdmitsGift (Evaluated v) = any_value.format.admits v
+AdmitsGift (Referred r) = reference.format.admits r
+AdmitsGift (Failed f) = Unit {0}
+
+abbrev pub AdmitsGifts : List Given → Type 0
+AdmitsGifts gave = AllByRecursion AdmitsGift gave
+
+-- what each of these calls gave
+abbrev pub AdmitsExchanges : List Exchange → Type 0
+AdmitsExchanges calls = AllByRecursion (λ (e : Exchange). AdmitsGift e.gave) calls

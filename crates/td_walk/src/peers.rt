@@ -3,7 +3,7 @@
 ghost use Rattle.std.specs.Prelude.{◌≡◌, ℕ, List, IfOk};
 ghost use Rattle.td_codes.specs.References.{reference};
 ghost use Rattle.td_walk.specs.Peering.{Exchange, IsNoted, HasSmallOffers, Querying, Evaluating, RegisterOf};
-ghost use Rattle.td_walk.specs.Peering.{Resolving, Answered, Evaluated, Referred};
+ghost use Rattle.td_walk.specs.Peering.{Resolving, AdmitsExchanges, Answered, Evaluated, Referred};
 
 use crate::answer::SubAnswer;
 use crate::fault::PeerFault;
@@ -79,6 +79,10 @@ pub trait Peers {
             (faults self.old) (faults self.new) result }
         ensures admitted { IfOk result (λ r. reference.format.admits r) };
 
+    /// What the calls gave can be written, each of it. This call does nothing.
+    fn tell_gifts(&self)
+        ensures { AdmitsExchanges (calls self.now) };
+
     ghost same_self: { (a : Self) → same a a };
 
     ghost same_on: { (a b c : Self) → same a b → same b c → same a c };
@@ -123,5 +127,9 @@ impl<P: Peers> Peers for &mut P {
         name: &List<Text>,
     ) -> Result<Ior, PeerFault> {
         (**self).resolve(alloc, register, name)
+    }
+
+    fn tell_gifts(&self) {
+        (**self).tell_gifts();
     }
 }
