@@ -1,10 +1,15 @@
--- A script whose offers are small, with an entry more or less.
+-- A script whose offers are small and whose entries can be written, with an entry more or less; and what it gives.
 use Rattle.std.proofs.Common.{◌≡◌, ℕ, zero, suc, ◌<◌, List, [], ◌∷◌, ◌++◌, length, get_or, refl, sym, ap, subst}
 use Rattle.std.proofs.lemmas.Option.{slice_get_read}
 use Rattle.std.specs.List.{remove, slice_get}
 use Rattle.std.specs.Prelude.{Option, None, Some, IfSome, option_map}
-use Rattle.td_peers.specs.Scripts.{AreAllowed, IsAllowed, Script, entry_at, rest_of}
+use Rattle.td_peers.specs.Noted.{exchange_by}
+use Rattle.td_peers.specs.Scripts.{AreAllowed, IsAllowed, Script, entry_at, gives, rest_of}
 use Rattle.td_peers.specs.declared.scripted.Scripted.{Scripted}
+use Rattle.td_peers.specs.declared.scripted.Scripted.TheVariants as scripted
+use Rattle.td_walk.proofs.Gifts.{gave_next}
+use Rattle.td_walk.specs.Peering.{AdmitsExchanges, AdmitsGift, Exchange, PeerCall}
+use Rattle.td_walk.specs.Peering.{Querying, Evaluating, RegisterOf, Resolving}
 
 -- an entry that is taken out is the one that stands there
 pub taken : (s : Script) (i : ℕ) (e : List ℕ × Scripted) → i < length s → e ≡ get_or s i e
@@ -38,3 +43,20 @@ small-at (x ∷ s) (suc i) all = small-at s i all.1
 pub entry_small : (s : Script) (place : Option ℕ) → AreAllowed s → IfSome (entry_at s place) IsAllowed
 entry_small s None all = tt
 entry_small s (Some i) all = small-at s i all
+
+-- ---- what an entry gives
+
+gift_allowed : (c : PeerCall) (o : Option Scripted) → IfSome o IsAllowed → AdmitsGift (gives c o)
+gift_allowed (Querying t q) (Some (scripted.Offers a)) h = h.1
+gift_allowed (Evaluating t n c x) (Some (scripted.Evaluated v)) h = h
+gift_allowed (RegisterOf t) (Some (scripted.Reference r)) h = h
+gift_allowed (Resolving t n) (Some (scripted.Reference r)) h = h
+gift_allowed call entry h = tt
+
+-- the call to which the entry is given that stands there
+pub noted_allowed : (script : Script) (place : Option ℕ) (c : PeerCall) (before after : List Exchange)
+    → after ≡ before ++ exchange_by c (entry_at script place) ∷ [] → AreAllowed script → AdmitsExchanges before
+    → AdmitsExchanges after
+noted_allowed script place c before after is all gave =
+    subst AdmitsExchanges (sym is) (gave_next before (exchange_by c (entry_at script place)) gave
+    (gift_allowed c (entry_at script place) (entry_small script place all)))

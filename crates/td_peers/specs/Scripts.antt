@@ -4,12 +4,14 @@ use Rattle.std.specs.Prelude.{Result, Ok, Err, option_map, option_and_then}
 use Rattle.std.specs.List.{AllByRecursion, list_any, position, remove, slice_get}
 use Rattle.std.specs.Str.{bytes_eq}
 use Rattle.td_codes.specs.References.{reference}
+use Rattle.td_codes.specs.Values.{any_value}
 use Rattle.td_codes.specs.declared.reference.Ior.{Ior}
 use Rattle.td_ior.specs.Profiles.{iiop_of}
 use Rattle.td_out.specs.Causes.{raised}
 use Rattle.td_peers.specs.declared.scripted.Scripted.{Scripted}
 use Rattle.td_peers.specs.declared.scripted.Scripted.TheVariants as scripted
 use Rattle.td_walk.specs.Peering.{PeerCall, Querying, Evaluating, RegisterOf, Resolving, Exchange, HasSmallOffers}
+use Rattle.td_walk.specs.Peering.{HasWritableOffers}
 use Rattle.td_walk.specs.Peering.{Given, Answered, Evaluated, Referred, Failed}
 use Rattle.td_walk.specs.declared.fault.PeerFault.{PeerFault}
 use Rattle.td_walk.specs.declared.fault.PeerFault.TheVariants as fault
@@ -105,13 +107,14 @@ IsPlayed given call target old new (Err fault.Memory) = new ≡ old
 IsPlayed given call target old new (Err f) =
     (gives call (next_entry old target) ≡ Failed f) × (new ≡ after old target call)
 
--- ---- small offers, and references that can be written
+-- ---- small offers, and what can be written
 
 abbrev pub IsAllowed : Scripted → Type 0
-IsAllowed (scripted.Offers a) = HasSmallOffers a
+IsAllowed (scripted.Offers a) = HasSmallOffers a × HasWritableOffers a
+IsAllowed (scripted.Evaluated v) = any_value.format.admits v
 IsAllowed (scripted.Reference r) = reference.format.admits r
-IsAllowed other = Unit {0}
+IsAllowed scripted.Failed = Unit {0}
 
--- each offer of the script has at most 6 MiB, and each reference can be written
+-- each offer of the script has at most 6 MiB, and each offer, value and reference can be written
 abbrev pub AreAllowed : Script → Type 0
 AreAllowed script = AllByRecursion (λ entry. IsAllowed entry.1) script

@@ -6,7 +6,7 @@ ghost use Rattle.td_peers.specs.Noted.{call_of};
 ghost use Rattle.td_peers.specs.Scripts.{IsPlayed, IsAllowed, AreAllowed, after, entry_at, faults_after, gives};
 ghost use Rattle.td_peers.specs.Scripts.{next_entry, place_for, with_call, without};
 ghost use Rattle.td_walk.specs.Peering.{IsNoted, HasSmallOffers, Querying, Evaluating, RegisterOf, Resolving};
-ghost use Rattle.td_walk.specs.Peering.{Answered, Evaluated, Referred};
+ghost use Rattle.td_walk.specs.Peering.{AdmitsExchanges, Answered, Evaluated, Referred};
 
 use crate::entries::{fails, place_among, take_entry};
 use crate::note::{CallNote, Note, note_call};
@@ -47,6 +47,7 @@ impl Model for MemPeers {
 
     ghost use Rattle.td_peers.specs.Noted.{exchanges};
     ghost use Rattle.td_peers.specs.Scripts.{AreAllowed};
+    ghost use Rattle.td_walk.specs.Peering.{AdmitsExchanges};
 
     ghost view = { λ p. record {
       script = p.script.items;
@@ -56,7 +57,7 @@ impl Model for MemPeers {
       faults = p.faults;
     } };
 
-    ghost invariant = { λ p. AreAllowed p.script.items };
+    ghost invariant = { λ p. AreAllowed p.script.items × AdmitsExchanges (exchanges p.notes) };
 }
 
 /// A count of faults after a call.
@@ -72,8 +73,8 @@ fn faults_after(faults: u64, given: bool) -> u64
 }
 
 impl MemPeers {
-    /// Peers that answer by this script, of which no offer has more than 6 MiB, and each reference can be written. Each
-    /// object gives its entries in order;
+    /// Peers that answer by this script, of which no offer has more than 6 MiB, and each offer, value and reference can
+    /// be written. Each object gives its entries in order;
     /// `failing` has the numbers of the calls that fail, counted from 1, and these leave the script as it is. A call
     /// that fails, one of an object without an IIOP profile or without an entry, and one for which the next entry is
     /// `Failed` or of another kind are a fault of the wire.
@@ -137,7 +138,6 @@ impl MemPeers {
     }
 
     /// Takes out the entry that stands there.
-    #[tactic(auto, using(crate::proofs::Smallness::rest_small, crate::proofs::Smallness::entry_small))]
     fn take(&mut self, place: Option<usize>) -> Option<Scripted>
         requires { IfSome place (λ i. i < length self.old.script) }
         ensures entry { result ≡ entry_at self.old.script place }
@@ -257,5 +257,11 @@ impl Peers for MemPeers {
             None => Err(PeerFault::Wire),
             Some(reference) => Ok(reference),
         }
+    }
+
+    fn tell_gifts(&self)
+        ensures { AdmitsExchanges self.now.calls }
+    {
+        let _ = &self.notes;
     }
 }
