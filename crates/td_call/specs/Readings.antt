@@ -1,7 +1,7 @@
 -- What the body of a reply tells, by its status (CORBA, chapter on General Inter-ORB Protocol, "Reply Body"; OMG's
 -- Trading Object Service, interface DynamicPropEval).
 use Rattle.std.specs.Prelude.{ℕ, Bool, ◌&&◌, nat_eq, nat_le, if◌then◌else◌, length, Option, Some, None}
-use Rattle.std.specs.Prelude.{Result, Ok, Err}
+use Rattle.std.specs.Prelude.{Result, Ok, Err, ⊤}
 use Rattle.td_cdr.specs.declared.order.Order.TheVariants.{Big}
 use Rattle.td_cdr.specs.declared.value_fault.ValueFault.{ValueFault}
 use Rattle.td_cdr.specs.Format.{Read}
@@ -31,6 +31,11 @@ abbrev pub AdmitsTold : Call → Answered → Type 0
 AdmitsTold c a = (status : ℕ) × (answer_of (operation_in c) status).format.admits a
 
 -- ---- what an evaluator gives
+
+-- its value can be written, where there is one
+abbrev pub AdmitsValue : Option Any → Type 0
+AdmitsValue (Some v) = any_value.format.admits v
+AdmitsValue None = ⊤
 
 -- of the returned type, and of at most 16 KiB from place 0 on
 unfoldable pub may_stand : (returned : TypeCode) → Any → Bool

@@ -5,7 +5,7 @@ ghost use Rattle.td_ior.specs.Profiles.{iiop_of};
 ghost use Rattle.td_call.specs.Calling.{Called, CalledAt, Connected, first_id};
 ghost use Rattle.td_call.specs.Fetching.{IsRead};
 ghost use Rattle.td_call.specs.Moving.{Leaves, LeavesAt, StaysDisconnected};
-ghost use Rattle.td_call.specs.Readings.{AdmitsTold, outcome_told, evaluation_told};
+ghost use Rattle.td_call.specs.Readings.{AdmitsTold, AdmitsValue, outcome_told, evaluation_told};
 ghost use Rattle.td_wire.specs.Connections.{ended};
 ghost use Rattle.td_call.specs.Requests.{request_of, evaluation_of};
 
@@ -141,7 +141,7 @@ fn call_at<L: Wire>(
 }
 
 /// Has a dynamic property evaluated, over a connection of its own: one Request for evalDP is written, and its reply
-/// read. None is answered where the evaluator raised an exception.
+/// read. The value can be written; none is answered where the evaluator raised an exception.
 ///
 /// # Errors
 ///
@@ -158,6 +158,7 @@ pub fn evaluate_over<L: Wire>(
     ensures called { Called (evaluation_told returned.now)
         (λ p. evaluation_of first_id p name.now returned.now extra.now) evaluator.now
         (L.told wire.old) (L.told wire.new) (L.faults wire.old) (L.faults wire.new) result }
+    ensures admitted { IfOk result (λ o. AdmitsValue o) }
     ensures leaves { Leaves (λ p. evaluation_of first_id p name.now returned.now extra.now) evaluator.now
         (L.told wire.old) (L.told wire.new) }
     ensures disconnected { StaysDisconnected (L.told wire.old) (L.told wire.new) }
@@ -183,6 +184,7 @@ fn evaluate_at<L: Wire>(
     ensures called { CalledAt (evaluation_told returned.now)
         (evaluation_of first_id profile.now name.now returned.now extra.now) profile.now
         (L.told wire.old) (L.told wire.new) (L.faults wire.old) (L.faults wire.new) result }
+    ensures admitted { IfOk result (λ o. AdmitsValue o) }
     ensures leaves { LeavesAt (evaluation_of first_id profile.now name.now returned.now extra.now) profile.now
         (L.told wire.old) (L.told wire.new) }
     ensures later { L.faults wire.old ≤ L.faults wire.new }
@@ -204,6 +206,7 @@ fn ask_at<L: Wire>(
     ensures same { L.same wire.old wire.new }
     ensures called { CalledAt (evaluation_told returned.now) request.now profile.now
         (L.told wire.old) (L.told wire.new) (L.faults wire.old) (L.faults wire.new) result }
+    ensures admitted { IfOk result (λ o. AdmitsValue o) }
     ensures leaves { LeavesAt request.now profile.now (L.told wire.old) (L.told wire.new) }
     ensures later { L.faults wire.old ≤ L.faults wire.new }
 {

@@ -3,7 +3,7 @@
 ghost use Rattle.std.specs.Prelude.{◌≡◌, ◌+◌, ◌<◌, ◌≤◌, ◌^◌, length, option_map, IfOk};
 ghost use Rattle.td_call.specs.Fetching.{Exchanges, Fetches};
 ghost use Rattle.td_call.specs.Moving.{Moves};
-ghost use Rattle.td_call.specs.Readings.{AdmitsTold, outcome_told, evaluation_told};
+ghost use Rattle.td_call.specs.Readings.{AdmitsTold, AdmitsValue, outcome_told, evaluation_told};
 ghost use Rattle.td_call.specs.Replies.{reply_limit};
 ghost use Rattle.td_call.specs.Requests.{request_of};
 ghost use Rattle.td_wire.specs.Connections.{wrote};
@@ -132,6 +132,7 @@ pub(crate) fn exchange_evaluation<L: Wire>(
     ensures same { L.same wire.old wire.new }
     ensures exchanges { Exchanges (evaluation_told returned.now) id request.now framer.old.rest framer.new.rest
         (L.told wire.old) (L.told wire.new) (L.faults wire.old) (L.faults wire.new) result }
+    ensures admitted { IfOk result (λ o. AdmitsValue o) }
     ensures moves { Moves request.now (L.told wire.old) (L.told wire.new) }
     ensures later { L.faults wire.old ≤ L.faults wire.new }
 {

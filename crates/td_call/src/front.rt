@@ -3,7 +3,7 @@
 ghost use Rattle.std.specs.Prelude.{◌≡◌, IfOk, MatchOption};
 ghost use Rattle.td_giop.specs.Heads.{IsReadable};
 ghost use Rattle.td_call.specs.Replies.{body_of, reply_head, reply_body, message_read, reply_limit};
-ghost use Rattle.td_call.specs.Readings.{AdmitsTold, outcome_told, evaluation_told};
+ghost use Rattle.td_call.specs.Readings.{AdmitsTold, AdmitsValue, outcome_told, evaluation_told};
 ghost use Rattle.td_call.specs.Fetching.{IsRead, ReadsFront};
 
 use crate::reading::{evaluation_told, outcome_told};
@@ -74,8 +74,9 @@ fn read_evaluation_in(
     returned: &TypeCode,
 ) -> Result<Option<Boxed<Any>>, PeerFault>
     requires { IsReadable message.now.bytes.now }
-    ensures { IsRead (message_read (evaluation_told returned.now) id message.now.kind message.now.order
+    ensures reads { IsRead (message_read (evaluation_told returned.now) id message.now.kind message.now.order
         message.now.bytes.now) result }
+    ensures admitted { IfOk result (λ o. AdmitsValue o) }
 {
     match reply_body(message, id) {
         None => Err(PeerFault::Grammar),
@@ -123,6 +124,7 @@ pub(crate) fn front_evaluation(
     requires { framer.old.limit ≡ reply_limit }
     ensures framer { framer.new ≡ framer.old }
     ensures reads { ReadsFront (evaluation_told returned.now) id framer.old.rest result }
+    ensures admitted { IfOk result (λ o. AdmitsValue o) }
 {
     match framer.next_message() {
         Err(_) => Err(PeerFault::Grammar),

@@ -8,7 +8,7 @@ ghost use Rattle.td_ops.specs.declared.call.Call.TheVariants.{NonExistent};
 ghost use Rattle.td_walk.specs.declared.fault.PeerFault.TheVariants as peer;
 ghost use Rattle.td_call.specs.Fetching.{IsRead};
 ghost use Rattle.td_call.specs.Readings.{AdmitsTold, outcome_told, may_stand, standing, value_given};
-ghost use Rattle.td_call.specs.Readings.{exception_given, evaluation_told};
+ghost use Rattle.td_call.specs.Readings.{AdmitsValue, exception_given, evaluation_told};
 
 use std::alloc::Global;
 use td_cdr::{Boxed, Memory, Reader, ValueFault};
@@ -40,7 +40,7 @@ pub(crate) fn outcome_told(
     }
 }
 
-/// What a reply of this status to evalDP tells: a value, or none for an exception.
+/// What a reply of this status to evalDP tells: a value, which can be written, or none for an exception.
 ///
 /// # Errors
 ///
@@ -51,7 +51,8 @@ pub(crate) fn evaluation_told(
     status: u32,
     body: &mut Reader,
 ) -> Result<Option<Boxed<Any>>, PeerFault>
-    ensures { IsRead (evaluation_told returned.now status body.old) result }
+    ensures reads { IsRead (evaluation_told returned.now status body.old) result }
+    ensures admitted { IfOk result (λ o. AdmitsValue o) }
 {
     if status == 0 {
         value_given(alloc, returned, body)
@@ -67,7 +68,8 @@ fn value_given(
     returned: &TypeCode,
     body: &mut Reader,
 ) -> Result<Option<Boxed<Any>>, PeerFault>
-    ensures { IsRead (value_given returned.now (any_value.format.reads body.old)) result }
+    ensures reads { IsRead (value_given returned.now (any_value.format.reads body.old)) result }
+    ensures admitted { IfOk result (λ o. AdmitsValue o) }
 {
     match read_boxed(alloc, body) {
         Err(fault) => Err(peer_fault(fault)),
@@ -75,9 +77,10 @@ fn value_given(
     }
 }
 
-/// The any that comes next, in a block of its own.
+/// The any that comes next, in a block of its own. It can be written.
 fn read_boxed(alloc: Global, body: &mut Reader) -> Result<Boxed<Any>, ValueFault>
-    ensures { Gives is_memory body.new result (any_value.format.reads body.old) }
+    ensures gives { Gives is_memory body.new result (any_value.format.reads body.old) }
+    ensures admitted { IfOk result (λ v. any_value.format.admits v) }
 {
     let value = read_any(alloc, body)?;
     Ok(Boxed::new(alloc, value)?)
@@ -90,7 +93,9 @@ fn standing(
     returned: &TypeCode,
     value: Boxed<Any>,
 ) -> Result<Option<Boxed<Any>>, PeerFault>
-    ensures { IsRead (standing returned.now value) result }
+    requires { any_value.format.admits value }
+    ensures reads { IsRead (standing returned.now value) result }
+    ensures admitted { IfOk result (λ o. AdmitsValue o) }
 {
     match may_stand(alloc, returned, value.get()) {
         Ok(true) => Ok(Some(value)),
@@ -124,7 +129,8 @@ fn exception_given(
     status: u32,
     body: &mut Reader,
 ) -> Result<Option<Boxed<Any>>, PeerFault>
-    ensures { IsRead (exception_given (outcome_told NonExistent status body.old)) result }
+    ensures reads { IsRead (exception_given (outcome_told NonExistent status body.old)) result }
+    ensures admitted { IfOk result (λ o. AdmitsValue o) }
 {
     let answer = outcome_told(alloc, &Call::NonExistent, status, body);
     match answer {

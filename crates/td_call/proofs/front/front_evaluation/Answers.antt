@@ -15,4 +15,4 @@ read_evaluation_in-requires c = readable c.args.framer.now _ c.requires
 pub returns-in-Ok-Some-clause-reads : goal.returns-in-Ok-Some-clause-reads
 returns-in-Ok-Some-clause-reads c =
     reads_message _ _ c.args.framer.now _ c.read_evaluation_in.result c.requires
-    (rw c.in-Ok-Some.field-0-is at c.in-Ok-Some.ensures.found) c.read_evaluation_in.ensures
+    (rw c.in-Ok-Some.field-0-is at c.in-Ok-Some.ensures.found) c.read_evaluation_in.ensures.reads
