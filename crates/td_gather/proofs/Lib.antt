@@ -1,7 +1,7 @@
 pub mod Answering
 pub mod Batching
+pub mod Fitness
 pub mod Gathering
 pub mod Leftover
-pub mod Smallness
 pub mod Writing
 pub mod Worked

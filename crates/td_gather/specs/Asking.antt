@@ -15,7 +15,6 @@ use Rattle.td_ops.specs.declared.outcome.Reply.{Reply}
 use Rattle.td_ops.specs.declared.outcome.Reply.TheVariants.{Found}
 use Rattle.td_out.specs.Causes.{Rose}
 use Rattle.td_value.specs.declared.structures.Offer.{Offer}
-use Rattle.td_walk.specs.Peering.{HasSmallOffers}
 use Rattle.td_walk.specs.declared.answer.SubAnswer.{SubAnswer}
 use Rattle.td_walk.specs.declared.fault.PeerFault.{PeerFault}
 use Rattle.td_walk.specs.declared.fault.PeerFault.TheVariants as fault
@@ -25,7 +24,7 @@ use Rattle.td_call.specs.Readings.{outcome_told}
 use Rattle.td_call.specs.Replies.{Comes, told, strange, short, replied}
 use Rattle.td_call.specs.Requests.{request_of}
 use Rattle.td_gather.specs.Draining.{Ended, gave, raised, unclear, cut, behind, drained, may_join}
-use Rattle.td_gather.specs.Draining.{batches_asked, drain_requests}
+use Rattle.td_gather.specs.Draining.{AreFit, batches_asked, drain_requests}
 use Rattle.td_gather.specs.declared.gathered.Gathered.{Gathered}
 use Rattle.td_gather.specs.declared.gathered.Gathered.TheVariants.{Offers, Refused}
 
@@ -122,10 +121,10 @@ pub record Gathers (c : Call) (p : Iiop) (t : Traffic) (after : Option Traffic) 
   pub wire : after ≡ Some (ended (with_left rest (wrote (asked_requests p c (next_given t))
       (opened p.host p.port t))))
 
--- each offer that is given has at most 6 MiB
-abbrev pub GivesSmallOffers : Gathered → Type 0
-GivesSmallOffers (Offers a) = HasSmallOffers a
-GivesSmallOffers (Refused answer) = ⊤
+-- each offer that is given has at most 6 MiB, and can be written
+abbrev pub GivesFitOffers : Gathered → Type 0
+GivesFitOffers (Offers a) = AreFit a.offers
+GivesFitOffers (Refused answer) = ⊤
 
 -- What a query of a trader answers, by what the wire tells and by its count of faults.
 abbrev pub AsksBy : (target : Ior) → Call → (before after : Option Traffic) → (f0 f1 : ℕ) → Result Gathered PeerFault

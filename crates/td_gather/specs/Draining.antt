@@ -1,7 +1,7 @@
 -- What comes of an iterator's calls over a connection (OMG's Trading Object Service, interface OfferIterator): it is
 -- asked for batches until one comes with FALSE, and is then destroyed.
 use Rattle.std.specs.Prelude.{ℕ, zero, suc, ◌+◌, ◌&&◌, nat_le, Bool, true, false, if◌then◌else◌, List, [], ◌∷◌, ◌++◌}
-use Rattle.std.specs.Prelude.{length, drop}
+use Rattle.std.specs.Prelude.{length, drop, ⊤}
 use Rattle.std.specs.List.{AllByRecursion, list_all}
 use Rattle.td_cdr.specs.declared.order.Order.TheVariants.{Big}
 use Rattle.td_ior.specs.declared.profile.Iiop.{Iiop}
@@ -10,7 +10,8 @@ use Rattle.td_ops.specs.declared.call.Call.TheVariants.{Iter}
 use Rattle.td_ops.specs.declared.call.IterCall.TheVariants.{NextN, Destroy}
 use Rattle.td_ops.specs.declared.outcome.Answered.{Answered}
 use Rattle.td_ops.specs.declared.outcome.Answered.TheVariants.{Done, User, System}
-use Rattle.td_ops.specs.declared.outcome.Reply.TheVariants.{Batch, Nothing}
+use Rattle.td_ops.specs.declared.outcome.Reply.{Reply}
+use Rattle.td_ops.specs.declared.outcome.Reply.TheVariants.{Batch, Found, Nothing}
 use Rattle.td_value.specs.declared.structures.Offer.{Offer}
 use Rattle.td_value.specs.Structures.{offer}
 use Rattle.td_walk.specs.Peering.{IsSmallOffer}
@@ -38,9 +39,28 @@ most_offers = 1000000
 abbrev pub is_small : Offer → Bool
 is_small o = nat_le (length (offer.format.writes o Big 0)) 6291456
 
--- each has at most 6 MiB
-abbrev pub AreSmall : List Offer → Type 0
-AreSmall offers = AllByRecursion IsSmallOffer offers
+-- each can be written (CORBA, chapter on General Inter-ORB Protocol, "CDR Transfer Syntax")
+pub record AreWritable (offers : List Offer) : Type 0 where
+  pub each : AllByRecursion offer.format.admits offers
+
+-- it has at most 6 MiB, and can be written
+pub record IsFit (o : Offer) : Type 0 where
+  pub small : IsSmallOffer o
+  pub writable : offer.format.admits o
+
+abbrev pub AreFit : List Offer → Type 0
+AreFit offers = AllByRecursion IsFit offers
+
+-- the offers of a result can be written
+abbrev pub HasWritable : Reply → Type 0
+HasWritable (Found offers iterator limits) = AreWritable offers
+HasWritable (Batch more offers) = AreWritable offers
+HasWritable other = ⊤
+
+abbrev pub TellsWritable : Answered → Type 0
+TellsWritable (Done reply) = HasWritable reply
+TellsWritable (User id) = ⊤
+TellsWritable (System id minor completion) = ⊤
 
 -- offers that come behind so many others
 unfoldable pub may_join : (count : ℕ) → List Offer → Bool

@@ -4,10 +4,10 @@ ghost use Rattle.std.specs.Prelude.{◌≡◌, ◌≤◌, ◌+◌, [], true, len
 ghost use Rattle.td_call.specs.Moving.{StaysDisconnected};
 ghost use Rattle.td_call.specs.Replies.{reply_limit};
 ghost use Rattle.td_gather.specs.Asking.{Asks, AsksBy, AsksAt, AsksThrough, EndsSo, LeavesOver};
-ghost use Rattle.td_gather.specs.Asking.{GivesSmallOffers, asked_requests, found_ends, found_requests, left_requests};
+ghost use Rattle.td_gather.specs.Asking.{GivesFitOffers, asked_requests, found_ends, found_requests, left_requests};
 ghost use Rattle.td_gather.specs.Asking.{reply_ends, reply_requests, second_id};
 ghost use Rattle.td_call.specs.Calling.{fresh_stream};
-ghost use Rattle.td_gather.specs.Draining.{AreSmall, may_join, most_offers};
+ghost use Rattle.td_gather.specs.Draining.{AreFit, AreWritable, HasWritable, may_join, most_offers};
 ghost use Rattle.td_gather.specs.Turns.{bytes_limit};
 ghost use Rattle.td_gather.specs.Writing.{AskLeaves, AskLeavesAt, AskLeavesBy, WritesBy, drains_all, gives_all};
 
@@ -29,7 +29,7 @@ const FIRST_ID: u32 = 1;
 
 /// Asks another trader over a connection of its own: writes the query, and reads its reply. An iterator is drained over
 /// the same connection by `next_n(1000)`, with request ids 2, 3 and so on, and then destroyed. The connection has ended
-/// when the query is done, whatever comes of it.
+/// when the query is done, whatever comes of it. Each offer that is given can be written.
 ///
 /// # Errors
 ///
@@ -49,7 +49,7 @@ pub fn ask_over<L: Wire>(
     ensures leaves { AskLeaves target.now q.now (L.told wire.old) (L.told wire.new) }
     ensures disconnected { StaysDisconnected (L.told wire.old) (L.told wire.new) }
     ensures later { L.faults wire.old ≤ L.faults wire.new }
-    ensures small { IfOk result (λ g. GivesSmallOffers g) }
+    ensures fit { IfOk result (λ g. GivesFitOffers g) }
 {
     match q.copy(alloc) {
         Err(_) => Err(PeerFault::Memory),
@@ -75,7 +75,7 @@ fn ask_call<L: Wire>(
     ensures leaves { AskLeavesBy target.now call.now (L.told wire.old) (L.told wire.new) }
     ensures disconnected { StaysDisconnected (L.told wire.old) (L.told wire.new) }
     ensures later { L.faults wire.old ≤ L.faults wire.new }
-    ensures small { IfOk result (λ g. GivesSmallOffers g) }
+    ensures fit { IfOk result (λ g. GivesFitOffers g) }
 {
     match profile_of(alloc, target) {
         Err(fault) => Err(fault),
@@ -96,7 +96,7 @@ fn ask_at<L: Wire>(
     ensures leaves { AskLeavesAt profile.now call.now (L.told wire.old) (L.told wire.new) }
     ensures disconnected { StaysDisconnected (L.told wire.old) (L.told wire.new) }
     ensures later { L.faults wire.old ≤ L.faults wire.new }
-    ensures small { IfOk result (λ g. GivesSmallOffers g) }
+    ensures fit { IfOk result (λ g. GivesFitOffers g) }
 {
     match connect(alloc, wire, profile) {
         Err(fault) => Err(fault),
@@ -134,7 +134,7 @@ fn ask_through<L: Wire>(
     ensures writes { WritesBy (gives_all result) (λ left. asked_requests profile.now call.now left) [] (L.told wire.old)
         (L.told wire.new) }
     ensures later { L.faults wire.old ≤ L.faults wire.new }
-    ensures small { IfOk result (λ g. GivesSmallOffers g) }
+    ensures fit { IfOk result (λ g. GivesFitOffers g) }
 {
     match exchange_call(alloc, wire, framer, FIRST_ID, profile, call) {
         Err(fault) => Err(fault),
@@ -163,13 +163,14 @@ fn gather<L: Wire>(
 ) -> Result<Gathered, PeerFault>
     requires limit { framer.old.limit ≡ reply_limit }
     requires room { framer.old.start + length framer.old.rest ≤ bytes_limit second_id }
+    requires writable { HasWritable reply }
     ensures same { L.same wire.old wire.new }
     ensures ends { EndsSo (reply_ends reply) framer.old.rest (L.told wire.old) (L.faults wire.old) (L.faults wire.new)
         result }
     ensures writes { WritesBy (gives_all result) (λ left. reply_requests reply left) framer.old.rest (L.told wire.old)
         (L.told wire.new) }
     ensures later { L.faults wire.old ≤ L.faults wire.new }
-    ensures small { IfOk result (λ g. GivesSmallOffers g) }
+    ensures fit { IfOk result (λ g. GivesFitOffers g) }
 {
     match reply {
         Reply::Found {
@@ -195,13 +196,14 @@ fn gather_found<L: Wire>(
 ) -> Result<Gathered, PeerFault>
     requires limit { framer.old.limit ≡ reply_limit }
     requires room { framer.old.start + length framer.old.rest ≤ bytes_limit second_id }
+    requires writable { AreWritable offers }
     ensures same { L.same wire.old wire.new }
     ensures ends { EndsSo (found_ends offers iterator.now limits) framer.old.rest (L.told wire.old)
         (L.faults wire.old) (L.faults wire.new) result }
     ensures writes { WritesBy (gives_all result) (λ left. found_requests offers iterator.now left) framer.old.rest
         (L.told wire.old) (L.told wire.new) }
     ensures later { L.faults wire.old ≤ L.faults wire.new }
-    ensures small { IfOk result (λ g. GivesSmallOffers g) }
+    ensures fit { IfOk result (λ g. GivesFitOffers g) }
 {
     match may_join(alloc, 0, offers.as_slice()) {
         Err(_) => Err(PeerFault::Memory),
@@ -222,13 +224,14 @@ fn gather_more<L: Wire>(
     requires limit { framer.old.limit ≡ reply_limit }
     requires room { framer.old.start + length framer.old.rest ≤ bytes_limit second_id }
     requires joined { may_join 0 offers ≡ true }
+    requires writable { AreWritable offers }
     ensures same { L.same wire.old wire.new }
     ensures ends { EndsSo (found_ends offers iterator.now limits) framer.old.rest (L.told wire.old)
         (L.faults wire.old) (L.faults wire.new) result }
     ensures writes { WritesBy (gives_all result) (λ left. found_requests offers iterator.now left) framer.old.rest
         (L.told wire.old) (L.told wire.new) }
     ensures later { L.faults wire.old ≤ L.faults wire.new }
-    ensures small { IfOk result (λ g. GivesSmallOffers g) }
+    ensures fit { IfOk result (λ g. GivesFitOffers g) }
 {
     let mut gathered = offers.into_vec();
     match drain_reference(alloc, wire, framer, iterator, &mut gathered) {
@@ -252,14 +255,14 @@ fn drain_reference<L: Wire>(
     requires limit { framer.old.limit ≡ reply_limit }
     requires room { framer.old.start + length framer.old.rest ≤ bytes_limit second_id }
     requires few { length gathered.old.items ≤ most_offers }
-    requires small { AreSmall gathered.old.items }
+    requires fit { AreFit gathered.old.items }
     ensures same { L.same wire.old wire.new }
     ensures leaves { LeavesOver iterator.now framer.old.rest (L.told wire.old) (L.faults wire.old) (L.faults wire.new)
         gathered.old.items gathered.new.items result }
     ensures writes { WritesBy (drains_all result) (λ left. left_requests iterator.now (length gathered.old.items) left)
         framer.old.rest (L.told wire.old) (L.told wire.new) }
     ensures later { L.faults wire.old ≤ L.faults wire.new }
-    ensures small { OnOk result (AreSmall gathered.new.items) }
+    ensures fit { OnOk result (AreFit gathered.new.items) }
 {
     if is_nil(iterator) {
         return Ok(None);

@@ -1,13 +1,14 @@
 //! An iterator is asked for batches until one comes with FALSE, and is then destroyed.
 
-ghost use Rattle.std.specs.Prelude.{◌≡◌, ◌+◌, ◌<◌, ◌≤◌, ◌^◌, true, false, length, OnOk};
+ghost use Rattle.std.specs.Prelude.{◌≡◌, ◌+◌, ◌<◌, ◌≤◌, ◌^◌, true, false, length, IfOk, OnOk};
 ghost use Rattle.td_call.specs.Fetching.{Exchanges};
 ghost use Rattle.td_call.specs.Moving.{Moves};
 ghost use Rattle.td_call.specs.Readings.{outcome_told};
 ghost use Rattle.td_call.specs.Replies.{reply_limit};
 ghost use Rattle.td_call.specs.Requests.{request_of};
 ghost use Rattle.td_gather.specs.Asking.{most_batches, second_id};
-ghost use Rattle.td_gather.specs.Draining.{AreSmall, batches_asked, destroy as destroy_call, destroy_ends};
+ghost use Rattle.td_gather.specs.Draining.{AreFit, AreWritable, TellsWritable, batches_asked};
+ghost use Rattle.td_gather.specs.Draining.{destroy as destroy_call, destroy_ends};
 ghost use Rattle.td_gather.specs.Draining.{drain_requests, may_join, most_offers, next_batch};
 ghost use Rattle.td_ops.specs.declared.call.Call.TheVariants.{Iter};
 ghost use Rattle.td_gather.specs.Turns.{Destroyed, Destroys, Drains, Joins, Takes, Turns, bytes_limit};
@@ -43,12 +44,13 @@ pub(crate) enum Turn {
 /// # Errors
 ///
 /// `Memory` for want of memory alone.
-#[tactic(auto, using(crate::proofs::Smallness::joined_small))]
+#[tactic(auto, using(crate::proofs::Fitness::joined_fit))]
 fn join_last(gathered: &mut Vec<Offer>, offers: List<Offer>) -> Result<Turn, PeerFault>
     requires joined { may_join (length gathered.old.items) offers ≡ true }
-    requires small { AreSmall gathered.old.items }
+    requires writable { AreWritable offers }
+    requires fit { AreFit gathered.old.items }
     ensures joins { Joins false offers gathered.old.items gathered.new.items result }
-    ensures small { OnOk result (AreSmall gathered.new.items) }
+    ensures fit { OnOk result (AreFit gathered.new.items) }
 {
     match join(gathered, offers) {
         Err(_) => Err(PeerFault::Memory),
@@ -61,12 +63,13 @@ fn join_last(gathered: &mut Vec<Offer>, offers: List<Offer>) -> Result<Turn, Pee
 /// # Errors
 ///
 /// `Grammar` for an empty one, and `Memory`.
-#[tactic(auto, using(crate::proofs::Smallness::joined_small))]
+#[tactic(auto, using(crate::proofs::Fitness::joined_fit))]
 fn join_next(gathered: &mut Vec<Offer>, offers: List<Offer>) -> Result<Turn, PeerFault>
     requires joined { may_join (length gathered.old.items) offers ≡ true }
-    requires small { AreSmall gathered.old.items }
+    requires writable { AreWritable offers }
+    requires fit { AreFit gathered.old.items }
     ensures joins { Joins true offers gathered.old.items gathered.new.items result }
-    ensures small { OnOk result (AreSmall gathered.new.items) }
+    ensures fit { OnOk result (AreFit gathered.new.items) }
 {
     if offers.is_empty() {
         return Err(PeerFault::Grammar);
@@ -88,9 +91,10 @@ fn join_batch(
     more: bool,
     offers: List<Offer>,
 ) -> Result<Turn, PeerFault>
-    requires { AreSmall gathered.old.items }
+    requires fit { AreFit gathered.old.items }
+    requires writable { AreWritable offers }
     ensures joins { Joins more offers gathered.old.items gathered.new.items result }
-    ensures small { OnOk result (AreSmall gathered.new.items) }
+    ensures fit { OnOk result (AreFit gathered.new.items) }
 {
     match may_join(alloc, gathered.len(), offers.as_slice()) {
         Err(_) => Err(PeerFault::Memory),
@@ -116,9 +120,10 @@ fn join_answer(
     gathered: &mut Vec<Offer>,
     answer: Answered,
 ) -> Result<Turn, PeerFault>
-    requires { AreSmall gathered.old.items }
+    requires fit { AreFit gathered.old.items }
+    requires writable { TellsWritable answer }
     ensures takes { Takes answer gathered.old.items gathered.new.items result }
-    ensures small { OnOk result (AreSmall gathered.new.items) }
+    ensures fit { OnOk result (AreFit gathered.new.items) }
 {
     match answer {
         Answered::Done(reply) => match reply {
@@ -159,6 +164,7 @@ fn call_iterator<L: Wire>(
     ensures same { L.same wire.old wire.new }
     ensures exchanges { Exchanges (outcome_told (Iter call)) id (request_of id profile.now (Iter call)) framer.old.rest
         framer.new.rest (L.told wire.old) (L.told wire.new) (L.faults wire.old) (L.faults wire.new) result }
+    ensures writable { IfOk result (λ a. TellsWritable a) }
     ensures moves { Moves (request_of id profile.now (Iter call)) (L.told wire.old) (L.told wire.new) }
     ensures later { L.faults wire.old ≤ L.faults wire.new }
     ensures grows { framer.new.start + length framer.new.rest
@@ -187,7 +193,7 @@ fn take_batch<L: Wire>(
     requires limit { framer.old.limit ≡ reply_limit }
     requires room { framer.old.start + length framer.old.rest ≤ bytes_limit id }
     requires few { id ≤ most_batches + 1 }
-    requires small { AreSmall gathered.old.items }
+    requires fit { AreFit gathered.old.items }
     ensures same { L.same wire.old wire.new }
     ensures turns { Turns profile.now id framer.old.rest framer.new.rest (L.told wire.old) (L.told wire.new)
         (L.faults wire.old) (L.faults wire.new) gathered.old.items gathered.new.items result }
@@ -195,7 +201,7 @@ fn take_batch<L: Wire>(
     ensures later { L.faults wire.old ≤ L.faults wire.new }
     ensures grows { framer.new.start + length framer.new.rest ≤ bytes_limit (id + 1) }
     ensures kept { framer.new.limit ≡ framer.old.limit }
-    ensures small { OnOk result (AreSmall gathered.new.items) }
+    ensures fit { OnOk result (AreFit gathered.new.items) }
 {
     let next = IterCall::NextN { n: BATCH_SIZE };
     match call_iterator(alloc, wire, framer, id, profile, next) {
@@ -276,7 +282,7 @@ pub(crate) fn drain<L: Wire>(
     requires limit { framer.old.limit ≡ reply_limit }
     requires room { framer.old.start + length framer.old.rest ≤ bytes_limit second_id }
     requires few { length gathered.old.items ≤ most_offers }
-    requires small { AreSmall gathered.old.items }
+    requires fit { AreFit gathered.old.items }
     ensures same { L.same wire.old wire.new }
     ensures drains { Drains second_id most_batches framer.old.rest (L.told wire.old) (L.faults wire.old)
         (L.faults wire.new) gathered.old.items gathered.new.items result }
@@ -284,7 +290,7 @@ pub(crate) fn drain<L: Wire>(
         (batches_asked most_batches second_id (length gathered.old.items) left)) framer.old.rest (L.told wire.old)
         (L.told wire.new) }
     ensures later { L.faults wire.old ≤ L.faults wire.new }
-    ensures small { OnOk result (AreSmall gathered.new.items) }
+    ensures fit { OnOk result (AreFit gathered.new.items) }
 {
     let mut id: u32 = 2;
     'batches: loop {

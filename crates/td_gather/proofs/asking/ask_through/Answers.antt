@@ -1,8 +1,10 @@
-use Rattle.std.proofs.Common.{◌∙◌, ap, arith, length, refl, Ok, Err}
+use Rattle.std.proofs.Common.{◌∙◌, ap, arith, length, refl, subst, Ok, Err}
 use Rattle.td_giop.specs.Stream.{Stream}
 use Rattle.td_ops.specs.declared.outcome.Answered.TheVariants.{Done, User, System}
 use Rattle.td_gather.proofs.Answering.{from_fresh, through_done, through_fault, through_refused}
+use Rattle.td_gather.specs.Draining.{TellsWritable}
 use Rattle.td_gather.specs.Writing.{gives_all}
+use Rattle.td_gather.proofs.Fitness.{told_writable}
 use Rattle.td_gather.proofs.Writing.{writes_asked, writes_query}
 use Rattle.td_gather.proofs.asking.ask_through.Goals as goal
 
@@ -22,6 +24,11 @@ gather-requires-clause-room g c =
     let grows = c.exchange_call.ensures.grows in
     let place = ap (λ (s : Stream). s.start) c.requires in
     let rest = ap (λ (s : Stream). length s.rest) c.requires in omega (arith, grows, place, rest)
+
+pub gather-requires-clause-writable : goal.gather-requires-clause-writable
+gather-requires-clause-writable g c =
+    subst TellsWritable c.in-Ok-Done.field-0-is
+    (told_writable c.args.call.now (Ok c.in-Ok-Done.field-0) c.in-Ok-Done.ensures.admitted)
 
 pub returns-in-Err-clause-asks : goal.returns-in-Err-clause-asks
 returns-in-Err-clause-asks g c =

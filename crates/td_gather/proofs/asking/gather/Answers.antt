@@ -1,9 +1,13 @@
 use Rattle.std.proofs.Common.{subst, sym}
 use Rattle.td_ops.specs.declared.outcome.Reply.{Reply}
 use Rattle.td_gather.specs.Asking.{reply_requests}
+use Rattle.td_gather.specs.Draining.{HasWritable}
 use Rattle.td_gather.specs.Writing.{WritesBy, gives_all}
 use Rattle.td_gather.proofs.Writing.{writes_none}
 use Rattle.td_gather.proofs.asking.gather.Goals as goal
+
+pub gather_found-requires-clause-writable : goal.gather_found-requires-clause-writable
+gather_found-requires-clause-writable g c = subst HasWritable c.in-Found.is c.requires.writable
 
 pub returns-in_default-clause-writes : goal.returns-in_default-clause-writes
 returns-in_default-clause-writes g c =

@@ -1,8 +1,8 @@
 use Rattle.std.proofs.Common.{Ok, Err, None, Some, true, false, ap, arith, length, subst, sym}
 use Rattle.td_value.specs.declared.structures.Offer.{Offer}
-use Rattle.td_gather.specs.Draining.{AreSmall}
+use Rattle.td_gather.specs.Draining.{AreFit}
 use Rattle.td_gather.proofs.Batching.{few_join}
-use Rattle.td_gather.proofs.Smallness.{joining_small}
+use Rattle.td_gather.proofs.Fitness.{joining_fit}
 use Rattle.td_gather.proofs.Leftover.{ends_fault, ends_gathered, ends_refused, from_reply}
 use Rattle.td_gather.proofs.Writing.{writes_found}
 use Rattle.td_gather.proofs.asking.gather_more.Goals as goal
@@ -12,9 +12,10 @@ drain_reference-requires-clause-few g c =
     let few = few_join 0 c.args.offers c.requires.joined in
     let size = ap (length {A = Offer}) c.into_vec-gathered.ensures in omega (arith, few, size)
 
-pub drain_reference-requires-clause-small : goal.drain_reference-requires-clause-small
-drain_reference-requires-clause-small g c =
-    subst AreSmall (sym c.into_vec-gathered.ensures) (joining_small 0 c.args.offers c.requires.joined)
+pub drain_reference-requires-clause-fit : goal.drain_reference-requires-clause-fit
+drain_reference-requires-clause-fit g c =
+    subst AreFit (sym c.into_vec-gathered.ensures)
+    (joining_fit 0 c.args.offers c.requires.joined c.requires.writable)
 
 pub returns-in-Err-clause-ends : goal.returns-in-Err-clause-ends
 returns-in-Err-clause-ends g c =

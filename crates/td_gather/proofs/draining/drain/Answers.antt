@@ -8,7 +8,7 @@ batches-init g c = record {
   same = g.met.L.Wire.same_self _;
   limit = c.requires.limit;
   room = c.requires.room;
-  small = c.requires.small;
+  fit = c.requires.fit;
   came = came_none _ _ _ _ _ c.requires.few;
 }
 
@@ -53,7 +53,7 @@ batches-preserved g c = record {
   same = g.met.L.Wire.same_on _ _ _ c.batches.invariant.same c.take_batch.ensures.same;
   limit = c.take_batch.ensures.kept ∙ c.batches.invariant.limit;
   room = c.take_batch.ensures.grows;
-  small = c.in-Ok-More.ensures.small;
+  fit = c.in-Ok-More.ensures.fit;
   came =
       came_more _ _ _ c.take_batch.new.framer.rest _ _ _ _ _ _ _ _ c.take_batch.new.gathered.items _
       c.batches.invariant.came c.take_batch.ensures.later

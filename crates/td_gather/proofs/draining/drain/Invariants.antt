@@ -1,6 +1,6 @@
 use Rattle.std.proofs.Common.{◌≡◌, ◌≤◌, ◌+◌, ◌-◌, length}
 use Rattle.td_call.specs.Replies.{reply_limit}
-use Rattle.td_gather.specs.Draining.{AreSmall, most_offers}
+use Rattle.td_gather.specs.Draining.{AreFit, most_offers}
 use Rattle.td_gather.specs.Turns.{bytes_limit}
 use Rattle.td_gather.proofs.Gathering.{Came}
 use Rattle.td_gather.proofs.draining.drain.Given as goal
@@ -11,7 +11,7 @@ invariant-batches g l = record {
   same : g.L.Wire.same l.initial.wire l.wire;
   limit : l.framer.limit ≡ reply_limit;
   room : l.framer.start + length l.framer.rest ≤ bytes_limit l.id;
-  small : AreSmall l.gathered.items;
+  fit : AreFit l.gathered.items;
   came :
       Came l.profile l.initial.framer.rest l.framer.rest (g.L.Wire.told l.initial.wire) (g.L.Wire.told l.wire)
       (g.L.Wire.faults l.initial.wire) (g.L.Wire.faults l.wire) l.initial.gathered.items l.gathered.items l.id;
