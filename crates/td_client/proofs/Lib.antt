@@ -1,3 +1,3 @@
 pub mod Admitted
+pub mod Given
 pub mod Marking
-pub mod Smallness

@@ -1,9 +1,10 @@
--- A call that is noted.
-use Rattle.std.proofs.Common.{◌≡◌, ◌∙◌, ℕ, ◌≤◌, List, [], ◌∷◌, ◌++◌, map, Ok, Err, refl, sym, ap, arith}
+-- A call that is noted with what it gave, which can be written.
+use Rattle.std.proofs.Common.{◌≡◌, ◌∙◌, ℕ, ◌≤◌, List, [], ◌∷◌, ◌++◌, map, Ok, Err, refl, sym, ap, subst, arith}
 use Rattle.std.proofs.lemmas.List.{map-append}
 use Rattle.td_cdr.specs.Format.{Unless}
 use Rattle.td_out.specs.Causes.{Rose}
-use Rattle.td_walk.specs.Peering.{PeerCall, Exchange, Given, IsNoted, exchange, is_memory}
+use Rattle.td_walk.proofs.Gifts.{gave_next}
+use Rattle.td_walk.specs.Peering.{AdmitsExchanges, AdmitsGift, PeerCall, Exchange, Given, IsNoted, exchange, is_memory}
 use Rattle.td_walk.specs.declared.fault.PeerFault.{PeerFault}
 use Rattle.td_walk.specs.declared.fault.PeerFault.TheVariants as fault
 use Rattle.td_past.specs.Entries.{entries_of}
@@ -11,11 +12,14 @@ use Rattle.td_past.specs.declared.past.Past.{Past}
 use Rattle.td_client.specs.Noted.{exchange_of, exchanges, failed}
 use Rattle.td_client.specs.declared.note.Note.{Note}
 
-pub one_more : (notes new : Past Note) (n : Note) (e : Exchange) → entries_of new ≡ entries_of notes ++ n ∷ []
-    → exchange_of n ≡ e → exchanges new ≡ exchanges notes ++ e ∷ []
-one_more notes new n e is noted =
-    ap (map exchange_of) is ∙ map-append exchange_of (entries_of notes) (n ∷ [])
-    ∙ ap (λ (x : Exchange). exchanges notes ++ x ∷ []) noted
+pub one_more : (notes new : Past Note) (n : Note) → entries_of new ≡ entries_of notes ++ n ∷ []
+    → exchanges new ≡ exchanges notes ++ exchange_of n ∷ []
+one_more notes new n is = ap (map exchange_of) is ∙ map-append exchange_of (entries_of notes) (n ∷ [])
+
+pub one_admitted : (notes new : Past Note) (n : Note) → entries_of new ≡ entries_of notes ++ n ∷ []
+    → AdmitsExchanges (exchanges notes) → AdmitsGift (exchange_of n).gave → AdmitsExchanges (exchanges new)
+one_admitted notes new n is gave gift =
+    subst AdmitsExchanges (sym (one_more notes new n is)) (gave_next (exchanges notes) (exchange_of n) gave gift)
 
 failed_is : {X : Type 0} (given : X → Given) (c : PeerCall) (f : PeerFault) → exchange given c (Err f) ≡ failed c f
 failed_is given c fault.Wire = refl
@@ -32,11 +36,11 @@ noted_fault given c before after f0 f1 f is later cause = record {
   cause = cause;
 }
 
-pub noted_answer : {X : Type 0} (given : X → Given) (c : PeerCall) (notes new : Past Note) (n : Note) (f : ℕ) (x : X)
-    → entries_of new ≡ entries_of notes ++ n ∷ [] → exchange_of n ≡ record { call = c; gave = given x }
-    → IsNoted given c (exchanges notes) (exchanges new) f f (Ok x)
-noted_answer given c notes new n f x is noted = record {
-  calls = one_more notes new n (record { call = c; gave = given x }) is noted;
+pub noted_answer : {X : Type 0} (given : X → Given) (c : PeerCall) (before after : List Exchange) (e : Exchange) (f : ℕ)
+    (x : X) → after ≡ before ++ e ∷ [] → e ≡ record { call = c; gave = given x }
+    → IsNoted given c before after f f (Ok x)
+noted_answer given c before after e f x is noted = record {
+  calls = is ∙ ap (λ (y : Exchange). before ++ y ∷ []) noted;
   later = omega arith;
   cause = tt;
 }

@@ -6,16 +6,14 @@ ghost use Rattle.td_call.specs.Moving.{Leaves, StaysDisconnected};
 ghost use Rattle.td_call.specs.Readings.{outcome_told};
 ghost use Rattle.td_call.specs.Requests.{request_of};
 ghost use Rattle.td_client.specs.Noted.{count_after};
-ghost use Rattle.td_gather.specs.Asking.{Asks, GivesSmallOffers};
+ghost use Rattle.td_gather.specs.Asking.{Asks, GivesFitOffers};
 ghost use Rattle.td_gather.specs.Writing.{AskLeaves};
-ghost use Rattle.td_past.specs.Entries.{entries_of};
 
-use crate::note::Note;
+use crate::calls::Calls;
 use std::alloc::Global;
 use td_call::call_over;
 use td_gather::{Gathered, ask_over};
 use td_ops::{Answered, Call, Query};
-use td_past::Past;
 use td_value::Ior;
 use td_walk::PeerFault;
 use td_wire::Wire;
@@ -24,8 +22,8 @@ use td_wire::Wire;
 #[derive(Drop)]
 pub struct Caller<L> {
     pub(crate) wire: L,
-    /// The calls that a visit made, in order: clauses tell them, and the program keeps none.
-    pub(crate) notes: Past<Note>,
+    /// The calls that a visit made, in order, with what each gave.
+    pub(crate) calls: Calls,
     pub(crate) faults: u64,
 }
 
@@ -33,12 +31,12 @@ impl<L: Wire> Caller<L> {
     /// A caller over this wire. It made no call and counted no fault yet.
     pub fn new(wire: L) -> Caller<L>
         ensures wire { result.wire ≡ wire }
-        ensures notes { entries_of result.notes ≡ [] }
+        ensures calls { result.calls ≡ [] }
         ensures faults { result.faults ≡ 0 }
     {
         Caller {
             wire,
-            notes: Past::new(),
+            calls: Calls::new(),
             faults: 0,
         }
     }
@@ -60,7 +58,7 @@ impl<L: Wire> Caller<L> {
         ensures leaves { Leaves (λ p. request_of first_id p call.now) target.now (L.told self.old.wire)
             (L.told self.new.wire) }
         ensures disconnected { StaysDisconnected (L.told self.old.wire) (L.told self.new.wire) }
-        ensures notes { self.new.notes ≡ self.old.notes }
+        ensures calls { self.new.calls ≡ self.old.calls }
         ensures count { self.new.faults ≡ count_after self.old.faults result }
     {
         let answer = call_over(alloc, &mut self.wire, target, call);
@@ -82,8 +80,8 @@ impl<L: Wire> Caller<L> {
             (L.faults self.new.wire) result }
         ensures leaves { AskLeaves target.now q.now (L.told self.old.wire) (L.told self.new.wire) }
         ensures disconnected { StaysDisconnected (L.told self.old.wire) (L.told self.new.wire) }
-        ensures small { IfOk result (λ g. GivesSmallOffers g) }
-        ensures notes { self.new.notes ≡ self.old.notes }
+        ensures fit { IfOk result (λ g. GivesFitOffers g) }
+        ensures calls { self.new.calls ≡ self.old.calls }
         ensures count { self.new.faults ≡ count_after self.old.faults result }
     {
         let answer = ask_over(alloc, &mut self.wire, target, q);

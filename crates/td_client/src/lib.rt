@@ -2,6 +2,7 @@
 #![tactic(auto)]
 
 mod caller;
+mod calls;
 mod meaning;
 mod note;
 mod noting;

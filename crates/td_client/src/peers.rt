@@ -7,7 +7,7 @@ ghost use Rattle.td_call.specs.Readings.{outcome_told, evaluation_told};
 ghost use Rattle.td_call.specs.Requests.{request_of, evaluation_of};
 ghost use Rattle.td_client.specs.Meanings.{offers_meant, reference_meant, register_call, resolve_call, value_meant};
 ghost use Rattle.td_client.specs.Meanings.{with_meaning};
-ghost use Rattle.td_client.specs.Noted.{count_after, exchanges};
+ghost use Rattle.td_client.specs.Noted.{count_after};
 ghost use Rattle.td_codes.specs.References.{reference};
 ghost use Rattle.td_codes.specs.declared.code.Any.{Any};
 ghost use Rattle.td_gather.specs.Asking.{Asks};
@@ -16,7 +16,7 @@ ghost use Rattle.td_gather.specs.declared.gathered.Gathered.{Gathered as Given};
 ghost use Rattle.td_ops.specs.declared.outcome.Answered.{Answered as Told};
 ghost use Rattle.td_walk.specs.declared.fault.PeerFault.{PeerFault};
 ghost use Rattle.td_walk.specs.Peering.{IsNoted, HasSmallOffers, Querying, Evaluating, RegisterOf, Resolving};
-ghost use Rattle.td_walk.specs.Peering.{Answered, Evaluated, Referred};
+ghost use Rattle.td_walk.specs.Peering.{AdmitsExchanges, Answered, Evaluated, Referred};
 
 use crate::caller::Caller;
 use crate::meaning::{offers_meant, reference_meant, value_meant};
@@ -34,7 +34,7 @@ use td_walk::{PeerFault, Peers, SubAnswer};
 use td_wire::Wire;
 
 impl<L: Wire> Peers for Caller<L> {
-    ghost calls = { λ c. exchanges c.notes };
+    ghost calls = { λ c. c.calls };
 
     ghost faults = { λ c. c.faults };
 
@@ -49,8 +49,8 @@ impl<L: Wire> Peers for Caller<L> {
     fn query(&mut self, alloc: Global, target: &Ior, q: &Query) -> Result<SubAnswer, PeerFault>
         ensures same { L.same self.old.wire self.new.wire }
         ensures count { self.new.faults ≡ count_after self.old.faults result }
-        ensures noted { IsNoted (λ a. Answered a) (Querying target.now q.now) (exchanges self.old.notes)
-            (exchanges self.new.notes) self.old.faults self.new.faults result }
+        ensures noted { IsNoted (λ a. Answered a) (Querying target.now q.now) self.old.calls self.new.calls
+            self.old.faults self.new.faults result }
         ensures small { IfOk result (λ a. HasSmallOffers a) }
         ensures exact { (r : Result Given PeerFault) × Asks target.now q.now (L.told self.old.wire)
             (L.told self.new.wire) (L.faults self.old.wire) (L.faults self.new.wire) r
@@ -63,7 +63,7 @@ impl<L: Wire> Peers for Caller<L> {
             target: Snapshot::of(target),
             query: Snapshot::of(q),
         };
-        note_offers(&mut self.notes, &mut self.faults, call, &answer);
+        note_offers(&mut self.calls, &mut self.faults, call, &answer);
         answer
     }
 
@@ -80,7 +80,7 @@ impl<L: Wire> Peers for Caller<L> {
         ensures same { L.same self.old.wire self.new.wire }
         ensures count { self.new.faults ≡ count_after self.old.faults result }
         ensures noted { IsNoted (λ v. Evaluated v) (Evaluating evaluator.now name.now returned.now extra.now)
-            (exchanges self.old.notes) (exchanges self.new.notes) self.old.faults self.new.faults result }
+            self.old.calls self.new.calls self.old.faults self.new.faults result }
         ensures exact { (r : Result (Option Any) PeerFault) × Called (evaluation_told returned.now)
             (λ p. evaluation_of first_id p name.now returned.now extra.now) evaluator.now (L.told self.old.wire)
             (L.told self.new.wire) (L.faults self.old.wire) (L.faults self.new.wire) r
@@ -103,7 +103,7 @@ impl<L: Wire> Peers for Caller<L> {
             returned: Snapshot::of(returned),
             extra: Snapshot::of(extra),
         };
-        note_value(&mut self.notes, &mut self.faults, call, &answer);
+        note_value(&mut self.calls, &mut self.faults, call, &answer);
         answer
     }
 
@@ -112,8 +112,8 @@ impl<L: Wire> Peers for Caller<L> {
     fn register_of(&mut self, alloc: Global, lookup: &Ior) -> Result<Ior, PeerFault>
         ensures same { L.same self.old.wire self.new.wire }
         ensures count { self.new.faults ≡ count_after self.old.faults result }
-        ensures noted { IsNoted (λ r. Referred r) (RegisterOf lookup.now) (exchanges self.old.notes)
-            (exchanges self.new.notes) self.old.faults self.new.faults result }
+        ensures noted { IsNoted (λ r. Referred r) (RegisterOf lookup.now) self.old.calls self.new.calls
+            self.old.faults self.new.faults result }
         ensures admitted { IfOk result (λ r. reference.format.admits r) }
         ensures exact { (r : Result Told PeerFault) × Called (outcome_told register_call)
             (λ p. request_of first_id p register_call) lookup.now (L.told self.old.wire) (L.told self.new.wire)
@@ -126,7 +126,7 @@ impl<L: Wire> Peers for Caller<L> {
         let call = CallNote::Register {
             lookup: Snapshot::of(lookup),
         };
-        note_reference(&mut self.notes, &mut self.faults, call, &answer);
+        note_reference(&mut self.calls, &mut self.faults, call, &answer);
         answer
     }
 
@@ -140,8 +140,8 @@ impl<L: Wire> Peers for Caller<L> {
     ) -> Result<Ior, PeerFault>
         ensures same { L.same self.old.wire self.new.wire }
         ensures count { self.new.faults ≡ count_after self.old.faults result }
-        ensures noted { IsNoted (λ r. Referred r) (Resolving register.now name.now) (exchanges self.old.notes)
-            (exchanges self.new.notes) self.old.faults self.new.faults result }
+        ensures noted { IsNoted (λ r. Referred r) (Resolving register.now name.now) self.old.calls self.new.calls
+            self.old.faults self.new.faults result }
         ensures admitted { IfOk result (λ r. reference.format.admits r) }
         ensures exact { (r : Result Told PeerFault) × Called (outcome_told (resolve_call name.now))
             (λ p. request_of first_id p (resolve_call name.now)) register.now (L.told self.old.wire)
@@ -156,7 +156,13 @@ impl<L: Wire> Peers for Caller<L> {
             register: Snapshot::of(register),
             name: Snapshot::of(name),
         };
-        note_reference(&mut self.notes, &mut self.faults, call, &answer);
+        note_reference(&mut self.calls, &mut self.faults, call, &answer);
         answer
+    }
+
+    fn tell_gifts(&self)
+        ensures { AdmitsExchanges self.now.calls }
+    {
+        self.calls.tell_gifts();
     }
 }
