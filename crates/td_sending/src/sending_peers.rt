@@ -82,6 +82,10 @@ impl<'p, 'h, P: Peers, G: SendsHeld> Peers for SendingPeers<'p, 'h, P, G> {
         expect_sent(self.held);
         self.peers.resolve(alloc, register, name)
     }
+
+    fn tell_gifts(&self) {
+        (*self.peers).tell_gifts();
+    }
 }
 
 /// Does nothing: that it is called shows that nothing is held here, unless a send has failed.

@@ -13,7 +13,10 @@ use Rattle.td_stream.specs.Outside.{Outside}
 use Rattle.td_stream.specs.Steps.{answers, step_of}
 use Rattle.td_stream.specs.Streams.{Finishes, Streams}
 use Rattle.td_stream.specs.declared.end.End.{End}
-use Rattle.td_turns.specs.Turns.{IsTurn, Run, Turn, exchanges_of, journal_of, request, locate, cancel}
+use Rattle.td_turns.proofs.Gifts.{gave-admitted}
+use Rattle.td_turns.specs.Journals.{all_gave}
+use Rattle.td_turns.specs.Turns.{IsTurn, Run, Turn, exchanges_of, journal_of, noted_of, request, locate, cancel}
+use Rattle.td_walk.specs.Peering.{AdmitsExchanges}
 use Rattle.td_walk.specs.declared.trace.Address.{Address}
 use Rattle.td_session.specs.Serving.{ServesMessage, Stays}
 use Rattle.td_session.specs.Sessions.{Serves}
@@ -63,20 +66,22 @@ module _ (others : List Accepted → Type 0) (later : Marks → Marks → Type 0
         are = ap (λ (l : List Exchange). x ∷ l) rest.are;
       }
 
-  -- with nothing noted at first
+  -- with nothing noted at first, and peers of which all that they gave can be written
   pub session_served : (s u : Stage) (end : End) (before after : Outside) → s.journal ≡ []
-      → Streams (ServesMessage others later) Stays s u end before after
+      → AdmitsExchanges u.scene.peers.calls → Streams (ServesMessage others later) Stays s u end before after
       → Serves others later s.home s.scene u.scene u.journal end before after
-  session_served s u end before after first r =
+  session_served s u end before after first gave r =
       let t = turned s r.last r.exchanges r.run in
       let leads : Leads others later t.turns s u =
       subst (λ (x : Stage). Leads others later t.turns s x) (sym r.stayed) t.leads in
+      let headline = headlined others later s.home s.scene u.scene t.turns leads.run in
       record {
         turns = t.turns;
         run = leads.run;
         noted = leads.noted ∙ ap (λ (x : List Entry). x ++ journal_of t.turns) first;
         stream = subst (λ (xs : List Exchange). Finishes xs end before after [] 0 0) (sym t.are) r.stream;
-        headline = headlined others later s.home s.scene u.scene t.turns leads.run;
+        headline = headline;
+        gifts = gave-admitted s.scene.peers u.scene.peers (all_gave (noted_of t.turns)) headline.peers gave;
       }
 
   -- ---- from turns to exchanges

@@ -125,5 +125,7 @@ fn serve_lent<'t, 'r, 'p, 'w, T: Traders, S: Source, K: Sink, P: Peers, W: Words
         (outside (S.left source.old) (S.faults source.old) (K.written sink.old) (K.faults sink.old))
         (outside (S.left source.new) (S.faults source.new) (K.written sink.new) (K.faults sink.new)) }
 {
-    serve_stream(alloc, servant, source, sink)
+    let end = serve_stream(alloc, servant, source, sink);
+    (*servant.peers).tell_gifts();
+    end
 }

@@ -1,4 +1,5 @@
 mod Acting
+pub mod Gifts
 mod Growing
 mod Moving
 mod Owning

@@ -7,12 +7,12 @@ use Rattle.td_session.proofs.session.serve_lent.Goals as goal
 use Rattle.td_session.proofs.Messages.{first_number}
 use Rattle.td_stream.proofs.Mapped.{seen_so}
 
-pub serve_stream-requires : goal.serve_stream-requires
-serve_stream-requires g c = first_number _ c.requires.desk
+pub serve_stream-end-requires : goal.serve_stream-end-requires
+serve_stream-end-requires g c = first_number _ c.requires.desk
 
 pub returns-clause-serves : goal.returns-clause-serves
 returns-clause-serves g c =
-    session_served g.T.Traders.others g.T.Traders.later _ _ _ _ _ c.requires.journal
+    session_served g.T.Traders.others g.T.Traders.later _ _ _ _ _ c.requires.journal c.tell_gifts.ensures
     (seen_so
     (λ v.
     stage_in
@@ -20,4 +20,4 @@ returns-clause-serves g c =
     (peers_seen (g.P.Peers.calls v.peers.now) (g.P.Peers.faults v.peers.now)) (g.W.Words.word v.words.now))
     v.room.now)
     _ _ (ServesMessage g.T.Traders.others g.T.Traders.later) Stays (λ s m r t x. x) (λ s t x. x) _ _ _ _ _
-    c.serve_stream.ensures.streams)
+    c.serve_stream-end.ensures.streams)
