@@ -14,10 +14,10 @@ alone-writes [] h = tt
 alone-writes (t ∷ ts) h = (record { opening = h.0.opening; changes = h.0.changes }, alone-writes ts h.1)
 
 pub runs-spell : RunsSpellReplies
-runs-spell o seeded end before after s opens = λ gifts.
+runs-spell o seeded end before after s opens =
     replies-spell nothing unchanged nothing_admitted o.home (beginning o seeded) s.later s.serves.turns
     (record {
       scene = record { world = alone-writes o.traders opens; desk = tt };
-      gifts = gifts;
+      gifts = s.serves.gifts;
     })
     s.serves.run

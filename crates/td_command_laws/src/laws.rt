@@ -13,7 +13,7 @@ pub fn histories_grow_by_own_changes()
 }
 
 /// Where the stores that a file opens can be written, each reply of a session over them spells the outcome of its
-/// Request, if what peers gave it can be written.
+/// Request.
 pub fn replies_spell_outcomes()
     ensures { RunsSpellReplies }
 {}

@@ -44,13 +44,13 @@ module _ {X : Type 0} (outside_of : X → Outside) (seeded : X → Seeded) (star
     (opens : IsWritableWorld start.world) where
   one-spells : (b : Begun X) (e : Ended X) (p : Serving outside_of seeded b e) → BeginsAfter start b
       → SpellsReplies p.serves.turns
-  one-spells b e p begins = λ gifts.
+  one-spells b e p begins =
       let words = seeded b.visitor (record { key = b.seed; stream = b.number }) in
       let first = scene b.first ([], 1) (peers_seen [] 0) words in
       replies-spell AreAdmitted Later (λ between admitted. admitted) b.home first p.scene_after p.serves.turns
       (record {
         scene = record { world = all-continue start.world b.first begins.seen opens; desk = tt };
-        gifts = gifts;
+        gifts = p.serves.gifts;
       })
       p.serves.run
 

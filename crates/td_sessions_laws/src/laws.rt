@@ -12,7 +12,7 @@ pub fn each_entry_is_of_one_session<V>()
 {}
 
 /// Of all sessions of a server whose traders were opened with stores that can be written: each reply spells the outcome
-/// of its Request, whatever the other sessions do meanwhile, where what peers gave the session can be written.
+/// of its Request, whatever the other sessions do meanwhile.
 pub fn each_reply_spells_its_outcome<V>()
     ensures { SessionsSpellReplies V }
 {}

@@ -38,7 +38,8 @@ use Rattle.td_reply.proofs.Admitted.{read_link}
 use Rattle.td_turns_laws.proofs.Resolved.{name-writes}
 use Rattle.td_turns_laws.proofs.Worlds.{goes-writes}
 use Rattle.td_turns_laws.specs.Spelled.{AdmitsAnswer, AdmitsShaped}
-use Rattle.td_turns_laws.specs.Writable.{AdmitsGifts, IsWritableDesk, IsWritableScene}
+use Rattle.td_turns_laws.specs.Writable.{IsWritableDesk, IsWritableScene}
+use Rattle.td_walk.specs.Peering.{AdmitsGifts}
 use Rattle.td_walk.specs.declared.trace.Address.{Address}
 
 -- an outcome of an operation has the shape of its result

@@ -22,7 +22,7 @@ use Rattle.td_trader_laws.proofs.WritingWorlds.{worlds-change}
 use Rattle.td_trader.specs.Admitted.{AdmitsRegister}
 use Rattle.td_trader_laws.specs.WritableWorlds.{IsWritableWorld, OthersAreAdmitted}
 use Rattle.td_reply.proofs.Admitted.{register_admitted, register_writes}
-use Rattle.td_turns_laws.specs.Writable.{AdmitsGifts}
+use Rattle.td_walk.specs.Peering.{AdmitsGifts}
 use Rattle.td_walk.specs.declared.trace.Address.{Address}
 
 -- what a peer gave

@@ -38,6 +38,7 @@ use Rattle.td_trader_laws.specs.WritableWorlds.{IsWritableWorld, OthersAreAdmitt
 use Rattle.td_types.proofs.Sequences.{sequence-from}
 use Rattle.td_value.specs.Structures.{offer}
 use Rattle.td_value.specs.declared.key.Kind.TheVariants as kind
+use Rattle.td_walk.specs.Peering.{AdmitsGifts}
 use Rattle.td_walk.specs.declared.trace.Address.{Address}
 use Rattle.td_walk.specs.declared.trace.TraceItem.{TraceItem}
 use Rattle.td_walk.specs.declared.trace.Visit.{Visit}
@@ -48,7 +49,7 @@ use Rattle.td_turns_laws.proofs.Parts.{given-writes, sequence-behind, sequence-f
 use Rattle.td_turns_laws.proofs.Walking.{GivesOffers, StaysWritable, walk-writes}
 use Rattle.td_turns_laws.proofs.WalkingChosen.{offers-chosen}
 use Rattle.td_turns_laws.proofs.WalkingStarts.{TellsRefused, start-refused, start-world, start-writes}
-use Rattle.td_turns_laws.specs.Writable.{AdmitsGifts, IsWritableDesk, IsWritableScene}
+use Rattle.td_turns_laws.specs.Writable.{IsWritableDesk, IsWritableScene}
 
 -- ---- limits
 

@@ -23,9 +23,9 @@ use Rattle.td_trader.specs.Worlds.{View, store_seen}
 use Rattle.td_trader_laws.proofs.WritingWorlds.{worlds-watch}
 use Rattle.td_trader_laws.specs.WritableWorlds.{IsWritableWorld, OthersAreAdmitted}
 use Rattle.td_turns_laws.proofs.Worlds.{seen-writes, store-writes}
-use Rattle.td_turns_laws.specs.Writable.{AdmitsGifts, IsWritableDesk, IsWritableScene}
+use Rattle.td_turns_laws.specs.Writable.{IsWritableDesk, IsWritableScene}
 use Rattle.td_types.proofs.Sequences.{each-found}
-use Rattle.td_walk.specs.Peering.{Exchange}
+use Rattle.td_walk.specs.Peering.{AdmitsGifts, Exchange}
 use Rattle.td_walk.specs.declared.fault.PeerFault.{PeerFault}
 use Rattle.td_walk.specs.declared.trace.Address.{Address}
 

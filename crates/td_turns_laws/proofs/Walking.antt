@@ -8,6 +8,7 @@ use Rattle.td_trader.specs.Worlds.{View}
 use Rattle.td_trader_laws.specs.WritableWorlds.{IsWritableWorld}
 use Rattle.td_types.proofs.Sequences.{each-append, sequence-each, sequence-from}
 use Rattle.td_value.specs.Structures.{offer}
+use Rattle.td_walk.specs.Peering.{AdmitsGift, AdmitsGifts}
 use Rattle.td_walk.specs.declared.answer.Next.{Next}
 use Rattle.td_walk.specs.declared.answer.StepAnswer.{StepAnswer}
 use Rattle.td_walk.specs.declared.trace.TraceItem.{TraceItem}
@@ -22,7 +23,6 @@ use Rattle.td_turns_laws.proofs.WalkingAnswers.{AreWritableSteps, IsWritableLoca
 use Rattle.td_turns_laws.proofs.WalkingItems.{each-parts}
 use Rattle.td_turns_laws.proofs.WalkingOffers.{AreOffers}
 use Rattle.td_turns_laws.proofs.WalkingStarts.{StartsWith}
-use Rattle.td_turns_laws.specs.Writable.{AdmitsGift, AdmitsGifts}
 
 -- ---- what a trace shows
 

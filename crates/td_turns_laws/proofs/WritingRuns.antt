@@ -25,7 +25,8 @@ use Rattle.td_turns_laws.proofs.ReadingCalls.{IsBody, judged-admits, request-bod
 use Rattle.td_turns_laws.proofs.TellingReplies.{reply-told}
 use Rattle.td_turns_laws.specs.Replies.{IsToldOf, IsTurnTold, OutcomesAreWritable, RepliesSpell}
 use Rattle.td_turns_laws.specs.Spelled.{AdmitsAnswer, IsAnswered}
-use Rattle.td_turns_laws.specs.Writable.{AdmitsGift, AdmitsGifts, IsWritableScene}
+use Rattle.td_turns_laws.specs.Writable.{IsWritableScene}
+use Rattle.td_walk.specs.Peering.{AdmitsGift, AdmitsGifts}
 use Rattle.td_walk.specs.declared.trace.Address.{Address}
 
 -- ---- lists

@@ -11,7 +11,8 @@ use Rattle.td_turns.specs.Journals.{all_gave}
 use Rattle.td_stream.specs.Messages.{behind, minor_of, order_of}
 use Rattle.td_turns.specs.Turns.{Noted, Run, Turn, noted_of}
 use Rattle.td_turns_laws.specs.Spelled.{IsAnswered, IsTold}
-use Rattle.td_turns_laws.specs.Writable.{AdmitsGifts, IsWritableScene}
+use Rattle.td_turns_laws.specs.Writable.{IsWritableScene}
+use Rattle.td_walk.specs.Peering.{AdmitsGifts}
 use Rattle.td_walk.specs.declared.trace.Address.{Address}
 
 -- what a turn answers a Request with, by its head: a Reply under its id that spells the outcome, or nothing
@@ -28,6 +29,10 @@ IsToldOf (Some n) t = IsRequestTold n t
 abbrev pub IsTurnTold : Turn → Type 0
 IsTurnTold t = IsToldOf t.request t
 
+-- each reply spells the outcome of its Request
+abbrev pub SpellsReplies : List Turn → Type 0
+SpellsReplies ts = AllByRecursion IsTurnTold ts
+
 -- Where a session begins at traders whose values can be written, and peers give only such values.
 pub record BeginsWritably (s : Scene) (ts : List Turn) : Type 0 where
   pub scene : IsWritableScene s
@@ -40,12 +45,8 @@ module _ (others : List Accepted → Type 0) (later : Marks → Marks → Type 0
       (home : Address) (s u : Scene) (ts : List Turn) → BeginsWritably s ts → Run others later home s ts u
       → AllByRecursion IsAnswered (noted_of ts) × IsWritableScene u
 
-  -- each reply spells the outcome of its Request
+  -- each reply spells it
   abbrev pub RepliesSpell : Type 0
   RepliesSpell =
       (home : Address) (s u : Scene) (ts : List Turn) → BeginsWritably s ts → Run others later home s ts u
-      → AllByRecursion IsTurnTold ts
-
--- Where what peers gave can be written, each reply spells the outcome of its Request.
-abbrev pub SpellsReplies : List Turn → Type 0
-SpellsReplies ts = AdmitsGifts (all_gave (noted_of ts)) → AllByRecursion IsTurnTold ts
+      → SpellsReplies ts

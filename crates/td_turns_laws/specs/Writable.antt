@@ -1,28 +1,13 @@
 -- What can be written of all that a session stands on, so that it can go into replies (CORBA, chapter on General
 -- Inter-ORB Protocol, "CDR Transfer Syntax").
-use Rattle.std.specs.Prelude.{List}
 use Rattle.std.specs.List.{AllByRecursion}
 use Rattle.td_cdr.specs.Sound.{sequence, text}
-use Rattle.td_codes.specs.References.{reference}
-use Rattle.td_codes.specs.Values.{any_value}
 use Rattle.td_iter.specs.Desks.{Live}
 use Rattle.td_iter.specs.declared.item.Item.{Item}
 use Rattle.td_iter.specs.declared.item.Item.TheVariants.{Offers, Ids}
 use Rattle.td_lookup.specs.Scenes.{Scene}
 use Rattle.td_trader_laws.specs.WritableWorlds.{IsWritableWorld}
 use Rattle.td_value.specs.Structures.{offer}
-use Rattle.td_walk.specs.Peering.{Given, Answered, Evaluated, Referred, Failed}
-
--- ---- what a peer gave: offers, a value, a reference, or nothing
-
-abbrev pub AdmitsGift : Given → Type 0
-AdmitsGift (Answered a) = AllByRecursion offer.format.admits a.offers
-AdmitsGift (Evaluated v) = any_value.format.admits v
-AdmitsGift (Referred r) = reference.format.admits r
-AdmitsGift (Failed f) = Unit {0}
-
-abbrev pub AdmitsGifts : List Given → Type 0
-AdmitsGifts gave = AllByRecursion AdmitsGift gave
 
 -- ---- what is left to iterators
 
