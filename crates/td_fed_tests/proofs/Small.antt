@@ -4,6 +4,7 @@ use Rattle.std.specs.List.{AllByRecursion}
 use Rattle.td_codes.specs.References.{profile, reference}
 use Rattle.td_codes.specs.declared.reference.Profile.{Profile}
 use Rattle.td_types.proofs.Sequences.{sequence-from}
+use Rattle.td_value.specs.Structures.{offer}
 use Rattle.td_value.specs.declared.structures.Offer.{Offer}
 use Rattle.td_walk.specs.Peering.{IsSmallOffer}
 
@@ -12,6 +13,12 @@ pub one_small : (before offers : List Offer) (o : Offer) → before ≡ [] → o
 one_small before offers o none one small =
     subst (AllByRecursion IsSmallOffer) (sym one)
     (subst (λ (b : List Offer). AllByRecursion IsSmallOffer (b ++ o ∷ [])) (sym none) (small, tt))
+
+pub one_writable : (before offers : List Offer) (o : Offer) → before ≡ [] → offers ≡ before ++ o ∷ []
+    → offer.format.admits o → AllByRecursion offer.format.admits offers
+one_writable before offers o none one writable =
+    subst (AllByRecursion offer.format.admits) (sym one)
+    (subst (λ (b : List Offer). AllByRecursion offer.format.admits (b ++ o ∷ [])) (sym none) (writable, tt))
 
 -- a reference without an id and without profiles can be written
 pub nobody_admitted : (id : List ℕ) (ps : List Profile) → id ≡ [] → ps ≡ []

@@ -1,15 +1,17 @@
 //! Peers by a script of a few words.
 
 ghost use Rattle.std.specs.Prelude.{IfOk, OnOk};
+ghost use Rattle.td_codes.specs.Values.{any_value};
 ghost use Rattle.td_peers.specs.Scripts.{IsAllowed, AreAllowed};
-ghost use Rattle.td_walk.specs.Peering.{IsSmallOffer, HasSmallOffers};
+ghost use Rattle.td_value.specs.Structures.{offer};
+ghost use Rattle.td_walk.specs.Peering.{IsSmallOffer, HasSmallOffers, HasWritableOffers};
 
 use crate::words::{nobody, text};
 use std::alloc::Global;
-use td_cdr::{Boxed, List, Memory, Octets, Shared};
+use td_cdr::{Boxed, List, Memory, Octets, Order, Reader, read_whole};
 use td_ior::make_ior;
 use td_peers::{MemPeers, Scripted};
-use td_value::{Any, Ior, Offer, Property, TypeCode, Value, offer_size};
+use td_value::{Any, Ior, Offer, TypeCode, Value, offer_size, read_any};
 use td_walk::SubAnswer;
 
 /// The object of a key; without a key a reference without profiles.
@@ -32,40 +34,57 @@ pub(crate) fn number(alloc: Global, n: u32) -> Result<Boxed<Any>, Memory> {
     )
 }
 
-/// A Floor.
-fn properties(alloc: Global) -> Result<List<Property>, Memory> {
-    let name = text(alloc, "Floor")?;
-    let mut properties = List::new(alloc);
-    properties.push(Property {
-        name,
-        value: Any {
-            code: TypeCode::ULong,
-            value: Value::ULong(3),
-        },
-    })?;
-    Ok(properties)
+/// An any that holds the unsigned long 7.
+const SEVEN: [u8; 8] = [0, 0, 0, 5, 0, 0, 0, 7];
+
+/// The value 7. It was read, so it can be written.
+#[tactic(auto, using(crate::proofs::ReadValues::boxed_admitted))]
+fn seven(alloc: Global) -> Result<Boxed<Any>, Memory>
+    ensures { IfOk result (λ v. any_value.format.admits v) }
+{
+    let mut reader = Reader::new(&SEVEN, 0, Order::Big);
+    match read_any(alloc, &mut reader) {
+        Ok(any) => Boxed::new(alloc, any),
+        Err(_) => Err(Memory),
+    }
 }
 
-/// An offer with one property.
+/// An offer of an object without an id and without profiles, with one property: a Floor of 3.
+const OFFER: [u8; 36] = [
+    0, 0, 0, 1, 0, 0, 0, 0, 0, 0, 0, 0, 0, 0, 0, 1, 0, 0, 0, 6, b'F', b'l', b'o', b'o', b'r', 0, 0,
+    0, 0, 0, 0, 5, 0, 0, 0, 3,
+];
+
+/// The offer. It was read, so it can be written.
 fn offer(alloc: Global) -> Result<Offer, Memory>
-    ensures { IfOk result IsSmallOffer }
+    ensures small { IfOk result IsSmallOffer }
+    ensures writable { IfOk result (λ o. offer.format.admits o) }
 {
-    let properties = Shared::new(alloc, properties(alloc)?)?;
-    let reference = Shared::new(alloc, nobody(alloc))?;
-    let size = offer_size(alloc, &reference, &properties)?;
+    let mut reader = Reader::new(&OFFER, 0, Order::Big);
+    match read_whole::<Offer>(alloc, &mut reader) {
+        Ok(read) => small_offer(alloc, read),
+        Err(_) => Err(Memory),
+    }
+}
+
+/// The offer, where it isn't large.
+fn small_offer(alloc: Global, read: Offer) -> Result<Offer, Memory>
+    requires { offer.format.admits read }
+    ensures small { IfOk result IsSmallOffer }
+    ensures writable { IfOk result (λ o. offer.format.admits o) }
+{
+    let size = offer_size(alloc, &read.reference, &read.properties)?;
     if size > 6 << 20 {
         return Err(Memory);
     }
-    Ok(Offer {
-        reference,
-        properties,
-    })
+    Ok(read)
 }
 
 /// An answer of one offer.
-#[tactic(auto, using(crate::proofs::Small::one_small))]
+#[tactic(auto, using(crate::proofs::Small::one_small, crate::proofs::Small::one_writable))]
 pub(crate) fn offered(alloc: Global) -> Result<SubAnswer, Memory>
-    ensures { IfOk result HasSmallOffers }
+    ensures small { IfOk result HasSmallOffers }
+    ensures writable { IfOk result HasWritableOffers }
 {
     let mut offers = List::new(alloc);
     offers.push(offer(alloc)?)?;
@@ -77,7 +96,8 @@ pub(crate) fn offered(alloc: Global) -> Result<SubAnswer, Memory>
 
 /// An answer without offers, which this limited.
 pub(crate) fn limited(alloc: Global, limit: &str) -> Result<SubAnswer, Memory>
-    ensures { IfOk result HasSmallOffers }
+    ensures small { IfOk result HasSmallOffers }
+    ensures writable { IfOk result HasWritableOffers }
 {
     let mut limits = List::new(alloc);
     limits.push(text(alloc, limit)?)?;
@@ -94,7 +114,7 @@ fn scripted(alloc: Global, word: &str) -> Result<Scripted, Memory>
     match word {
         "failed" => Ok(Scripted::Failed),
         "nobody" => Ok(Scripted::Reference(nobody(alloc))),
-        "seven" => Ok(Scripted::Evaluated(number(alloc, 7)?)),
+        "seven" => Ok(Scripted::Evaluated(seven(alloc)?)),
         "offer" => Ok(Scripted::Offers(offered(alloc)?)),
         _ => Ok(Scripted::Offers(limited(alloc, word)?)),
     }

@@ -1,2 +1,3 @@
 pub mod MadeReferences
 pub mod Groups
+pub mod ReadValues

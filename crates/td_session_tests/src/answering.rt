@@ -2,29 +2,36 @@
 
 ghost use Rattle.std.specs.Prelude.{IfOk, OnOk};
 ghost use Rattle.td_codes.specs.References.{reference};
+ghost use Rattle.td_codes.specs.Values.{any_value};
 ghost use Rattle.td_peers.specs.Scripts.{AreAllowed, IsAllowed};
-ghost use Rattle.td_walk.specs.Peering.{HasSmallOffers};
+ghost use Rattle.td_walk.specs.Peering.{HasSmallOffers, HasWritableOffers};
 
 use std::alloc::Global;
-use td_cdr::{Boxed, List, Memory, Octets, Text};
+use td_cdr::{Boxed, List, Memory, Octets, Order, Reader, Text};
 use td_ior::make_ior;
 use td_peers::{MemPeers, Scripted};
-use td_value::{Any, Ior, TypeCode, Value};
+use td_value::{Any, Ior, read_any};
 use td_walk::SubAnswer;
 
-fn two(alloc: Global) -> Result<Boxed<Any>, Memory> {
-    Boxed::new(
-        alloc,
-        Any {
-            code: TypeCode::ULong,
-            value: Value::ULong(2),
-        },
-    )
+/// An any that holds the unsigned long 2.
+const TWO: [u8; 8] = [0, 0, 0, 5, 0, 0, 0, 2];
+
+/// The value 2. It was read, so it can be written.
+#[tactic(auto, using(crate::proofs::ReadValues::boxed_admitted))]
+fn two(alloc: Global) -> Result<Boxed<Any>, Memory>
+    ensures { IfOk result (λ v. any_value.format.admits v) }
+{
+    let mut reader = Reader::new(&TWO, 0, Order::Big);
+    match read_any(alloc, &mut reader) {
+        Ok(any) => Boxed::new(alloc, any),
+        Err(_) => Err(Memory),
+    }
 }
 
 /// No offers, and the limit on hops.
 fn limited(alloc: Global) -> Result<SubAnswer, Memory>
-    ensures { IfOk result HasSmallOffers }
+    ensures small { IfOk result HasSmallOffers }
+    ensures writable { IfOk result HasWritableOffers }
 {
     let mut limits = List::new(alloc);
     limits.push(Text::from_slice(alloc, b"hop_count")?)?;

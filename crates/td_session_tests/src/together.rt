@@ -167,6 +167,10 @@ impl<'c> Peers for Watched<'c> {
         self.look();
         self.peers.resolve(alloc, register, name)
     }
+
+    fn tell_gifts(&self) {
+        self.peers.tell_gifts();
+    }
 }
 
 /// A client, and what comes of its session.
