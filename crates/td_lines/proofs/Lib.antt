@@ -4,3 +4,5 @@ pub mod OnLiterals
 pub mod Pairs
 pub mod Sounding
 pub mod Stepping
+pub mod Telling
+mod ToldValues
