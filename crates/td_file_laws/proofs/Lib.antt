@@ -1,1 +1,4 @@
+mod Accepting
+mod AcceptingTypes
 mod Opening
+pub mod WritableOpening
