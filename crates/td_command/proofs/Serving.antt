@@ -1,6 +1,7 @@
 -- A session with the traders that a file's text opens.
 use Rattle.std.proofs.Common.{◌≡◌, ℕ, List, [], map, Ok, ap, subst, ◌∙◌}
 use Rattle.std.proofs.Math.Path.{fun_ext}
+use Rattle.td_cdr.specs.Lawful.{AreOctets}
 use Rattle.td_file.specs.Files.{Opening, opening_of}
 use Rattle.td_iter.specs.Desks.{Live}
 use Rattle.td_lookup.specs.Scenes.{Scene, scene}
@@ -19,15 +20,16 @@ use Rattle.td_command.specs.declared.ended.Ended.TheVariants.{PrintFault, Served
 use Rattle.td_command.specs.Runs.{Seeded, ServesOpened, ServesOpening, ServesText, beginning, seeding_of}
 
 pub text-serves : (text : List ℕ) (o : Opening) (seeded : Seeded) (ended : Ended) (before after : Outside)
-    → opening_of text ≡ Ok o → ServesOpened o seeded ended before after → ServesText text seeded ended before after
-text-serves text o seeded (Served end) before after e h = (o, e, h)
-text-serves text o seeded Memory before after e h = h
-text-serves text o seeded Usage before after e h = absurd h
-text-serves text o seeded Missing before after e h = absurd h
-text-serves text o seeded TooLong before after e h = absurd h
-text-serves text o seeded (Refused number cause) before after e h = absurd h
-text-serves text o seeded Printed before after e h = absurd h
-text-serves text o seeded PrintFault before after e h = absurd h
+    → opening_of text ≡ Ok o → AreOctets text → ServesOpened o seeded ended before after
+    → ServesText text seeded ended before after
+text-serves text o seeded (Served end) before after e octets h = (o, e, octets, h)
+text-serves text o seeded Memory before after e octets h = h
+text-serves text o seeded Usage before after e octets h = absurd h
+text-serves text o seeded Missing before after e octets h = absurd h
+text-serves text o seeded TooLong before after e octets h = absurd h
+text-serves text o seeded (Refused number cause) before after e octets h = absurd h
+text-serves text o seeded Printed before after e octets h = absurd h
+text-serves text o seeded PrintFault before after e octets h = absurd h
 
 same-scene : (w : List View) (d0 d1 : Live) (p0 p1 : PeersSeen) (f0 f1 : ℕ → ℕ) → d0 ≡ d1 → p0 ≡ p1
     → ((k : ℕ) → f0 k ≡ f1 k) → scene w d0 p0 f0 ≡ scene w d1 p1 f1

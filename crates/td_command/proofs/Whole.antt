@@ -65,7 +65,7 @@ text_answered : (o : Opening) (seeded : Seeded) (text : List ℕ) (ended : Ended
 text_answered o seeded text (Served end) before after stream messages accepted h input servable unhurt =
     let same = ok_same h.0 o text h.1 accepted in
     let serves : ServesOpening o seeded end before after =
-    subst (λ (x : Opening). ServesOpening x seeded end before after) same h.2 in
+    subst (λ (x : Opening). ServesOpening x seeded end before after) same h.3 in
     session_answered o seeded end before after stream messages serves input servable unhurt
 text_answered o seeded text (Refused number why) before after stream messages accepted h input servable unhurt =
     absurd (no_both o number why text accepted h.0)

@@ -2,6 +2,7 @@
 pub use Rattle.td_command.specs.Seeds.{Seeded, seeding_of}
 pub use Rattle.td_command.specs.Shelves.{Shelves, shelves}
 use Rattle.std.specs.Prelude.{◌≡◌, ℕ, ◌≤◌, List, [], map, Option, Some, None, Ok, Err}
+use Rattle.td_cdr.specs.Lawful.{AreOctets}
 use Rattle.td_file.specs.Files.{Opening, opening_of}
 use Rattle.td_lines.specs.Steps.{refusal}
 use Rattle.td_lookup.specs.Scenes.{Scene, scene}
@@ -49,10 +50,10 @@ ServesOpened o seeded (Refused number cause) before after = ⊥
 ServesOpened o seeded Printed before after = ⊥
 ServesOpened o seeded PrintFault before after = ⊥
 
--- with the text of a file a session is served, or the file is refused
+-- with the text of a file, which is octets, a session is served, or the file is refused
 abbrev pub ServesText : List ℕ → Seeded → Ended → Outside → Outside → Type 0
 ServesText text seeded (Served end) before after =
-    (o : Opening) × (opening_of text ≡ Ok o) × ServesOpening o seeded end before after
+    (o : Opening) × (opening_of text ≡ Ok o) × AreOctets text × ServesOpening o seeded end before after
 ServesText text seeded (Refused number cause) before after =
     (opening_of text ≡ Err (refusal number cause)) × (after ≡ before)
 ServesText text seeded Memory before after = after ≡ before

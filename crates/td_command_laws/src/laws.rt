@@ -12,8 +12,7 @@ pub fn histories_grow_by_own_changes()
     td_turns::alone_histories_grow_by_own_changes();
 }
 
-/// Where the stores that a file opens can be written, each reply of a session over them spells the outcome of its
-/// Request.
+/// Each reply of a session over the traders of a file spells the outcome of its Request.
 pub fn replies_spell_outcomes()
     ensures { RunsSpellReplies }
 {}
