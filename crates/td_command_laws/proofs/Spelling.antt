@@ -2,7 +2,7 @@
 use Rattle.std.proofs.Common.{List, [], ◌∷◌, map}
 use Rattle.std.specs.List.{AllByRecursion}
 use Rattle.td_command.specs.Runs.{beginning}
-use Rattle.td_command_laws.specs.Spelling.{RunsSpellReplies}
+use Rattle.td_command_laws.specs.Spelling.{FilesSpellReplies, RunsSpellReplies}
 use Rattle.td_file_laws.proofs.WritableOpening.{files-open-writable}
 use Rattle.td_trader.specs.PlainTraders.{PlainTrader}
 use Rattle.td_trader.specs.Solos.{nothing, nothing_admitted, solo_view, unchanged}
@@ -15,12 +15,14 @@ alone-writes [] h = tt
 alone-writes (t ∷ ts) h = (record { opening = h.0.opening; changes = h.0.changes }, alone-writes ts h.1)
 
 pub runs-spell : RunsSpellReplies
-runs-spell text seeded end before after s =
-    let o = s.0 in
-    let served = s.3 in
-    replies-spell nothing unchanged nothing_admitted o.home (beginning o seeded) served.later served.serves.turns
+runs-spell o seeded end before after s opens =
+    replies-spell nothing unchanged nothing_admitted o.home (beginning o seeded) s.later s.serves.turns
     (record {
-      scene = record { world = alone-writes o.traders (files-open-writable text o s.2 s.1); desk = tt };
-      gifts = served.serves.gifts;
+      scene = record { world = alone-writes o.traders opens; desk = tt };
+      gifts = s.serves.gifts;
     })
-    served.serves.run
+    s.serves.run
+
+pub files-spell : FilesSpellReplies
+files-spell text seeded end before after s =
+    runs-spell s.0 seeded end before after s.3 (files-open-writable text s.0 s.2 s.1)

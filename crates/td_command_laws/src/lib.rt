@@ -3,4 +3,7 @@
 
 mod laws;
 
-pub use laws::{drills_are_not_refused, histories_grow_by_own_changes, replies_spell_outcomes};
+pub use laws::{
+    drills_are_not_refused, histories_grow_by_own_changes, replies_of_files_spell_outcomes,
+    replies_spell_outcomes,
+};
