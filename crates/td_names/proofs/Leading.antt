@@ -19,7 +19,9 @@ use Rattle.td_ior.specs.declared.profile.Iiop.{Iiop}
 use Rattle.td_names.specs.declared.address.Address.{Address}
 use Rattle.td_names.specs.References.{IsAddress, IsContextNumber, LeadsTo, SpellsContext, context_id, context_key}
 use Rattle.td_names.specs.References.{context_number, from_one, led_to, number_by, reference_of}
-use Rattle.td_names.proofs.Lengths.{made-short}
+use Rattle.td_cdr.specs.declared.order.Order.{Order}
+use Rattle.td_codes.specs.References.{reference}
+use Rattle.td_names.proofs.Lengths.{made-short, made_reference-short}
 
 -- ---- keys
 
@@ -128,3 +130,15 @@ reference-back home n a is =
     let host : bytes_eq home.host home.host ≡ true = same-host home.host home.host refl in
     let port : nat_eq home.port home.port ≡ true = same-port home.port home.port refl in
     rw (first, host, port) (made-number n is.0 is.1)
+
+pub own-short : (home : Address) (n : ℕ) (order : Order) (place : ℕ) → IsAddress home → n < 2 ^ 32
+    → length (reference.format.writes (reference_of home n) order place) ≤ 1200
+own-short home n order place a is =
+    let key : length (context_key n) ≤ 12 = omega (
+      arith,
+      digits-short n is,
+      length-append (codes "N/")
+          (decimal n),
+    ) in
+    let whole = made_reference-short context_id home.host (context_key n) home.port order place in
+    omega (arith, key, whole, a.short)

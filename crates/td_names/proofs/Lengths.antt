@@ -1,14 +1,16 @@
--- How long the octets of a made profile are at most.
+-- How long a made profile and a made reference are at most.
 use Rattle.std.proofs.Common.{◌≡◌, ℕ, ◌+◌, ◌≤◌, List, [], ◌∷◌, ◌++◌, length, replicate, arith, length-append}
 use Rattle.std.proofs.lemmas.List.{length-replicate}
 use Rattle.byteorder.specs.Numbers.{length-bytes_high_first, length-bytes_low_first}
-use Rattle.td_cdr.specs.Format.{Piece, number, ◌then◌}
+use Rattle.td_cdr.specs.Format.{Piece, number, row, ◌then◌}
 use Rattle.td_cdr.specs.Gap.{gap, bytes_of}
-use Rattle.td_cdr.specs.Sound.{text}
+use Rattle.td_cdr.specs.Sound.{octets, text}
 use Rattle.td_cdr.specs.Writing.{written_number, written_octets}
 use Rattle.td_cdr.specs.declared.order.Order.{Order}
 use Rattle.td_cdr.specs.declared.order.Order.TheVariants.{Big, Little}
-use Rattle.td_ior.specs.Profiles.{made_octets}
+use Rattle.td_codes.specs.References.{profile, reference}
+use Rattle.td_codes.specs.declared.reference.Profile.{Profile}
+use Rattle.td_ior.specs.Profiles.{made_octets, made_profile, made_reference}
 
 length-bytes_of : (order : Order) (size v : ℕ) → length (bytes_of order size v) ≡ size
 length-bytes_of Big size v = length-bytes_high_first size v
@@ -83,3 +85,35 @@ made-short host key port =
     then-short 1 (1 + ((8 + length host) + (3 + (7 + length key)))) ((number 1).writes 1) minor_on (octet-short 1) c in
     let front : List ℕ = ((number 1).writes 1 then minor_on) Big 1 in
     omega (arith, d.short Big 1, length-append front [])
+
+-- ---- references of one profile
+
+ulong-short : (v : ℕ) → IsAtMost 7 ((number 4).writes v)
+ulong-short v = record { short = λ order place. omega (arith, number-length 4 order place v) }
+
+profile-short : (p : Profile) → IsAtMost (7 + (7 + length p.octets)) (profile.format.writes p)
+profile-short p =
+    then-short 7 (7 + length p.octets) ((number 4).writes p.tag) (octets.format.writes p.octets) (ulong-short p.tag)
+    (octets-short p.octets)
+
+one-short : (p : Piece) (n : ℕ) → IsAtMost n p → IsAtMost n (row (p ∷ []))
+one-short p n a = record {
+  short = λ order place. omega (arith, a.short order place, length-append (p order place) []);
+}
+
+reference-short : (id : List ℕ) (p : Profile)
+    → IsAtMost ((8 + length id) + (7 + (7 + (7 + length p.octets))))
+    (reference.format.writes (record { id = id; profiles = p ∷ [] }))
+reference-short id p =
+    then-short (8 + length id) (7 + (7 + (7 + length p.octets))) (text.format.writes id)
+    ((number 4).writes 1 then row (profile.format.writes p ∷ [])) (text-short id)
+    (then-short 7 (7 + (7 + length p.octets)) ((number 4).writes 1) (row (profile.format.writes p ∷ [])) (ulong-short 1)
+    (one-short (profile.format.writes p) (7 + (7 + length p.octets)) (profile-short p)))
+
+pub made_reference-short : (id host key : List ℕ) (port : ℕ) (order : Order) (place : ℕ)
+    → length (reference.format.writes (made_reference id host port key 0) order place)
+    ≤ 50 + length id + length host + length key
+made_reference-short id host key port order place =
+    let octets_are = made-short host key port in
+    let whole = (reference-short id (made_profile host port key 0)).short order place in
+    omega (arith, octets_are, whole)

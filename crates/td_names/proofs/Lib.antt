@@ -1,3 +1,4 @@
+pub mod Changing
 pub mod Counts
 pub mod Lasts
 pub mod Leading
@@ -5,4 +6,6 @@ pub mod Lengths
 pub mod Listing
 pub mod Reached
 pub mod Refusals
+pub mod Single
 pub mod Walks
+pub mod Worked

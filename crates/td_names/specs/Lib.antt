@@ -1,7 +1,10 @@
 pub mod Applying
+pub mod Changing
+pub mod Examples
 pub mod Limits
 pub mod Reaching
 pub mod References
 pub mod Refusing
+pub mod Spelling
 pub mod Stores
 pub mod Walking

@@ -1,7 +1,11 @@
 //! What is asked of a naming context, and what it answers.
 
+ghost use Rattle.std.specs.Prelude.{◌≡◌};
+ghost use Rattle.td_names.specs.Changing.{is_change, makes_context};
+
 use crate::component::{NameBinding, NameComponent};
-use td_cdr::List;
+use std::alloc::Global;
+use td_cdr::{List, Memory, Twin, copy_two};
 use td_codes::Ior;
 
 /// A call of a naming context (OMG's Naming Service, interface CosNaming::NamingContext).
@@ -31,6 +35,71 @@ pub enum NameAct {
     },
     Destroy,
     List,
+}
+
+impl NameAct {
+    /// Whether it changes what is bound or which contexts there are, where it isn't refused.
+    pub fn is_change(&self) -> bool
+        ensures { result ≡ is_change self.now }
+    {
+        match self {
+            NameAct::Bind { .. }
+            | NameAct::BindContext { .. }
+            | NameAct::Rebind { .. }
+            | NameAct::Unbind { .. }
+            | NameAct::NewContext
+            | NameAct::BindNewContext { .. }
+            | NameAct::Destroy => true,
+            NameAct::Resolve { .. } | NameAct::List => false,
+        }
+    }
+
+    /// Whether it makes a context, where it isn't refused.
+    pub fn makes_context(&self) -> bool
+        ensures { result ≡ makes_context self.now }
+    {
+        match self {
+            NameAct::NewContext | NameAct::BindNewContext { .. } => true,
+            NameAct::Bind { .. }
+            | NameAct::BindContext { .. }
+            | NameAct::Rebind { .. }
+            | NameAct::Resolve { .. }
+            | NameAct::Unbind { .. }
+            | NameAct::Destroy
+            | NameAct::List => false,
+        }
+    }
+}
+
+impl Twin for NameAct {
+    fn copy(&self, alloc: Global) -> Result<NameAct, Memory> {
+        match self {
+            NameAct::Bind { name, object } => {
+                let (name, object) = copy_two(alloc, name, object)?;
+                Ok(NameAct::Bind { name, object })
+            }
+            NameAct::BindContext { name, object } => {
+                let (name, object) = copy_two(alloc, name, object)?;
+                Ok(NameAct::BindContext { name, object })
+            }
+            NameAct::Rebind { name, object } => {
+                let (name, object) = copy_two(alloc, name, object)?;
+                Ok(NameAct::Rebind { name, object })
+            }
+            NameAct::Resolve { name } => Ok(NameAct::Resolve {
+                name: name.copy(alloc)?,
+            }),
+            NameAct::Unbind { name } => Ok(NameAct::Unbind {
+                name: name.copy(alloc)?,
+            }),
+            NameAct::NewContext => Ok(NameAct::NewContext),
+            NameAct::BindNewContext { name } => Ok(NameAct::BindNewContext {
+                name: name.copy(alloc)?,
+            }),
+            NameAct::Destroy => Ok(NameAct::Destroy),
+            NameAct::List => Ok(NameAct::List),
+        }
+    }
 }
 
 /// What an accepted call gives.

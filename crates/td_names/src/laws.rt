@@ -1,9 +1,13 @@
 //! What holds of all calls and references, as functions that do nothing: the contract of each is a law.
 
-ghost use Rattle.std.specs.Prelude.{◌≡◌, ◌≤◌, ◌+◌, ◌↔◌, ℕ, List, Some, true, length};
+ghost use Rattle.std.specs.Prelude.{◌≡◌, ◌≤◌, ◌<◌, ◌+◌, ◌^◌, ◌↔◌, ℕ, List, Some, true, length};
+ghost use Rattle.td_cdr.specs.declared.order.Order.{Order as Ordered};
+ghost use Rattle.td_codes.specs.References.{reference};
 ghost use Rattle.td_codes.specs.declared.reference.Ior.{Ior as Reference};
 ghost use Rattle.td_ior.specs.Laws.{Agrees};
 ghost use Rattle.td_names.specs.Applying.{Applies};
+ghost use Rattle.td_names.specs.Changing.{Changes};
+ghost use Rattle.td_names.specs.Examples.{WorkedCalls, WorkedKeys};
 ghost use Rattle.td_names.specs.Limits.{name_fits};
 ghost use Rattle.td_names.specs.Reaching.{Reach};
 ghost use Rattle.td_names.specs.References.{IsAddress, IsContextNumber, LeadsTo, SpellsContext, context_number};
@@ -37,6 +41,12 @@ pub fn calls_change_once()
         × (length s.contexts ≤ length t.contexts) }
 {}
 
+/// A call that changes something is refused or accepted, and where it is accepted it counts as one change: its reply is
+/// nothing, or the reference of the context that it makes. Any other call leaves everything as it was.
+pub fn changes_are_replied()
+    ensures { (s t : Store) (c : ℕ) (a : Called) (r : Answered) → Applies s c a r t → Changes s a r t }
+{}
+
 /// The key of a context is read as it is written, and only so. A reference leads to a context exactly where its first
 /// profile tells so, and the reference of each context leads back to it.
 pub fn references_lead_home()
@@ -44,4 +54,16 @@ pub fn references_lead_home()
     ensures agrees { (home : Home) → Agrees (LeadsTo home) (led_to home) }
     ensures back { (home : Home) (n : ℕ) → IsAddress home → IsContextNumber n
         → led_to home (reference_of home n) ≡ Some n }
+{}
+
+/// The reference of a context has at most 1,200 bytes, wherever and in which order it is written.
+pub fn references_are_short()
+    ensures { (home : Home) (n : ℕ) (order : Ordered) (place : ℕ) → IsAddress home → n < 2 ^ 32
+        → length (reference.format.writes (reference_of home n) order place) ≤ 1200 }
+{}
+
+/// Worked examples: calls from the root on, one after the other, and keys.
+pub fn worked_names()
+    ensures calls { WorkedCalls }
+    ensures keys { WorkedKeys }
 {}

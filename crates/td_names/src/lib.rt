@@ -12,6 +12,7 @@ pub mod laws;
 mod limits;
 mod placing;
 mod resolving;
+mod spelling;
 mod store;
 mod walking;
 

@@ -1,8 +1,10 @@
 //! The contexts of a server, and the calls of them.
 
-ghost use Rattle.std.specs.Prelude.{◌≡◌, ◌≤◌, length, IfOk, OnErr, option_copied};
+ghost use Rattle.std.specs.Prelude.{◌≡◌, ◌≤◌, ◌+◌, length, IfOk, OnErr, option_copied};
 ghost use Rattle.td_cdr.specs.Text.{HasNoNul};
 ghost use Rattle.td_names.specs.Applying.{Applies};
+ghost use Rattle.td_names.specs.Limits.{most_contexts};
+ghost use Rattle.td_names.specs.References.{IsAddress};
 ghost use Rattle.td_names.specs.Stores.{bindings_full, bindings_of, bound_in, changes_full, contexts_full, is_live};
 ghost use Rattle.td_names.specs.Stores.{start};
 
@@ -74,7 +76,8 @@ impl NameStore {
 
     /// Where the server listens.
     pub fn home(&self) -> &Address
-        ensures { result.now ≡ self.now.home }
+        ensures home { result.now ≡ self.now.home }
+        ensures address { IsAddress result.now }
     {
         &self.home
     }
@@ -84,6 +87,14 @@ impl NameStore {
         ensures { result ≡ self.now.changes }
     {
         self.changes
+    }
+
+    /// How many contexts there were, with the root and with those that were destroyed: the number of the last one.
+    pub fn contexts(&self) -> u32
+        ensures count { result ≡ length self.now.contexts }
+        ensures few { result ≤ most_contexts + 1 }
+    {
+        self.contexts.len() as u32
     }
 
     /// Whether the context of a number is live. Takes no memory.
