@@ -1,0 +1,4 @@
+pub mod Accepting
+pub mod Following
+pub mod Remembering
+pub mod Worked
