@@ -1,0 +1,51 @@
+-- A stream of whole messages to a server is served up to the first that closes the session.
+use Rattle.std.proofs.Common.{◌≡◌, ℕ, List, [], refl, ap, subst, sym, inl, inr}
+use Rattle.std.specs.List.{before_first}
+use Rattle.std.specs.Io.KnownBytes.{Appends}
+use Rattle.td_naming.specs.declared.history.NameChange.{NameChange}
+use Rattle.td_stream.specs.Exchanges.{Exchange, messages_of, output}
+use Rattle.td_stream.specs.Messages.{is_closing}
+use Rattle.td_stream.specs.Outside.{Outside}
+use Rattle.td_stream.specs.declared.end.End.{End}
+use Rattle.td_stream.proofs.Complete.{complete as stream_complete}
+use Rattle.td_name_session.proofs.Exchanged.{exchanged, turned}
+use Rattle.td_name_session.specs.Completeness.{Completes}
+use Rattle.td_name_session.specs.Scenes.{Scene}
+use Rattle.td_name_session.specs.Sessions.{Serves}
+use Rattle.td_name_session.specs.Stages.{ServesMessage, Stage, Stays, stage}
+use Rattle.td_name_session.specs.Turns.{Run, exchanges_of, journal_of}
+
+module _ (others : List NameChange → Type 0) where
+  pub complete : (s u : Scene) (journal : List ℕ) (end : End) (before after : Outside)
+      → Serves others s u journal end before after → Completes others s u end before after
+  complete s u journal end before after f stream messages left servable unhurt =
+      let first = stage s [] in
+      let last = stage u (journal_of f.turns) in
+      elim (stream_complete (ServesMessage others) Stays first last end before after
+      (record {
+        exchanges = exchanges_of f.turns;
+        last = last;
+        run = exchanged others first u f.turns f.run;
+        stayed = refl;
+        stream = f.stream;
+      }) stream messages left servable unhurt) [
+        | inl closed ↦
+            let all = closed.1 in
+            let t = turned others first all.last all.exchanges all.run in
+            inl (
+              closed.0,
+              record {
+                turns = t.turns;
+                run =
+                    subst (λ (x : Scene). Run others s t.turns x)
+                    (ap (λ (x : Stage). x.scene) (sym all.stayed)) t.leads.run;
+                all =
+                    subst (λ (xs : List Exchange). messages_of xs ≡ before_first is_closing messages) (sym t.are)
+                    all.all;
+                gave =
+                    subst (λ (xs : List Exchange). Appends before.written after.written (output xs)) (sym t.are)
+                    all.gave;
+              },
+            )
+        | inr memory ↦ inr memory
+      ]

@@ -1,0 +1,13 @@
+pub mod Classes
+pub mod Complete
+pub mod Exchanged
+pub mod Fits
+pub mod Following
+pub mod Judgements
+pub mod Keeping
+pub mod Leading
+pub mod Messages
+pub mod Performing
+pub mod Replying
+pub mod Short
+pub mod Small

@@ -1,0 +1,14 @@
+pub mod Completeness
+pub mod Judging
+pub mod Keys
+pub mod Laws
+pub mod NumberLaws
+pub mod Outcomes
+pub mod Performing
+pub mod ReplyBytes
+pub mod Requests
+pub mod Scenes
+pub mod Sessions
+pub mod Settling
+pub mod Stages
+pub mod Turns
