@@ -1,0 +1,67 @@
+//! Sessions, whole.
+
+use crate::lines::{Told, answers, nothing_told, put_line};
+use crate::vectors::{BODIES, CYCLE, FIRST, LISTS, OBJECTS, PRINTERS};
+use std::alloc::Global;
+use std::process::Abort;
+use std::test::Fail;
+use td_cdr::Memory;
+
+/// Whether a session answers so, whole and in pieces.
+fn is_so(alloc: Global, told: &Told) -> Result<bool, Memory> {
+    Ok(answers(alloc, told, 100_000)? && answers(alloc, told, 7)?)
+}
+
+/// The first line with which a session doesn't answer as the lines up to it say.
+fn first_wrong<'l>(alloc: Global, lines: &'l str) -> Result<&'l str, Fail> {
+    let mut told = nothing_told(alloc);
+    for line in lines.lines() {
+        put_line(alloc, &mut told, line)?;
+        if !is_so(alloc, &told)? {
+            return Ok(line);
+        }
+    }
+    Ok("")
+}
+
+#[test]
+fn a_cycle(rt: HostRuntime) -> Result<(), Fail> {
+    let wrong = first_wrong(rt.alloc(), CYCLE)?;
+    assert!(rt; wrong.is_empty(), "at {wrong}");
+    Ok(())
+}
+
+#[test]
+fn a_name_that_is_not_bound(rt: HostRuntime) -> Result<(), Fail> {
+    let wrong = first_wrong(rt.alloc(), FIRST)?;
+    assert!(rt; wrong.is_empty(), "at {wrong}");
+    Ok(())
+}
+
+#[test]
+fn lists(rt: HostRuntime) -> Result<(), Fail> {
+    let wrong = first_wrong(rt.alloc(), LISTS)?;
+    assert!(rt; wrong.is_empty(), "at {wrong}");
+    Ok(())
+}
+
+#[test]
+fn objects(rt: HostRuntime) -> Result<(), Fail> {
+    let wrong = first_wrong(rt.alloc(), OBJECTS)?;
+    assert!(rt; wrong.is_empty(), "at {wrong}");
+    Ok(())
+}
+
+#[test]
+fn bodies_at_fault(rt: HostRuntime) -> Result<(), Fail> {
+    let wrong = first_wrong(rt.alloc(), BODIES)?;
+    assert!(rt; wrong.is_empty(), "at {wrong}");
+    Ok(())
+}
+
+#[test]
+fn printers(rt: HostRuntime) -> Result<(), Fail> {
+    let wrong = first_wrong(rt.alloc(), PRINTERS)?;
+    assert!(rt; wrong.is_empty(), "at {wrong}");
+    Ok(())
+}
