@@ -1,0 +1,4 @@
+pub mod Completeness
+pub mod Ends
+pub mod Runs
+pub mod Words

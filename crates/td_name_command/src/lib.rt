@@ -1,0 +1,9 @@
+//! `names HOST PORT`: the program that serves naming contexts over one connection.
+#![tactic(auto)]
+
+mod ended;
+mod program;
+mod serving;
+mod words;
+
+pub use program::{run_names, start_names};
