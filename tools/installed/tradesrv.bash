@@ -7,7 +7,7 @@ _tradesrv() {
         command=${COMP_WORDS[2]} at=2
     fi
     if [[ $COMP_CWORD -le $at ]]; then
-        mapfile -t COMPREPLY < <(compgen -W 'listen pipe check make drill' -- "$cur")
+        mapfile -t COMPREPLY < <(compgen -W 'listen pipe check make drill names' -- "$cur")
         [[ $COMP_CWORD -ne 1 || --proved != "$cur"* ]] || COMPREPLY+=(--proved)
     elif [[ $COMP_CWORD -eq $((at + 1)) && $command == @(listen|pipe|check) ]]; then
         compopt -o filenames 2> /dev/null

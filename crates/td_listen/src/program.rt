@@ -14,13 +14,15 @@ use std::time::Duration;
 use td_accept::{NoGate, TcpAccept};
 use td_command::{Ended, arguments, report};
 use td_journal::PastJournal;
+use td_name_command::start_names;
 use td_out::{FileTexts, StdSink};
 use td_sessions::DropEnded;
 use td_wire::ConnectionPool;
 
 /// The program over the arguments, the files, the network, the clock and the threads of this runtime, and these streams.
-/// It listens where its first word is `listen`, and does what `td_command::start` does otherwise. Where its words can't
-/// be had for want of memory, that is told here: they might be had a second time, and `listen` is no word of the others.
+/// It listens where its first word is `listen`, serves naming contexts where that is `names`, and does what
+/// `td_command::start` does otherwise. Where its words can't be had for want of memory, that is told here: they might be
+/// had a second time, and `listen` is no word of the others.
 pub fn start<
     R: Env
         + Files
@@ -40,6 +42,9 @@ pub fn start<
             drop(output);
             listen(rt, args.as_slice(), errors)
         }
+        Ok(args) if names(args.as_slice()) => {
+            start_names(rt.alloc(), args.as_slice(), input, output, errors)
+        }
         Err(e) if e.kind() == ErrorKind::OutOfMemory => refuse_memory(errors),
         _ => td_command::start(rt, input, output, errors),
     }
@@ -53,8 +58,17 @@ fn refuse_memory<E: Write + Drop>(errors: E) -> ExitCode {
 
 /// Whether the first word is `listen`.
 fn listens(args: &[String]) -> bool {
+    begins_with(args, "listen")
+}
+
+/// Whether the first word is `names`.
+fn names(args: &[String]) -> bool {
+    begins_with(args, "names")
+}
+
+fn begins_with(args: &[String], verb: &str) -> bool {
     match args.first() {
-        Some(word) => word.as_str() == "listen",
+        Some(word) => word.as_str() == verb,
         None => false,
     }
 }
