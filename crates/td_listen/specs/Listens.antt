@@ -2,6 +2,7 @@
 use Rattle.std.specs.Prelude.{◌≡◌, ℕ, ◌≤◌, List, [], ◌∷◌, codes, if◌then◌else◌, Option, None, Some, Ok, Err}
 use Rattle.std.specs.Str.{bytes_eq}
 use Rattle.td_accept.specs.Doors.{Door}
+use Rattle.td_cdr.specs.Lawful.{AreOctets}
 use Rattle.td_command.specs.Reports.{status_line}
 use Rattle.td_tell.specs.Texts.{Tells}
 use Rattle.td_command.specs.Reports.{line_of as command_line}
@@ -65,10 +66,10 @@ module _ {X : Type 0} (outside_of : X → Outside) (seeded : X → Seeded) where
   ServesOpening o TooLong before after = ⊥
   ServesOpening o (Refused number cause) before after = ⊥
 
-  -- with the text of a file the same, or the file is refused
+  -- with the text of a file, which is octets, the same, or the file is refused
   abbrev pub ServesText : List ℕ → Listened → Front X → Front X → Type 0
   ServesText text Over before after =
-      (o : Opening) × (opening_of text ≡ Ok o) × ServesOpening o Over before after
+      (o : Opening) × (opening_of text ≡ Ok o) × AreOctets text × ServesOpening o Over before after
   ServesText text Unaccepted before after =
       (o : Opening) × (opening_of text ≡ Ok o) × ServesOpening o Unaccepted before after
   ServesText text (Refused number cause) before after =

@@ -1,6 +1,6 @@
 mod AllSessions
 mod OneSession
 mod Places
-mod Spelling
+pub mod Spelling
 mod Views
 mod Worked
