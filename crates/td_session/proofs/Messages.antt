@@ -48,6 +48,7 @@ module _ (others : List Accepted → Type 0) (later : Marks → Marks → Type 0
         no_call = n.serves.no_call;
         octets = n.octets;
         short = n.short;
+        code = n.serves.code;
       } in
       record {
         noted = Some n.serves.noted;

@@ -12,12 +12,20 @@ use Rattle.td_reply.specs.Judging.{judged}
 use Rattle.td_reply.specs.declared.entry.Entry.{Entry}
 use Rattle.td_serve.specs.ReplyBytes.{reply_to}
 use Rattle.td_serve.specs.Requests.{NotesNoCall, Served}
-use Rattle.td_turns.specs.Turns.{Noted}
+use Rattle.td_reply.specs.declared.judging.Judged.{Judged}
+use Rattle.td_reply.specs.declared.judging.Judged.TheVariants.{Call, Refused}
+use Rattle.td_turns.specs.Turns.{FitsCode, Noted}
 use Rattle.td_walk.specs.declared.trace.Address.{Address}
 use Rattle.td_session.specs.Stages.{Stage, Leads, turn_of}
 
+-- the minor code of a refusal is a ulong
+abbrev pub HasCode : Judged → Type 0
+HasCode (Refused r) = FitsCode (Refused r) r
+HasCode (Call x c) = Unit {0}
+
 module _ (others : List Accepted → Type 0) (later : Marks → Marks → Type 0) where
-  -- The Request is judged and served at this scene; this is noted of it, and these bytes are its reply.
+  -- The Request is judged and served at this scene; this is noted of it, and these bytes are its reply. Where it spells
+  -- no call, the minor code that it is told is a ulong.
   pub record ServesHead (home : Address) (order : Order) (minor : ℕ) (head : Request) (body : At) (s : Scene)
       (e : Entry) (reply : List ℕ) (u : Scene) : Type 0 where
     pub noted : Noted
@@ -25,6 +33,7 @@ module _ (others : List Accepted → Type 0) (later : Marks → Marks → Type 0
     pub served : Served others later home (reply_to order minor head) noted.judged s noted.outcome noted.entry reply u
     pub no_call : NotesNoCall (request_class s.world s.desk head.key head.operation) noted.judged noted.entry
     pub entry : noted.entry ≡ e
+    pub code : FitsCode noted.judged noted.outcome
 
   -- and it is noted behind the journal; its body is octets, and its reply has fewer than 2^32 of them
   pub record NotesHead (order : Order) (minor : ℕ) (head : Request) (body : At) (s : Stage) (reply : List ℕ)

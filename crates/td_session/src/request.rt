@@ -5,7 +5,7 @@ ghost use Rattle.td_cdr.specs.Lawful.{AreOctets};
 ghost use Rattle.td_giop.specs.declared.header.TheConstants.{NEWEST_MINOR};
 ghost use Rattle.td_objects.specs.References.{IsAddress};
 ghost use Rattle.td_serve.specs.Backends.{scene_of};
-ghost use Rattle.td_session.specs.Serving.{NotesHead, ServesHead, Stays};
+ghost use Rattle.td_session.specs.Serving.{HasCode, NotesHead, ServesHead, Stays};
 ghost use Rattle.td_session.specs.Stages.{stage_in};
 ghost use Rattle.td_stream.specs.Heads.{asked_of};
 
@@ -15,7 +15,8 @@ use td_cdr::{Memory, Order, Reader};
 use td_giop::RequestHead;
 use td_iter::Desk;
 use td_journal::Journal;
-use td_reply::Entry;
+use td_ops::Outcome;
+use td_reply::{Entry, Judged};
 use td_serve::{Backend, Replies, ReplyTo, refuse_memory, serve_request};
 use td_walk::Address;
 
@@ -90,7 +91,22 @@ fn serve_head<B: Backend>(
         answered: head.answered,
     };
     match backend.judge(alloc, desk, head.key, head.operation, &head.body) {
-        Ok(judged) => serve_request(alloc, backend, home, desk, replies, to, judged),
+        Ok(judged) => {
+            code_bound(&judged);
+            serve_request(alloc, backend, home, desk, replies, to, judged)
+        }
         Err(class) => refuse_memory::<B>(alloc, replies, to, class),
+    }
+}
+
+/// What the type of a refusal's minor code says: it is a ulong.
+fn code_bound(judged: &Judged)
+    ensures { HasCode judged.now }
+{
+    match judged {
+        Judged::Refused(Outcome::System { minor, .. }) => {
+            let _minor = *minor;
+        }
+        Judged::Refused(_) | Judged::Call { .. } => {}
     }
 }

@@ -57,7 +57,7 @@ small-completion false = omega arith
 
 wanting-writes : (j : Judged) (e : Entry) → AdmitsAnswer j (wanting e)
 wanting-writes (Call x c) e = (omega arith, small-completion (list_any is_search (items_of e)))
-wanting-writes (Refused r) e = λ _. (omega arith, small-completion (list_any is_search (items_of e)))
+wanting-writes (Refused r) e = (omega arith, small-completion (list_any is_search (items_of e)))
 
 pub unserved-writes : (others : List Accepted → Type 0) (later : Marks → Marks → Type 0) (home : Address) (j : Judged)
     (s t : Scene) (o : Outcome) (e : Entry) → OthersAreAdmitted others → IsWritableScene s

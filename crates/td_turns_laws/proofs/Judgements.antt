@@ -37,6 +37,7 @@ use Rattle.td_reply.specs.declared.judging.Judged.TheVariants.{Call, Refused}
 use Rattle.td_reply.specs.declared.objects.Object.{Object}
 use Rattle.td_serve.specs.Requests.{Comes, number_in}
 use Rattle.td_trader.specs.Worlds.{View, name_at}
+use Rattle.td_turns.specs.Turns.{FitsCode}
 use Rattle.td_turns_laws.proofs.Iterated.{FitsLeft}
 use Rattle.td_turns_laws.specs.Spelled.{AdmitsAnswer}
 use Rattle.td_turns_laws.specs.Writable.{IsWritableScene}
@@ -47,9 +48,10 @@ use Rattle.td_walk.specs.declared.trace.Address.{Address}
 
 -- ---- refusals
 
+-- a refusal can be written whose minor code is a ulong
 abbrev AdmitsJudged : Judged → Type 0
 AdmitsJudged (Call x c) = Unit {0}
-AdmitsJudged (Refused r) = AdmitsAnswer (Refused r) r
+AdmitsJudged (Refused r) = FitsCode (Refused r) r → AdmitsAnswer (Refused r) r
 
 fault-admitted : (f : OpsFault) → AdmitsJudged (Refused (refusal_of f))
 fault-admitted fault.BadOperation = λ _. (omega arith, omega arith)
@@ -69,10 +71,12 @@ found-admitted (Some x) operation body = reading-admitted x (call_read x.kind op
 pub refused-writes : (others : List Accepted → Type 0) (later : Marks → Marks → Type 0) (home : Address)
     (w : List View) (d : Live) (key operation : List ℕ) (body : At) (r : Outcome) (draft : Draft) (s t : Scene)
     (o : Outcome) (e : Entry) → judged w d key operation body ≡ Refused r → IsWritableScene s
-    → Comes others later home (Refused r) draft s o e t → AdmitsAnswer (Refused r) o × IsWritableScene t
-refused-writes others later home w d key operation body r draft s t o e is h c =
+    → FitsCode (Refused r) o → Comes others later home (Refused r) draft s o e t
+    → AdmitsAnswer (Refused r) o × IsWritableScene t
+refused-writes others later home w d key operation body r draft s t o e is h code c =
     let told = subst AdmitsJudged is (found-admitted (object_at w d key) operation body) in
-    (subst (AdmitsAnswer (Refused r)) (sym c.0) told, subst IsWritableScene (sym c.2) h)
+    let fits = subst (FitsCode (Refused r)) c.0 code in
+    (subst (AdmitsAnswer (Refused r)) (sym c.0) (told fits), subst IsWritableScene (sym c.2) h)
 
 -- ---- an object of a group
 

@@ -47,4 +47,4 @@ outcome-spells which (System kind minor completion) order place ok short =
 pub answer-spells : (j : Judged) (o : Outcome) (order : Order) (place : ℕ) → AdmitsAnswer j o
     → length (outcome_piece o order place) < 2 ^ 32 → SpellsAnswer j o order place (outcome_piece o order place)
 answer-spells (Call x c) o order place ok short = outcome-spells (shape_asked x c) o order place ok short
-answer-spells (Refused r) o order place ok short = λ fits. system-spells o order place (ok fits) short
+answer-spells (Refused r) o order place ok short = system-spells o order place ok short

@@ -18,7 +18,8 @@ use Rattle.td_trader_laws.specs.WritableWorlds.{OthersAreAdmitted}
 use Rattle.td_turns.specs.Journals.{all_gave}
 use Rattle.td_serve.specs.ReplyBytes.{reply_to}
 use Rattle.td_stream.specs.Messages.{minor_of, order_of}
-use Rattle.td_turns.specs.Turns.{IsTurn, Noted, Run, ServesRequest, Turn, cancel, locate, noted_in, noted_of, request}
+use Rattle.td_turns.specs.Turns.{FitsCode, IsTurn, Noted, Run, ServesRequest, Turn, cancel, locate, noted_in, noted_of}
+use Rattle.td_turns.specs.Turns.{request}
 use Rattle.td_turns_laws.proofs.Calling.{calls-write, unserved-writes}
 use Rattle.td_turns_laws.proofs.Judgements.{judged-fits, refused-writes}
 use Rattle.td_turns_laws.proofs.ReadingCalls.{IsBody, judged-admits, request-body}
@@ -65,22 +66,22 @@ quiet-writes s t none kept scene =
 module _ (others : List Accepted → Type 0) (later : Marks → Marks → Type 0) (home : Address) where
   comes-writes : (key operation : List ℕ) (body : At) → IsBody body → OthersAreAdmitted others → (j : Judged)
       (draft : Draft) (s t : Scene) (o : Outcome) (e : Entry) → j ≡ judged s.world s.desk key operation body
-      → IsWritableScene s → AdmitsGifts (gave_in e) → Comes others later home j draft s o e t
+      → FitsCode j o → IsWritableScene s → AdmitsGifts (gave_in e) → Comes others later home j draft s o e t
       → AdmitsAnswer j o × IsWritableScene t
-  comes-writes key operation body h admitted (Call x c) draft s t o e asks scene gifts comes =
+  comes-writes key operation body h admitted (Call x c) draft s t o e asks code scene gifts comes =
       calls-write others later home x c draft s t o e admitted scene
       (judged-admits s.world s.desk key operation body h x c (sym asks))
       (judged-fits s.world s.desk key operation body x c h.within (sym asks)) comes gifts
-  comes-writes key operation body h admitted (Refused r) draft s t o e asks scene gifts comes =
-      refused-writes others later home s.world s.desk key operation body r draft s t o e (sym asks) scene comes
+  comes-writes key operation body h admitted (Refused r) draft s t o e asks code scene gifts comes =
+      refused-writes others later home s.world s.desk key operation body r draft s t o e (sym asks) scene code comes
 
   answers-write : (key operation : List ℕ) (body : At) → IsBody body → OthersAreAdmitted others → (j : Judged)
       (draft : Draft) (s t : Scene) (o : Outcome) (e : Entry) → j ≡ judged s.world s.desk key operation body
-      → IsWritableScene s → AdmitsGifts (gave_in e) → Answers others later home j draft s o e t
+      → FitsCode j o → IsWritableScene s → AdmitsGifts (gave_in e) → Answers others later home j draft s o e t
       → AdmitsAnswer j o × IsWritableScene t
-  answers-write key operation body h admitted j draft s t o e asks scene gifts (inl comes) =
-      comes-writes key operation body h admitted j draft s t o e asks scene gifts comes
-  answers-write key operation body h admitted j draft s t o e asks scene gifts (inr unserved) =
+  answers-write key operation body h admitted j draft s t o e asks code scene gifts (inl comes) =
+      comes-writes key operation body h admitted j draft s t o e asks code scene gifts comes
+  answers-write key operation body h admitted j draft s t o e asks code scene gifts (inr unserved) =
       unserved-writes others later home j s t o e admitted scene unserved
 
   request-writes : (s : Scene) (t : Turn) → (h : ServesRequest others later home s t) → OthersAreAdmitted others
@@ -90,7 +91,7 @@ module _ (others : List Accepted → Type 0) (later : Marks → Marks → Type 0
       let body = request-body t.message h.head h.body h.octets h.read in
       let here =
       answers-write h.head.key h.head.operation h.body body admitted n.judged h.served.draft s t.after
-      n.outcome n.entry h.asks scene (subst AdmitsGifts (append-nil (gave_in n.entry)) gifts) h.served.answers in
+      n.outcome n.entry h.asks h.code scene (subst AdmitsGifts (append-nil (gave_in n.entry)) gifts) h.served.answers in
       record {
         answered = (here.0, tt);
         told = record {

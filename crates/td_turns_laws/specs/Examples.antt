@@ -1,19 +1,19 @@
 -- Worked examples: what spells a truth, as `_is_a` answers it, in big order from place 24 on, where the head of a Reply
 -- ends; and what does not.
-use Rattle.std.specs.Prelude.{ℕ, true, List, [], ◌∷◌, ◌++◌, codes}
+use Rattle.std.specs.Prelude.{ℕ, ◌-◌, ◌^◌, true, List, [], ◌∷◌, ◌++◌, codes}
 use Rattle.td_cdr.specs.declared.order.Order.TheVariants.{Big}
 use Rattle.td_ops.specs.declared.call.Call.TheVariants as call
 use Rattle.td_ops.specs.declared.outcome.Outcome.TheVariants.{Done, System}
 use Rattle.td_ops.specs.declared.outcome.Outcome.{Outcome}
 use Rattle.td_ops.specs.declared.outcome.Reply.TheVariants.{Number, Truth}
-use Rattle.td_ops.specs.declared.outcome.SystemKind.TheVariants.{BadOperation}
+use Rattle.td_ops.specs.declared.outcome.SystemKind.TheVariants.{BadOperation, Marshal}
 use Rattle.td_ops.specs.declared.shape.Shape.TheVariants as shape
 use Rattle.td_reply.specs.declared.entry.Entry.TheVariants.{Plain}
-use Rattle.td_reply.specs.declared.judging.Judged.TheVariants.{Call}
+use Rattle.td_reply.specs.declared.judging.Judged.TheVariants.{Call, Refused}
 use Rattle.td_reply.specs.declared.objects.Object.{Object}
 use Rattle.td_serve.specs.declared.reply_to.ReplyTo.{ReplyTo}
-use Rattle.td_turns.specs.Turns.{Noted}
-use Rattle.td_turns_laws.specs.Spelled.{IsTold, SpellsOutcome}
+use Rattle.td_turns.specs.Turns.{FitsCode, Noted}
+use Rattle.td_turns_laws.specs.Spelled.{IsTold, SpellsAnswer, SpellsOutcome}
 
 -- BAD_OPERATION with the minor code 0, of a call that wasn't done
 abbrev pub bad_operation : Outcome
@@ -24,6 +24,10 @@ abbrev pub bad_operation_told : (completion : ℕ) → List ℕ
 bad_operation_told completion =
     0 ∷ 0 ∷ 0 ∷ 36 ∷ codes "IDL:omg.org/CORBA/BAD_OPERATION:1.0"
     ++ 0 ∷ 0 ∷ 0 ∷ 0 ∷ 0 ∷ 0 ∷ 0 ∷ 0 ∷ completion ∷ []
+
+-- a body that is at fault at this place
+abbrev pub marshal : (place : ℕ) → Outcome
+marshal place = System Marshal place 1
 
 -- an object says that it is of an interface
 abbrev pub is_one : Object → Noted
@@ -49,6 +53,12 @@ pub record WorkedSpelling : Type 0 where
   pub no_number : (b : List ℕ) → SpellsOutcome shape.Truth (Done (Number 1)) Big 24 b → ⊥
   pub refusal : SpellsOutcome shape.Truth bad_operation Big 24 (bad_operation_told 1)
   pub no_other_completion : SpellsOutcome shape.Truth bad_operation Big 24 (bad_operation_told 2) → ⊥
+  -- a Request that spells no call is told an exception, and no result
+  pub no_call : SpellsAnswer (Refused bad_operation) bad_operation Big 24 (bad_operation_told 1)
+  pub no_result : (b : List ℕ) → SpellsAnswer (Refused bad_operation) (Done (Truth true)) Big 24 b → ⊥
+  -- its minor code is a ulong
+  pub last_code : FitsCode (Refused (marshal (2 ^ 32 - 1))) (marshal (2 ^ 32 - 1))
+  pub no_code : FitsCode (Refused (marshal (2 ^ 32))) (marshal (2 ^ 32)) → ⊥
   pub reply : (x : Object) → IsTold to_five (is_one x) (is_one_told 1)
   pub no_other_reply : (x : Object) → IsTold to_five (is_one x) (is_one_told 0) → ⊥
   pub no_reply : (x : Object) → IsTold to_five (is_one x) [] → ⊥

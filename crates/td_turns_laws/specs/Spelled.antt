@@ -1,5 +1,5 @@
 -- When the body of a Reply spells an outcome (CORBA, chapter on General Inter-ORB Protocol, "Reply Body").
-use Rattle.std.specs.Prelude.{◌≡◌, ℕ, ◌^◌, ◌<◌, Bool, true, false, List, [], ◌++◌, length}
+use Rattle.std.specs.Prelude.{◌≡◌, ℕ, Bool, true, false, List, [], ◌++◌, length}
 use Rattle.td_cdr.specs.Sound.{◌&◌, text, ulong}
 use Rattle.td_cdr.specs.declared.order.Order.{Order}
 use Rattle.td_exceptions.specs.Exceptions.{row_of, user_id}
@@ -48,15 +48,10 @@ abbrev pub AdmitsSystem : Outcome → Type 0
 AdmitsSystem (System kind minor completion) = ulong.format.admits minor × ulong.format.admits completion
 AdmitsSystem other = ⊥
 
-abbrev pub minor_of : Outcome → ℕ
-minor_of (System kind minor completion) = minor
-minor_of other = 0
-
--- Of a call an outcome of its shape. A Request that spells no call is told a system exception, whose minor code is
--- the place of a fault in the message.
+-- Of a call an outcome of its shape. A Request that spells no call is told a system exception.
 abbrev pub AdmitsAnswer : Judged → Outcome → Type 0
 AdmitsAnswer (Call x c) o = AdmitsShaped (shape_asked x c) o
-AdmitsAnswer (Refused r) o = minor_of o < 2 ^ 32 → AdmitsSystem o
+AdmitsAnswer (Refused r) o = AdmitsSystem o
 
 abbrev pub IsAnswered : Noted → Type 0
 IsAnswered n = AdmitsAnswer n.judged n.outcome
@@ -78,7 +73,7 @@ SpellsOutcome which (System kind minor completion) order place b =
 
 abbrev pub SpellsAnswer : Judged → Outcome → Order → ℕ → List ℕ → Type 0
 SpellsAnswer (Call x c) o order place b = SpellsOutcome (shape_asked x c) o order place b
-SpellsAnswer (Refused r) o order place b = minor_of o < 2 ^ 32 → SpellsSystem o order place b
+SpellsAnswer (Refused r) o order place b = SpellsSystem o order place b
 
 -- the bytes are a Reply to the Request of this id, under the outcome's status, whose body spells the outcome
 pub record IsSpelled (to : ReplyTo) (n : Noted) (bytes : List ℕ) : Type 0 where

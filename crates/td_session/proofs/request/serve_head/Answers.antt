@@ -9,7 +9,7 @@ returns-in-Ok-clause-serves g c =
     served_head g.B.Backend.others g.B.Backend.later c.args.home.now c.args.order c.args.minor (asked_of c.args.head.now)
     c.args.head.now.body b.world c.args.desk.now c.judge.new.desk b.peers b.words c.in-Ok.judged served.0
     c.serve_request.result c.serve_request.new.replies _ c.judge.ensures.desk c.in-Ok.ensures.judged served.1
-    c.serve_request.ensures.no_call
+    c.serve_request.ensures.no_call c.code_bound.ensures
 
 pub returns-in-Err-clause-serves : goal.returns-in-Err-clause-serves
 returns-in-Err-clause-serves g c =
