@@ -17,7 +17,11 @@ use td_value::SpecifiedProps;
 use td_walk::{Address, Trace};
 
 /// The query that each trader is asked.
-fn drill_query(alloc: Global) -> Result<Query, Memory>
+///
+/// # Errors
+///
+/// `Memory` for want of memory alone.
+pub fn drill_query(alloc: Global) -> Result<Query, Memory>
     ensures { IfOk result (λ q. q ≡ drill_query) }
 {
     let service_type = Text::from_slice(alloc, b"Base")?;

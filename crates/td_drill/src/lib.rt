@@ -8,6 +8,7 @@ mod drilling;
 mod laws;
 mod tally;
 
+pub use asking::drill_query;
 pub use drilling::drill;
 pub use laws::worked_drills;
 pub use tally::Tally;

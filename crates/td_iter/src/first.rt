@@ -36,7 +36,7 @@ fn given_or_nil<'a>(iterator: &'a Ior, nil: &'a Ior, more: bool) -> &'a Ior
 /// # Errors
 ///
 /// `Memory` for want of memory alone; the writer is then unchanged.
-pub(crate) fn put_found(
+pub fn put_found(
     alloc: Global,
     w: &mut Writer,
     offers: &[Offer],
@@ -183,7 +183,7 @@ fn found_size(
 /// # Errors
 ///
 /// `Memory` for want of memory alone; the writer is then unchanged.
-pub(crate) fn put_first<T: Spelled>(
+pub fn put_first<T: Spelled>(
     alloc: Global,
     w: &mut Writer,
     items: &[T],

@@ -15,6 +15,7 @@ mod offers;
 mod truth;
 
 pub use desk::{Desk, Entry};
+pub use first::{put_first, put_found};
 pub use ids::IdIter;
 pub use item::Item;
 pub use iter::Iter;

@@ -79,7 +79,7 @@ gathered : (l : Local) (r : Reads Gathered) (word : ℕ → ℕ) (a : SubAnswer)
 gathered l (Ok r) word a h = subst AreLimits (sym h.limits) (limits_are l.effective.over r.0.given)
 gathered l (Err question) word a h = absurd h
 
-answer_limits : (l : Local) (answers : List StepAnswer) (word : ℕ → ℕ) (a : SubAnswer) → IsAnswer l answers word a
+pub answer_limits : (l : Local) (answers : List StepAnswer) (word : ℕ → ℕ) (a : SubAnswer) → IsAnswer l answers word a
     → AreLimits a.limits
 unfolding IsAnswer
 answer_limits l answers word a h = gathered l (visit_of l answers) word a h

@@ -56,7 +56,7 @@ fn choose(alloc: Global, desired: &SpecifiedProps, offer: &mut Offer) -> Result<
 /// # Errors
 ///
 /// `Memory` for want of memory alone.
-pub(crate) fn choose_each(
+pub fn choose_each(
     alloc: Global,
     desired: &SpecifiedProps,
     offers: List<Offer>,

@@ -9,6 +9,7 @@ mod offers;
 mod querying;
 mod unserved;
 
+pub use choosing::choose_each;
 pub use laws::worked_lookups;
 pub use naming::answer_resolve;
 pub use querying::answer_query;

@@ -1,5 +1,5 @@
 -- The change that an add_link comes to can be written: its register is the server's own, one that a peer gave, or none.
-use Rattle.std.proofs.Common.{◌≡◌, ℕ, ◌^◌, ◌<◌, Bool, true, false, cond, List, [], ◌∷◌, Option, Some, None, Result, Ok}
+use Rattle.std.proofs.Common.{◌≡◌, ℕ, Bool, true, false, cond, List, [], ◌∷◌, Option, Some, None, Ok}
 use Rattle.std.proofs.Common.{Err, IfOk, refl, sym, subst, arith}
 use Rattle.td_cdr.specs.Text.{HasNoNul}
 use Rattle.td_codes.specs.References.{profile, reference}
@@ -19,7 +19,6 @@ use Rattle.td_reply.specs.Linking.{Gave, link_change, register_given}
 use Rattle.td_trader.specs.Admitted.{AdmitsChange, AdmitsRegister}
 use Rattle.td_types.proofs.Sequences.{sequence-from}
 use Rattle.td_value.specs.declared.key.Kind.TheVariants as kind
-use Rattle.td_walk.specs.declared.fault.PeerFault.{PeerFault}
 use Rattle.td_walk.specs.declared.trace.Address.{Address}
 
 -- a link that is read from a request

@@ -29,6 +29,6 @@ pub use laws::{
     accepted_changes_are_short, changes_stand, refusals_change_nothing, worked_answers,
 };
 pub use linking::answer_add_link;
-pub use looking::answer_look;
+pub use looking::{answer_look, how_many};
 pub use objects::{Object, find_object};
 pub use target::Target;

@@ -59,8 +59,8 @@ pub fn answer_look<T: Traders>(
     })
 }
 
-/// How many ids a list is asked for.
-fn how_many(l: &Look) -> u32
+/// How many ids a list is asked for; 0 of any other look.
+pub fn how_many(l: &Look) -> u32
     ensures { result ≡ how_many l.now }
 {
     match l {

@@ -1,6 +1,6 @@
 -- Each reply of each session spells its outcome: what a session begins with can be written, since others make only such
 -- changes.
-use Rattle.std.proofs.Common.{ℕ, List, [], ◌∷◌, map, Option, sym, subst}
+use Rattle.std.proofs.Common.{List, [], ◌∷◌, map, sym, subst}
 use Rattle.std.proofs.lemmas.List.Sorted.{All-permutation}
 use Rattle.std.specs.List.{AllByRecursion, AllZip}
 use Rattle.td_cdr.specs.Marks.{Later}
