@@ -1,4 +1,5 @@
 pub mod Completeness
 pub mod Ends
+pub mod Examples
 pub mod Runs
 pub mod Words

@@ -2,8 +2,10 @@
 #![tactic(auto)]
 
 mod ended;
+mod laws;
 mod program;
 mod serving;
 mod words;
 
+pub use laws::worked_words;
 pub use program::{run_names, start_names};

@@ -11,3 +11,4 @@ pub mod Performing
 pub mod Replying
 pub mod Short
 pub mod Small
+pub mod Worked

@@ -1,4 +1,5 @@
 pub mod Completeness
+pub mod Examples
 pub mod Judging
 pub mod Keys
 pub mod Laws

@@ -1,7 +1,9 @@
 //! What holds of all sessions, as functions that do nothing: the contract of each is a law.
 
 ghost use Rattle.std.specs.Prelude.{ℕ, List};
+ghost use Rattle.td_cdr.specs.Writing.{Draft};
 ghost use Rattle.td_name_session.specs.Completeness.{Completes};
+ghost use Rattle.td_name_session.specs.Examples.{WorkedIterator, WorkedKeys, WorkedRequests};
 ghost use Rattle.td_name_session.specs.Laws.{AcceptedStand, OwnPlacesAreAccepted, PointsRise, RefusalsChangeNothing};
 ghost use Rattle.td_name_session.specs.Laws.{ResolvesByReach, SeenGoesOn};
 ghost use Rattle.td_name_session.specs.Scenes.{Scene};
@@ -36,4 +38,11 @@ pub fn names_are_resolved<N: Names>()
 pub fn all_messages_are_served<N: Names>()
     ensures { (s u : Scene) (journal : List ℕ) (end : End) (before after : Outside)
         → Serves N.others s u journal end before after → Completes N.others s u end before after }
+{}
+
+/// Which objects keys name, what is left of an iterator of two bindings, and what Requests of the root come to.
+pub fn worked_requests()
+    ensures keys { WorkedKeys }
+    ensures iterator { (draft : Draft) → WorkedIterator draft }
+    ensures requests { (draft : Draft) → WorkedRequests draft }
 {}

@@ -24,6 +24,7 @@ pub use judging::Judged;
 pub use keys::{NameKey, iterator_reference, read_name_key};
 pub use laws::{
     all_messages_are_served, names_are_resolved, points_are_places, refusals_change_nothing,
+    worked_requests,
 };
 pub use replies::Replies;
 pub use reply_to::ReplyTo;
