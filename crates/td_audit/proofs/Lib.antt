@@ -1,0 +1,10 @@
+pub mod Begun
+pub mod Carrying
+pub mod Comparing
+pub mod Differing
+pub mod FirstLine
+pub mod Going
+pub mod Happening
+pub mod Limited
+pub mod Stepping
+pub mod Worked

@@ -1,0 +1,11 @@
+pub mod Answers
+pub mod Auditing
+pub mod Changes
+pub mod Events
+pub mod Examples
+pub mod Following
+pub mod Judging
+pub mod Links
+pub mod Making
+pub mod Replies
+pub mod Verdicts
