@@ -1,0 +1,4 @@
+pub mod Oneness
+pub mod Roots
+pub mod Schedules
+pub mod Walks

@@ -1,0 +1,9 @@
+pub mod Cutting
+pub mod Following
+pub mod Given
+pub mod Growing
+pub mod Made
+pub mod Readings
+pub mod Whole
+pub mod Worked
+pub mod Writing

@@ -1,0 +1,23 @@
+//! What holds of every log that was made.
+
+ghost use Rattle.td_log_laws.specs.Examples.{WorkedLogs};
+ghost use Rattle.td_log_laws.specs.Made.{MadeLogsAreRight, MadeLogsPass};
+ghost use Rattle.td_trader.specs.PlainTraders.{PlainTrader};
+ghost use Rattle.td_walk.specs.declared.trace.Address.{Address};
+
+use td_audit_laws::verdicts_are_one;
+
+/// A log that `make_log` gives of traders that a file can open passes when it is audited, if it has fewer than 2^32
+/// bytes: each of its lines is read, each event is accepted, and each reply is the one that the server writes. So
+/// `audit` of it answers that each line passes, or wants memory.
+pub fn made_logs_pass()
+    ensures passes { MadeLogsPass }
+    ensures right { MadeLogsAreRight }
+{
+    verdicts_are_one();
+}
+
+/// Worked examples: the log of no traders, which is empty; and traders that no file opens.
+pub fn worked_logs()
+    ensures { (t : PlainTrader) (home : Address) → WorkedLogs t home }
+{}
