@@ -7,11 +7,14 @@ _tradesrv() {
         command=${COMP_WORDS[2]} at=2
     fi
     if [[ $COMP_CWORD -le $at ]]; then
-        mapfile -t COMPREPLY < <(compgen -W 'listen pipe check make drill names' -- "$cur")
+        mapfile -t COMPREPLY < <(compgen -W 'listen pipe check make drill names audit log' -- "$cur")
         [[ $COMP_CWORD -ne 1 || --proved != "$cur"* ]] || COMPREPLY+=(--proved)
-    elif [[ $COMP_CWORD -eq $((at + 1)) && $command == @(listen|pipe|check) ]]; then
+    elif [[ $COMP_CWORD -eq $((at + 1)) && $command == @(listen|pipe|check|audit) ]]; then
         compopt -o filenames 2> /dev/null
         mapfile -t COMPREPLY < <(compgen -d -- "$cur"; compgen -f -X '!*.trader' -- "$cur")
+    elif [[ $COMP_CWORD -eq $((at + 2)) && $command == audit ]]; then
+        compopt -o filenames 2> /dev/null
+        mapfile -t COMPREPLY < <(compgen -f -- "$cur")
     fi
 }
 

@@ -16,3 +16,4 @@ pub use command::run;
 pub use ended::Ended;
 pub use exit::{arguments, run_program, start};
 pub use reporting::{report, write_numbered};
+pub use verb::count_of;

@@ -48,7 +48,7 @@ fn from_one(count: u64) -> Option<u32>
 }
 
 /// The number of traders that a word tells: from 1 to 64, in decimal without leading zeros.
-pub(crate) fn count_of(word: &[u8]) -> Option<u32>
+pub fn count_of(word: &[u8]) -> Option<u32>
     ensures told { result ≡ count_of word.now }
     ensures within { IfSome result (λ n. (1 ≤ n) × (n ≤ 64)) }
 {

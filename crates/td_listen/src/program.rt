@@ -12,6 +12,7 @@ use std::thread;
 use std::thread::Threads;
 use std::time::Duration;
 use td_accept::{NoGate, TcpAccept};
+use td_audit_run::start_log;
 use td_command::{Ended, arguments, report};
 use td_journal::PastJournal;
 use td_name_command::start_names;
@@ -20,9 +21,9 @@ use td_sessions::DropEnded;
 use td_wire::ConnectionPool;
 
 /// The program over the arguments, the files, the network, the clock and the threads of this runtime, and these streams.
-/// It listens where its first word is `listen`, serves naming contexts where that is `names`, and does what
-/// `td_command::start` does otherwise. Where its words can't be had for want of memory, that is told here: they might be
-/// had a second time, and `listen` is no word of the others.
+/// It listens where its first word is `listen`, serves naming contexts where that is `names`, audits or prints a log where
+/// that is `audit` or `log`, and does what `td_command::start` does otherwise. Where its words can't be had for want of
+/// memory, that is told here: they might be had a second time, and `listen` is no word of the others.
 pub fn start<
     R: Env
         + Files
@@ -45,6 +46,10 @@ pub fn start<
         Ok(args) if names(args.as_slice()) => {
             start_names(rt.alloc(), args.as_slice(), input, output, errors)
         }
+        Ok(args) if logs(args.as_slice()) => {
+            drop(input);
+            start_log(rt, args.as_slice(), output, errors)
+        }
         Err(e) if e.kind() == ErrorKind::OutOfMemory => refuse_memory(errors),
         _ => td_command::start(rt, input, output, errors),
     }
@@ -64,6 +69,11 @@ fn listens(args: &[String]) -> bool {
 /// Whether the first word is `names`.
 fn names(args: &[String]) -> bool {
     begins_with(args, "names")
+}
+
+/// Whether the first word is `audit` or `log`.
+fn logs(args: &[String]) -> bool {
+    begins_with(args, "audit") || begins_with(args, "log")
 }
 
 fn begins_with(args: &[String], verb: &str) -> bool {

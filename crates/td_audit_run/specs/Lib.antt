@@ -1,0 +1,5 @@
+pub mod Audits
+pub mod Commands
+pub mod Printing
+pub mod Reports
+pub mod Status

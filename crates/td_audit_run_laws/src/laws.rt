@@ -1,0 +1,16 @@
+//! What the commands on logs make of what each other prints.
+
+ghost use Rattle.td_audit_run_laws.specs.Rings.{FilesLogsPass, RingLogsPass};
+
+use td_audit_laws::verdicts_are_one;
+
+/// A log that was made of the traders of a file passes, if it has fewer than 2^32 bytes. So an audit, over the file of a
+/// ring of 1 to 64 traders, of the log that was printed for that ring says that each line passes; or a text isn't read,
+/// the log is longer than 64 MiB, memory is wanting, or the sink fails.
+pub fn made_logs_are_audited()
+    ensures files { FilesLogsPass }
+    ensures rings { RingLogsPass }
+{
+    verdicts_are_one();
+    td_make_file_laws::generated_files_open();
+}

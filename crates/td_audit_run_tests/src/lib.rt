@@ -1,0 +1,5 @@
+//! Tests of the commands on logs.
+#![tactic(auto)]
+
+#[cfg(test)]
+mod commands;
