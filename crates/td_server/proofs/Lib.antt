@@ -1,0 +1,4 @@
+pub mod Closing
+pub mod Coming
+pub mod Counting
+pub mod Flags
