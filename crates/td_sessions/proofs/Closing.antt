@@ -1,45 +1,18 @@
 -- The sessions of a server, from the binding of its acceptor to the traders in the end.
-use Rattle.std.proofs.Common.{◌≡◌, ◌∙◌, ℕ, Bool, List, [], OnOk, Option, Result, option_map, true, ap, subst}
+use Rattle.std.proofs.Common.{◌≡◌, ◌∙◌, ℕ, List, OnOk, Option, Result, option_map, ap, subst}
 use Rattle.std.proofs.lemmas.Result.{on_ok_weaker}
 use Rattle.td_accept.specs.Doors.{Door, bound_to}
-use Rattle.td_reply.specs.declared.entry.Entry.{Entry}
 use Rattle.td_stream.specs.Outside.{Outside}
-use Rattle.td_stream.specs.declared.end.End.{End}
 use Rattle.td_trader.specs.PlainTraders.{PlainTrader}
 use Rattle.td_trader.specs.Worlds.{View}
 use Rattle.td_walk.specs.declared.trace.Address.{Address}
-use Rattle.td_sessions.proofs.Counting.{whole}
-use Rattle.td_sessions.specs.Sessions.{Begun, Ended, Seeded, ServesOn, Stand, Told}
+use Rattle.td_sessions.specs.Sessions.{Seeded, Stand, Told}
 use Rattle.td_sessions.specs.Whole.{ServesAll, ServesFrom, Whole, beginning, opened_views}
-
--- ---- the words of specs.Sessions as functions of their parts
-
-abbrev pub stand : {X : Type 0} → Address → List ℕ → Option (Door X) → Option (Told X) → List View → Stand X
-stand home seed door told world = record { home = home; seed = seed; door = door; told = told; world = world }
-
-abbrev pub begun : {X : Type 0} → ℕ → Address → List ℕ → X → List View → Begun X
-begun number home seed visitor first =
-    record { number = number; home = home; seed = seed; visitor = visitor; first = first }
-
-abbrev pub ended : {X : Type 0} → X → End → Bool → List Entry → List View → Ended X
-ended visitor end limited journal last =
-    record { visitor = visitor; end = end; limited = limited; journal = journal; last = last }
 
 -- ---- from the end of one call to the next
 
 pub if_ok : {T E P Q : Type 0} (r : Result T E) → OnOk r P → (P → Q) → OnOk r Q
 if_ok r p f = on_ok_weaker r f p
-
--- the same end, told in other words
-pub ends_at : {X : Type 0} (outside_of : X → Outside) (seeded : X → Seeded) (s : Stand X) (home h : Address)
-    (seed z : List ℕ) (door d : Option (Door X)) (told t : Option (Told X)) (world : List View) → h ≡ home → z ≡ seed
-    → d ≡ door → t ≡ told
-    → ServesOn outside_of seeded true s 0 [] (record { home = h; seed = z; door = d; told = t; world = world })
-    → ServesOn outside_of seeded true s 0 []
-    (record { home = home; seed = seed; door = door; told = told; world = world })
-ends_at {X} outside_of seeded s home h seed z door d told t world is_h is_z is_d is_t run =
-    subst (ServesOn outside_of seeded true s 0 [])
-    (λ i. record { home = is_h i; seed = is_z i; door = is_d i; told = is_t i; world = world }) run
 
 module _ {X : Type 0} (outside_of : X → Outside) (seeded : X → Seeded) (home : Address) (seed : List ℕ) where
   -- the traders that were opened, as they are seen
@@ -47,32 +20,32 @@ module _ {X : Type 0} (outside_of : X → Outside) (seeded : X → Seeded) (home
       (told : Option (Told X)) (door_after : Option (Door X)) (told_after : Option (Told X)) → opened ≡ traders
       → world ≡ opened_views traders
       → ServesFrom outside_of seeded opened
-      (record { home = home; seed = seed; door = door; told = told; world = world }) door_after told_after
+      (record { given = home; seed = seed; door = door; told = told; world = world }) door_after told_after
       → ServesFrom outside_of seeded traders
-      (record { home = home; seed = seed; door = door; told = told; world = opened_views traders }) door_after
+      (record { given = home; seed = seed; door = door; told = told; world = opened_views traders }) door_after
       told_after
   from_opened opened traders world door told door_after told_after o w f =
       subst (λ (v : List View). ServesFrom outside_of seeded traders
-      (record { home = home; seed = seed; door = door; told = told; world = v }) door_after told_after) w
+      (record { given = home; seed = seed; door = door; told = told; world = v }) door_after told_after) w
       (subst (λ (ts : List PlainTrader). ServesFrom outside_of seeded ts
-      (record { home = home; seed = seed; door = door; told = told; world = world }) door_after told_after) o f)
+      (record { given = home; seed = seed; door = door; told = told; world = world }) door_after told_after) o f)
 
   -- the acceptor was bound
   pub from_bound : (traders : List PlainTrader) (host : List ℕ) (door bound : Option (Door X)) (told : Option (Told X))
       (door_after : Option (Door X)) (told_after : Option (Told X)) → host ≡ home.host
       → bound ≡ option_map (bound_to host home.port) door
       → ServesFrom outside_of seeded traders
-      (record { home = home; seed = seed; door = bound; told = told; world = opened_views traders }) door_after
+      (record { given = home; seed = seed; door = bound; told = told; world = opened_views traders }) door_after
       told_after
       → ServesAll outside_of seeded home seed traders door told door_after told_after
   from_bound traders host door bound told door_after told_after h b f =
       let is : bound ≡ option_map (bound_to home.host home.port) door =
       b ∙ ap (λ (l : List ℕ). option_map (bound_to l home.port) door) h in
       let start : Stand X =
-      record { home = home; seed = seed; door = bound; told = told; world = opened_views traders } in
+      record { given = home; seed = seed; door = bound; told = told; world = opened_views traders } in
       let same : start ≡ beginning home seed traders door told =
       ap (λ (d : Option (Door X)). record {
-        home = home;
+        given = home;
         seed = seed;
         door = d;
         told = told;
@@ -82,7 +55,7 @@ module _ {X : Type 0} (outside_of : X → Outside) (seeded : X → Seeded) (home
       record {
         end = f.end;
         whole =
-            subst (λ (s : Stand X). Whole outside_of seeded s f.end) same (whole outside_of seeded start f.end f.run);
+            subst (λ (s : Stand X). Whole outside_of seeded s f.end) same f.whole;
         left = f.left;
         hands = f.hands;
       }

@@ -4,8 +4,6 @@ use denote.RattleType.{RattleType}
 use denote.Ref.{NamedLft}
 use denote.Struct.Declared.{shape}
 use Rattle.std.proofs.Crossing.{crosses}
-use Rattle.td_accept.proofs.visitor.Limited.TheSendSync as limited_cross
-use Rattle.td_accept.proofs.visitor.Visitor.TheSendSync as visitor_cross
 use Rattle.td_cdr.proofs.boxed.Boxed.TheSendSync as boxed_cross
 use Rattle.td_cdr.proofs.list.List.TheSendSync as list_cross
 use Rattle.td_cdr.proofs.text.Text.TheSendSync as text_cross
@@ -13,8 +11,8 @@ use Rattle.td_codes.proofs.reference.Ior.TheSendSync as ior_cross
 use Rattle.td_iter.specs.contracts.desk.Desk as desk
 use Rattle.td_iter.specs.contracts.item.Item as item
 use Rattle.td_journal.specs.declared.journal.Journal.{Ghosts}
-use Rattle.td_sessions.specs.contracts.session.Served as served
-use Rattle.td_sessions.specs.contracts.session.Session as session
+use Rattle.td_sessions.specs.contracts.session.SessionEnd as session_end
+use Rattle.td_sessions.specs.contracts.session.TraderPass as trader_pass
 use Rattle.td_sends.proofs.Sends.{any_send, group_pass_field, offer_send}
 use Rattle.td_serve.proofs.replies.Replies.TheSendSync as replies_cross
 use Rattle.td_stream.proofs.end.End.TheSendSync as end_cross
@@ -55,32 +53,15 @@ module _ (J : RattleType) (n : Ghosts J.Denot) (j : IsSend J) where
         (desk_send, (search (j, sendable), (replies_cross.the_send, tt))),
       )))
 
-module _ (a : NamedLft) (S K L W J R : RattleType) (s : IsSend S) (k : IsSend K) (l : IsSend L)
-    (w : IsSend W) (j : IsSend J) (r : IsSync R) where
-  pub served_send : IsSend (served.the_row a S K L W J R)
-  served_send =
-      recorded_send (served.the_field a S K L W J R).row _ _ (served.the_type a S K L W J R).to_one
-      (struct_send (shape (served.the_type a S K L W J R)) (
-        visitor_cross.the_field_send S K L W s k l w,
-        (
-          end_cross.the_field_send,
-          (search (limited_cross.the_send, sendable, crosses), (search (j, sendable), (group_pass_field a R r, tt))),
-        ),
-      ))
+  pub session_end_send : IsSend (session_end.the_row J)
+  session_end_send =
+      recorded_send (session_end.the_field J).row _ _ (session_end.the_type J).to_one
+      (struct_send (shape (session_end.the_type J)) (end_cross.the_field_send, (search (j, sendable), tt)))
 
-  pub session_send : (G : RattleType) (n : Ghosts J.Denot) → IsSync G → IsSend (session.the_row a S K L W J G R n)
-  session_send G n g =
-      recorded_send (session.the_field a S K L W J G R n).row _ _ (session.the_type a S K L W J G R n).to_one
-      (struct_send (shape (session.the_type a S K L W J G R n)) (
+  pub pass_send : (a : NamedLft) (R : RattleType) → IsSync R → IsSend (trader_pass.the_row a J R n)
+  pass_send a R r =
+      recorded_send (trader_pass.the_field a J R n).row _ _ (trader_pass.the_type a J R n).to_one
+      (struct_send (shape (trader_pass.the_type a J R n)) (
         search (sendable, crosses) depth 20,
-        (
-          shr_send a.mir a.lft G g,
-          (
-            search (sendable, crosses) depth 20,
-            (
-              search sendable depth 20,
-              (visitor_cross.the_field_send S K L W s k l w, (room_send J n j, (group_pass_field a R r, tt))),
-            ),
-          ),
-        ),
+        (room_send, (group_pass_field a R r, tt)),
       ))

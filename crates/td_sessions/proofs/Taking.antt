@@ -12,6 +12,7 @@ use Rattle.td_group.proofs.Seen.{before_one, one_is, some_one}
 use Rattle.td_group.specs.Grouping.{IsClosed, IsFresh, Meets, SplitsOff}
 use Rattle.td_group.specs.Rows.{Rows}
 use Rattle.td_group.specs.Seeing.{seen_by, trader_of, view_by}
+use Rattle.td_server.specs.Rows.{Rows as Beside}
 use Rattle.td_trader.specs.Following.{FollowsWritably}
 use Rattle.td_trader.specs.PlainTraders.{PlainTrader}
 use Rattle.td_trader.specs.Worlds.{View, view_of}
@@ -102,7 +103,7 @@ module _ {A R : Type 0} {g : Ghosts PlainTrader A R} where
 
   -- what a session has seen and done is taken in
   pub joins_all : (ps ts qs : List (Pass PlainTrader A R g)) → Rows Meets ps ts qs
-      → Rows Joins (map seen_by ps) (map seen_by ts) (map seen_by qs)
+      → Beside Joins (map seen_by ps) (map seen_by ts) (map seen_by qs)
   joins_all [] [] [] r = tt
   joins_all [] [] (q ∷ qs) r = absurd r
   joins_all [] (t ∷ ts) qs r = absurd r

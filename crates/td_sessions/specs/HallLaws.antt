@@ -1,39 +1,7 @@
--- Counts of faults that go up, sessions that are handed on, and what a stop says from before on.
-use Rattle.std.proofs.Common.{◌≡◌, ℕ, ◌≤◌, List, [], ◌++◌, Option, None, Some, option_map, refl, sym, ap, ◌∙◌, arith}
-use Rattle.std.proofs.Common.{append_assoc, append-nil}
-use Rattle.td_out.proofs.Steps.{Rose-later}
-use Rattle.td_workers.specs.declared.hall.Stop.{Stop}
-use Rattle.td_workers.specs.declared.hall.Stop.TheVariants.{Failed, Memory}
-use Rattle.td_sessions.specs.Sessions.{Handed, HandsSome, StopsSo, Told, with_sessions}
+-- Sessions that are handed on.
+use Rattle.std.proofs.Common.{◌≡◌, Option}
+use Rattle.td_server.specs.HallLaws.{hands_none as hands_none_of}
+use Rattle.td_sessions.specs.Sessions.{HandsSome, Told, trading}
 
-pub stays_as : (n : ℕ) → n ≤ n
-stays_as n = omega arith
-
-pub goes_up : (a b c : ℕ) → a ≤ b → b ≤ c → a ≤ c
-goes_up a b c p q = omega arith
-
-pub stops_later : (a b c : ℕ) (why : Stop) → a ≤ b → StopsSo why b c → StopsSo why a c
-stops_later a b c Failed p q = Rose-later a b c p q
-stops_later a b c Memory p q = tt
-
-module _ {X : Type 0} where
-  pub handed_none : (told : Option (Told X)) → told ≡ option_map (with_sessions []) told
-  handed_none None = refl
-  handed_none (Some t) = ap (λ (l : List (Handed X)). Some (record t { sessions = l })) (sym (append-nil t.sessions))
-
-  pub handed_all : (told : Option (Told X)) (hs ks : List (Handed X))
-      → option_map (with_sessions (hs ++ ks)) told ≡ option_map (with_sessions ks) (option_map (with_sessions hs) told)
-  handed_all None hs ks = refl
-  handed_all (Some t) hs ks =
-      ap (λ (l : List (Handed X)). Some (record t { sessions = l })) (sym (append_assoc t.sessions hs ks))
-
-  pub hands_none : (told after : Option (Told X)) → after ≡ told → HandsSome told after
-  hands_none told after e = record { sessions = []; handed_on = e ∙ handed_none told }
-
-  pub hands_on : (a b c : Option (Told X)) → HandsSome a b → HandsSome b c → HandsSome a c
-  hands_on a b c p q = record {
-    sessions = p.sessions ++ q.sessions;
-    handed_on =
-        q.handed_on ∙ ap (option_map (with_sessions q.sessions)) p.handed_on
-        ∙ sym (handed_all a p.sessions q.sessions);
-  }
+pub hands_none : {X : Type 0} (told after : Option (Told X)) → after ≡ told → HandsSome told after
+hands_none {X} told after e = hands_none_of {k = trading} {X = X} told after e

@@ -1,7 +1,8 @@
 //! Where sessions go that have ended.
 
 ghost use Rattle.std.specs.Prelude.{◌≡◌, [], None, Some, Option, IfOk, OnOk, OnErr, is_some, map, option_map};
-ghost use Rattle.td_sessions.specs.Sessions.{Told, with_group, with_session};
+ghost use Rattle.td_server.specs.Sessions.{with_closed, with_session};
+ghost use Rattle.td_sessions.specs.Sessions.{Told, trading};
 
 use std::alloc::Global;
 use std::marker::PhantomData;
@@ -38,14 +39,20 @@ pub trait Ended<V> {
     ) -> Result<(), Memory>
         ensures same { same self.old self.new }
         ensures ok { OnOk result
-            (told self.new ≡ option_map (with_session
-            (number, visitor, end, is_some limited, Self.J.entries journal)) (told self.old)) }
+            (told self.new ≡ option_map (with_session {k = trading}
+            (record {
+              number = number;
+              visitor = visitor;
+              limited = is_some limited;
+              kept = record { end = end; journal = Self.J.entries journal };
+            }))
+            (told self.old)) }
         ensures err { OnErr result (told self.new ≡ told self.old) };
 
     /// All sessions have ended.
     fn group(&mut self, solo: Solo)
         ensures same { same self.old self.new }
-        ensures told { told self.new ≡ option_map (with_group solo) (told self.old) };
+        ensures told { told self.new ≡ option_map (with_closed {k = trading} solo) (told self.old) };
 
     ghost same_on: { (a b c : Self) → same a b → same b c → same a c };
 }
@@ -92,7 +99,12 @@ impl<V: Drop, J: Journal + Send + Drop> Ended<V> for KeepEnded<V, J> {
     type J = J;
 
     ghost told = { λ k. Some (record {
-      sessions = map (λ h. (h.0, h.1, h.2, is_some h.3, J.entries h.4)) k.sessions;
+      sessions = map (λ h. record {
+        number = h.0;
+        visitor = h.1;
+        limited = is_some h.3;
+        kept = record { end = h.2; journal = J.entries h.4 };
+      }) k.sessions;
       closed = k.closed;
     }) };
 

@@ -1,10 +1,10 @@
-//! The sessions of a server beside each other (CORBA's GIOP over many connections): each visitor's session is served by
-//! a worker of its own, over what it sees of a group of traders that all share. Each is handed on when it has ended,
-//! and in the end the traders are.
+//! The sessions of a server of traders beside each other (CORBA's GIOP over many connections): each visitor's session
+//! is served over what it sees of a group of traders that all share. Each is handed on when it has ended, and in the
+//! end the traders are.
 #![tactic(auto)]
 
 mod ended;
-mod reception;
+mod service;
 mod serving;
 mod session;
 

@@ -1,16 +1,17 @@
 //! The sessions of all visitors over a group of traders.
 
-ghost use Rattle.std.specs.Prelude.{◌≡◌, ◌≤◌, [], length, map, true, IfErr, IfOk, OnErr, OnOk};
+ghost use Rattle.std.specs.Prelude.{◌≡◌, ◌≤◌, length, map, true, IfErr, IfOk, OnErr, OnOk};
 ghost use Rattle.td_cell.specs.Passes.{opened};
 ghost use Rattle.td_group.specs.Grouping.{AreOpening, are_met};
 ghost use Rattle.td_group.specs.Seeing.{seen_by};
 ghost use Rattle.td_objects.specs.References.{IsAddress};
 ghost use Rattle.td_stream.specs.Outside.{outside};
-ghost use Rattle.td_sessions.specs.Sessions.{HandsSome, ServesOn, StopsSo};
-ghost use Rattle.td_sessions.specs.Whole.{HandsOn, ServesAll, ServesFrom, opened_views};
+ghost use Rattle.td_server.specs.Sessions.{StopsSo};
+ghost use Rattle.td_sessions.specs.Sessions.{HandsSome};
+ghost use Rattle.td_sessions.specs.Whole.{HandsOn, ServesAll, ServesFrom, Whole, opened_views};
 
 use crate::ended::Ended;
-use crate::reception::Reception;
+use crate::service::TraderService;
 use std::alloc::Global;
 use std::sync::Wait;
 use std::thread::Threads;
@@ -18,9 +19,10 @@ use td_accept::{Accept, Gate, Visitor};
 use td_cdr::{Memory, Octets};
 use td_cell::Pass;
 use td_group::{Group, Stall};
+use td_server::serve_all;
 use td_trader::Solo;
 use td_walk::Address;
-use td_workers::{Stop, work_all};
+use td_workers::Stop;
 
 /// Binds an acceptor to the address where the traders are reached, and serves each visitor that it gives, on a thread
 /// of its own as long as fewer than 64 are served so, until none is left. Session `n`, counted from 1, is served
@@ -92,7 +94,7 @@ fn serve_bound<
         (λ v. outside (A.S.left v.source) (A.S.faults v.source) (A.K.written v.sink) (A.K.faults v.sink))
         (λ v. A.W.word_after v.words) solo.traders.items
         (record {
-          home = home.now;
+          given = home.now;
           seed = seed.now;
           door = A.told accept.old;
           told = N.told ended.old;
@@ -150,7 +152,7 @@ fn serve_opened<
         (λ v. outside (A.S.left v.source) (A.S.faults v.source) (A.K.written v.sink) (A.K.faults v.sink))
         (λ v. A.W.word_after v.words) (map opened group.cells.items)
         (record {
-          home = home.now;
+          given = home.now;
           seed = seed.now;
           door = A.told accept.old;
           told = N.told ended.old;
@@ -161,42 +163,31 @@ fn serve_opened<
     ensures later { A.faults accept.old ≤ A.faults accept.new }
     ensures stops { IfErr result (λ why. StopsSo why (A.faults accept.old) (A.faults accept.new)) }
 {
-    let reception = Reception {
+    let service = TraderService {
         rt,
         alloc,
-        gate,
         group: &group,
         home,
-        seed,
-        accept,
         ended,
         passes,
     };
-    let (stop, back) = receive_all(rt, alloc, reception);
-    let Reception {
-        accept,
-        ended,
-        passes,
-        ..
-    } = back;
+    let (stop, back) = serve_visitors(rt, alloc, seed, accept, gate, service);
+    let TraderService { ended, passes, .. } = back;
     match stop {
         Ok(()) => {
             hand_on(group, passes, ended);
-            give_back(accept);
             Ok(())
         }
         Err(why) => {
             drop(passes);
             drop(group);
-            give_back(accept);
             Err(why)
         }
     }
 }
 
 /// Serves each visitor until none is left.
-fn receive_all<
-    'a,
+fn serve_visitors<
     'e,
     'g,
     A: Accept,
@@ -206,47 +197,42 @@ fn receive_all<
 >(
     rt: &R,
     alloc: Global,
-    reception: Reception<'a, 'e, 'g, A, G, N, R>,
-) -> (Result<(), Stop>, Reception<'a, 'e, 'g, A, G, N, R>)
-    requires opening { AreOpening reception.group.now.cells.items reception.passes.items }
-    requires met { are_met reception.passes.items ≡ true }
-    requires bound { A.bound reception.accept.now ≡ true }
-    requires address { IsAddress reception.home.now }
-    requires seed { length reception.seed.now ≡ 32 }
-    ensures same_accept { result.1.accept.ghost_name ≡ reception.entry.accept.ghost_name }
-    ensures same_ended { result.1.ended.ghost_name ≡ reception.entry.ended.ghost_name }
-    ensures opening { OnOk result.0 (AreOpening reception.entry.group.now.cells.items result.1.passes.items) }
+    seed: &Octets,
+    accept: &mut A,
+    gate: &G,
+    service: TraderService<'e, 'g, N, R>,
+) -> (Result<(), Stop>, TraderService<'e, 'g, N, R>)
+    requires opening { AreOpening service.group.now.cells.items service.passes.items }
+    requires met { are_met service.passes.items ≡ true }
+    requires bound { A.bound accept.old ≡ true }
+    requires address { IsAddress service.home.now }
+    requires seed { length seed.now ≡ 32 }
+    ensures same_ended { result.1.ended.ghost_name ≡ service.entry.ended.ghost_name }
+    ensures opening { OnOk result.0 (AreOpening service.entry.group.now.cells.items result.1.passes.items) }
     ensures met { OnOk result.0 (are_met result.1.passes.items ≡ true) }
-    ensures serves { OnOk result.0 (ServesOn
+    ensures whole { OnOk result.0 (Whole
         (λ v. outside (A.S.left v.source) (A.S.faults v.source) (A.K.written v.sink) (A.K.faults v.sink))
-        (λ v. A.W.word_after v.words) true
+        (λ v. A.W.word_after v.words)
         (record {
-          home = reception.entry.home.now;
-          seed = reception.entry.seed.now;
-          door = A.told reception.entry.accept.now;
-          told = N.told reception.entry.ended.now;
-          world = map seen_by reception.entry.passes.items;
+          given = service.entry.home.now;
+          seed = seed.now;
+          door = A.told accept.old;
+          told = N.told service.entry.ended.now;
+          world = map seen_by service.entry.passes.items;
         })
-        0 []
         (record {
-          home = reception.entry.home.now;
-          seed = reception.entry.seed.now;
-          door = A.told result.1.accept.now;
+          given = service.entry.home.now;
+          seed = seed.now;
+          door = A.told accept.new;
           told = N.told result.1.ended.now;
           world = map seen_by result.1.passes.items;
         })) }
-    ensures handed { HandsSome (N.told reception.entry.ended.now) (N.told result.1.ended.now) }
-    ensures later { A.faults reception.entry.accept.now ≤ A.faults result.1.accept.now }
-    ensures stops { IfErr result.0
-        (λ why. StopsSo why (A.faults reception.entry.accept.now) (A.faults result.1.accept.now)) }
+    ensures handed { HandsSome (N.told service.entry.ended.now) (N.told result.1.ended.now) }
+    ensures later { A.faults accept.old ≤ A.faults accept.new }
+    ensures stops { IfErr result.0 (λ why. StopsSo why (A.faults accept.old) (A.faults accept.new)) }
 {
-    work_all(rt, alloc, reception)
+    serve_all(rt, alloc, seed, accept, gate, service)
 }
-
-/// Ends a loan here, so that what was lent is known to be what it has become.
-fn give_back<T>(_lent: &mut T)
-    ensures { _lent.new ≡ _lent.old }
-{}
 
 /// Takes the traders out of a group all of whose sessions have ended, and hands them on.
 fn hand_on<V, N: Ended<V>>(group: Group, passes: Vec<Pass<Stall>>, ended: &mut N)

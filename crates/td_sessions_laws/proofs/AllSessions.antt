@@ -14,7 +14,8 @@ use Rattle.td_reply.specs.Linking.{peers_seen}
 use Rattle.td_reply.specs.declared.entry.Entry.{Entry}
 use Rattle.td_stream.specs.Outside.{Outside}
 use Rattle.td_sessions.specs.Sessions.{Begun, Closes, Continues, Ended, Seeded, Serving, Stand, Told}
-use Rattle.td_sessions.specs.Whole.{AreApart, BeginsAfter, Every, HasChanged, ServesAll, Visit, beginning, opened_views}
+use Rattle.td_server.specs.Whole.{Every}
+use Rattle.td_sessions.specs.Whole.{AreApart, BeginsAfter, HasChanged, ServesAll, Visit, beginning, opened_views}
 use Rattle.td_sessions_laws.proofs.OneSession.{IsSafe, IsSomewhere, all-safe, all-somewhere}
 use Rattle.td_sessions_laws.proofs.Places.{Each, IsApart, IsOnce, apart-both, every-both, every-here, flat-either}
 use Rattle.td_sessions_laws.proofs.Places.{flat-first, flat-second, once-in}
@@ -171,7 +172,7 @@ module _ {X : Type 0} (outside_of : X → Outside) (seeded : X → Seeded) (star
             ap (λ (w : List View). own_at w k) (sym p.seen)
             ∙ h.places k
             ∙ ap (λ (l : List ℕ). l ++ all_places_in k (noted_of p.serves.turns)) none;
-        safe = all-safe AreAdmitted Later b.home first p.scene_after p.serves.turns h opened closed k low front;
+        safe = all-safe AreAdmitted Later b.given first p.scene_after p.serves.turns h opened closed k low front;
       }
 
   all-right : (vs : List (Visit X)) (each : Every (λ (v : Visit X). Serving outside_of seeded v.begun v.ended) vs)
@@ -249,7 +250,7 @@ module _ {X : Type 0} (outside_of : X → Outside) (seeded : X → Seeded) (trad
       every-both (λ (p : SessionRequest). is_accepted p.request ≡ true → HasPlace traders items p)
       (map (request_in b.number) ns) (all_requests outside_of seeded vs each.1)
       (ones-places p.scene_after.world last b.number ns
-      (all-somewhere AreAdmitted Later b.home first p.scene_after p.serves.turns p.serves.headline))
+      (all-somewhere AreAdmitted Later b.given first p.scene_after p.serves.turns p.serves.headline))
       (all-places vs each.1 seen.1)
 
 -- ---- what the journals have noted
@@ -276,7 +277,7 @@ all-journals outside_of seeded (v ∷ vs) each =
     let mine = map (request_in v.begun.number) ns in
     let more = all_requests outside_of seeded vs each.1 in
     ap (λ (l : List (ℕ × Entry)). l ++ flat_map noted_by vs)
-    (ones-journal v.begun.number v.ended.journal ns each.0.serves.noted)
+    (ones-journal v.begun.number v.ended.kept.journal ns each.0.serves.noted)
     ∙ ap (λ (l : List (ℕ × Entry)). map with_number mine ++ l) (all-journals outside_of seeded vs each.1)
     ∙ sym (map-append with_number mine more)
 

@@ -2,7 +2,7 @@
 use Rattle.std.proofs.Common.{◌≡◌, ◌⊎◌, inl, inr, ℕ, List, [], ◌∷◌, ◌++◌, append_assoc, refl, sym, ap, ◌∙◌}
 use Rattle.std.specs.List.{flat_map}
 use Rattle.td_cdr.specs.Marks.{In}
-use Rattle.td_sessions.specs.Whole.{Every}
+use Rattle.td_server.specs.Whole.{Every}
 
 -- ---- what is in a list
 

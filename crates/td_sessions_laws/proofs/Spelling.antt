@@ -7,7 +7,8 @@ use Rattle.td_cdr.specs.Marks.{Later}
 use Rattle.td_lookup.specs.Scenes.{scene}
 use Rattle.td_reply.specs.Linking.{peers_seen}
 use Rattle.td_sessions.specs.Sessions.{Begun, Continues, Ended, Seeded, Serving, Stand}
-use Rattle.td_sessions.specs.Whole.{BeginsAfter, Every, Visit, beginning, opened_views}
+use Rattle.td_server.specs.Whole.{Every}
+use Rattle.td_sessions.specs.Whole.{BeginsAfter, Visit, beginning, opened_views}
 use Rattle.td_sessions_laws.proofs.AllSessions.{all-every, every-all}
 use Rattle.td_sessions_laws.specs.Spelling.{EachSpells, SessionsSpellReplies}
 use Rattle.td_stream.specs.Outside.{Outside}
@@ -47,7 +48,7 @@ module _ {X : Type 0} (outside_of : X → Outside) (seeded : X → Seeded) (star
   one-spells b e p begins =
       let words = seeded b.visitor (record { key = b.seed; stream = b.number }) in
       let first = scene b.first ([], 1) (peers_seen [] 0) words in
-      replies-spell AreAdmitted Later (λ between admitted. admitted) b.home first p.scene_after p.serves.turns
+      replies-spell AreAdmitted Later (λ between admitted. admitted) b.given first p.scene_after p.serves.turns
       (record {
         scene = record { world = all-continue start.world b.first begins.seen opens; desk = tt };
         gifts = p.serves.gifts;

@@ -11,7 +11,7 @@ use Rattle.td_register.specs.declared.history.Accepted.{Accepted}
 use Rattle.td_reply.specs.declared.entry.Entry.{Entry}
 use Rattle.td_reply.specs.declared.judging.Judged.TheVariants.{Call, Refused}
 use Rattle.td_reply.specs.declared.judging.Judged.{Judged}
-use Rattle.td_sessions.specs.Whole.{Every}
+use Rattle.td_server.specs.Whole.{Every}
 use Rattle.td_sessions_laws.proofs.OneSession.{made-there}
 use Rattle.td_sessions_laws.specs.Examples.{WorkedEntries, by_one, by_two, mask, masked, two_entries}
 use Rattle.td_sessions_laws.specs.OneHistory.{MakesEntry, MakesNone, SessionRequest, request_in}

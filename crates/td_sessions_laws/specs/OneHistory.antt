@@ -12,7 +12,8 @@ use Rattle.td_register.specs.declared.history.Accepted.{Accepted}
 use Rattle.td_reply.specs.declared.entry.Entry.{Entry}
 use Rattle.td_stream.specs.Outside.{Outside}
 use Rattle.td_sessions.specs.Sessions.{Seeded, Serving, Told}
-use Rattle.td_sessions.specs.Whole.{Every, ServesAll, Visit}
+use Rattle.td_server.specs.Whole.{Every}
+use Rattle.td_sessions.specs.Whole.{ServesAll, Visit}
 use Rattle.td_trader.specs.Following.{Follows}
 use Rattle.td_trader.specs.PlainTraders.{PlainTrader}
 use Rattle.td_turns.specs.Journals.{Makes, is_accepted, places_in}
@@ -95,7 +96,7 @@ pub record AreOfSessions (opened closed : List PlainTrader) (journals : List (�
 
 -- what a session has noted, with its number
 abbrev pub noted_by : {X : Type 0} → Visit X → List (ℕ × Entry)
-noted_by v = map (λ (e : Entry). (v.begun.number, e)) v.ended.journal
+noted_by v = map (λ (e : Entry). (v.begun.number, e)) v.ended.kept.journal
 
 -- so it is where a server has served its last visitor
 abbrev pub EntriesAreOfSessions : Type 0 → Type 0

@@ -3,7 +3,8 @@ use Rattle.std.specs.Prelude.{ℕ, List, [], ◌∷◌, Option}
 use Rattle.std.specs.List.{AllByRecursion}
 use Rattle.td_accept.specs.Doors.{Door}
 use Rattle.td_sessions.specs.Sessions.{Seeded, Serving, Told}
-use Rattle.td_sessions.specs.Whole.{Every, ServesAll, Visit}
+use Rattle.td_server.specs.Whole.{Every}
+use Rattle.td_sessions.specs.Whole.{ServesAll, Visit}
 use Rattle.td_stream.specs.Outside.{Outside}
 use Rattle.td_trader.specs.PlainTraders.{PlainTrader}
 use Rattle.td_trader_laws.specs.WritableTraders.{IsWritableTrader}

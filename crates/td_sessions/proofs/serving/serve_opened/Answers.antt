@@ -4,7 +4,7 @@ use Rattle.td_sessions.proofs.serving.serve_opened.Goals as goal
 pub returns-in-Ok-clause-serves : goal.returns-in-Ok-clause-serves
 returns-in-Ok-clause-serves g c = record {
   end = _;
-  run = rw c.in-Ok.is at c.receive_all-stop.ensures.serves;
+  whole = rw c.in-Ok.is at c.serve_visitors-stop.ensures.whole;
   left = search rules;
   hands = record {
     solo = c.hand_on.ensures.solo;
