@@ -1,0 +1,4 @@
+pub mod Acting
+pub mod BookLaws
+pub mod Seeing
+pub mod Sharing
