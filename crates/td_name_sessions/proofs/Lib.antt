@@ -1,0 +1,4 @@
+pub mod AllMet
+pub mod Closing
+pub mod Served
+pub mod Taking

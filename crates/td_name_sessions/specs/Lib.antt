@@ -1,0 +1,4 @@
+pub mod HallLaws
+pub mod Sessions
+pub mod Whole
+pub mod Worlds

@@ -1,0 +1,3 @@
+mod AllSessions
+mod OneSession
+mod Times
