@@ -12,6 +12,7 @@ _tradesrv() {
     elif [[ $COMP_CWORD -eq $((at + 1)) && $command == @(listen|pipe|check|audit) ]]; then
         compopt -o filenames 2> /dev/null
         mapfile -t COMPREPLY < <(compgen -d -- "$cur"; compgen -f -X '!*.trader' -- "$cur")
+        [[ $command != listen || names != "$cur"* ]] || COMPREPLY+=(names)
     elif [[ $COMP_CWORD -eq $((at + 2)) && $command == audit ]]; then
         compopt -o filenames 2> /dev/null
         mapfile -t COMPREPLY < <(compgen -f -- "$cur")

@@ -1,5 +1,6 @@
 //! The server's program over TCP: `listen FILE` serves the visitors at the address of a server's file (CORBA's IIOP),
-//! each on a thread of its own; every other command is `td_command`'s.
+//! each on a thread of its own; naming contexts are served by other crates (`start`), and every other command is
+//! `td_command`'s.
 #![tactic(auto)]
 
 mod listen;

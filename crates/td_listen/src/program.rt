@@ -16,14 +16,16 @@ use td_audit_run::start_log;
 use td_command::{Ended, arguments, report};
 use td_journal::PastJournal;
 use td_name_command::start_names;
+use td_name_listen::start_listening;
 use td_out::{FileTexts, StdSink};
 use td_sessions::DropEnded;
 use td_wire::ConnectionPool;
 
 /// The program over the arguments, the files, the network, the clock and the threads of this runtime, and these streams.
-/// It listens where its first word is `listen`, serves naming contexts where that is `names`, audits or prints a log where
-/// that is `audit` or `log`, and does what `td_command::start` does otherwise. Where its words can't be had for want of
-/// memory, that is told here: they might be had a second time, and `listen` is no word of the others.
+/// It listens where its first word is `listen`, with naming contexts where the second of four words is `names`; it serves
+/// naming contexts over standard input where the first word is `names`, audits or prints a log where that is `audit` or
+/// `log`, and does what `td_command::start` does otherwise. Where its words can't be had for want of memory, that is told
+/// here: they might be had a second time, and `listen` is no word of the others.
 pub fn start<
     R: Env
         + Files
@@ -38,6 +40,11 @@ pub fn start<
     E: Write + Drop,
 >(rt: &R, input: I, output: O, errors: E) -> ExitCode {
     match arguments(rt) {
+        Ok(args) if listens_for_names(args.as_slice()) => {
+            drop(input);
+            drop(output);
+            start_listening(rt, args.as_slice(), errors)
+        }
         Ok(args) if listens(args.as_slice()) => {
             drop(input);
             drop(output);
@@ -59,6 +66,14 @@ pub fn start<
 fn refuse_memory<E: Write + Drop>(errors: E) -> ExitCode {
     report(&mut StdSink::new(errors), Ended::Memory);
     ExitCode::from(Ended::Memory.status())
+}
+
+/// Whether the words are `listen`, `names` and two more. With one word more it is a file that has this name.
+fn listens_for_names(args: &[String]) -> bool {
+    match args {
+        [word, what, _, _] => word.as_str() == "listen" && what.as_str() == "names",
+        _ => false,
+    }
 }
 
 /// Whether the first word is `listen`.

@@ -9,3 +9,5 @@ mod words;
 
 pub use laws::worked_words;
 pub use program::{run_names, start_names};
+pub use serving::new_naming;
+pub use words::home_named;

@@ -38,12 +38,12 @@ pub(crate) fn serve_new<S: Source, K: Sink>(
     Ended::Served(end)
 }
 
-/// The root alone, without bindings.
+/// The root alone, without bindings, of a server that listens at this host and port.
 ///
 /// # Errors
 ///
 /// `Memory` for want of memory alone.
-fn new_naming(alloc: Global, host: &str, port: u16) -> Result<Naming, Memory>
+pub fn new_naming(alloc: Global, host: &str, port: u16) -> Result<Naming, Memory>
     requires plain { HasNoNul host.now }
     requires short { length host.now ≤ 1000 }
     ensures { IfOk result (λ n. n ≡ past (home host.now port) []) }
