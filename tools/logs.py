@@ -1,4 +1,4 @@
-"""Reads the log of a network of traders: a line for each event, in order, with one space between two words.
+"""Reads the log of a network of traders (docs/LOGS.md): a line for each event, in order, with one space between words.
 
     words NUMBER ..                in the first line alone: the random words that the network draws
     change TRADER REQUEST REPLY    a change that was accepted
