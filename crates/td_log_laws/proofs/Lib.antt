@@ -2,8 +2,11 @@ pub mod Cutting
 pub mod Following
 pub mod Given
 pub mod Growing
+pub mod Lasting
 pub mod Made
+pub mod Plain
 pub mod Readings
+pub mod Shortness
 pub mod Whole
 pub mod Worked
 pub mod Writing

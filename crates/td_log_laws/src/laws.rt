@@ -2,6 +2,7 @@
 
 ghost use Rattle.td_log_laws.specs.Examples.{WorkedLogs};
 ghost use Rattle.td_log_laws.specs.Made.{MadeLogsAreRight, MadeLogsPass};
+ghost use Rattle.td_log_laws.specs.Short.{MadeLogsAreShort};
 ghost use Rattle.td_trader.specs.PlainTraders.{PlainTrader};
 ghost use Rattle.td_walk.specs.declared.trace.Address.{Address};
 
@@ -16,6 +17,12 @@ pub fn made_logs_pass()
 {
     verdicts_are_one();
 }
+
+/// A log that `make_log` gives has 128 lines at most for each trader, where each has two links at most, ordinary offers
+/// without dynamic properties alone, and a default hop count of at most 5.
+pub fn made_logs_are_short()
+    ensures { MadeLogsAreShort }
+{}
 
 /// Worked examples: the log of no traders, which is empty; and traders that no file opens.
 pub fn worked_logs()

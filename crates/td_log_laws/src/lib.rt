@@ -4,4 +4,4 @@
 
 mod laws;
 
-pub use laws::{made_logs_pass, worked_logs};
+pub use laws::{made_logs_are_short, made_logs_pass, worked_logs};

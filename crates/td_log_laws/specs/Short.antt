@@ -1,0 +1,32 @@
+-- How many lines a log has that was made.
+use Rattle.std.specs.Prelude.{◌≡◌, ℕ, ◌*◌, ◌≤◌, List, length, None}
+use Rattle.std.specs.List.{AllByRecursion}
+use Rattle.td_audit.specs.Making.{IsLog}
+use Rattle.td_register.specs.Stores.{Store}
+use Rattle.td_store.specs.declared.record.OfferRecord.{OfferRecord}
+use Rattle.td_trader.specs.PlainTraders.{PlainTrader, store_of}
+use Rattle.td_walk.specs.Resolving.{dynamic_named}
+use Rattle.td_walk.specs.declared.trace.Address.{Address}
+
+-- an ordinary offer without dynamic properties
+pub record IsPlain (o : OfferRecord) : Type 0 where
+  pub ordinary : o.proxy ≡ None
+  pub static : (name : List ℕ) → dynamic_named o.properties name ≡ None
+
+abbrev pub ArePlain : List OfferRecord → Type 0
+ArePlain os = AllByRecursion IsPlain os
+
+-- Such offers alone, two links at most, and a query that states no hop count goes over five links at most.
+pub record IsSparse (s : Store) : Type 0 where
+  pub offers : ArePlain s.offers
+  pub links : length s.links ≤ 2
+  pub hops : s.attributes.def_hop_count ≤ 5
+
+abbrev pub SparseTrader : PlainTrader → Type 0
+SparseTrader t = IsSparse (store_of t)
+
+-- The log of such traders has 128 lines at most for each of them: the Ask, its reply, and the events between.
+abbrev pub MadeLogsAreShort : Type 0
+MadeLogsAreShort =
+    (traders : List PlainTrader) (home : Address) (log : List ℕ) → AllByRecursion SparseTrader traders
+    → (is : IsLog traders home log) → length is.lines ≤ 128 * length traders
