@@ -1,3 +1,5 @@
 pub mod Auditing
 pub mod Filed
 pub mod Generating
+pub mod Ringing
+pub mod Sparse

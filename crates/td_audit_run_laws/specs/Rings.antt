@@ -1,5 +1,5 @@
 -- What an audit says of a log that was made.
-use Rattle.std.specs.Prelude.{◌≡◌, ℕ, ◌^◌, ◌<◌, ◌≤◌, List, [], ◌∷◌, codes, length, Option, Some, Ok}
+use Rattle.std.specs.Prelude.{◌≡◌, ℕ, ◌*◌, ◌^◌, ◌<◌, ◌≤◌, List, [], ◌∷◌, codes, length, Option, Some, Ok}
 use Rattle.td_audit.specs.Auditing.{Audits}
 use Rattle.td_audit.specs.Making.{IsLog}
 use Rattle.td_audit.specs.declared.verdict.Verdict.TheVariants.{Yes}
@@ -59,3 +59,11 @@ RingLogsPass =
     → opening_of (generated count) ≡ Ok o → IsLog o.traders o.home log → AreNamed texts file name count log
     → Runs (codes "audit" ∷ file ∷ name ∷ []) texts before after written0 written1 faults0 faults1 status
     → EndsWithYes log before after status
+
+-- ---- how long a ring's log is
+
+-- at most 128 lines for each trader
+abbrev pub RingLogsAreShort : Type 0
+RingLogsAreShort =
+    (count : ℕ) (o : Opening) (log : List ℕ) → 1 ≤ count → count ≤ 64 → opening_of (generated count) ≡ Ok o
+    → (is : IsLog o.traders o.home log) → length is.lines ≤ 128 * count

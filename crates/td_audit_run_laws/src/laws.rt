@@ -1,6 +1,6 @@
 //! What the commands on logs make of what each other prints.
 
-ghost use Rattle.td_audit_run_laws.specs.Rings.{FilesLogsPass, RingLogsPass};
+ghost use Rattle.td_audit_run_laws.specs.Rings.{FilesLogsPass, RingLogsAreShort, RingLogsPass};
 
 use td_audit_laws::verdicts_are_one;
 
@@ -12,5 +12,13 @@ pub fn made_logs_are_audited()
     ensures rings { RingLogsPass }
 {
     verdicts_are_one();
+    td_make_file_laws::generated_files_open();
+}
+
+/// The log of a ring of 1 to 64 traders has 128 lines at most for each of them.
+pub fn ring_logs_are_short()
+    ensures { RingLogsAreShort }
+{
+    td_make_laws::generated_files_are_read();
     td_make_file_laws::generated_files_open();
 }

@@ -4,4 +4,4 @@
 
 mod laws;
 
-pub use laws::made_logs_are_audited;
+pub use laws::{made_logs_are_audited, ring_logs_are_short};
