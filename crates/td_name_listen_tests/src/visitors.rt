@@ -9,7 +9,7 @@ use std::thread::Threads;
 use td_accept::{Gate, Limited, MemAccept, NoGate, Visitor};
 use td_cdr::{List, Memory, Octets};
 use td_name_listen::listen_names;
-use td_name_session::{End, NameRoom};
+use td_name_session::End;
 use td_name_sessions::KeepEnded;
 use td_names::NameAct;
 use td_naming::{NameChange, Naming};
@@ -22,8 +22,9 @@ pub(crate) type Guest = Visitor<MemSource, MemSink, MemWire, MemWords>;
 /// An acceptor of such visitors.
 pub(crate) type Guests = MemAccept<MemSource, MemSink, MemWire, MemWords>;
 
-/// A session as it was handed on: its number, its visitor, how it ended, that its visitor was limited, and its room.
-type Session = (u64, Guest, End, Option<Limited>, NameRoom);
+/// A session as it was handed on: its number, its visitor, how it ended, that its visitor was limited, and its
+/// journal.
+type Session = (u64, Guest, End, Option<Limited>, List<u64>);
 
 /// The words of a line.
 pub(crate) fn words(alloc: Global, line: &str) -> Result<Vec<String>, Memory> {
@@ -111,8 +112,8 @@ impl Gate for InTurn {
 
 /// Whether a session was closed, with this answer and these points.
 fn was_served(session: &Session, answer: &[u8], points: &[u64]) -> bool {
-    let (_, visitor, end, _, room) = session;
-    *end == End::Closed && visitor.sink.written() == answer && room.journal() == points
+    let (_, visitor, end, _, journal) = session;
+    *end == End::Closed && visitor.sink.written() == answer && journal.as_slice() == points
 }
 
 /// Whether names go round for the second of two visitors, as the first has bound them.
@@ -223,12 +224,12 @@ fn has_number(sessions: &[Session], number: u64) -> bool {
 fn has_point(sessions: &[Session], place: u64) -> bool {
     sessions
         .iter()
-        .any(|session| session.4.journal().first() == Some(&place))
+        .any(|session| session.4.as_slice().first() == Some(&place))
 }
 
 /// Whether a session has bound its name, and has seen it bound afterwards.
 fn has_bound(session: &Session, answer: &[u8]) -> bool {
-    match session.4.journal() {
+    match session.4.as_slice() {
         [bound, seen] => bound < seen && was_served(session, answer, &[*bound, *seen]),
         _ => false,
     }

@@ -4,7 +4,7 @@ use crate::iterators::Iterators;
 use crate::replies::Replies;
 use std::alloc::Global;
 use std::marker::Model;
-use td_cdr::Memory;
+use td_cdr::{List, Memory};
 
 /// What a session keeps beside the contexts that it stands on.
 #[derive(Drop)]
@@ -55,6 +55,20 @@ impl NameRoom {
         ensures { result.now ≡ self.now.journal }
     {
         self.journal.as_slice()
+    }
+
+    /// The journal alone, once the session has ended. Takes no memory.
+    pub fn into_journal(self) -> List<u64>
+        ensures { result ≡ self.journal }
+    {
+        let NameRoom {
+            iterators,
+            journal,
+            replies,
+        } = self;
+        drop(iterators);
+        drop(replies);
+        List::from_vec(journal)
     }
 
     /// The reply to the last message.

@@ -7,7 +7,7 @@ ghost use Rattle.td_name_sessions.specs.Sessions.{Told, naming};
 use std::alloc::Global;
 use td_accept::Limited;
 use td_cdr::{List, Memory};
-use td_name_session::{End, NameRoom};
+use td_name_session::End;
 use td_naming::Naming;
 
 /// Where sessions go that have ended, and in the end the naming contexts.
@@ -19,7 +19,7 @@ pub trait Ended<V> {
     ghost same: { Self → Self → Type 0 };
 
     /// A session has ended: its number, its visitor, how it ended, that its visitor was limited before, where it was,
-    /// and its room, which has its journal.
+    /// and its journal: the point of each Request and LocateRequest that was served, in order.
     ///
     /// # Errors
     ///
@@ -30,7 +30,7 @@ pub trait Ended<V> {
         visitor: V,
         end: End,
         limited: Option<Limited>,
-        room: NameRoom,
+        journal: List<u64>,
     ) -> Result<(), Memory>
         ensures same { same self.old self.new }
         ensures ok { OnOk result
@@ -39,7 +39,7 @@ pub trait Ended<V> {
               number = number;
               visitor = visitor;
               limited = is_some limited;
-              kept = record { end = end; journal = room.journal };
+              kept = record { end = end; journal = journal };
             }))
             (told self.old)) }
         ensures err { OnErr result (told self.new ≡ told self.old) };
@@ -55,7 +55,7 @@ pub trait Ended<V> {
 /// It keeps what it is handed, and tells it.
 #[derive(Drop)]
 pub struct KeepEnded<V> {
-    sessions: List<(u64, V, End, Option<Limited>, NameRoom)>,
+    sessions: List<(u64, V, End, Option<Limited>, List<u64>)>,
     closed: Option<Naming>,
 }
 
@@ -76,7 +76,7 @@ impl<V> KeepEnded<V> {
     }
 
     /// The sessions, in the order in which they were handed on.
-    pub fn names_sessions(&self) -> &List<(u64, V, End, Option<Limited>, NameRoom)>
+    pub fn names_sessions(&self) -> &List<(u64, V, End, Option<Limited>, List<u64>)>
         ensures { result.now ≡ self.now.sessions }
     {
         &self.sessions
@@ -96,7 +96,7 @@ impl<V: Drop> Ended<V> for KeepEnded<V> {
         number = h.0;
         visitor = h.1;
         limited = is_some h.3;
-        kept = record { end = h.2; journal = h.4.journal };
+        kept = record { end = h.2; journal = h.4 };
       }) k.sessions;
       closed = k.closed;
     }) };
@@ -111,9 +111,9 @@ impl<V: Drop> Ended<V> for KeepEnded<V> {
         visitor: V,
         end: End,
         limited: Option<Limited>,
-        room: NameRoom,
+        journal: List<u64>,
     ) -> Result<(), Memory> {
-        self.sessions.push((number, visitor, end, limited, room))
+        self.sessions.push((number, visitor, end, limited, journal))
     }
 
     fn naming(&mut self, contexts: Naming) {
@@ -145,10 +145,10 @@ impl<V: Drop> Ended<V> for DropEnded {
         visitor: V,
         _end: End,
         _limited: Option<Limited>,
-        room: NameRoom,
+        journal: List<u64>,
     ) -> Result<(), Memory> {
         drop(visitor);
-        drop(room);
+        drop(journal);
         Ok(())
     }
 

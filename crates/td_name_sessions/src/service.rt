@@ -51,7 +51,7 @@ where
 
     ghost outside = { λ c. outside c.left c.reads c.written c.writes };
 
-    ghost kept = { λ e. record { end = e.end; journal = e.room.journal } };
+    ghost kept = { λ e. record { end = e.end; journal = e.journal } };
 
     ghost gives = { λ p. tt };
 
@@ -111,9 +111,9 @@ where
         ending: SessionEnd,
         pass: NamePass<'g, R>,
     ) -> Result<(), Memory> {
-        let SessionEnd { end, room } = ending;
+        let SessionEnd { end, journal } = ending;
         self.names.take_in(&mut self.pass, pass);
-        match self.ended.names(number, visitor, end, limited, room) {
+        match self.ended.names(number, visitor, end, limited, journal) {
             Ok(()) => Ok(()),
             Err(memory) => Err(memory),
         }

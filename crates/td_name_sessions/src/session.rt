@@ -10,6 +10,7 @@ ghost use Rattle.td_stream.specs.Outside.{outside};
 use std::alloc::Global;
 use std::sync::Wait;
 use td_accept::{ClientSink, ClientSource, ClientWire, Visitor};
+use td_cdr::List;
 use td_name_session::{End, NameRoom, serve_names};
 use td_naming::Names;
 use td_out::{Sink, Source, Words};
@@ -27,11 +28,11 @@ pub(crate) struct SessionPass<'g, R: Wait> {
     ghost nothing_noted: { length room.journal ≡ 0 },
 }
 
-/// How a session ended, and its room.
+/// How a session ended, and its journal.
 #[derive(Drop)]
 pub(crate) struct SessionEnd {
     pub(crate) end: End,
-    pub(crate) room: NameRoom,
+    pub(crate) journal: List<u64>,
 }
 
 impl<'g, S: ClientSource, K: ClientSink, L: ClientWire, W: Words, R: Wait> Pass<
@@ -44,7 +45,7 @@ impl<'g, S: ClientSource, K: ClientSink, L: ClientWire, W: Words, R: Wait> Pass<
 > for SessionPass<'g, R> {
     ghost same = { λ p q. SamePass p.pass.pass q.pass };
 
-    ghost serves = { λ p words before after q e. ServesOver any_changes (seen_by p.pass.pass) e.room.journal e.end
+    ghost serves = { λ p words before after q e. ServesOver any_changes (seen_by p.pass.pass) e.journal e.end
         (outside before.left before.reads before.written before.writes)
         (outside after.left after.reads after.written after.writes) (seen_by q.pass) };
 
@@ -55,7 +56,8 @@ impl<'g, S: ClientSource, K: ClientSink, L: ClientWire, W: Words, R: Wait> Pass<
             mut pass,
         } = self;
         let end = serve_visitor(alloc, &mut pass, &mut room, visitor);
-        (pass, SessionEnd { end, room })
+        let journal = room.into_journal();
+        (pass, SessionEnd { end, journal })
     }
 }
 
