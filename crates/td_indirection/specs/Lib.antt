@@ -1,0 +1,11 @@
+pub mod States
+pub mod Stateful
+pub mod Tables
+pub mod Pairs
+pub mod Encapsulations
+pub mod Variants
+pub mod Indirections
+pub mod Choices
+pub mod NodeStarts
+pub mod Ulongs
+pub mod Nets
