@@ -13,7 +13,8 @@ ghost use Rattle.td_call.specs.Readings.{AdmitsValue, exception_given, evaluatio
 use std::alloc::Global;
 use td_cdr::{Boxed, Memory, Reader, ValueFault};
 use td_ops::{Answered, Call, OpsFault, read_outcome};
-use td_value::{Any, TypeCode, any_size, read_any, same_type};
+use td_sameness::same_type;
+use td_value::{Any, TypeCode, any_size, read_any};
 use td_walk::{LONGEST_VALUE, PeerFault};
 
 /// What a reply of this status to a call tells. It can be written.
@@ -115,7 +116,7 @@ fn standing(
 fn may_stand(alloc: Global, returned: &TypeCode, value: &Any) -> Result<bool, Memory>
     ensures { IfOk result (λ may. may ≡ may_stand returned.now value.now) }
 {
-    if !same_type(&value.code, returned) {
+    if !same_type(alloc, &value.code, returned)? {
         return Ok(false);
     }
     let size = any_size(alloc, value)?;

@@ -12,6 +12,8 @@ use Rattle.td_cdr.specs.Writing.{Draft}
 use Rattle.td_cdr.proofs.Appending.{puts-then}
 use Rattle.td_cdr.specs.Sound.{Sound, ◌&◌}
 use Rattle.td_cdr.specs.declared.value_fault.ValueFault.{ValueFault}
+use Rattle.td_cdr.specs.declared.value_fault.ValueFault.TheVariants as fault
+use Rattle.tc_graph.specs.declared.node.Node.{Node}
 use Rattle.td_codes.specs.declared.code.TypeCode.{TypeCode, out-TypeCode}
 use Rattle.td_codes.specs.declared.code.TypeCode.TheVariants as code
 use Rattle.td_codes.specs.declared.code.TypeCode.TheOpen as layer_of
@@ -25,8 +27,8 @@ use Rattle.td_codes.specs.declared.mode.Mode.{Mode}
 use Rattle.td_codes.specs.declared.mode.Mode.TheVariants.{Outer, Inner, Switch}
 use Rattle.td_codes.specs.Labels.{Layer, labels, spelled_labels, label_layer, no_value}
 use Rattle.td_codes.specs.Layers.{code-object, code-struct, code-union, code-enum, code-str, code-sequence, code-array}
-use Rattle.td_codes.specs.Layers.{code-alias, code-except}
-use Rattle.td_codes.specs.Kinds.{kind_at}
+use Rattle.td_codes.specs.Layers.{code-alias, code-except, code-linked}
+use Rattle.td_codes.specs.Kinds.{kind_at, indirection}
 use Rattle.td_codes.specs.Codes.{codes, code_formats, kind_and_parameters, parameters, header, counted_arms, arm_of}
 use Rattle.td_codes.specs.Codes.{union_code}
 use Rattle.td_codes.specs.WritingCodes.{code_piece, arm_piece, member_piece, layer_pieces, code_piece-layer, code_layer}
@@ -112,6 +114,9 @@ except-piece id name ms =
     ∙ ap (λ (n : ℕ). kind_piece kind.Except
     then encapsulation_piece (header_piece id name then (number 4).writes n then row (map member_piece ms)))
     (length-map ms member_piece)
+
+pub graph-piece : (t : TypeCode) (graph : List Node) → t ≡ code.Linked graph → code_piece t ≡ none
+graph-piece t graph is = code_piece-at t (layer_of.Linked graph) (ap out-TypeCode is ∙ code-linked graph)
 
 pub union-piece : (id name : List ℕ) (switch : TypeCode) (default : ℤ) (arms : List Arm)
     → code_piece (code.Union id name switch default arms)
@@ -210,6 +215,14 @@ values-reads any code zero t l some is a = absurd (some refl)
 values-reads any code (suc n) t l some is a =
     let less : suc n - 1 ≡ n = omega arith in
     rw less (ap (λ (x : Layer). (layer any code (values any code n) n x).format.reads a) is)
+
+-- no value stands under a graph
+pub graph-reads : (any : Sound ValueFault Any) (inner : Sound ValueFault TypeCode) (n : ℕ) (t : TypeCode)
+    (graph : List Node)
+    → (n ≡ 0 → ⊥) → t ≡ code.Linked graph → (a : At)
+    → (values any inner n t).format.reads a ≡ Err (fault.Unsupported indirection)
+graph-reads any inner n t graph some is a =
+    values-reads any inner n t (layer_of.Linked graph) some (ap out-TypeCode is ∙ code-linked graph) a
 
 pub values-writes : (any : Sound ValueFault Any) (code : Sound ValueFault TypeCode) (n : ℕ) (t : TypeCode) (l : Layer)
     (v : Value)

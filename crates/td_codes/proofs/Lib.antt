@@ -1,8 +1,6 @@
-pub mod Alike
 pub mod AtLayers
 pub mod CopiedParts
 pub mod OfEnclosed
 pub mod OfPlainKind
 pub mod ReadParts
-pub mod Symmetry
 pub mod WrittenParts

@@ -1,29 +1,22 @@
 -- The kinds of TypeCodes that have no parameters.
-use Rattle.std.proofs.Common.{◌≡◌, ℕ, ℤ, Bool, true, false, ◌&&◌, List, [], nat_eq, refl, sym, ap, ◌∙◌, true≢false}
+use Rattle.std.proofs.Common.{◌≡◌, ℕ, ℤ, Bool, true, false, List, refl, sym, ap, ◌∙◌, true≢false}
 use Rattle.std.proofs.Common.{arith}
 use Rattle.td_cdr.specs.declared.value_fault.ValueFault.{ValueFault}
 use Rattle.td_cdr.specs.Sound.{Sound}
-use Rattle.std.specs.Cmp.Lexicographic.{pointwise}
-use Rattle.std.specs.Ordering.{int_eq}
-use Rattle.td_codes.specs.declared.label.Label.{Label}
-use Rattle.td_codes.specs.declared.code.TypeCode.{TypeCode, TypeCode-F, fold_out-TypeCode, map-TypeCode, out-TypeCode}
+use Rattle.tc_graph.specs.declared.node.Node.{Node}
+use Rattle.td_codes.specs.declared.code.TypeCode.{TypeCode, out-TypeCode}
 use Rattle.td_codes.specs.declared.code.TypeCode.{roll-TypeCode, roll-out-TypeCode}
 use Rattle.td_codes.specs.declared.code.TypeCode.TheVariants as code
 use Rattle.td_codes.specs.declared.code.TypeCode.TheOpen as c
-use Rattle.td_codes.specs.declared.code.Value.{Value, fold-Value}
-use Rattle.td_codes.specs.declared.code.Any.{Any, fold-Any}
+use Rattle.td_codes.specs.declared.code.Value.{Value}
+use Rattle.td_codes.specs.declared.code.Any.{Any}
 use Rattle.td_codes.specs.declared.code.Arm.{Arm}
 use Rattle.td_codes.specs.declared.code.Member.{Member}
-use Rattle.td_codes.specs.declared.kinds.CodeKind.{CodeKind}
-use Rattle.td_codes.specs.declared.kinds.CodeKind.TheVariants as kind
-use Rattle.td_codes.specs.Kinds.{number_of}
-use Rattle.td_codes.specs.Labels.{Layer, label_of_layer, plain_piece, labels}
+use Rattle.td_codes.specs.Labels.{Layer, plain_piece, labels}
 use Rattle.td_cdr.specs.Place.{At}
 use Rattle.td_codes.specs.Values.{layer}
 use Rattle.td_codes.specs.Codes.{kind_of}
 use Rattle.td_codes.specs.WritingCodes.{kind_of_layer, kind_piece, code_piece}
-use Rattle.td_codes.specs.Same.{Shape, Entry, empty, alike, like, ids_agree, shape, shape_layer, kind_shape}
-use Rattle.td_codes.specs.Same.{any_layer, arm_layer, member_layer, arm_entry, member_entry, is_alias}
 use Rattle.td_codes.proofs.AtLayers.{code_piece-at, labels-reads}
 
 abbrev pub is_plain : Layer → Bool
@@ -36,6 +29,7 @@ is_plain (c.Sequence item bound) = false
 is_plain (c.Array item len) = false
 is_plain (c.Alias id name item) = false
 is_plain (c.Except id name members) = false
+is_plain (c.Linked graph) = false
 is_plain l = true
 
 rolled : (t : TypeCode) (l : Layer) → out-TypeCode t ≡ l → t ≡ roll-TypeCode l
@@ -52,39 +46,42 @@ plain-at : (t : TypeCode) (l : Layer) → out-TypeCode t ≡ l
     → ((item : TypeCode) (len : ℕ) → t ≡ code.Array item len → ⊥)
     → ((id name : List ℕ) (item : TypeCode) → t ≡ code.Alias id name item → ⊥)
     → ((id name : List ℕ) (members : List Member) → t ≡ code.Except id name members → ⊥)
+    → ((graph : List Node) → t ≡ code.Linked graph → ⊥)
     → is_plain l ≡ true
-plain-at t c.Null is n0 n1 n2 n3 n4 n5 n6 n7 n8 = refl
-plain-at t c.Void is n0 n1 n2 n3 n4 n5 n6 n7 n8 = refl
-plain-at t c.TypeCode::Short is n0 n1 n2 n3 n4 n5 n6 n7 n8 = refl
-plain-at t c.TypeCode::Long is n0 n1 n2 n3 n4 n5 n6 n7 n8 = refl
-plain-at t c.TypeCode::UShort is n0 n1 n2 n3 n4 n5 n6 n7 n8 = refl
-plain-at t c.TypeCode::ULong is n0 n1 n2 n3 n4 n5 n6 n7 n8 = refl
-plain-at t c.TypeCode::Boolean is n0 n1 n2 n3 n4 n5 n6 n7 n8 = refl
-plain-at t c.TypeCode::Char is n0 n1 n2 n3 n4 n5 n6 n7 n8 = refl
-plain-at t c.TypeCode::Octet is n0 n1 n2 n3 n4 n5 n6 n7 n8 = refl
-plain-at t c.AnyCode is n0 n1 n2 n3 n4 n5 n6 n7 n8 = refl
-plain-at t c.TypeCode::Code is n0 n1 n2 n3 n4 n5 n6 n7 n8 = refl
-plain-at t c.TypeCode::LongLong is n0 n1 n2 n3 n4 n5 n6 n7 n8 = refl
-plain-at t c.TypeCode::ULongLong is n0 n1 n2 n3 n4 n5 n6 n7 n8 = refl
-plain-at t (c.TypeCode::Str bound) is n0 n1 n2 n3 n4 n5 n6 n7 n8 =
+plain-at t c.Null is n0 n1 n2 n3 n4 n5 n6 n7 n8 n9 = refl
+plain-at t c.Void is n0 n1 n2 n3 n4 n5 n6 n7 n8 n9 = refl
+plain-at t c.TypeCode::Short is n0 n1 n2 n3 n4 n5 n6 n7 n8 n9 = refl
+plain-at t c.TypeCode::Long is n0 n1 n2 n3 n4 n5 n6 n7 n8 n9 = refl
+plain-at t c.TypeCode::UShort is n0 n1 n2 n3 n4 n5 n6 n7 n8 n9 = refl
+plain-at t c.TypeCode::ULong is n0 n1 n2 n3 n4 n5 n6 n7 n8 n9 = refl
+plain-at t c.TypeCode::Boolean is n0 n1 n2 n3 n4 n5 n6 n7 n8 n9 = refl
+plain-at t c.TypeCode::Char is n0 n1 n2 n3 n4 n5 n6 n7 n8 n9 = refl
+plain-at t c.TypeCode::Octet is n0 n1 n2 n3 n4 n5 n6 n7 n8 n9 = refl
+plain-at t c.AnyCode is n0 n1 n2 n3 n4 n5 n6 n7 n8 n9 = refl
+plain-at t c.TypeCode::Code is n0 n1 n2 n3 n4 n5 n6 n7 n8 n9 = refl
+plain-at t c.TypeCode::LongLong is n0 n1 n2 n3 n4 n5 n6 n7 n8 n9 = refl
+plain-at t c.TypeCode::ULongLong is n0 n1 n2 n3 n4 n5 n6 n7 n8 n9 = refl
+plain-at t (c.TypeCode::Str bound) is n0 n1 n2 n3 n4 n5 n6 n7 n8 n9 =
     absurd (n0 bound (rolled t (c.TypeCode::Str bound) is ∙ code.rolls-Str bound))
-plain-at t (c.TypeCode::ObjRef id name) is n0 n1 n2 n3 n4 n5 n6 n7 n8 =
+plain-at t (c.TypeCode::ObjRef id name) is n0 n1 n2 n3 n4 n5 n6 n7 n8 n9 =
     absurd (n1 id name (rolled t (c.TypeCode::ObjRef id name) is ∙ code.rolls-ObjRef id name))
-plain-at t (c.TypeCode::Struct id name members) is n0 n1 n2 n3 n4 n5 n6 n7 n8 =
+plain-at t (c.TypeCode::Struct id name members) is n0 n1 n2 n3 n4 n5 n6 n7 n8 n9 =
     absurd (n2 id name members (rolled t (c.TypeCode::Struct id name members) is ∙ code.rolls-Struct id name members))
-plain-at t (c.TypeCode::Union id name switch default arms) is n0 n1 n2 n3 n4 n5 n6 n7 n8 =
+plain-at t (c.TypeCode::Union id name switch default arms) is n0 n1 n2 n3 n4 n5 n6 n7 n8 n9 =
     absurd (n3 id name switch default arms
     (rolled t (c.TypeCode::Union id name switch default arms) is ∙ code.rolls-Union id name switch default arms))
-plain-at t (c.TypeCode::Enum id name names) is n0 n1 n2 n3 n4 n5 n6 n7 n8 =
+plain-at t (c.TypeCode::Enum id name names) is n0 n1 n2 n3 n4 n5 n6 n7 n8 n9 =
     absurd (n4 id name names (rolled t (c.TypeCode::Enum id name names) is ∙ code.rolls-Enum id name names))
-plain-at t (c.Sequence item bound) is n0 n1 n2 n3 n4 n5 n6 n7 n8 =
+plain-at t (c.Sequence item bound) is n0 n1 n2 n3 n4 n5 n6 n7 n8 n9 =
     absurd (n5 item bound (rolled t (c.Sequence item bound) is ∙ code.rolls-Sequence item bound))
-plain-at t (c.Array item len) is n0 n1 n2 n3 n4 n5 n6 n7 n8 =
+plain-at t (c.Array item len) is n0 n1 n2 n3 n4 n5 n6 n7 n8 n9 =
     absurd (n6 item len (rolled t (c.Array item len) is ∙ code.rolls-Array item len))
-plain-at t (c.Alias id name item) is n0 n1 n2 n3 n4 n5 n6 n7 n8 =
+plain-at t (c.Alias id name item) is n0 n1 n2 n3 n4 n5 n6 n7 n8 n9 =
     absurd (n7 id name item (rolled t (c.Alias id name item) is ∙ code.rolls-Alias id name item))
-plain-at t (c.Except id name members) is n0 n1 n2 n3 n4 n5 n6 n7 n8 =
+plain-at t (c.Except id name members) is n0 n1 n2 n3 n4 n5 n6 n7 n8 n9 =
     absurd (n8 id name members (rolled t (c.Except id name members) is ∙ code.rolls-Except id name members))
+plain-at t (c.Linked graph) is n0 n1 n2 n3 n4 n5 n6 n7 n8 n9 =
+    absurd (n9 graph (rolled t (c.Linked graph) is ∙ code.rolls-Linked graph))
 
 -- a TypeCode that is none of the others is one
 pub plain-else : (t : TypeCode)
@@ -98,8 +95,9 @@ pub plain-else : (t : TypeCode)
     → ((item : TypeCode) (len : ℕ) → t ≡ code.Array item len → ⊥)
     → ((id name : List ℕ) (item : TypeCode) → t ≡ code.Alias id name item → ⊥)
     → ((id name : List ℕ) (members : List Member) → t ≡ code.Except id name members → ⊥)
+    → ((graph : List Node) → t ≡ code.Linked graph → ⊥)
     → is_plain (out-TypeCode t) ≡ true
-plain-else t n0 n1 n2 n3 n4 n5 n6 n7 n8 = plain-at t (out-TypeCode t) refl n0 n1 n2 n3 n4 n5 n6 n7 n8
+plain-else t n0 n1 n2 n3 n4 n5 n6 n7 n8 n9 = plain-at t (out-TypeCode t) refl n0 n1 n2 n3 n4 n5 n6 n7 n8 n9
 
 -- what is written for one
 plain-piece-at : (t : TypeCode) (l : Layer) → out-TypeCode t ≡ l → is_plain l ≡ true
@@ -126,117 +124,10 @@ plain-piece-at t (c.Sequence item bound) is p = absurd (true≢false (sym p))
 plain-piece-at t (c.Array item len) is p = absurd (true≢false (sym p))
 plain-piece-at t (c.Alias id name item) is p = absurd (true≢false (sym p))
 plain-piece-at t (c.Except id name members) is p = absurd (true≢false (sym p))
+plain-piece-at t (c.Linked graph) is p = absurd (true≢false (sym p))
 
 pub plain-piece : (t : TypeCode) → is_plain (out-TypeCode t) ≡ true → code_piece t ≡ kind_piece (kind_of t)
 plain-piece t p = plain-piece-at t (out-TypeCode t) refl p
-
--- ---- one is the same as another that is no alias where both are of one kind
-
-abbrev layer_shapes : Layer → TypeCode-F Shape Label Label Entry Entry
-layer_shapes =
-    map-TypeCode TypeCode Value Any Arm Member Shape Label Label Entry Entry shape
-    (fold-Value Shape Label Label Entry Entry shape_layer label_of_layer any_layer arm_layer member_layer)
-    (fold-Any Shape Label Label Entry Entry shape_layer label_of_layer any_layer arm_layer member_layer) arm_entry
-    member_entry
-
-shape-at : (t : TypeCode) (l : Layer) → out-TypeCode t ≡ l → shape t ≡ shape_layer (layer_shapes l)
-shape-at t l is =
-    fold_out-TypeCode Shape Label Label Entry Entry shape_layer label_of_layer any_layer arm_layer member_layer t
-    ∙ ap (λ (x : Layer). shape_layer (layer_shapes x)) is
-
-and-true : (b : Bool) → b ≡ (b && true)
-and-true true = refl
-and-true false = refl
-
--- the numbers of the kinds with more than an id do not agree with the number of k
-module _ (k : CodeKind) (not_struct : nat_eq (number_of k) 15 ≡ false) (not_union : nat_eq (number_of k) 16 ≡ false)
-    (not_enum : nat_eq (number_of k) 17 ≡ false) (not_str : nat_eq (number_of k) 18 ≡ false)
-    (not_sequence : nat_eq (number_of k) 19 ≡ false) (not_array : nat_eq (number_of k) 20 ≡ false)
-    (not_except : nat_eq (number_of k) 22 ≡ false) where
-  abbrev others : Shape → Bool
-  others s = pointwise int_eq [] s.numbers && (ids_agree [] s.id && alike empty s.inner)
-
-  unlike : (s : Shape) → nat_eq (number_of k) s.kind ≡ false
-      → nat_eq (number_of k) s.kind ≡ like (kind_shape k) s
-  unlike s e = e ∙ sym (ap (λ (b : Bool). b && others s) e)
-
-  like-layer : (l : Layer) → is_alias l ≡ false
-      → nat_eq (number_of k) (number_of (kind_of_layer l)) ≡ like (kind_shape k) (shape_layer (layer_shapes l))
-  like-layer c.Null a = and-true (nat_eq (number_of k) (number_of kind.Null))
-  like-layer c.Void a = and-true (nat_eq (number_of k) (number_of kind.Void))
-  like-layer c.TypeCode::Short a = and-true (nat_eq (number_of k) (number_of kind.Short))
-  like-layer c.TypeCode::Long a = and-true (nat_eq (number_of k) (number_of kind.Long))
-  like-layer c.TypeCode::UShort a = and-true (nat_eq (number_of k) (number_of kind.UShort))
-  like-layer c.TypeCode::ULong a = and-true (nat_eq (number_of k) (number_of kind.ULong))
-  like-layer c.TypeCode::Boolean a = and-true (nat_eq (number_of k) (number_of kind.Boolean))
-  like-layer c.TypeCode::Char a = and-true (nat_eq (number_of k) (number_of kind.Char))
-  like-layer c.TypeCode::Octet a = and-true (nat_eq (number_of k) (number_of kind.Octet))
-  like-layer c.AnyCode a = and-true (nat_eq (number_of k) (number_of kind.AnyCode))
-  like-layer c.TypeCode::Code a = and-true (nat_eq (number_of k) (number_of kind.Code))
-  like-layer c.TypeCode::LongLong a = and-true (nat_eq (number_of k) (number_of kind.LongLong))
-  like-layer c.TypeCode::ULongLong a = and-true (nat_eq (number_of k) (number_of kind.ULongLong))
-  like-layer (c.TypeCode::ObjRef id name) a = and-true (nat_eq (number_of k) (number_of kind.ObjRef))
-  like-layer (c.TypeCode::Struct id name members) a =
-      unlike (shape_layer (layer_shapes (c.TypeCode::Struct id name members))) not_struct
-  like-layer (c.TypeCode::Union id name switch default arms) a =
-      unlike (shape_layer (layer_shapes (c.TypeCode::Union id name switch default arms))) not_union
-  like-layer (c.TypeCode::Enum id name names) a =
-      unlike (shape_layer (layer_shapes (c.TypeCode::Enum id name names))) not_enum
-  like-layer (c.TypeCode::Str bound) a = unlike (shape_layer (layer_shapes (c.TypeCode::Str bound))) not_str
-  like-layer (c.Sequence item bound) a = unlike (shape_layer (layer_shapes (c.Sequence item bound))) not_sequence
-  like-layer (c.Array item len) a = unlike (shape_layer (layer_shapes (c.Array item len))) not_array
-  like-layer (c.Except id name members) a = unlike (shape_layer (layer_shapes (c.Except id name members))) not_except
-  like-layer (c.Alias id name item) a = absurd (true≢false a)
-
-  same-kinds : (a b : TypeCode) → shape a ≡ kind_shape k → is_alias (out-TypeCode b) ≡ false
-      → nat_eq (number_of k) (number_of (kind_of b)) ≡ like (shape a) (shape b)
-  same-kinds a b s bare =
-      like-layer (out-TypeCode b) bare
-      ∙ ap (λ (x : Shape). like (kind_shape k) x) (sym (shape-at b (out-TypeCode b) refl))
-      ∙ ap (λ (x : Shape). like x (shape b)) (sym s)
-
-plain-same-at : (a b : TypeCode) (l : Layer) → out-TypeCode a ≡ l → is_plain l ≡ true
-    → is_alias (out-TypeCode b) ≡ false
-    → nat_eq (number_of (kind_of_layer l)) (number_of (kind_of b)) ≡ like (shape a) (shape b)
-plain-same-at a b c.Null is p bare =
-    same-kinds kind.Null refl refl refl refl refl refl refl a b (shape-at a c.Null is) bare
-plain-same-at a b c.Void is p bare =
-    same-kinds kind.Void refl refl refl refl refl refl refl a b (shape-at a c.Void is) bare
-plain-same-at a b c.TypeCode::Short is p bare =
-    same-kinds kind.Short refl refl refl refl refl refl refl a b (shape-at a c.TypeCode::Short is) bare
-plain-same-at a b c.TypeCode::Long is p bare =
-    same-kinds kind.Long refl refl refl refl refl refl refl a b (shape-at a c.TypeCode::Long is) bare
-plain-same-at a b c.TypeCode::UShort is p bare =
-    same-kinds kind.UShort refl refl refl refl refl refl refl a b (shape-at a c.TypeCode::UShort is) bare
-plain-same-at a b c.TypeCode::ULong is p bare =
-    same-kinds kind.ULong refl refl refl refl refl refl refl a b (shape-at a c.TypeCode::ULong is) bare
-plain-same-at a b c.TypeCode::Boolean is p bare =
-    same-kinds kind.Boolean refl refl refl refl refl refl refl a b (shape-at a c.TypeCode::Boolean is) bare
-plain-same-at a b c.TypeCode::Char is p bare =
-    same-kinds kind.Char refl refl refl refl refl refl refl a b (shape-at a c.TypeCode::Char is) bare
-plain-same-at a b c.TypeCode::Octet is p bare =
-    same-kinds kind.Octet refl refl refl refl refl refl refl a b (shape-at a c.TypeCode::Octet is) bare
-plain-same-at a b c.AnyCode is p bare =
-    same-kinds kind.AnyCode refl refl refl refl refl refl refl a b (shape-at a c.AnyCode is) bare
-plain-same-at a b c.TypeCode::Code is p bare =
-    same-kinds kind.Code refl refl refl refl refl refl refl a b (shape-at a c.TypeCode::Code is) bare
-plain-same-at a b c.TypeCode::LongLong is p bare =
-    same-kinds kind.LongLong refl refl refl refl refl refl refl a b (shape-at a c.TypeCode::LongLong is) bare
-plain-same-at a b c.TypeCode::ULongLong is p bare =
-    same-kinds kind.ULongLong refl refl refl refl refl refl refl a b (shape-at a c.TypeCode::ULongLong is) bare
-plain-same-at a b (c.TypeCode::ObjRef id name) is p bare = absurd (true≢false (sym p))
-plain-same-at a b (c.TypeCode::Struct id name members) is p bare = absurd (true≢false (sym p))
-plain-same-at a b (c.TypeCode::Union id name switch default arms) is p bare = absurd (true≢false (sym p))
-plain-same-at a b (c.TypeCode::Enum id name names) is p bare = absurd (true≢false (sym p))
-plain-same-at a b (c.TypeCode::Str bound) is p bare = absurd (true≢false (sym p))
-plain-same-at a b (c.Sequence item bound) is p bare = absurd (true≢false (sym p))
-plain-same-at a b (c.Array item len) is p bare = absurd (true≢false (sym p))
-plain-same-at a b (c.Alias id name item) is p bare = absurd (true≢false (sym p))
-plain-same-at a b (c.Except id name members) is p bare = absurd (true≢false (sym p))
-
-pub plain-same : (a b : TypeCode) → is_plain (out-TypeCode a) ≡ true → is_alias (out-TypeCode b) ≡ false
-    → nat_eq (number_of (kind_of a)) (number_of (kind_of b)) ≡ like (shape a) (shape b)
-plain-same a b p bare = plain-same-at a b (out-TypeCode a) refl p bare
 
 -- ---- the kinds whose values are numbers
 
@@ -264,40 +155,43 @@ number-at : (t : TypeCode) (l : Layer) → out-TypeCode t ≡ l
     → ((item : TypeCode) (len : ℕ) → t ≡ code.Array item len → ⊥)
     → ((id name : List ℕ) (item : TypeCode) → t ≡ code.Alias id name item → ⊥)
     → ((id name : List ℕ) (members : List Member) → t ≡ code.Except id name members → ⊥)
+    → ((graph : List Node) → t ≡ code.Linked graph → ⊥)
     → is_number l ≡ true
-number-at t c.TypeCode::Short is m0 m1 m2 m3 n0 n1 n2 n3 n4 n5 n6 n7 = refl
-number-at t c.TypeCode::Long is m0 m1 m2 m3 n0 n1 n2 n3 n4 n5 n6 n7 = refl
-number-at t c.TypeCode::UShort is m0 m1 m2 m3 n0 n1 n2 n3 n4 n5 n6 n7 = refl
-number-at t c.TypeCode::ULong is m0 m1 m2 m3 n0 n1 n2 n3 n4 n5 n6 n7 = refl
-number-at t c.TypeCode::Boolean is m0 m1 m2 m3 n0 n1 n2 n3 n4 n5 n6 n7 = refl
-number-at t c.TypeCode::Char is m0 m1 m2 m3 n0 n1 n2 n3 n4 n5 n6 n7 = refl
-number-at t c.TypeCode::Octet is m0 m1 m2 m3 n0 n1 n2 n3 n4 n5 n6 n7 = refl
-number-at t c.TypeCode::LongLong is m0 m1 m2 m3 n0 n1 n2 n3 n4 n5 n6 n7 = refl
-number-at t c.TypeCode::ULongLong is m0 m1 m2 m3 n0 n1 n2 n3 n4 n5 n6 n7 = refl
-number-at t (c.TypeCode::Enum id name names) is m0 m1 m2 m3 n0 n1 n2 n3 n4 n5 n6 n7 = refl
-number-at t c.Null is m0 m1 m2 m3 n0 n1 n2 n3 n4 n5 n6 n7 = absurd (m0 (rolled t c.Null is ∙ code.rolls-Null))
-number-at t c.Void is m0 m1 m2 m3 n0 n1 n2 n3 n4 n5 n6 n7 = absurd (m1 (rolled t c.Void is ∙ code.rolls-Void))
-number-at t c.AnyCode is m0 m1 m2 m3 n0 n1 n2 n3 n4 n5 n6 n7 =
+number-at t c.TypeCode::Short is m0 m1 m2 m3 n0 n1 n2 n3 n4 n5 n6 n7 n8 = refl
+number-at t c.TypeCode::Long is m0 m1 m2 m3 n0 n1 n2 n3 n4 n5 n6 n7 n8 = refl
+number-at t c.TypeCode::UShort is m0 m1 m2 m3 n0 n1 n2 n3 n4 n5 n6 n7 n8 = refl
+number-at t c.TypeCode::ULong is m0 m1 m2 m3 n0 n1 n2 n3 n4 n5 n6 n7 n8 = refl
+number-at t c.TypeCode::Boolean is m0 m1 m2 m3 n0 n1 n2 n3 n4 n5 n6 n7 n8 = refl
+number-at t c.TypeCode::Char is m0 m1 m2 m3 n0 n1 n2 n3 n4 n5 n6 n7 n8 = refl
+number-at t c.TypeCode::Octet is m0 m1 m2 m3 n0 n1 n2 n3 n4 n5 n6 n7 n8 = refl
+number-at t c.TypeCode::LongLong is m0 m1 m2 m3 n0 n1 n2 n3 n4 n5 n6 n7 n8 = refl
+number-at t c.TypeCode::ULongLong is m0 m1 m2 m3 n0 n1 n2 n3 n4 n5 n6 n7 n8 = refl
+number-at t (c.TypeCode::Enum id name names) is m0 m1 m2 m3 n0 n1 n2 n3 n4 n5 n6 n7 n8 = refl
+number-at t c.Null is m0 m1 m2 m3 n0 n1 n2 n3 n4 n5 n6 n7 n8 = absurd (m0 (rolled t c.Null is ∙ code.rolls-Null))
+number-at t c.Void is m0 m1 m2 m3 n0 n1 n2 n3 n4 n5 n6 n7 n8 = absurd (m1 (rolled t c.Void is ∙ code.rolls-Void))
+number-at t c.AnyCode is m0 m1 m2 m3 n0 n1 n2 n3 n4 n5 n6 n7 n8 =
     absurd (m2 (rolled t c.AnyCode is ∙ code.rolls-AnyCode))
-number-at t c.TypeCode::Code is m0 m1 m2 m3 n0 n1 n2 n3 n4 n5 n6 n7 =
+number-at t c.TypeCode::Code is m0 m1 m2 m3 n0 n1 n2 n3 n4 n5 n6 n7 n8 =
     absurd (m3 (rolled t c.TypeCode::Code is ∙ code.rolls-Code))
-number-at t (c.TypeCode::Str bound) is m0 m1 m2 m3 n0 n1 n2 n3 n4 n5 n6 n7 =
+number-at t (c.TypeCode::Str bound) is m0 m1 m2 m3 n0 n1 n2 n3 n4 n5 n6 n7 n8 =
     absurd (n0 bound (rolled t (c.TypeCode::Str bound) is ∙ code.rolls-Str bound))
-number-at t (c.TypeCode::ObjRef id name) is m0 m1 m2 m3 n0 n1 n2 n3 n4 n5 n6 n7 =
+number-at t (c.TypeCode::ObjRef id name) is m0 m1 m2 m3 n0 n1 n2 n3 n4 n5 n6 n7 n8 =
     absurd (n1 id name (rolled t (c.TypeCode::ObjRef id name) is ∙ code.rolls-ObjRef id name))
-number-at t (c.TypeCode::Struct id name members) is m0 m1 m2 m3 n0 n1 n2 n3 n4 n5 n6 n7 =
+number-at t (c.TypeCode::Struct id name members) is m0 m1 m2 m3 n0 n1 n2 n3 n4 n5 n6 n7 n8 =
     absurd (n2 id name members (rolled t (c.TypeCode::Struct id name members) is ∙ code.rolls-Struct id name members))
-number-at t (c.TypeCode::Union id name switch default arms) is m0 m1 m2 m3 n0 n1 n2 n3 n4 n5 n6 n7 =
+number-at t (c.TypeCode::Union id name switch default arms) is m0 m1 m2 m3 n0 n1 n2 n3 n4 n5 n6 n7 n8 =
     absurd (n3 id name switch default arms
     (rolled t (c.TypeCode::Union id name switch default arms) is ∙ code.rolls-Union id name switch default arms))
-number-at t (c.Sequence item bound) is m0 m1 m2 m3 n0 n1 n2 n3 n4 n5 n6 n7 =
+number-at t (c.Sequence item bound) is m0 m1 m2 m3 n0 n1 n2 n3 n4 n5 n6 n7 n8 =
     absurd (n4 item bound (rolled t (c.Sequence item bound) is ∙ code.rolls-Sequence item bound))
-number-at t (c.Array item len) is m0 m1 m2 m3 n0 n1 n2 n3 n4 n5 n6 n7 =
+number-at t (c.Array item len) is m0 m1 m2 m3 n0 n1 n2 n3 n4 n5 n6 n7 n8 =
     absurd (n5 item len (rolled t (c.Array item len) is ∙ code.rolls-Array item len))
-number-at t (c.Alias id name item) is m0 m1 m2 m3 n0 n1 n2 n3 n4 n5 n6 n7 =
+number-at t (c.Alias id name item) is m0 m1 m2 m3 n0 n1 n2 n3 n4 n5 n6 n7 n8 =
     absurd (n6 id name item (rolled t (c.Alias id name item) is ∙ code.rolls-Alias id name item))
-number-at t (c.Except id name members) is m0 m1 m2 m3 n0 n1 n2 n3 n4 n5 n6 n7 =
+number-at t (c.Except id name members) is m0 m1 m2 m3 n0 n1 n2 n3 n4 n5 n6 n7 n8 =
     absurd (n7 id name members (rolled t (c.Except id name members) is ∙ code.rolls-Except id name members))
+number-at t (c.Linked graph) is m0 m1 m2 m3 n0 n1 n2 n3 n4 n5 n6 n7 n8 =
+    absurd (n8 graph (rolled t (c.Linked graph) is ∙ code.rolls-Linked graph))
 
 pub number-else : (t : TypeCode)
     → (t ≡ code.Null → ⊥) → (t ≡ code.Void → ⊥) → (t ≡ code.AnyCode → ⊥) → (t ≡ code.Code → ⊥)
@@ -310,9 +204,10 @@ pub number-else : (t : TypeCode)
     → ((item : TypeCode) (len : ℕ) → t ≡ code.Array item len → ⊥)
     → ((id name : List ℕ) (item : TypeCode) → t ≡ code.Alias id name item → ⊥)
     → ((id name : List ℕ) (members : List Member) → t ≡ code.Except id name members → ⊥)
+    → ((graph : List Node) → t ≡ code.Linked graph → ⊥)
     → is_number (out-TypeCode t) ≡ true
-number-else t m0 m1 m2 m3 n0 n1 n2 n3 n4 n5 n6 n7 =
-    number-at t (out-TypeCode t) refl m0 m1 m2 m3 n0 n1 n2 n3 n4 n5 n6 n7
+number-else t m0 m1 m2 m3 n0 n1 n2 n3 n4 n5 n6 n7 n8 =
+    number-at t (out-TypeCode t) refl m0 m1 m2 m3 n0 n1 n2 n3 n4 n5 n6 n7 n8
 
 pub number-piece : (any : Sound ValueFault Any) (code : Sound ValueFault TypeCode)
     (inner : TypeCode → Sound ValueFault Value) (n : ℕ) (l : Layer) (v : Value)
@@ -339,6 +234,7 @@ number-piece any code inner n (c.Sequence item bound) v is = absurd (true≢fals
 number-piece any code inner n (c.Array item len) v is = absurd (true≢false (sym is))
 number-piece any code inner n (c.Alias id name item) v is = absurd (true≢false (sym is))
 number-piece any code inner n (c.Except id name members) v is = absurd (true≢false (sym is))
+number-piece any code inner n (c.Linked graph) v is = absurd (true≢false (sym is))
 
 -- ---- the kinds whose values are read as those of a discriminator
 
@@ -366,50 +262,53 @@ label-at : (t : TypeCode) (l : Layer) → out-TypeCode t ≡ l
     → ((item : TypeCode) (len : ℕ) → t ≡ code.Array item len → ⊥)
     → ((id name : List ℕ) (item : TypeCode) → t ≡ code.Alias id name item → ⊥)
     → ((id name : List ℕ) (members : List Member) → t ≡ code.Except id name members → ⊥)
+    → ((graph : List Node) → t ≡ code.Linked graph → ⊥)
     → is_label l ≡ true
-label-at t c.TypeCode::Short is m0 m1 m2 m3 m4 n0 n1 n2 n3 n4 n5 n6 n7 = refl
-label-at t c.TypeCode::Long is m0 m1 m2 m3 m4 n0 n1 n2 n3 n4 n5 n6 n7 = refl
-label-at t c.TypeCode::UShort is m0 m1 m2 m3 m4 n0 n1 n2 n3 n4 n5 n6 n7 = refl
-label-at t c.TypeCode::ULong is m0 m1 m2 m3 m4 n0 n1 n2 n3 n4 n5 n6 n7 = refl
-label-at t c.TypeCode::Boolean is m0 m1 m2 m3 m4 n0 n1 n2 n3 n4 n5 n6 n7 = refl
-label-at t c.TypeCode::Char is m0 m1 m2 m3 m4 n0 n1 n2 n3 n4 n5 n6 n7 = refl
-label-at t c.TypeCode::LongLong is m0 m1 m2 m3 m4 n0 n1 n2 n3 n4 n5 n6 n7 = refl
-label-at t c.TypeCode::ULongLong is m0 m1 m2 m3 m4 n0 n1 n2 n3 n4 n5 n6 n7 = refl
-label-at t (c.TypeCode::Enum id name names) is m0 m1 m2 m3 m4 n0 n1 n2 n3 n4 n5 n6 n7 = refl
-label-at t c.Null is m0 m1 m2 m3 m4 n0 n1 n2 n3 n4 n5 n6 n7 =
+label-at t c.TypeCode::Short is m0 m1 m2 m3 m4 n0 n1 n2 n3 n4 n5 n6 n7 n8 = refl
+label-at t c.TypeCode::Long is m0 m1 m2 m3 m4 n0 n1 n2 n3 n4 n5 n6 n7 n8 = refl
+label-at t c.TypeCode::UShort is m0 m1 m2 m3 m4 n0 n1 n2 n3 n4 n5 n6 n7 n8 = refl
+label-at t c.TypeCode::ULong is m0 m1 m2 m3 m4 n0 n1 n2 n3 n4 n5 n6 n7 n8 = refl
+label-at t c.TypeCode::Boolean is m0 m1 m2 m3 m4 n0 n1 n2 n3 n4 n5 n6 n7 n8 = refl
+label-at t c.TypeCode::Char is m0 m1 m2 m3 m4 n0 n1 n2 n3 n4 n5 n6 n7 n8 = refl
+label-at t c.TypeCode::LongLong is m0 m1 m2 m3 m4 n0 n1 n2 n3 n4 n5 n6 n7 n8 = refl
+label-at t c.TypeCode::ULongLong is m0 m1 m2 m3 m4 n0 n1 n2 n3 n4 n5 n6 n7 n8 = refl
+label-at t (c.TypeCode::Enum id name names) is m0 m1 m2 m3 m4 n0 n1 n2 n3 n4 n5 n6 n7 n8 = refl
+label-at t c.Null is m0 m1 m2 m3 m4 n0 n1 n2 n3 n4 n5 n6 n7 n8 =
     absurd (m0 (rolled t c.Null is ∙ code.rolls-Null))
-label-at t c.Void is m0 m1 m2 m3 m4 n0 n1 n2 n3 n4 n5 n6 n7 =
+label-at t c.Void is m0 m1 m2 m3 m4 n0 n1 n2 n3 n4 n5 n6 n7 n8 =
     absurd (m1 (rolled t c.Void is ∙ code.rolls-Void))
-label-at t c.AnyCode is m0 m1 m2 m3 m4 n0 n1 n2 n3 n4 n5 n6 n7 =
+label-at t c.AnyCode is m0 m1 m2 m3 m4 n0 n1 n2 n3 n4 n5 n6 n7 n8 =
     absurd (m2 (rolled t c.AnyCode is ∙ code.rolls-AnyCode))
-label-at t c.TypeCode::Code is m0 m1 m2 m3 m4 n0 n1 n2 n3 n4 n5 n6 n7 =
+label-at t c.TypeCode::Code is m0 m1 m2 m3 m4 n0 n1 n2 n3 n4 n5 n6 n7 n8 =
     absurd (m3 (rolled t c.TypeCode::Code is ∙ code.rolls-Code))
-label-at t c.TypeCode::Octet is m0 m1 m2 m3 m4 n0 n1 n2 n3 n4 n5 n6 n7 =
+label-at t c.TypeCode::Octet is m0 m1 m2 m3 m4 n0 n1 n2 n3 n4 n5 n6 n7 n8 =
     absurd (m4 (rolled t c.TypeCode::Octet is ∙ code.rolls-Octet))
-label-at t (c.TypeCode::Str bound) is m0 m1 m2 m3 m4 n0 n1 n2 n3 n4 n5 n6 n7 =
+label-at t (c.TypeCode::Str bound) is m0 m1 m2 m3 m4 n0 n1 n2 n3 n4 n5 n6 n7 n8 =
     absurd (n0 bound
     (rolled t (c.TypeCode::Str bound) is ∙ code.rolls-Str bound))
-label-at t (c.TypeCode::ObjRef id name) is m0 m1 m2 m3 m4 n0 n1 n2 n3 n4 n5 n6 n7 =
+label-at t (c.TypeCode::ObjRef id name) is m0 m1 m2 m3 m4 n0 n1 n2 n3 n4 n5 n6 n7 n8 =
     absurd (n1 id name
     (rolled t (c.TypeCode::ObjRef id name) is ∙ code.rolls-ObjRef id name))
-label-at t (c.TypeCode::Struct id name members) is m0 m1 m2 m3 m4 n0 n1 n2 n3 n4 n5 n6 n7 =
+label-at t (c.TypeCode::Struct id name members) is m0 m1 m2 m3 m4 n0 n1 n2 n3 n4 n5 n6 n7 n8 =
     absurd (n2 id name members
     (rolled t (c.TypeCode::Struct id name members) is ∙ code.rolls-Struct id name members))
-label-at t (c.TypeCode::Union id name switch default arms) is m0 m1 m2 m3 m4 n0 n1 n2 n3 n4 n5 n6 n7 =
+label-at t (c.TypeCode::Union id name switch default arms) is m0 m1 m2 m3 m4 n0 n1 n2 n3 n4 n5 n6 n7 n8 =
     absurd (n3 id name switch default arms
     (rolled t (c.TypeCode::Union id name switch default arms) is ∙ code.rolls-Union id name switch default arms))
-label-at t (c.Sequence item bound) is m0 m1 m2 m3 m4 n0 n1 n2 n3 n4 n5 n6 n7 =
+label-at t (c.Sequence item bound) is m0 m1 m2 m3 m4 n0 n1 n2 n3 n4 n5 n6 n7 n8 =
     absurd (n4 item bound
     (rolled t (c.Sequence item bound) is ∙ code.rolls-Sequence item bound))
-label-at t (c.Array item len) is m0 m1 m2 m3 m4 n0 n1 n2 n3 n4 n5 n6 n7 =
+label-at t (c.Array item len) is m0 m1 m2 m3 m4 n0 n1 n2 n3 n4 n5 n6 n7 n8 =
     absurd (n5 item len
     (rolled t (c.Array item len) is ∙ code.rolls-Array item len))
-label-at t (c.Alias id name item) is m0 m1 m2 m3 m4 n0 n1 n2 n3 n4 n5 n6 n7 =
+label-at t (c.Alias id name item) is m0 m1 m2 m3 m4 n0 n1 n2 n3 n4 n5 n6 n7 n8 =
     absurd (n6 id name item
     (rolled t (c.Alias id name item) is ∙ code.rolls-Alias id name item))
-label-at t (c.Except id name members) is m0 m1 m2 m3 m4 n0 n1 n2 n3 n4 n5 n6 n7 =
+label-at t (c.Except id name members) is m0 m1 m2 m3 m4 n0 n1 n2 n3 n4 n5 n6 n7 n8 =
     absurd (n7 id name members
     (rolled t (c.Except id name members) is ∙ code.rolls-Except id name members))
+label-at t (c.Linked graph) is m0 m1 m2 m3 m4 n0 n1 n2 n3 n4 n5 n6 n7 n8 =
+    absurd (n8 graph (rolled t (c.Linked graph) is ∙ code.rolls-Linked graph))
 
 pub label-else : (t : TypeCode)
     → (t ≡ code.Null → ⊥) → (t ≡ code.Void → ⊥) → (t ≡ code.AnyCode → ⊥)
@@ -423,9 +322,10 @@ pub label-else : (t : TypeCode)
     → ((item : TypeCode) (len : ℕ) → t ≡ code.Array item len → ⊥)
     → ((id name : List ℕ) (item : TypeCode) → t ≡ code.Alias id name item → ⊥)
     → ((id name : List ℕ) (members : List Member) → t ≡ code.Except id name members → ⊥)
+    → ((graph : List Node) → t ≡ code.Linked graph → ⊥)
     → is_label (out-TypeCode t) ≡ true
-label-else t m0 m1 m2 m3 m4 n0 n1 n2 n3 n4 n5 n6 n7 =
-    label-at t (out-TypeCode t) refl m0 m1 m2 m3 m4 n0 n1 n2 n3 n4 n5 n6 n7
+label-else t m0 m1 m2 m3 m4 n0 n1 n2 n3 n4 n5 n6 n7 n8 =
+    label-at t (out-TypeCode t) refl m0 m1 m2 m3 m4 n0 n1 n2 n3 n4 n5 n6 n7 n8
 
 one : ◌≡◌ {A = ℕ} 1 0 → ⊥
 one e = let no_one : ⊥ = omega arith in no_one
@@ -464,6 +364,7 @@ label-reads-at any code inner n t (c.Alias id name item) is ok a =
     absurd (true≢false (sym ok))
 label-reads-at any code inner n t (c.Except id name members) is ok a =
     absurd (true≢false (sym ok))
+label-reads-at any code inner n t (c.Linked graph) is ok a = absurd (true≢false (sym ok))
 
 pub label-reads : (any : Sound ValueFault Any) (code : Sound ValueFault TypeCode)
     (inner : TypeCode → Sound ValueFault Value) (n : ℕ) (t : TypeCode) → is_label (out-TypeCode t) ≡ true → (a : At)

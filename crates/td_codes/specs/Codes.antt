@@ -2,7 +2,7 @@
 -- unsigned long, and then the kind's parameters.
 use Rattle.std.specs.Prelude.{◌≡◌, ℕ, ℤ, int_lt, pos, negsuc, zero, suc, nat_lt, not, ◌||◌, List, []}
 use Rattle.std.specs.Prelude.{◌∷◌, ◌++◌, ◌+◌, length, map, Option, Some, None, refl}
-use Rattle.std.proofs.Common.{sym, ap, ◌∙◌}
+use Rattle.std.proofs.Common.{sym, ap, subst, ◌∙◌}
 use Rattle.std.proofs.lemmas.List.{append-nil, length-map}
 use Rattle.td_cdr.specs.declared.order.Order.{Order}
 use Rattle.td_cdr.specs.Format.{Piece, ◌then◌, row, array_format}
@@ -11,6 +11,7 @@ use Rattle.td_cdr.specs.Sound.{array, encapsulation, restriction, failure, union
 use Rattle.td_cdr.specs.Sound.{bare_arm}
 use Rattle.td_cdr.specs.LawfulFormats.{times-length, times-row}
 use Rattle.td_cdr.specs.declared.value_fault.ValueFault.{ValueFault}
+use Rattle.tc_graph.specs.declared.node.Node.{Node}
 use Rattle.td_codes.specs.declared.code.TypeCode.{TypeCode, out-TypeCode}
 use Rattle.td_codes.specs.declared.code.TypeCode.TheVariants as code
 use Rattle.td_codes.specs.declared.code.TypeCode.TheOpen as c
@@ -282,40 +283,51 @@ module _ (levels : ℕ) (inner : Mode → Sound ValueFault TypeCode) (mode : Mod
         λ p. times-row g arms order p ∙ ap (λ (ps : List Piece). row ps order p) (arms-same switch arms) in
         rw (w Switch, rows) refl
 
-    same-at : (t : TypeCode) (l : Layer) → out-TypeCode t ≡ l → (order : Order) (place : ℕ)
+    -- no format of these spells a graph
+    no-graph : (t : TypeCode) (graph : List Node) → out-TypeCode t ≡ c.Linked graph → kind_and_parameters.format.admits t
+        → ⊥
+    no-graph t graph e ok =
+        let null : code.Null ≡ t =
+        subst (λ (l : Layer). (parameters (kind_of_layer l)).format.admits t) e ok.1 in
+        let same : ◌≡◌ {A = Layer} c.Null (c.Linked graph) = sym code-null ∙ ap out-TypeCode null ∙ e in
+        absurd cc
+
+    same-at : (t : TypeCode) (l : Layer) → out-TypeCode t ≡ l → kind_and_parameters.format.admits t
+        → (order : Order) (place : ℕ)
         → kind_and_parameters.format.writes t order place ≡ code_layer (layer_pieces (out-TypeCode t)) order place
-    same-at t c.Null e order place = rw e (append-nil (kind_piece kind.Null order place))
-    same-at t c.Void e order place = rw e (append-nil (kind_piece kind.Void order place))
-    same-at t c.TypeCode::Short e order place = rw e (append-nil (kind_piece kind.Short order place))
-    same-at t c.TypeCode::Long e order place = rw e (append-nil (kind_piece kind.Long order place))
-    same-at t c.TypeCode::UShort e order place = rw e (append-nil (kind_piece kind.UShort order place))
-    same-at t c.TypeCode::ULong e order place = rw e (append-nil (kind_piece kind.ULong order place))
-    same-at t c.TypeCode::Boolean e order place = rw e (append-nil (kind_piece kind.Boolean order place))
-    same-at t c.TypeCode::Char e order place = rw e (append-nil (kind_piece kind.Char order place))
-    same-at t c.TypeCode::Octet e order place = rw e (append-nil (kind_piece kind.Octet order place))
-    same-at t c.AnyCode e order place = rw e (append-nil (kind_piece kind.AnyCode order place))
-    same-at t c.TypeCode::Code e order place = rw e (append-nil (kind_piece kind.Code order place))
-    same-at t (c.TypeCode::ObjRef id name) e order place = rw (e, e) refl
-    same-at t (c.TypeCode::Struct id name members) e order place =
+    same-at t c.Null e ok order place = rw e (append-nil (kind_piece kind.Null order place))
+    same-at t c.Void e ok order place = rw e (append-nil (kind_piece kind.Void order place))
+    same-at t c.TypeCode::Short e ok order place = rw e (append-nil (kind_piece kind.Short order place))
+    same-at t c.TypeCode::Long e ok order place = rw e (append-nil (kind_piece kind.Long order place))
+    same-at t c.TypeCode::UShort e ok order place = rw e (append-nil (kind_piece kind.UShort order place))
+    same-at t c.TypeCode::ULong e ok order place = rw e (append-nil (kind_piece kind.ULong order place))
+    same-at t c.TypeCode::Boolean e ok order place = rw e (append-nil (kind_piece kind.Boolean order place))
+    same-at t c.TypeCode::Char e ok order place = rw e (append-nil (kind_piece kind.Char order place))
+    same-at t c.TypeCode::Octet e ok order place = rw e (append-nil (kind_piece kind.Octet order place))
+    same-at t c.AnyCode e ok order place = rw e (append-nil (kind_piece kind.AnyCode order place))
+    same-at t c.TypeCode::Code e ok order place = rw e (append-nil (kind_piece kind.Code order place))
+    same-at t (c.TypeCode::ObjRef id name) e ok order place = rw (e, e) refl
+    same-at t (c.TypeCode::Struct id name members) e ok order place =
         rw (e, e, members-same members, length-map members member_piece) refl
-    same-at t (c.TypeCode::Union id name switch default arms) e order place =
+    same-at t (c.TypeCode::Union id name switch default arms) e ok order place =
         rw (e, e, length-map arms arm_piece)
         (ap (λ (b : List ℕ). kind_piece kind.Union order place ++ b)
         (union-same id name switch default arms order (place + length (kind_piece kind.Union order place))))
-    same-at t (c.TypeCode::Enum id name names) e order place = rw (e, e) refl
-    same-at t (c.TypeCode::Str bound) e order place = rw (e, e) refl
-    same-at t (c.Sequence item bound) e order place = rw (e, e, w Inner) refl
-    same-at t (c.Array item len) e order place = rw (e, e, w Inner) refl
-    same-at t (c.Alias id name item) e order place = rw (e, e, w (under mode)) refl
-    same-at t (c.Except id name members) e order place =
+    same-at t (c.TypeCode::Enum id name names) e ok order place = rw (e, e) refl
+    same-at t (c.TypeCode::Str bound) e ok order place = rw (e, e) refl
+    same-at t (c.Sequence item bound) e ok order place = rw (e, e, w Inner) refl
+    same-at t (c.Array item len) e ok order place = rw (e, e, w Inner) refl
+    same-at t (c.Alias id name item) e ok order place = rw (e, e, w (under mode)) refl
+    same-at t (c.Except id name members) e ok order place =
         rw (e, e, members-same members, length-map members member_piece) refl
-    same-at t c.TypeCode::LongLong e order place = rw e (append-nil (kind_piece kind.LongLong order place))
-    same-at t c.TypeCode::ULongLong e order place = rw e (append-nil (kind_piece kind.ULongLong order place))
+    same-at t c.TypeCode::LongLong e ok order place = rw e (append-nil (kind_piece kind.LongLong order place))
+    same-at t c.TypeCode::ULongLong e ok order place = rw e (append-nil (kind_piece kind.ULongLong order place))
+    same-at t (c.Linked graph) e ok order place = absurd (no-graph t graph e ok)
 
     pub same : (t : TypeCode) (order : Order) (place : ℕ) → kind_and_parameters.format.admits t
         → kind_and_parameters.format.writes t order place ≡ code_piece t order place
     same t order place ok =
-        same-at t (out-TypeCode t) refl order place ∙ sym (ap (λ (p : Piece). p order place) (code_piece-layer t))
+        same-at t (out-TypeCode t) refl ok order place ∙ sym (ap (λ (p : Piece). p order place) (code_piece-layer t))
 
 -- a format of TypeCodes that are written so
 pub record CodeFormat : Type 1 where

@@ -1,6 +1,7 @@
 -- One layer of a TypeCode or of a value, where that is one of the variants.
 use Rattle.std.specs.Prelude.{◌≡◌, ℕ, ℤ, Bool, List, Option}
 use Rattle.std.proofs.Common.{sym, ap, ◌∙◌}
+use Rattle.tc_graph.specs.declared.node.Node.{Node}
 use Rattle.td_codes.specs.declared.code.TypeCode.{TypeCode, out-TypeCode, out-roll-TypeCode}
 use Rattle.td_codes.specs.declared.code.TypeCode.TheVariants as code
 use Rattle.td_codes.specs.declared.code.TypeCode.TheOpen as c
@@ -88,6 +89,9 @@ code-longlong = ap out-TypeCode (sym code.rolls-LongLong) ∙ out-roll-TypeCode 
 
 pub code-ulonglong : out-TypeCode code.ULongLong ≡ c.TypeCode::ULongLong
 code-ulonglong = ap out-TypeCode (sym code.rolls-ULongLong) ∙ out-roll-TypeCode c.TypeCode::ULongLong
+
+pub code-linked : (graph : List Node) → out-TypeCode (code.Linked graph) ≡ c.Linked graph
+code-linked graph = ap out-TypeCode (sym (code.rolls-Linked graph)) ∙ out-roll-TypeCode (c.Linked graph)
 
 pub value-short : (z : ℤ) → out-Value (value.Short z) ≡ c.Value::Short z
 value-short z = ap out-Value (sym (value.rolls-Short z)) ∙ out-roll-Value (c.Value::Short z)

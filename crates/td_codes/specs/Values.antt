@@ -21,7 +21,7 @@ use Rattle.td_codes.specs.declared.reference.Ior.{Ior}
 use Rattle.td_codes.specs.declared.mode.Mode.TheVariants.{Outer}
 use Rattle.td_codes.specs.declared.kinds.CodeKind.TheVariants as kind
 use Rattle.td_codes.specs.Formats.{array-size}
-use Rattle.td_codes.specs.Kinds.{number_of}
+use Rattle.td_codes.specs.Kinds.{number_of, indirection}
 use Rattle.td_codes.specs.Labels.{Layer, Held, no_value, bad_value, one_of, labels, label_of, same_label, plain_piece}
 use Rattle.td_codes.specs.Labels.{short_value, long_value, ushort_value, ulong_value, longlong_value, ulonglong_value}
 use Rattle.td_codes.specs.Labels.{boolean_value, char_value, octet_value}
@@ -263,6 +263,7 @@ module _ (any : Sound ValueFault Any) (code : Sound ValueFault TypeCode)
   layer n (c.Array item len) = array_value item len
   layer n (c.Alias id name item) = inner item
   layer n (c.Except id name members) = failure (λ a. fault.Unsupported (number_of kind.Except))
+  layer n (c.Linked graph) = failure (λ a. fault.Unsupported indirection)
 
 -- a value under a TypeCode of at most so many levels
 unfoldable pub values : Sound ValueFault Any → Sound ValueFault TypeCode → ℕ → TypeCode → Sound ValueFault Value

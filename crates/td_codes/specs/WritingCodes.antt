@@ -12,7 +12,7 @@ use Rattle.td_codes.specs.declared.kinds.CodeKind.TheVariants as kind
 use Rattle.td_codes.specs.declared.code.TypeCode.{TypeCode, fold-TypeCode, fold_out-TypeCode, map-TypeCode, TypeCode-F}
 use Rattle.td_codes.specs.declared.code.TypeCode.{out-TypeCode}
 use Rattle.td_codes.specs.declared.code.TypeCode.TheOpen as c
-use Rattle.td_codes.specs.declared.code.TypeCode.TheOpen.{Value-F, Any-F, Arm-F, Member-F}
+use Rattle.td_codes.specs.declared.code.TypeCode.TheOpen.{Arm-F, Member-F}
 use Rattle.td_codes.specs.declared.code.Value.{Value, fold-Value, fold_out-Value, map-Value, out-Value}
 use Rattle.td_codes.specs.declared.code.Any.{Any, fold-Any}
 use Rattle.td_codes.specs.declared.code.Arm.{Arm, fold-Arm, fold-roll-Arm}
@@ -24,6 +24,7 @@ use Rattle.td_codes.specs.Labels.{Layer, Held, label_of, label_of_layer, label_p
 abbrev pub encapsulation_piece : Piece → Piece
 encapsulation_piece inner order place = written_octets order place (flag order ∷ inner order 1)
 
+-- a graph has no kind of its own: null stands for it, and no format of TypeCodes admits it
 abbrev pub kind_of_layer : {T V A R M : Type 0} → TypeCode-F T V A R M → CodeKind
 kind_of_layer c.Null = kind.Null
 kind_of_layer c.Void = kind.Void
@@ -47,6 +48,7 @@ kind_of_layer (c.Alias id name item) = kind.Alias
 kind_of_layer (c.Except id name members) = kind.Except
 kind_of_layer c.TypeCode::LongLong = kind.LongLong
 kind_of_layer c.TypeCode::ULongLong = kind.ULongLong
+kind_of_layer (c.Linked graph) = kind.Null
 
 -- a default index and a count
 abbrev pub head_piece : ℤ → ℕ → Piece
@@ -92,6 +94,7 @@ code_layer (c.Except id name members) =
     (header_piece id name then (number 4).writes (length members) then row members)
 code_layer c.TypeCode::LongLong = kind_piece kind.LongLong
 code_layer c.TypeCode::ULongLong = kind_piece kind.ULongLong
+code_layer (c.Linked graph) = none
 
 abbrev pub arm_layer : Arm-F Piece Label Piece Piece Piece → Piece
 arm_layer a = label_piece a.label then text.writes a.name then a.code

@@ -1,6 +1,7 @@
 //! TypeCodes and the values under them (CORBA's chapter on the interface repository, "TypeCodes").
 
 use crate::reference::Ior;
+use tc_graph::Whole;
 use td_cdr::{Boxed, List, Text};
 
 /// A member of a structure or of an exception.
@@ -88,6 +89,9 @@ pub enum TypeCode {
         name: Text,
         members: List<Member>,
     },
+    /// A type that may hold itself, as a graph. It stands in no other TypeCode, is read from no bytes yet,
+    /// and written as none.
+    Linked(Whole),
 }
 
 /// A value. Its TypeCode tells the type that it is a value of.
@@ -230,6 +234,7 @@ impl Drop for TypeCode {
                 name: _name,
                 members: _members,
             } => (),
+            TypeCode::Linked(_graph) => (),
         }
     }
 }

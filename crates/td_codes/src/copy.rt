@@ -6,6 +6,7 @@ ghost use Rattle.td_codes.specs.declared.code.Value.TheVariants as variant;
 
 use crate::code::{Any, Arm, Member, TypeCode, Value};
 use std::alloc::Global;
+use tc_graph::Whole;
 use td_cdr::{Boxed, List, Memory, Text, Twin, copy_three, copy_two};
 
 impl Twin for Member {
@@ -78,6 +79,7 @@ impl Twin for TypeCode {
             TypeCode::Except { id, name, members } => {
                 copy_except(alloc, id, name, members.as_slice())
             }
+            TypeCode::Linked(graph) => copy_graph(alloc, graph),
         }
     }
 }
@@ -95,6 +97,15 @@ fn copy_object(alloc: Global, id: &Text, name: &Text) -> Result<TypeCode, Memory
 {
     let (id, name) = copy_two(alloc, id, name)?;
     Ok(TypeCode::ObjRef { id, name })
+}
+
+fn copy_graph(alloc: Global, graph: &Whole) -> Result<TypeCode, Memory>
+    ensures { IfOk result (λ twin. twin ≡ code.Linked graph.now) }
+{
+    match graph.copy(alloc) {
+        Ok(twin) => Ok(TypeCode::Linked(twin)),
+        Err(_fault) => Err(Memory),
+    }
 }
 
 fn copy_enum(alloc: Global, id: &Text, name: &Text, labels: &List<Text>) -> Result<TypeCode, Memory>

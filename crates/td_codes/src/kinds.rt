@@ -68,7 +68,7 @@ const KINDS: [CodeKind; 22] = [
 const LAST_NUMBER: u32 = 28;
 
 /// What stands in a kind's place where a TypeCode that was spelled before is meant.
-const INDIRECTION: u32 = 0xffff_ffff;
+pub const INDIRECTION: u32 = 0xffff_ffff;
 
 impl CodeKind {
     /// The number that spells it.
@@ -102,7 +102,7 @@ impl CodeKind {
     }
 }
 
-/// The kind of a TypeCode.
+/// The kind of a TypeCode that is no graph. A graph has none of its own.
 pub fn kind_of(code: &TypeCode) -> CodeKind
     ensures { result ≡ kind_of code.now }
 {
@@ -129,6 +129,7 @@ pub fn kind_of(code: &TypeCode) -> CodeKind
         TypeCode::Array { .. } => CodeKind::Array,
         TypeCode::Alias { .. } => CodeKind::Alias,
         TypeCode::Except { .. } => CodeKind::Except,
+        TypeCode::Linked(_) => CodeKind::Null,
     }
 }
 

@@ -4,8 +4,6 @@ ghost use Rattle.std.specs.Prelude.{◌≡◌, ℕ};
 ghost use Rattle.td_cdr.specs.Lawful.{Lawful};
 ghost use Rattle.td_cdr.specs.Faults.{Refuses};
 ghost use Rattle.td_codes.specs.declared.mode.Mode.{Mode};
-ghost use Rattle.td_codes.specs.declared.code.TypeCode.{TypeCode};
-ghost use Rattle.td_codes.specs.Same.{Same};
 ghost use Rattle.td_codes.specs.Codes.{codes};
 ghost use Rattle.td_codes.specs.Values.{anys};
 ghost use Rattle.td_codes.specs.WritingCodes.{code_piece};
@@ -26,11 +24,4 @@ pub fn codes_are_spelled()
 pub fn anys_are_spelled()
     ensures lawful { (levels : ℕ) → Lawful (anys levels).format }
     ensures refuses { (levels : ℕ) → Refuses (anys levels).faults (anys levels).format.reads }
-{}
-
-/// A TypeCode is the same as itself, and so as its copy, and being the same goes both ways. It isn't
-/// transitive, since a TypeCode without an id is the same as two of different ids.
-pub fn sameness()
-    ensures reflexive { (a : TypeCode) → Same a a }
-    ensures symmetric { (a b : TypeCode) → Same a b → Same b a }
 {}

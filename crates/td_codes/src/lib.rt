@@ -1,6 +1,7 @@
 //! CORBA's TypeCodes, the values under them, anys and object references.
 #![tactic(auto)]
 
+mod aliases;
 mod code;
 mod copy;
 mod kinds;
@@ -11,18 +12,18 @@ mod mode;
 mod plain;
 mod reading;
 mod reference;
-mod same;
 mod spelled;
 mod values;
 mod writing;
 mod writing_values;
 
+pub use aliases::bare;
 pub use code::{Any, Arm, Member, TypeCode, Value};
-pub use kinds::CodeKind;
-pub use laws::{anys_are_spelled, codes_are_spelled, sameness};
+pub use kinds::{CodeKind, INDIRECTION, kind_of};
+pub use label::{Label, label_of, same_label};
+pub use laws::{anys_are_spelled, codes_are_spelled};
 pub use mode::Mode;
 pub use reading::LEVELS;
 pub use reference::{Ior, Profile, read_ior, write_ior};
-pub use same::{bare, same_type};
 pub use spelled::{read_any, read_typecode, write_any};
 pub use writing::write_typecode;

@@ -17,7 +17,7 @@ ghost use Rattle.td_codes.specs.Values.{struct_value, union_value, sequence_valu
 ghost use Rattle.td_codes.specs.Values.{is_chosen, default_arm, any_in, code_in, reference_in, text_in};
 
 use crate::code::{Any, Arm, Member, TypeCode, Value};
-use crate::kinds::CodeKind;
+use crate::kinds::{CodeKind, INDIRECTION};
 use crate::label::{label_of, same_label};
 use crate::labels::label_at;
 use crate::mode::Mode;
@@ -117,6 +117,7 @@ fn value_at(
         TypeCode::Array { item, len } => array_at(alloc, r, levels, depth, item.get(), *len),
         TypeCode::Alias { item, .. } => value_at(alloc, r, levels, depth, item.get()),
         TypeCode::Except { .. } => Err(ValueFault::Unsupported(CodeKind::Except.number())),
+        TypeCode::Linked(_) => Err(ValueFault::Unsupported(INDIRECTION)),
         _ => label_at(r, 1, code),
     }
 }

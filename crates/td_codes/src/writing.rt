@@ -52,6 +52,7 @@ pub fn write_typecode(alloc: Global, w: &mut Writer, code: &TypeCode) -> Result<
         TypeCode::Except { id, name, members } => {
             write_fields(alloc, w, CodeKind::Except, id, name, members.as_slice())
         }
+        TypeCode::Linked(_) => Ok(()),
         _ => w.u32(kind_of(code).number()),
     }
 }

@@ -83,6 +83,7 @@ fn put_value(
         TypeCode::Array { item, .. } => put_array(alloc, w, levels, depth, item.get(), value),
         TypeCode::Alias { item, .. } => put_value(alloc, w, levels, depth, item.get(), value),
         TypeCode::Except { .. } => Ok(()),
+        TypeCode::Linked(_) => Ok(()),
         _ => write_label(w, label_of(value)),
     }
 }

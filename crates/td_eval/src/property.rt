@@ -27,7 +27,7 @@ pub(crate) fn property<'a>(map: &'a [Property], name: &[u8]) -> Option<&'a Any>
     Some(&found.value)
 }
 
-/// The kind of a TypeCode, its aliases taken off.
+/// The kind of a TypeCode, its aliases taken off. A graph has none, and so no value of the languages.
 fn kind_of(code: &TypeCode) -> u32
     ensures { result ≡ kind_of code.now }
 {
@@ -54,6 +54,7 @@ fn kind_of(code: &TypeCode) -> u32
         TypeCode::Except { .. } => 22,
         TypeCode::LongLong => 23,
         TypeCode::ULongLong => 24,
+        TypeCode::Linked(_) => 0xffff_ffff,
     }
 }
 

@@ -101,6 +101,7 @@ module _ (any : Sound ValueFault Any) (code : Sound ValueFault TypeCode) (inner 
       (items_in (out-Value v))
   layer-steady n (c.Alias id name item) v = inner-steady item v
   layer-steady n (c.Except id name members) v = none-steady
+  layer-steady n (c.Linked graph) v = none-steady
 
 enclosed-steady : (inner : Piece) → Steady inner → Steady (encapsulation_piece inner)
 enclosed-steady inner h = record {
@@ -176,6 +177,7 @@ module _ {T V A R M : Type 0} (ft : T → TypeCode) (fv : V → Value) (fa : A �
       behind_kind kind.Except _ (listed id name _ _ (mapped-steady fm member_piece sm members))
   code_parts-steady c.TypeCode::LongLong = kind-steady kind.LongLong
   code_parts-steady c.TypeCode::ULongLong = kind-steady kind.ULongLong
+  code_parts-steady (c.Linked graph) = none-steady
 
 rolled : (x : Layer) → code_piece (roll-TypeCode x) ≡ code_layer (layer_pieces x)
 rolled x = code_piece-layer (roll-TypeCode x) ∙ ap (λ (l : Layer). code_layer (layer_pieces l)) (out-roll-TypeCode x)

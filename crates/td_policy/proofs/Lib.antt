@@ -1,3 +1,4 @@
+pub mod Alone
 mod Answered
 pub mod Decided
 pub mod Items

@@ -3,7 +3,7 @@ use Rattle.std.proofs.Common.{◌≡◌, ◌≤◌, ℕ, Bool, true, false, cond
 use Rattle.std.proofs.Common.{None, Ok, refl, sym, ◌∙◌, ap, subst}
 use Rattle.std.proofs.lemmas.Bool.{le-leb}
 use Rattle.std.proofs.lemmas.List.{length-map}
-use Rattle.td_codes.proofs.Symmetry.{same-refl}
+use Rattle.td_sameness.proofs.Symmetry.{same-refl}
 use Rattle.td_value.specs.Enumerations.{follow_option_number}
 use Rattle.td_codes.specs.Layers.{value-boolean, value-octet, value-ulong, value-str, value-enum, value-items}
 use Rattle.td_codes.specs.Same.{same}
@@ -17,6 +17,8 @@ use Rattle.td_policy.specs.Stated.{next_stated, nothing, stated, stated_value, s
 use Rattle.td_policy.specs.Values.{Kind, truth_in, truth, number_in, number, rule_in, rule, items_of, items_in, text_in}
 use Rattle.td_policy.specs.Values.{text_of, texts, octet_in, octet_of, octets, policy}
 use Rattle.td_policy.specs.declared.stated.Stated.{Stated}
+use Rattle.td_policy.proofs.Alone.{truth_alone, number_alone, rule_alone, texts_alone, octets_alone}
+use Rattle.td_sameness.specs.Graphs.{StandsAlone}
 
 -- ---- the values
 
@@ -48,29 +50,30 @@ few_enough item_of item again most xs few =
 
 -- ---- a policy
 
-read_back : {A : Type 0} (kind : Kind A) (name : List ℕ) (x : A) → kind.value_of (kind.value x) ≡ Some x
-    → stated_value kind (policy kind name x) ≡ Ok (Some x)
-read_back kind name x held = let alike : same kind.code kind.code ≡ true = same-refl kind.code in
+read_back : {A : Type 0} (kind : Kind A) (name : List ℕ) (x : A) → StandsAlone kind.code
+    → kind.value_of (kind.value x) ≡ Some x → stated_value kind (policy kind name x) ≡ Ok (Some x)
+read_back kind name x alone held = let alike : same kind.code kind.code ≡ true = same-refl kind.code alone in
     rw (alike, held) refl
 
 pub truth_back : (name : List ℕ) (b : Bool) → stated_value truth (policy truth name b) ≡ Ok (Some b)
-truth_back name b = read_back truth name b (ap truth_in (value-boolean b))
+truth_back name b = read_back truth name b truth_alone (ap truth_in (value-boolean b))
 
 pub number_back : (name : List ℕ) (n : ℕ) → stated_value number (policy number name n) ≡ Ok (Some n)
-number_back name n = read_back number name n (ap number_in (value-ulong n))
+number_back name n = read_back number name n number_alone (ap number_in (value-ulong n))
 
 pub rule_back : (name : List ℕ) (r : FollowOption) → stated_value rule (policy rule name r) ≡ Ok (Some r)
-rule_back name r = read_back rule name r (rule_held r)
+rule_back name r = read_back rule name r rule_alone (rule_held r)
 
 pub texts_back : (name : List ℕ) (xs : List (List ℕ)) (most : ℕ) → length xs ≤ most
     → stated_value (texts most) (policy (texts most) name xs) ≡ Ok (Some xs)
 texts_back name xs most few =
-    read_back (texts most) name xs (few_enough text_of (λ t. value.Str t) (λ t. ap text_in (value-str t)) most xs few)
+    read_back (texts most) name xs (texts_alone most)
+    (few_enough text_of (λ t. value.Str t) (λ t. ap text_in (value-str t)) most xs few)
 
 pub octets_back : (name : List ℕ) (xs : List ℕ) (most : ℕ) → length xs ≤ most
     → stated_value (octets most) (policy (octets most) name xs) ≡ Ok (Some xs)
 octets_back name xs most few =
-    read_back (octets most) name xs
+    read_back (octets most) name xs (octets_alone most)
     (few_enough octet_of (λ o. value.Octet o) (λ o. ap octet_in (value-octet o)) most xs few)
 
 -- a policy alone, which states one field

@@ -6,7 +6,8 @@ ghost use Rattle.td_policy.specs.Values.{truth, number, rule, texts, octets};
 
 use std::alloc::Global;
 use td_cdr::{Boxed, List, Memory, Text};
-use td_value::{TypeCode, same_type};
+use td_sameness::same_tree;
+use td_value::TypeCode;
 
 /// The type of a rule for following links, enumeration CosTrading::FollowOption.
 ///
@@ -62,14 +63,14 @@ pub fn octets_code(alloc: Global) -> Result<TypeCode, Memory>
 pub(crate) fn is_truth(code: &TypeCode) -> bool
     ensures { result ≡ same code.now truth.code }
 {
-    same_type(code, &TypeCode::Boolean)
+    same_tree(code, &TypeCode::Boolean)
 }
 
 /// Whether this is the type of a number.
 pub(crate) fn is_number(code: &TypeCode) -> bool
     ensures { result ≡ same code.now number.code }
 {
-    same_type(code, &TypeCode::ULong)
+    same_tree(code, &TypeCode::ULong)
 }
 
 /// Whether this is the type of a rule for following links.
@@ -81,7 +82,7 @@ pub fn is_rule(alloc: Global, code: &TypeCode) -> Result<bool, Memory>
     ensures { IfOk result (λ b. b ≡ same code.now rule.code) }
 {
     let expected = rule_code(alloc)?;
-    Ok(same_type(code, &expected))
+    Ok(same_tree(code, &expected))
 }
 
 /// Whether this is the type of a sequence of strings.
@@ -89,7 +90,7 @@ pub(crate) fn is_texts(alloc: Global, code: &TypeCode) -> Result<bool, Memory>
     ensures { IfOk result (λ b. b ≡ same code.now (texts 0).code) }
 {
     let expected = texts_code(alloc)?;
-    Ok(same_type(code, &expected))
+    Ok(same_tree(code, &expected))
 }
 
 /// Whether this is the type of a sequence of octets.
@@ -97,5 +98,5 @@ pub(crate) fn is_octets(alloc: Global, code: &TypeCode) -> Result<bool, Memory>
     ensures { IfOk result (λ b. b ≡ same code.now (octets 0).code) }
 {
     let expected = octets_code(alloc)?;
-    Ok(same_type(code, &expected))
+    Ok(same_tree(code, &expected))
 }

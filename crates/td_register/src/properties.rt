@@ -1,6 +1,6 @@
 //! What is asked of an offer's properties (OMG's Trading Object Service, interface Register, export).
 
-ghost use Rattle.std.specs.Prelude.{◌≡◌, List, ℕ, [], ◌∷◌, ◌++◌, OnOk, option_copied};
+ghost use Rattle.std.specs.Prelude.{◌≡◌, List, ℕ, [], ◌∷◌, ◌++◌, IfOk, OnOk, option_copied};
 ghost use Rattle.td_cdr.specs.Seen.{HaveSeen};
 ghost use Rattle.td_register.specs.Causes.{limit_if};
 ghost use Rattle.td_register.specs.Judged.{Judges};
@@ -72,11 +72,23 @@ pub fn check_name<'a>(
 }
 
 /// Whether the type doesn't let the value stand there.
-fn mismatches(supported: bool, demanded: &[PropStruct], property: &Property) -> bool
-    ensures { result ≡ mismatches supported demanded.now property.now }
+///
+/// # Errors
+///
+/// `Memory` for want of memory alone.
+fn mismatches(
+    alloc: Global,
+    supported: bool,
+    demanded: &[PropStruct],
+    property: &Property,
+) -> Result<bool, Memory>
+    ensures { IfOk result (λ yes. yes ≡ mismatches supported demanded.now property.now) }
 {
     let declared = property_named(demanded, property.name.as_slice());
-    (is_dynamic(&property.value.code) && !supported) || !is_typed(declared, &property.value)
+    if is_dynamic(&property.value.code) && !supported {
+        return Ok(true);
+    }
+    Ok(!is_typed(alloc, declared, &property.value)?)
 }
 
 /// Refuses a value that the type doesn't let stand there.
@@ -93,7 +105,7 @@ pub fn check_value(
 ) -> Result<(), Fault>
     ensures { Judges (value_cause supported type_name.now demanded.now property.now) result }
 {
-    if mismatches(supported, demanded, property) {
+    if mismatches(alloc, supported, demanded, property)? {
         let (service_type, property) = copy_two(alloc, type_name, property)?;
         return Err(raised(UserException::PropertyTypeMismatch {
             service_type,

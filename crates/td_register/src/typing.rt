@@ -1,14 +1,17 @@
 //! The types and modes of properties (OMG's Trading Object Service, "Service Types", and the structure
 //! DynamicProp of module CosTradingDynamic).
 
-ghost use Rattle.std.specs.Prelude.{◌≡◌, option_copied};
+ghost use Rattle.std.specs.Prelude.{◌≡◌, IfOk, option_copied};
 ghost use Rattle.td_codes.specs.Values.{code_in};
 ghost use Rattle.td_codes.specs.declared.code.Value.{out-Value};
 ghost use Rattle.td_types.specs.Properties.{property_named};
 ghost use Rattle.td_register.specs.Properties.{has_type, is_typed, mode_of, returned_type};
 ghost use Rattle.td_register.specs.Properties.{second_code};
 
-use td_value::{Any, PropStruct, PropertyMode, TypeCode, Value, is_dynamic, same_type};
+use std::alloc::Global;
+use td_cdr::Memory;
+use td_sameness::same_type;
+use td_value::{Any, PropStruct, PropertyMode, TypeCode, Value, is_dynamic};
 
 /// The TypeCode that a value is.
 fn code_in(value: &Value) -> Option<&TypeCode>
@@ -41,15 +44,19 @@ fn returned_type(value: &Value) -> Option<&TypeCode>
 }
 
 /// Whether the any's value, or the values that it is evaluated to, are of a declared type.
-fn has_type(declared: &TypeCode, any: &Any) -> bool
-    ensures { result ≡ has_type declared.now any.now }
+///
+/// # Errors
+///
+/// `Memory` for want of memory alone.
+fn has_type(alloc: Global, declared: &TypeCode, any: &Any) -> Result<bool, Memory>
+    ensures { IfOk result (λ yes. yes ≡ has_type declared.now any.now) }
 {
     if !is_dynamic(&any.code) {
-        return same_type(&any.code, declared);
+        return same_type(alloc, &any.code, declared);
     }
     match returned_type(&any.value) {
-        None => false,
-        Some(code) => same_type(code, declared),
+        None => Ok(false),
+        Some(code) => same_type(alloc, code, declared),
     }
 }
 
@@ -66,12 +73,20 @@ pub(crate) fn property_named<'a>(demanded: &'a [PropStruct], name: &[u8]) -> Opt
 }
 
 /// Whether the any is of the declared type, where one is declared.
-pub(crate) fn is_typed(declared: Option<&PropStruct>, any: &Any) -> bool
-    ensures { result ≡ is_typed (option_copied declared.entry) any.now }
+///
+/// # Errors
+///
+/// `Memory` for want of memory alone.
+pub(crate) fn is_typed(
+    alloc: Global,
+    declared: Option<&PropStruct>,
+    any: &Any,
+) -> Result<bool, Memory>
+    ensures { IfOk result (λ yes. yes ≡ is_typed (option_copied declared.entry) any.now) }
 {
     match declared {
-        None => true,
-        Some(declared) => has_type(&declared.value_type, any),
+        None => Ok(true),
+        Some(declared) => has_type(alloc, &declared.value_type, any),
     }
 }
 

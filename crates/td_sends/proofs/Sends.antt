@@ -10,6 +10,7 @@ use denote.Ref.{NamedLft}
 use denote.Struct.Declared.{shape}
 use Rattle.indexmap.proofs.map.IndexMap.TheSendSync as index_cross
 use Rattle.std.proofs.Crossing.{crosses, Vec-sync}
+use Rattle.tc_graph.proofs.whole.Whole.TheSendSync as whole_cross
 use Rattle.std.proofs.MapsCrossing.{BTreeMap-send}
 use Rattle.td_cdr.proofs.boxed.Boxed.TheSendSync as boxed_cross
 use Rattle.td_cdr.proofs.list.List.TheSendSync as list_cross
@@ -48,7 +49,14 @@ use Rattle.td_value.specs.contracts.structures.Property as property
 -- ---- the rows below, which Rattle itself shows to cross
 ruleset rows = (text_cross.the_send, list_cross.the_send, boxed_cross.the_send, shared_cross.the_send)
 
-ruleset low = (sendable, crosses, rows, ior_cross.the_field_send, ior_cross.the_send)
+ruleset low = (
+  sendable,
+  crosses,
+  rows,
+  ior_cross.the_field_send,
+  ior_cross.the_send,
+  whole_cross.the_send,
+)
 
 -- ---- what holds a TypeCode or a value: each from its parts
 code_field : IsSend (code.the_field).row
@@ -70,8 +78,15 @@ prop_send : IsSend prop.the_row
 prop_send = search (code_field, mode_cross.the_field_send, low) depth 20
 
 -- ---- what is shared: several threads may see it at once
-ruleset seen =
-    (sendable, crosses, text_cross.the_sync, list_cross.the_sync, ior_cross.the_field_sync, ior_cross.the_sync)
+ruleset seen = (
+  sendable,
+  crosses,
+  text_cross.the_sync,
+  list_cross.the_sync,
+  ior_cross.the_field_sync,
+  ior_cross.the_sync,
+  whole_cross.the_sync,
+)
 
 any_field_sync : IsSync (any.the_field).row
 any_field_sync = search (sync-Any, seen) depth 20

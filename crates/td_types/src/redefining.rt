@@ -16,7 +16,8 @@ use crate::modes::is_at_least;
 use std::alloc::Global;
 use std::collections::BTreeMap;
 use td_cdr::{Memory, Text, copy_four};
-use td_value::{PropStruct, same_type};
+use td_sameness::same_type;
+use td_value::PropStruct;
 
 /// A property's definition, the type that gives it, and whether that is the new type.
 #[derive(Clone, Copy)]
@@ -106,7 +107,7 @@ fn check_definition<'a>(
 fn check_agreement(alloc: Global, earlier: Given<'_>, given: Given<'_>) -> Result<(), TypesFault>
     ensures { Judges (conflict (Some (stated earlier.entry)) (stated given.entry)) (λ _. Unit {0}) result }
 {
-    if agree(earlier, given.property) {
+    if agree(alloc, earlier, given.property)? {
         return Ok(());
     }
     let (type_1, (definition_1, (type_2, definition_2))) = copy_four(
@@ -125,11 +126,15 @@ fn check_agreement(alloc: Global, earlier: Given<'_>, given: Given<'_>) -> Resul
 }
 
 /// Whether a property agrees with the first definition of its name.
-fn agree(earlier: Given<'_>, property: &PropStruct) -> bool
-    ensures { result ≡ agree (stated earlier.entry) property.now }
+///
+/// # Errors
+///
+/// `Memory` for want of memory alone.
+fn agree(alloc: Global, earlier: Given<'_>, property: &PropStruct) -> Result<bool, Memory>
+    ensures { IfOk result (λ yes. yes ≡ agree (stated earlier.entry) property.now) }
 {
-    same_type(&earlier.property.value_type, &property.value_type)
-        && (!earlier.own || is_at_least(earlier.property.mode, property.mode))
+    let same = same_type(alloc, &earlier.property.value_type, &property.value_type)?;
+    Ok(same && (!earlier.own || is_at_least(earlier.property.mode, property.mode)))
 }
 
 /// The first definition of the name, if there is one; otherwise this becomes the first.

@@ -19,7 +19,6 @@ pub use structures::{
 pub use td_cdr::ValueFault;
 pub use td_codes::{
     Any, Arm, Ior, LEVELS, Member, Mode, Profile, TypeCode, Value, anys_are_spelled,
-    codes_are_spelled, read_any, read_ior, read_typecode, same_type, sameness, write_any,
-    write_ior, write_typecode,
+    codes_are_spelled, read_any, read_ior, read_typecode, write_any, write_ior, write_typecode,
 };
 pub use unions::{SpecifiedProps, SpecifiedServiceTypes};

@@ -13,7 +13,8 @@ use crate::answer::StepAnswer;
 use std::alloc::Global;
 use td_cdr::{Boxed, Memory, Twin};
 use td_ior::{IorFault, iiop_of};
-use td_value::{Any, Ior, Property, TypeCode, Value, any_size, is_dynamic, same_type};
+use td_sameness::same_type;
+use td_value::{Any, Ior, Property, TypeCode, Value, any_size, is_dynamic};
 
 /// The most bytes of an evaluated value.
 pub const LONGEST_VALUE: usize = 16_384;
@@ -132,7 +133,7 @@ fn is_reachable(alloc: Global, reference: &Ior) -> Result<bool, Memory>
 fn may_stand(alloc: Global, dynamic: Dynamic<'_>, any: &Any) -> Result<bool, Memory>
     ensures { IfOk result (λ may. may ≡ may_stand (lent dynamic.entry) any.now) }
 {
-    if !same_type(&any.code, dynamic.returned) {
+    if !same_type(alloc, &any.code, dynamic.returned)? {
         return Ok(false);
     }
     let size = any_size(alloc, any)?;

@@ -14,7 +14,8 @@ ghost use Rattle.td_walk.specs.Passing.{with_all_passed};
 use std::alloc::Global;
 use td_cdr::{List, Memory, Octets, Text, Twin};
 use td_policy::{is_rule, number_policy, octets_policy, rule_policy, texts_policy};
-use td_value::{FollowOption, Policy, TypeCode, Value, same_type};
+use td_sameness::same_tree;
+use td_value::{FollowOption, Policy, TypeCode, Value};
 
 fn is_named(policy: &Policy, name: &[u8]) -> bool
     ensures { result ≡ is_named name.now policy.now }
@@ -152,7 +153,7 @@ pub(crate) fn along_path(
 fn number_in(policy: &Policy) -> Option<u32>
     ensures { result ≡ number_in policy.now }
 {
-    if !same_type(&policy.value.code, &TypeCode::ULong) {
+    if !same_tree(&policy.value.code, &TypeCode::ULong) {
         return None;
     }
     match &policy.value.value {

@@ -5,10 +5,11 @@ use Rattle.std.proofs.Common.{if◌then◌else◌, option_map, inl, inr}
 use Rattle.std.specs.Str.{bytes_eq}
 use Rattle.std.proofs.lemmas.Bool.{lt-leb, cases_lt}
 use Rattle.std.proofs.lemmas.List.{length-map}
-use Rattle.td_codes.proofs.Symmetry.{same-refl}
+use Rattle.td_sameness.proofs.Symmetry.{same-refl}
 use Rattle.td_codes.specs.Layers.{value-items}
 use Rattle.td_codes.specs.declared.code.Value.{Value}
 use Rattle.td_codes.specs.declared.code.Value.TheVariants as value
+use Rattle.td_policy.proofs.Alone.{octets_alone, texts_alone}
 use Rattle.td_policy.proofs.ReadBack.{number_back, rule_back, octets_back, texts_back}
 use Rattle.td_policy.specs.Stated.{stated, stated_value, valid}
 use Rattle.td_policy.specs.Values.{Kind, number, rule, octets, texts, octet_of, text_of, items_in, items_of}
@@ -177,7 +178,7 @@ too-long id lt =
     let none : (octets 256).value_of (value.Items vs) ≡ None =
     ap (items_in octet_of 256) (value-items vs) ∙ ap (λ (b : Bool). if b then items_of octet_of vs else None) long in
     ap (λ (b : Bool). if b then valid (identifier_policy id) ((octets 256).value_of (value.Items vs))
-    else Err (fault.PolicyTypeMismatch (identifier_policy id))) (same-refl (octets 256).code)
+    else Err (fault.PolicyTypeMismatch (identifier_policy id))) (same-refl (octets 256).code (octets_alone 256))
     ∙ ap (valid (identifier_policy id)) none
 
 -- and a path of more than 64 names
@@ -190,7 +191,7 @@ too-many xs lt =
     let none : (texts 64).value_of (value.Items vs) ≡ None =
     ap (items_in text_of 64) (value-items vs) ∙ ap (λ (b : Bool). if b then items_of text_of vs else None) long in
     ap (λ (b : Bool). if b then valid (start_policy xs) ((texts 64).value_of (value.Items vs))
-    else Err (fault.PolicyTypeMismatch (start_policy xs))) (same-refl (texts 64).code)
+    else Err (fault.PolicyTypeMismatch (start_policy xs))) (same-refl (texts 64).code (texts_alone 64))
     ∙ ap (valid (start_policy xs)) none
 
 pub states-identifier : (id : List ℕ) (ps : List Policy) (s : Stated)

@@ -4,6 +4,7 @@ use crate::forms::spelled::{are_copied, are_refused, is_copied, is_refused, line
 use std::alloc::Global;
 use td_cdr::{Boxed, Order, Reader, ValueFault, Writer};
 use td_codes::*;
+use td_sameness::same_type;
 
 /// Faults of anys: the fault, its place and the bytes.
 const ANY_FAULTS: &str = "BadValue 8 00000012000000020000000461626300
@@ -221,7 +222,7 @@ fn is_told(alloc: Global, line: &str) -> Option<bool> {
     let (first, second) = pair.split_once(" | ")?;
     let first = code_of(alloc, first)?;
     let second = code_of(alloc, second)?;
-    Some(same_type(first.get(), second.get()) == (told == "same"))
+    Some(same_type(alloc, first.get(), second.get()).ok()? == (told == "same"))
 }
 
 /// Whether the TypeCode is that of FollowOption.

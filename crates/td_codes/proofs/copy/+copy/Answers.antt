@@ -121,6 +121,9 @@ TypeCodeTwin::copy-returns-in-ObjRef t c = rw c.in-ObjRef.is c.copy_object.ensur
 pub TypeCodeTwin::copy-returns-in-Enum : goal.TypeCodeTwin::copy-returns-in-Enum
 TypeCodeTwin::copy-returns-in-Enum t c = rw c.in-Enum.is c.copy_enum.ensures
 
+pub TypeCodeTwin::copy-returns-in-Linked : goal.TypeCodeTwin::copy-returns-in-Linked
+TypeCodeTwin::copy-returns-in-Linked t c = rw c.in-Linked.is c.copy_graph.ensures
+
 pub TypeCodeTwin::copy-returns-in-Struct : goal.TypeCodeTwin::copy-returns-in-Struct
 TypeCodeTwin::copy-returns-in-Struct t c = rw c.in-Struct.is (rw c.as_slice.ensures at c.copy_struct.ensures)
 

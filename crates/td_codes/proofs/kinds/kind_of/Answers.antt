@@ -2,6 +2,7 @@ use Rattle.std.proofs.Common.{sym, ap, ◌∙◌}
 use Rattle.td_codes.specs.declared.code.TypeCode.{out-TypeCode}
 use Rattle.td_codes.specs.Layers.{code-null, code-void, code-short, code-long, code-ushort, code-ulong, code-boolean}
 use Rattle.td_codes.specs.Layers.{code-char, code-octet, code-any, code-code, code-longlong, code-ulonglong}
+use Rattle.td_codes.specs.Layers.{code-linked}
 use Rattle.td_codes.specs.WritingCodes.{kind_of_layer}
 use Rattle.td_codes.proofs.kinds.kind_of.Goals as goal
 
@@ -37,6 +38,9 @@ returns-in-AnyCode c = sym (ap kind_of_layer (ap out-TypeCode c.in-AnyCode.is �
 
 pub returns-in-Code : goal.returns-in-Code
 returns-in-Code c = sym (ap kind_of_layer (ap out-TypeCode c.in-Code.is ∙ code-code))
+
+pub returns-in-Linked : goal.returns-in-Linked
+returns-in-Linked c = sym (ap kind_of_layer (ap out-TypeCode c.in-Linked.is ∙ code-linked _))
 
 pub returns-in-LongLong : goal.returns-in-LongLong
 returns-in-LongLong c = sym (ap kind_of_layer (ap out-TypeCode c.in-LongLong.is ∙ code-longlong))

@@ -13,7 +13,7 @@ use Rattle.td_codes.specs.Layers.{code-octet, code-struct, code-union}
 use Rattle.td_codes.specs.Layers.{code-sequence, code-array, code-alias, code-any, code-str}
 use Rattle.td_codes.specs.Layers.{code-code, code-object, code-except}
 use Rattle.td_codes.specs.Values.{anys, values, each}
-use Rattle.td_codes.proofs.AtLayers.{values-reads, any-fails, any-codeless, any-none, any-read}
+use Rattle.td_codes.proofs.AtLayers.{values-reads, graph-reads, any-fails, any-codeless, any-none, any-read}
 use Rattle.td_codes.proofs.OfPlainKind.{label-else, label-reads}
 use Rattle.td_codes.proofs.ReadParts.{front-none, begins, each-goes-on, each-fails, each-done}
 use Rattle.td_codes.proofs.values.+values.Goals as goal
@@ -182,6 +182,11 @@ value_at-returns-in-Except t c =
     )
     refl
 
+pub value_at-returns-in-Linked : goal.value_at-returns-in-Linked
+value_at-returns-in-Linked t c =
+    graph-reads (anys c.args.levels) (codes c.args.levels Outer) c.args.depth c.args.code.now _ c.if-depth-eq0.false
+    c.in-Linked.is c.args.r.now
+
 pub boxed_value_at-returns : goal.boxed_value_at-returns
 boxed_value_at-returns t c = rw c.in_ok-new.ensures c.in_ok-value.ensures
 
@@ -251,7 +256,7 @@ value_at-returns-in_default t c =
     let is =
     label-else c.args.code.now n.not-Null n.not-Void n.not-AnyCode n.not-Code n.not-Octet n.not-Str
     n.not-ObjRef n.not-Struct
-    n.not-Union n.not-Sequence n.not-Array n.not-Alias n.not-Except in
+    n.not-Union n.not-Sequence n.not-Array n.not-Alias n.not-Except n.not-Linked in
     let code = c.args.code.now in
     let one = values (anys c.args.levels) (codes c.args.levels Outer) (c.args.depth - 1) in
     rw (

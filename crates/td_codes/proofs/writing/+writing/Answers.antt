@@ -1,4 +1,5 @@
-use Rattle.std.proofs.Common.{◌∙◌}
+use Rattle.std.proofs.Common.{◌∙◌, refl, sym}
+use Rattle.std.proofs.lemmas.List.{append-nil}
 use Rattle.td_codes.specs.WritingCodes.{member_piece, arm_piece}
 use Rattle.td_cdr.proofs.SequenceWriting.{goes_on}
 use Rattle.std.proofs.Common.{length, map}
@@ -9,7 +10,7 @@ use Rattle.td_codes.specs.Codes.{kind_of}
 use Rattle.td_codes.specs.Labels.{label_of, label_piece}
 use Rattle.td_codes.specs.WritingCodes.{code_piece, header_piece, head_piece, kind_piece, arm_piece-is, member_piece-is}
 use Rattle.td_codes.proofs.WrittenParts.{writes-then, writes-whole, writes-added, appends-added, encapsulated}
-use Rattle.td_codes.proofs.AtLayers.{object-piece, struct-piece, except-piece, union-piece, enum-piece}
+use Rattle.td_codes.proofs.AtLayers.{object-piece, struct-piece, except-piece, graph-piece, union-piece, enum-piece}
 use Rattle.td_codes.proofs.AtLayers.{sequence-piece, array-piece, alias-piece, str-piece, encapsulation-two}
 use Rattle.td_codes.proofs.OfPlainKind.{plain-else, plain-piece}
 use Rattle.td_codes.proofs.writing.+writing.Goals as goal
@@ -83,6 +84,11 @@ pub write_typecode-returns-in-Alias : goal.write_typecode-returns-in-Alias
 write_typecode-returns-in-Alias t c =
     rw (c.in-Alias.is, alias-piece c.in-Alias.id c.in-Alias.name c.in-Alias.item)
     (rw c.get-in-Alias.ensures at c.write_alias.ensures)
+
+pub write_typecode-returns-in-Linked : goal.write_typecode-returns-in-Linked
+write_typecode-returns-in-Linked t c =
+    rw (graph-piece c.args.code.now _ c.in-Linked.is)
+    (record { done = sym (append-nil c.args.w.now.bytes); order = refl; refused = tt })
 
 pub write_typecode-returns-in-Except : goal.write_typecode-returns-in-Except
 write_typecode-returns-in-Except t c =
@@ -187,7 +193,7 @@ write_typecode-returns-in_default t c =
     let n = c.in_default in
     let plain =
     plain-else c.args.code.now n.not-Str n.not-ObjRef n.not-Struct n.not-Union n.not-Enum n.not-Sequence n.not-Array
-    n.not-Alias n.not-Except in
+    n.not-Alias n.not-Except n.not-Linked in
     rw (plain-piece c.args.code.now plain)
     (appends-added (kind_piece (kind_of c.args.code.now)) c.args.w.now c.u32.new.self c.u32.result
     (rw (c.number.ensures, c.kind_of.ensures) at c.u32.ensures))

@@ -281,7 +281,7 @@ pub put_value-returns-in_default : goal.put_value-returns-in_default
 put_value-returns-in_default t c =
     let n = c.in_default in
     let is = number-else c.args.code.now n.not-Null n.not-Void n.not-AnyCode n.not-Code n.not-Str n.not-ObjRef
-    n.not-Struct n.not-Union n.not-Sequence n.not-Array n.not-Alias n.not-Except in
+    n.not-Struct n.not-Union n.not-Sequence n.not-Array n.not-Alias n.not-Except n.not-Linked in
     let l = out-TypeCode c.args.code.now in
     let one = (values (anys c.args.levels) (codes c.args.levels Outer) (c.args.depth - 1)) in
     rw (

@@ -1,26 +1,25 @@
-//! Whether two TypeCodes are the same type.
+//! Whether two TypeCodes are the same type, neither of which is a graph.
 
 ghost use Rattle.std.specs.Prelude.{◌≡◌, ℤ, map, Bool, false, length, ◌&&◌};
 ghost use Rattle.td_codes.specs.declared.code.TypeCode.{out-TypeCode};
 ghost use Rattle.td_codes.specs.declared.kinds.CodeKind.TheVariants as kind;
-ghost use Rattle.td_codes.specs.Same.{same, like, alike, entry_like, shape, row, member_entry, arm_entry, ids_agree};
-ghost use Rattle.td_codes.specs.Same.{is_alias, kind_shape, str_shape, object_shape, fields_shape, enum_shape};
+ghost use Rattle.td_codes.specs.Same.{like, alike, entry_like, shape, row, member_entry, arm_entry, ids_agree};
+ghost use Rattle.td_codes.specs.Same.{is_alias, str_shape, object_shape, fields_shape, enum_shape};
 ghost use Rattle.td_codes.specs.Same.{items_shape};
 
-use crate::code::{Arm, Member, TypeCode};
-use crate::kinds::kind_of;
-use crate::label::{label_of, same_label};
+use crate::heads::ids_agree;
 use td_cdr::Text;
+use td_codes::{Arm, INDIRECTION, Member, TypeCode, bare, kind_of, label_of, same_label};
 
 /// Whether the TypeCodes are the same without their aliases, names not counted, and ids only where
-/// neither is empty. Takes no memory.
+/// neither is empty. A graph in them is the same as nothing.
 #[cycle(same)]
-pub fn same_type(a: &TypeCode, b: &TypeCode) -> bool
-    ensures { result ≡ same a.now b.now }
+pub(crate) fn same_trees(a: &TypeCode, b: &TypeCode) -> bool
+    ensures { result ≡ like (shape a.now) (shape b.now) }
 {
     let b = bare(b);
     match a {
-        TypeCode::Alias { item, .. } => same_type(item.get(), b),
+        TypeCode::Alias { item, .. } => same_trees(item.get(), b),
         TypeCode::Str { bound } => same_str(*bound, b),
         TypeCode::ObjRef { id, .. } => same_object(id, b),
         TypeCode::Struct { id, members, .. } => same_struct(id, members.as_slice(), b),
@@ -40,8 +39,8 @@ pub fn same_type(a: &TypeCode, b: &TypeCode) -> bool
                 ..
             } => {
                 *default == *other_default
-                    && ids_agree(id, other_id)
-                    && same_type(switch.get(), other_switch.get())
+                    && ids_agree(id.as_slice(), other_id.as_slice())
+                    && same_trees(switch.get(), other_switch.get())
                     && same_arms(arms.as_slice(), other_arms.as_slice())
             }
             _ => false,
@@ -49,18 +48,19 @@ pub fn same_type(a: &TypeCode, b: &TypeCode) -> bool
         TypeCode::Enum { id, labels, .. } => same_enum(id, labels.len(), b),
         TypeCode::Sequence { item, bound } => same_sequence(item.get(), *bound, b),
         TypeCode::Array { item, len } => same_array(item.get(), *len, b),
-        _ => kind_of(a).number() == kind_of(b).number(),
+        TypeCode::Linked(_) => false,
+        _ => kind_of(a).number() == kind_number(b),
     }
 }
 
-/// The TypeCode under its aliases.
-pub fn bare(code: &TypeCode) -> &TypeCode
-    ensures same { shape result.now ≡ shape code.now }
-    ensures bare { is_alias (out-TypeCode result.now) ≡ false }
+/// The number of the kind of a TypeCode that is no alias; of a graph it is none.
+fn kind_number(code: &TypeCode) -> u32
+    requires { is_alias (out-TypeCode code.now) ≡ false }
+    ensures { result ≡ (shape code.now).kind }
 {
     match code {
-        TypeCode::Alias { item, .. } => bare(item.get()),
-        _ => code,
+        TypeCode::Linked(_) => INDIRECTION,
+        _ => kind_of(code).number(),
     }
 }
 
@@ -79,7 +79,7 @@ fn same_object(id: &Text, b: &TypeCode) -> bool
     ensures { result ≡ like (object_shape id.now) (shape b.now) }
 {
     match b {
-        TypeCode::ObjRef { id: other, .. } => ids_agree(id, other),
+        TypeCode::ObjRef { id: other, .. } => ids_agree(id.as_slice(), other.as_slice()),
         _ => false,
     }
 }
@@ -94,7 +94,7 @@ fn same_struct(id: &Text, members: &[Member], b: &TypeCode) -> bool
             id: other,
             members: others,
             ..
-        } => ids_agree(id, other) && same_members(members, others.as_slice()),
+        } => ids_agree(id.as_slice(), other.as_slice()) && same_members(members, others.as_slice()),
         _ => false,
     }
 }
@@ -109,7 +109,7 @@ fn same_except(id: &Text, members: &[Member], b: &TypeCode) -> bool
             id: other,
             members: others,
             ..
-        } => ids_agree(id, other) && same_members(members, others.as_slice()),
+        } => ids_agree(id.as_slice(), other.as_slice()) && same_members(members, others.as_slice()),
         _ => false,
     }
 }
@@ -123,7 +123,7 @@ fn same_enum(id: &Text, count: usize, b: &TypeCode) -> bool
             id: other,
             labels,
             ..
-        } => count == labels.len() && ids_agree(id, other),
+        } => count == labels.len() && ids_agree(id.as_slice(), other.as_slice()),
         _ => false,
     }
 }
@@ -137,7 +137,7 @@ fn same_sequence(item: &TypeCode, bound: u32, b: &TypeCode) -> bool
         TypeCode::Sequence {
             item: other,
             bound: limit,
-        } => bound == *limit && same_type(item, other.get()),
+        } => bound == *limit && same_trees(item, other.get()),
         _ => false,
     }
 }
@@ -151,7 +151,7 @@ fn same_array(item: &TypeCode, len: u32, b: &TypeCode) -> bool
         TypeCode::Array {
             item: other,
             len: count,
-        } => len == *count && same_type(item, other.get()),
+        } => len == *count && same_trees(item, other.get()),
         _ => false,
     }
 }
@@ -176,7 +176,7 @@ fn same_members(a: &[Member], b: &[Member]) -> bool
 fn same_member(a: &Member, b: &Member) -> bool
     ensures { result ≡ entry_like (member_entry a.now) (member_entry b.now) }
 {
-    same_type(&a.code, &b.code)
+    same_trees(&a.code, &b.code)
 }
 
 /// Whether there are as many arms, of the same labels and types in order.
@@ -199,14 +199,5 @@ fn same_arms(a: &[Arm], b: &[Arm]) -> bool
 fn same_arm(a: &Arm, b: &Arm) -> bool
     ensures { result ≡ entry_like (arm_entry a.now) (arm_entry b.now) }
 {
-    same_label(label_of(&a.label), label_of(&b.label)) && same_type(&a.code, &b.code)
-}
-
-/// Whether the ids are equal or one of them is empty.
-fn ids_agree(a: &Text, b: &Text) -> bool
-    ensures { result ≡ ids_agree a.now b.now }
-{
-    let a = a.as_slice();
-    let b = b.as_slice();
-    a.is_empty() || b.is_empty() || a == b
+    same_label(label_of(&a.label), label_of(&b.label)) && same_trees(&a.code, &b.code)
 }

@@ -1,5 +1,5 @@
-use Rattle.td_codes.proofs.Symmetry.{same-refl, same-symm}
-use Rattle.td_codes.proofs.laws.sameness.Goals as goal
+use Rattle.td_sameness.proofs.Symmetry.{same-refl, same-symm}
+use Rattle.td_sameness.proofs.laws.sameness.Goals as goal
 
 pub returns-clause-reflexive : goal.returns-clause-reflexive
 returns-clause-reflexive c = same-refl

@@ -1,8 +1,9 @@
 use Rattle.std.proofs.Common.{◌<◌, length, sym, ap, ◌∙◌, arith}
 use Rattle.td_codes.specs.Same.{member_entry, arm_entry, like, shape}
-use Rattle.td_codes.proofs.OfPlainKind.{plain-else, plain-same}
-use Rattle.td_codes.proofs.Alike.{here-long, here-end, here-fails, here-next}
-use Rattle.td_codes.proofs.same.+same.Goals as goal
+use Rattle.td_codes.proofs.OfPlainKind.{plain-else}
+use Rattle.td_sameness.proofs.PlainKinds.{plain-same, graph-same}
+use Rattle.td_sameness.proofs.Alike.{here-long, here-end, here-fails, here-next}
+use Rattle.td_sameness.proofs.trees.+same.Goals as goal
 
 pub same_members-returns-then-a-b : goal.same_members-returns-then-a-b
 same_members-returns-then-a-b t c = sym (here-long member_entry c.args.a.now c.args.b.now c.if-a-b.true)
@@ -56,11 +57,14 @@ same_arms-returns t c =
     sym (here-end arm_entry c.loop-i.i c.args.a.now c.args.b.now c.loop-i.invariant.long c.loop-i-test.false)
     ∙ c.loop-i.invariant.so_far
 
-pub same_type-returns-in_default : goal.same_type-returns-in_default
-same_type-returns-in_default t c =
+pub same_trees-returns-in_default : goal.same_trees-returns-in_default
+same_trees-returns-in_default t c =
     let n = c.in_default in
     let plain = plain-else c.args.a.now n.not-Str n.not-ObjRef n.not-Struct n.not-Union n.not-Enum n.not-Sequence
-    n.not-Array n.not-Alias n.not-Except in
-    rw (c.number.ensures, c.number-in_default.ensures, c.kind_of.ensures, c.kind_of-in_default.ensures)
+    n.not-Array n.not-Alias n.not-Except n.not-Linked in
+    rw (c.number.ensures, c.kind_number.ensures, c.kind_of.ensures)
     (plain-same c.args.a.now c.bare-b.result.now plain c.bare-b.ensures.bare
     ∙ ap (like (shape c.args.a.now)) c.bare-b.ensures.same)
+
+pub same_trees-returns-in-Linked : goal.same_trees-returns-in-Linked
+same_trees-returns-in-Linked t c = sym (graph-same c.args.a.now c.args.b.now _ c.in-Linked.is)

@@ -1,6 +1,6 @@
 use Rattle.std.proofs.Common.{◌≡◌, drop, length, map}
 use Rattle.td_codes.specs.Same.{alike, row, member_entry, arm_entry}
-use Rattle.td_codes.proofs.same.+same.Given as goal
+use Rattle.td_sameness.proofs.trees.+same.Given as goal
 
 abbrev pub invariant-same_members-loop-i : goal.invariant-same_members-loop-i
 invariant-same_members-loop-i l = record {

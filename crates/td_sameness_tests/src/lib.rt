@@ -1,0 +1,7 @@
+//! Tests of td_sameness: graphs against graphs, and against TypeCodes that are none.
+#![tactic(auto)]
+
+#[cfg(test)]
+mod making;
+#[cfg(test)]
+mod trees;
