@@ -247,7 +247,9 @@ one_of count = other_writing plain_piece (enum_variant count) (enum-plain count)
 
 -- ---- a union's discriminator
 
-abbrev pub label_layer : (TypeCode → Sound ValueFault Value) → Layer → Sound ValueFault Value
+-- whatever stands for the TypeCodes in a layer
+abbrev pub label_layer : {T V A R M : Type 0} → (T → Sound ValueFault Value) → TypeCode-F T V A R M
+    → Sound ValueFault Value
 label_layer inner c.TypeCode::Short = short_value
 label_layer inner c.TypeCode::Long = long_value
 label_layer inner c.TypeCode::UShort = ushort_value

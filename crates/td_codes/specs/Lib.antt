@@ -6,5 +6,6 @@ pub mod Labels
 pub mod Layers
 pub mod References
 pub mod Same
+pub mod ValueLayers
 pub mod Values
 pub mod WritingCodes

@@ -1,269 +1,78 @@
 -- The format of values under a TypeCode, and of anys (CORBA's chapter on the General Inter-ORB Protocol,
 -- "CDR Transfer Syntax", on constructed types and on any).
-use Rattle.std.specs.Prelude.{◌≡◌, ℕ, ℤ, pos, negsuc, zero, suc, ◌+◌, nat_eq, nat_lt, Bool, false, not, ◌&&◌, ◌||◌}
-use Rattle.std.specs.Prelude.{if◌then◌else◌, List, [], ◌∷◌, ◌++◌, length, map, Option, Some, None, slice_get, refl}
-use Rattle.std.proofs.Common.{sym, ap, subst, ◌∙◌}
-use Rattle.td_cdr.specs.declared.order.Order.{Order}
-use Rattle.td_cdr.specs.Format.{Piece, none, none_or, number, row, ◌then◌, uncons, array_format}
-use Rattle.td_cdr.specs.Sound.{Sound, Arm as Arm_of, ◌&◌, pair_on, structure, variant, constant, ulong, text, array}
-use Rattle.td_cdr.specs.Sound.{restriction, failure, union, other_writing, sequence_with, arm, bare_arm}
-use Rattle.td_cdr.specs.LawfulFormats.{times-row}
+use Rattle.std.specs.Prelude.{ℕ, zero, suc, Bool, List, Option, refl}
+use Rattle.td_cdr.specs.Format.{Piece}
+use Rattle.td_cdr.specs.Sound.{Sound, Arm as Arm_of, pair_on, structure, failure}
 use Rattle.td_cdr.specs.declared.value_fault.ValueFault.{ValueFault}
-use Rattle.td_cdr.specs.declared.value_fault.ValueFault.TheVariants as fault
 use Rattle.td_codes.specs.declared.code.TypeCode.{TypeCode, out-TypeCode}
-use Rattle.td_codes.specs.declared.code.TypeCode.TheOpen as c
-use Rattle.td_codes.specs.declared.code.Value.{Value, out-Value}
-use Rattle.td_codes.specs.declared.code.Value.TheVariants as value
+use Rattle.td_codes.specs.declared.code.Value.{Value}
 use Rattle.td_codes.specs.declared.code.Arm.{Arm}
 use Rattle.td_codes.specs.declared.code.Any.{Any}
 use Rattle.td_codes.specs.declared.code.Member.{Member}
-use Rattle.td_codes.specs.declared.reference.Ior.{Ior}
 use Rattle.td_codes.specs.declared.mode.Mode.TheVariants.{Outer}
-use Rattle.td_codes.specs.declared.kinds.CodeKind.TheVariants as kind
-use Rattle.td_codes.specs.Formats.{array-size}
-use Rattle.td_codes.specs.Kinds.{number_of, indirection}
-use Rattle.td_codes.specs.Labels.{Layer, Held, no_value, bad_value, one_of, labels, label_of, same_label, plain_piece}
-use Rattle.td_codes.specs.Labels.{short_value, long_value, ushort_value, ulong_value, longlong_value, ulonglong_value}
-use Rattle.td_codes.specs.Labels.{boolean_value, char_value, octet_value}
-use Rattle.td_codes.specs.Layers.{value-str, value-any, value-code, value-object, value-struct, value-union}
-use Rattle.td_codes.specs.Layers.{value-items}
+use Rattle.td_codes.specs.Labels.{Layer, Held, no_value, labels}
 use Rattle.td_codes.specs.Codes.{codes}
-use Rattle.td_codes.specs.References.{reference}
+use Rattle.td_codes.specs.ValueLayers.{Parts, first_labelled, branch_labelled, is_labelled, discriminator}
+pub use Rattle.td_codes.specs.ValueLayers.{fits, index_of, is_default, default_arm, or_else, text_in, any_in, code_in}
+pub use Rattle.td_codes.specs.ValueLayers.{reference_in, struct_in, items_in, label_in, arm_in, bounded_text}
+pub use Rattle.td_codes.specs.ValueLayers.{count_within}
+use Rattle.td_codes.specs.ValueLayers as over
 
--- a bound of 0 is none
-abbrev pub fits : ℕ → ℕ → Bool
-fits bound n = nat_eq bound 0 || not (nat_lt bound n)
+-- ---- the layers of TypeCodes
 
--- ---- the branch of a union
-
--- the index of the default arm, where there is one
-abbrev pub index_of : ℤ → Option ℕ
-index_of (pos d) = Some d
-index_of (negsuc d) = None
-
-abbrev pub is_default : Option ℕ → ℕ → Bool
-is_default (Some d) i = nat_eq d i
-is_default None i = false
+abbrev pub code_parts : Parts TypeCode Arm Member
+code_parts = record {
+  labels = labels;
+  plain = λ n t v order place. refl;
+  member_code = λ m. m.code;
+  arm_code = λ a. a.code;
+  arm_label = λ a. a.label;
+}
 
 -- whether the arm at index i is chosen by its label
 abbrev pub is_chosen : Option ℕ → Value → ℕ → Arm → Bool
-is_chosen default label i arm = not (is_default default i) && same_label (label_of arm.label) (label_of label)
+is_chosen default label i arm = is_labelled default label i arm.label
 
--- the first arm but the default whose label this is, the arms being counted from i
 abbrev pub first_arm : Option ℕ → Value → ℕ → List Arm → Option Arm
-first_arm default label i [] = None
-first_arm default label i (arm ∷ arms) =
-    if is_chosen default label i arm then Some arm else first_arm default label (i + 1) arms
-
-abbrev pub default_arm : Option ℕ → List Arm → Option Arm
-default_arm (Some d) arms = slice_get arms d
-default_arm None arms = None
-
-abbrev pub or_else : Option Arm → Option Arm → Option Arm
-or_else (Some x) o = Some x
-or_else None o = o
+first_arm = first_labelled (λ a. a.label)
 
 abbrev pub branch_of : Option ℕ → Value → List Arm → Option Arm
-branch_of default label arms = or_else (first_arm default label 0 arms) (default_arm default arms)
+branch_of = branch_labelled (λ a. a.label)
 
--- ---- what a value holds, where it holds it
-
-abbrev pub text_in : Held → Option (List ℕ)
-text_in (c.Value::Str t) = Some t
-text_in l = None
-
-abbrev pub any_in : Held → Option Any
-any_in (c.AnyValue a) = Some a
-any_in l = None
-
-abbrev pub code_in : Held → Option TypeCode
-code_in (c.Value::Code t) = Some t
-code_in l = None
-
-abbrev pub reference_in : Held → Option Ior
-reference_in (c.Value::ObjRef r) = Some r
-reference_in l = None
-
-abbrev pub struct_in : Held → Option (List Value)
-struct_in (c.Value::Struct vs) = Some vs
-struct_in l = None
-
-abbrev pub items_in : Held → Option (List Value)
-items_in (c.Items vs) = Some vs
-items_in l = None
-
-abbrev pub label_in : Held → Value
-label_in (c.Value::Union label arm) = label
-label_in l = value.Empty
-
-abbrev pub arm_in : Held → Option Value
-arm_in (c.Value::Union label arm) = arm
-arm_in l = None
-
--- the discriminator of a union's value
-abbrev pub discriminator : Value → Value
-discriminator v = label_in (out-Value v)
-
--- ---- values
-
--- a string of at most so many bytes
-abbrev pub bounded_text : ℕ → Sound ValueFault (List ℕ)
-bounded_text bound = restriction (λ v. fits bound (length v)) bad_value text
-
--- a count of at most so many
-abbrev pub count_within : ℕ → Sound ValueFault ℕ
-count_within bound = restriction (fits bound) bad_value ulong
-
--- where an any, and a TypeCode, that stand inside are of one level more
 module _ (any : Sound ValueFault Any) (code : Sound ValueFault TypeCode)
     (inner : TypeCode → Sound ValueFault Value) where
   abbrev pub each : List Member → Sound ValueFault (List Value)
-  each [] = constant []
-  each (m ∷ ms) = variant (λ p. p.0 ∷ p.1) uncons (λ _. refl) (inner m.code & each ms)
+  each = over.each code_parts any code inner
 
-  -- the unions with this label, whose branch was chosen
   abbrev pub branch : Value → Option Arm → Arm_of ValueFault Value Value discriminator
-  branch label None = bare_arm (value.Union label None)
-  branch label (Some chosen) =
-      arm label (λ v. value.Union label (Some v)) (λ v. arm_in (out-Value v))
-      (λ v. ap arm_in (value-union label (Some v))) (λ v. sym (ap label_in (value-union label (Some v))))
-      (inner chosen.code)
-
-  pub branch-label : (label : Value) (o : Option Arm) → (branch label o).tag ≡ label
-  branch-label label None = ap label_in (value-union label None)
-  branch-label label (Some chosen) = refl
-
-  -- a union before it is known how it is written
-  abbrev pub spelled_union : ℕ → TypeCode → Option ℕ → List Arm → Sound ValueFault Value
-  spelled_union n switch default arms =
-      union (labels n switch) discriminator (λ label. branch label (branch_of default label arms))
-      (λ label. branch-label label (branch_of default label arms))
+  branch = over.branch code_parts any code inner
 
   abbrev pub branch_piece : Option Arm → Option Value → Piece
-  branch_piece None v = none
-  branch_piece (Some chosen) None = none
-  branch_piece (Some chosen) (Some v) = (inner chosen.code).format.writes v
+  branch_piece = over.branch_piece code_parts any code inner
 
-  -- a value that is no union is written as nothing
   abbrev pub union_piece : Option ℕ → List Arm → Held → Piece
-  union_piece default arms (c.Value::Union label arm) =
-      plain_piece label then branch_piece (branch_of default label arms) arm
-  union_piece default arms l = none
-
-  branch-is : (label : Value) (o : Option Arm) (v : Value) → (branch label o).format.admits v
-      → (arm : Option Value) × (value.Union label arm ≡ v)
-  branch-is label None v ok = (None, ok)
-  branch-is label (Some chosen) v ok = (Some ok.0, ok.1)
-
-  branch-written : (label : Value) (o : Option Arm) (arm : Option Value) (order : Order) (place : ℕ)
-      → (branch label o).format.writes (value.Union label arm) order place ≡ branch_piece o arm order place
-  branch-written label None arm order place = refl
-  branch-written label (Some chosen) None order place = rw (value-union label None) refl
-  branch-written label (Some chosen) (Some v) order place = rw (value-union label (Some v)) refl
-
-  pub union-written : (n : ℕ) (switch : TypeCode) (default : Option ℕ) (arms : List Arm) (v : Value) (order : Order)
-      (place : ℕ)
-      → (spelled_union n switch default arms).format.admits v
-      → (spelled_union n switch default arms).format.writes v order place
-      ≡ union_piece default arms (out-Value v) order place
-  union-written n switch default arms v order place ok =
-      let is = branch-is (discriminator v) (branch_of default (discriminator v) arms) v ok.1 in
-      subst (λ (u : Value). (spelled_union n switch default arms).format.writes u order place
-      ≡ union_piece default arms (out-Value u) order place)
-      is.1
-      (let label = discriminator v in
-      rw (value-union label is.0)
-      (ap (λ (b : List ℕ). plain_piece label order place ++ b)
-      (branch-written label (branch_of default label arms) is.0 order
-      (place + length (plain_piece label order place)))))
+  union_piece = over.union_piece code_parts any code inner
 
   abbrev pub union_value : ℕ → TypeCode → Option ℕ → List Arm → Sound ValueFault Value
-  union_value n switch default arms =
-      other_writing (λ v. union_piece default arms (out-Value v)) (spelled_union n switch default arms)
-      (union-written n switch default arms)
+  union_value = over.union_value code_parts any code inner
 
   abbrev pub struct_value : List Member → Sound ValueFault Value
-  struct_value members =
-      variant (λ vs. value.Struct vs) (λ v. struct_in (out-Value v)) (λ vs. ap struct_in (value-struct vs))
-      (each members)
+  struct_value = over.struct_value code_parts any code inner
 
-  -- items behind their count, and without it; a value that holds none is written as nothing
   abbrev pub items_piece : TypeCode → List Value → Piece
-  items_piece item vs = row (map (inner item).format.writes vs)
+  items_piece = over.items_piece code_parts any code inner
 
   abbrev pub sequence_piece : TypeCode → List Value → Piece
-  sequence_piece item vs = (number 4).writes (length vs) then items_piece item vs
-
-  abbrev pub spelled_sequence : TypeCode → ℕ → Sound ValueFault Value
-  spelled_sequence item bound =
-      variant (λ vs. value.Items vs) (λ v. items_in (out-Value v)) (λ vs. ap items_in (value-items vs))
-      (sequence_with (count_within bound) (inner item))
-
-  pub sequence-written : (item : TypeCode) (bound : ℕ) (v : Value) (order : Order) (place : ℕ)
-      → (spelled_sequence item bound).format.admits v
-      → (spelled_sequence item bound).format.writes v order place
-      ≡ none_or (sequence_piece item) (items_in (out-Value v)) order place
-  sequence-written item bound v order place ok =
-      subst (λ (u : Value). (spelled_sequence item bound).format.writes u order place
-      ≡ none_or (sequence_piece item) (items_in (out-Value u)) order place)
-      ok.1
-      (let vs = ok.0 in rw (value-items vs) refl)
+  sequence_piece = over.sequence_piece code_parts any code inner
 
   abbrev pub sequence_value : TypeCode → ℕ → Sound ValueFault Value
-  sequence_value item bound =
-      other_writing (λ v. none_or (sequence_piece item) (items_in (out-Value v))) (spelled_sequence item bound)
-      (sequence-written item bound)
-
-  abbrev pub spelled_array : TypeCode → ℕ → Sound ValueFault Value
-  spelled_array item len =
-      variant (λ vs. value.Items vs) (λ v. items_in (out-Value v)) (λ vs. ap items_in (value-items vs))
-      (array (inner item) len)
-
-  pub array-written : (item : TypeCode) (len : ℕ) (v : Value) (order : Order) (place : ℕ)
-      → (spelled_array item len).format.admits v
-      → (spelled_array item len).format.writes v order place
-      ≡ none_or (items_piece item) (items_in (out-Value v)) order place
-  array-written item len v order place ok =
-      subst (λ (u : Value). (spelled_array item len).format.writes u order place
-      ≡ none_or (items_piece item) (items_in (out-Value u)) order place)
-      ok.1
-      (let vs = ok.0 in
-      rw (value-items vs) (ap (λ (n : ℕ). (array_format (inner item).format n).writes vs order place)
-      (array-size (inner item).format len vs ok.2)
-      ∙ times-row (inner item).format vs order place))
+  sequence_value = over.sequence_value code_parts any code inner
 
   abbrev pub array_value : TypeCode → ℕ → Sound ValueFault Value
-  array_value item len =
-      other_writing (λ v. none_or (items_piece item) (items_in (out-Value v))) (spelled_array item len)
-      (array-written item len)
+  array_value = over.array_value code_parts any code inner
 
   abbrev pub layer : ℕ → Layer → Sound ValueFault Value
-  layer n c.Null = constant value.Empty
-  layer n c.Void = constant value.Empty
-  layer n c.TypeCode::Short = short_value
-  layer n c.TypeCode::Long = long_value
-  layer n c.TypeCode::UShort = ushort_value
-  layer n c.TypeCode::ULong = ulong_value
-  layer n c.TypeCode::Boolean = boolean_value
-  layer n c.TypeCode::Char = char_value
-  layer n c.TypeCode::Octet = octet_value
-  layer n c.TypeCode::LongLong = longlong_value
-  layer n c.TypeCode::ULongLong = ulonglong_value
-  layer n c.AnyCode = variant (λ a. value.AnyValue a) (λ v. any_in (out-Value v)) (λ a. ap any_in (value-any a)) any
-  layer n c.TypeCode::Code =
-      variant (λ t. value.Code t) (λ v. code_in (out-Value v)) (λ t. ap code_in (value-code t)) code
-  layer n (c.TypeCode::Str bound) =
-      variant (λ t. value.Str t) (λ v. text_in (out-Value v)) (λ t. ap text_in (value-str t)) (bounded_text bound)
-  layer n (c.TypeCode::ObjRef id name) =
-      variant (λ r. value.ObjRef r) (λ v. reference_in (out-Value v)) (λ r. ap reference_in (value-object r)) reference
-  layer n (c.TypeCode::Struct id name members) = struct_value members
-  layer n (c.TypeCode::Union id name switch default arms) = union_value n switch (index_of default) arms
-  layer n (c.TypeCode::Enum id name names) = one_of (length names)
-  layer n (c.Sequence item bound) = sequence_value item bound
-  layer n (c.Array item len) = array_value item len
-  layer n (c.Alias id name item) = inner item
-  layer n (c.Except id name members) = failure (λ a. fault.Unsupported (number_of kind.Except))
-  layer n (c.Linked graph) = failure (λ a. fault.Unsupported indirection)
+  layer = over.layer code_parts any code inner
 
 -- a value under a TypeCode of at most so many levels
 unfoldable pub values : Sound ValueFault Any → Sound ValueFault TypeCode → ℕ → TypeCode → Sound ValueFault Value

@@ -4,8 +4,8 @@ use Rattle.td_cdr.specs.declared.value_fault.ValueFault.{ValueFault}
 use Rattle.td_cdr.specs.Gap.{flag}
 use Rattle.td_cdr.specs.Format.{Piece, none_or, ◌then◌, row}
 use Rattle.td_cdr.specs.Sound.{Sound, text}
-use Rattle.td_codes.specs.declared.code.TypeCode.{TypeCode, out-TypeCode, ind-TypeCode, map-TypeCode, roll-TypeCode}
-use Rattle.td_codes.specs.declared.code.TypeCode.{out-roll-TypeCode}
+use Rattle.td_codes.specs.declared.code.TypeCode.{TypeCode, TypeCode-F, out-TypeCode, ind-TypeCode, map-TypeCode}
+use Rattle.td_codes.specs.declared.code.TypeCode.{roll-TypeCode, out-roll-TypeCode}
 use Rattle.td_codes.specs.WritingCodes.{code_piece, arm_piece, member_piece, layer_pieces, code_piece-layer}
 use Rattle.td_codes.specs.WritingCodes.{arm_piece-is, member_piece-is, code_layer, kind_piece, header_piece}
 use Rattle.td_codes.specs.WritingCodes.{head_piece, encapsulation_piece}
@@ -29,9 +29,10 @@ use Rattle.td_codes.specs.declared.label.Label.TheVariants.{One, Two, Four, Eigh
 use Rattle.td_cdr.specs.Format.{number as number_format}
 use Rattle.td_codes.specs.Labels.{Layer, Held, label_of, label_piece, plain_piece}
 use Rattle.td_codes.specs.References.{reference}
-use Rattle.td_codes.specs.Values.{index_of, branch_of, each, branch_piece, union_piece, items_piece, sequence_piece}
-use Rattle.td_codes.specs.Values.{layer, text_in, any_in, code_in, reference_in, struct_in, items_in, values, anys}
-use Rattle.td_codes.specs.Values.{any_value}
+use Rattle.td_codes.specs.ValueLayers.{Parts, index_of, branch_labelled, each, branch_piece, union_piece, items_piece}
+use Rattle.td_codes.specs.ValueLayers.{sequence_piece, layer, text_in, any_in, code_in, reference_in, struct_in}
+use Rattle.td_codes.specs.ValueLayers.{items_in}
+use Rattle.td_codes.specs.Values.{code_parts, values, anys, any_value}
 use Rattle.td_iter.specs.Filling.{counted}
 use Rattle.td_iter.proofs.Lengths.{Steady, one-steady, two-steady, four-steady, eight-steady, octets-length}
 use Rattle.td_iter.proofs.Lengths.{none-steady, then-steady, rows-steady, counted-steady, text-steady, reference-steady}
@@ -50,29 +51,34 @@ or_none-steady : {X : Type 0} (write : X → Piece) → ((x : X) → Steady (wri
 or_none-steady write h (Some x) = h x
 or_none-steady write h None = none-steady
 
-module _ (any : Sound ValueFault Any) (code : Sound ValueFault TypeCode) (inner : TypeCode → Sound ValueFault Value)
+-- whatever stands for the TypeCodes in a layer
+module _ {T R M : Type 0} (parts : Parts T R M) (any : Sound ValueFault Any) (code : Sound ValueFault TypeCode)
+    (inner : T → Sound ValueFault Value)
     (any-steady : (a : Any) → Steady (any.format.writes a)) (code-steady : (t : TypeCode)
     → Steady (code.format.writes t))
-    (inner-steady : (t : TypeCode) (v : Value) → Steady ((inner t).format.writes v)) where
-  each-steady : (ms : List Member) (vs : List Value) → Steady ((each any code inner ms).format.writes vs)
+    (inner-steady : (t : T) (v : Value) → Steady ((inner t).format.writes v)) where
+  each-steady : (ms : List M) (vs : List Value) → Steady ((each parts any code inner ms).format.writes vs)
   each-steady [] vs = none-steady
   each-steady (m ∷ ms) [] = none-steady
   each-steady (m ∷ ms) (v ∷ vs) =
-      then-steady ((inner m.code).format.writes v) ((each any code inner ms).format.writes vs)
-      (inner-steady m.code v) (each-steady ms vs)
+      then-steady ((inner (parts.member_code m)).format.writes v) ((each parts any code inner ms).format.writes vs)
+      (inner-steady (parts.member_code m) v) (each-steady ms vs)
 
-  branch-steady : (o : Option Arm) (v : Option Value) → Steady (branch_piece any code inner o v)
+  branch-steady : (o : Option R) (v : Option Value) → Steady (branch_piece parts any code inner o v)
   branch-steady None v = none-steady
   branch-steady (Some chosen) None = none-steady
-  branch-steady (Some chosen) (Some v) = inner-steady chosen.code v
+  branch-steady (Some chosen) (Some v) = inner-steady (parts.arm_code chosen) v
 
-  union-steady : (default : Option ℕ) (arms : List Arm) (l : Held) → Steady (union_piece any code inner default arms l)
+  union-steady : (default : Option ℕ) (arms : List R) (l : Held)
+      → Steady (union_piece parts any code inner default arms l)
   union-steady default arms (c.Value::Union label arm) =
-      then-steady (plain_piece label) (branch_piece any code inner (branch_of default label arms) arm)
-      (plain-steady label) (branch-steady (branch_of default label arms) arm)
+      then-steady (plain_piece label)
+      (branch_piece parts any code inner (branch_labelled parts.arm_label default label arms) arm)
+      (plain-steady label) (branch-steady (branch_labelled parts.arm_label default label arms) arm)
   union-steady default arms l = none-steady
 
-  pub layer-steady : (n : ℕ) (l : Layer) (v : Value) → Steady ((layer any code inner n l).format.writes v)
+  pub layer-steady : (n : ℕ) (l : TypeCode-F T Value Any R M) (v : Value)
+      → Steady ((layer parts any code inner n l).format.writes v)
   layer-steady n c.Null v = none-steady
   layer-steady n c.Void v = none-steady
   layer-steady n c.TypeCode::Short v = plain-steady v
@@ -90,14 +96,14 @@ module _ (any : Sound ValueFault Any) (code : Sound ValueFault TypeCode) (inner 
   layer-steady n (c.TypeCode::ObjRef id name) v =
       or_none-steady reference.format.writes reference-steady (reference_in (out-Value v))
   layer-steady n (c.TypeCode::Struct id name members) v =
-      or_none-steady (each any code inner members).format.writes (each-steady members) (struct_in (out-Value v))
+      or_none-steady (each parts any code inner members).format.writes (each-steady members) (struct_in (out-Value v))
   layer-steady n (c.TypeCode::Union id name switch default arms) v = union-steady (index_of default) arms (out-Value v)
   layer-steady n (c.TypeCode::Enum id name names) v = plain-steady v
   layer-steady n (c.Sequence item bound) v =
-      or_none-steady (sequence_piece any code inner item) (counted-steady (inner item).format.writes
+      or_none-steady (sequence_piece parts any code inner item) (counted-steady (inner item).format.writes
       (inner-steady item)) (items_in (out-Value v))
   layer-steady n (c.Array item len) v =
-      or_none-steady (items_piece any code inner item) (rows-steady (inner item).format.writes (inner-steady item))
+      or_none-steady (items_piece parts any code inner item) (rows-steady (inner item).format.writes (inner-steady item))
       (items_in (out-Value v))
   layer-steady n (c.Alias id name item) v = inner-steady item v
   layer-steady n (c.Except id name members) v = none-steady
@@ -214,8 +220,8 @@ values-steady : (any : Sound ValueFault Any) (code : Sound ValueFault TypeCode)
     → (n : ℕ) (t : TypeCode) (v : Value) → Steady ((values any code n t).format.writes v)
 unfolding values
 values-steady any code a c zero t v = none-steady
-values-steady any code a c (suc n) t v = layer-steady any code (values any code n) a c (values-steady any code a c n)
-    n (out-TypeCode t) v
+values-steady any code a c (suc n) t v =
+    layer-steady code_parts any code (values any code n) a c (values-steady any code a c n) n (out-TypeCode t) v
 
 pub anys-steady : (n : ℕ) (a : Any) → Steady ((anys n).format.writes a)
 unfolding anys
