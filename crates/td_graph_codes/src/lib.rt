@@ -1,0 +1,4 @@
+//! TypeCodes with indirections, as graphs: which bytes spell one.
+#![tactic(auto)]
+
+pub mod laws;
