@@ -1,6 +1,10 @@
 -- Offers that are changed one after the other.
 use Rattle.std.proofs.Common.{◌≡◌, ℕ, zero, suc, ◌+◌, ◌<◌, List, [], ◌∷◌, ◌++◌, length, map, take, drop, get_or}
-use Rattle.std.proofs.Common.{slice_set, refl, ap, ◌∙◌, arith}
+use Rattle.std.proofs.Common.{slice_set, refl, sym, ap, ◌∙◌, arith}
+use Rattle.std.proofs.lemmas.List.{map-id}
+use Rattle.td_lookup.specs.Choosing.{chosen}
+use Rattle.td_value.specs.declared.structures.Offer.{Offer}
+use Rattle.td_value.specs.declared.unions.SpecifiedProps.TheVariants.{All}
 
 -- the first so many were changed
 abbrev pub changed : {X : Type 0} → (X → X) → List X → ℕ → List X
@@ -26,3 +30,7 @@ changed_on f xs now i d y is h made =
     let next : suc i ≡ i + 1 = omega arith in
     ap (λ t. slice_set t i y) is
     ∙ (ap (λ z. slice_set (changed f xs i) i z) value ∙ (one_more f xs i d h ∙ ap (λ n. changed f xs n) next))
+
+-- where all are desired, the offers stay as they are
+pub all_chosen : (offers : List Offer) → offers ≡ map (chosen All) offers
+all_chosen offers = sym (map-id offers)

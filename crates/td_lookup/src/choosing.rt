@@ -1,9 +1,10 @@
 //! The properties of offers that a query asks for (OMG's Trading Object Service, interface Lookup, query,
 //! desired_props).
 
-ghost use Rattle.std.specs.Prelude.{◌≡◌, map, IfOk, OnOk};
+ghost use Rattle.std.specs.Prelude.{◌≡◌, [], map, IfOk, OnOk};
 ghost use Rattle.std.specs.Option.{option_copied};
 ghost use Rattle.td_lookup.specs.Choosing.{chosen, named_in, property_named};
+ghost use Rattle.td_value.specs.declared.unions.SpecifiedProps.TheVariants as props;
 
 use std::alloc::Global;
 use td_cdr::{List, Memory, Shared, Text, Twin};
@@ -33,22 +34,53 @@ fn named_in(
     Ok(named)
 }
 
-/// Leaves an offer the desired ones of its properties.
-fn choose(alloc: Global, desired: &SpecifiedProps, offer: &mut Offer) -> Result<(), Memory>
-    ensures { OnOk result (offer.new ≡ chosen desired.now offer.old) }
+/// Leaves an offer those of its properties that have these names.
+fn choose_named(alloc: Global, names: &[Text], offer: &mut Offer) -> Result<(), Memory>
+    ensures { OnOk result (offer.new ≡ chosen (props.Some names.now) offer.old) }
 {
-    match desired {
-        SpecifiedProps::None => {
-            offer.properties = Shared::new(alloc, List::new(alloc))?;
-            Ok(())
-        }
-        SpecifiedProps::Some(names) => {
-            let named = named_in(alloc, names.as_slice(), offer.properties.as_slice())?;
-            offer.properties = Shared::new(alloc, named)?;
-            Ok(())
-        }
-        SpecifiedProps::All => Ok(()),
+    let named = named_in(alloc, names, offer.properties.as_slice())?;
+    offer.properties = Shared::new(alloc, named)?;
+    Ok(())
+}
+
+/// The same offers, each with those of its properties that have these names.
+fn choose_named_of_each(
+    alloc: Global,
+    names: &[Text],
+    offers: List<Offer>,
+) -> Result<List<Offer>, Memory>
+    ensures { IfOk result (λ os. os ≡ map (chosen (props.Some names.now)) offers) }
+{
+    let mut left = offers.into_vec();
+    for offer in left.iter_mut() {
+        choose_named(alloc, names, offer)?;
     }
+    Ok(List::from_vec(left))
+}
+
+/// Leaves an offer without properties, as one owner more of this list.
+fn choose_none(
+    alloc: Global,
+    none: &Shared<List<Property>>,
+    offer: &mut Offer,
+) -> Result<(), Memory>
+    requires { none.now ≡ [] }
+    ensures { OnOk result (offer.new ≡ chosen props.None offer.old) }
+{
+    offer.properties = none.copy(alloc)?;
+    Ok(())
+}
+
+/// The same offers without properties. They share one empty list.
+fn choose_none_of_each(alloc: Global, offers: List<Offer>) -> Result<List<Offer>, Memory>
+    ensures { IfOk result (λ os. os ≡ map (chosen props.None) offers) }
+{
+    let none = Shared::new(alloc, List::new(alloc))?;
+    let mut left = offers.into_vec();
+    for offer in left.iter_mut() {
+        choose_none(alloc, &none, offer)?;
+    }
+    Ok(List::from_vec(left))
 }
 
 /// The same offers, each with the desired ones of its properties.
@@ -56,6 +88,7 @@ fn choose(alloc: Global, desired: &SpecifiedProps, offer: &mut Offer) -> Result<
 /// # Errors
 ///
 /// `Memory` for want of memory alone.
+#[tactic(auto, using(crate::proofs::Chosen::all_chosen))]
 pub fn choose_each(
     alloc: Global,
     desired: &SpecifiedProps,
@@ -63,9 +96,9 @@ pub fn choose_each(
 ) -> Result<List<Offer>, Memory>
     ensures { IfOk result (λ os. os ≡ map (chosen desired.now) offers) }
 {
-    let mut left = offers.into_vec();
-    for offer in left.iter_mut() {
-        choose(alloc, desired, offer)?;
+    match desired {
+        SpecifiedProps::None => choose_none_of_each(alloc, offers),
+        SpecifiedProps::Some(names) => choose_named_of_each(alloc, names.as_slice(), offers),
+        SpecifiedProps::All => Ok(offers),
     }
-    Ok(List::from_vec(left))
 }
