@@ -6,3 +6,4 @@ pub mod Readings
 pub mod Resolved
 pub mod Reversed
 pub mod Turns
+pub mod Undesired

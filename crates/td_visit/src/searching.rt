@@ -12,6 +12,7 @@ ghost use Rattle.td_eval.specs.Mentioning.{names_asked};
 ghost use Rattle.td_eval.specs.Values.{matching};
 
 use crate::progress::{Completion, Scan};
+use crate::queue::Queue;
 use std::alloc::Global;
 use std::mem;
 use td_cdr::{List, Memory, Shared, Text, Twin};
@@ -205,24 +206,39 @@ fn complete(
     let properties = offer.properties.as_slice();
     match desired {
         SpecifiedProps::None => Ok(None),
-        SpecifiedProps::Some(names) => evaluate_named(
-            alloc,
-            properties,
-            made,
-            names.as_slice(),
-            left,
-        ),
+        SpecifiedProps::Some(names) => {
+            evaluate_dynamic(alloc, properties, made, names.as_slice(), left)
+        }
         SpecifiedProps::All => evaluate_each(alloc, properties, made, left),
     }
 }
 
-/// Goes on with the evaluation of desired properties: completes the offers that matched, in order, as far as there
-/// are answers.
-///
-/// # Errors
-///
-/// `Memory` for want of memory alone.
-pub(crate) fn complete_all(
+/// The one list and then the other.
+fn followed(first: List<Found>, second: List<Found>) -> Result<List<Found>, Memory>
+    ensures { IfOk result (λ all. all ≡ first ++ second) }
+{
+    if first.is_empty() {
+        return Ok(second);
+    }
+    let mut all = first.into_vec();
+    let mut more = second.into_vec();
+    all.append(&mut more)?;
+    Ok(List::from_vec(all))
+}
+
+/// Completes the offers that matched where nothing is desired of them: they stay as they are.
+fn complete_undesired(alloc: Global, completion: &mut Completion) -> Result<(), Memory>
+    ensures { OnOk result (completion.new
+        ≡ record { waiting = []; complete = completion.old.complete ++ completion.old.waiting }) }
+{
+    let waiting = mem::replace(&mut completion.waiting, Queue::new(alloc));
+    let complete = mem::replace(&mut completion.complete, List::new(alloc));
+    completion.complete = followed(complete, waiting.into_list())?;
+    Ok(())
+}
+
+/// Completes the offers that matched, in order, as far as there are answers.
+fn complete_each(
     alloc: Global,
     desired: &SpecifiedProps,
     completion: &mut Completion,
@@ -246,4 +262,34 @@ pub(crate) fn complete_all(
         completion.complete.push(one)?;
     }
     Ok(None)
+}
+
+/// Goes on with the evaluation of desired properties: completes the offers that matched, in order, as far as there
+/// are answers.
+///
+/// # Errors
+///
+/// `Memory` for want of memory alone.
+#[tactic(auto, using(crate::proofs::Undesired::undesired))]
+pub(crate) fn complete_all(
+    alloc: Global,
+    desired: &SpecifiedProps,
+    completion: &mut Completion,
+    left: &mut Left<'_>,
+) -> Result<Option<Next>, Memory>
+    ensures told { IfOk result (λ question.
+        Tells (all_completed desired.now completion.old.complete completion.old.waiting left.old.answers.now) question
+        completion.new.complete left.new.answers.now) }
+    ensures stopped { OnOk result
+        (completion.new ≡ completed_up_to desired.now completion.old.complete completion.old.waiting
+        left.old.answers.now) }
+{
+    match desired {
+        SpecifiedProps::None => {
+            complete_undesired(alloc, completion)?;
+            Ok(None)
+        }
+        SpecifiedProps::Some(_) => complete_each(alloc, desired, completion, left),
+        SpecifiedProps::All => complete_each(alloc, desired, completion, left),
+    }
 }

@@ -1,7 +1,7 @@
 use Rattle.std.proofs.Common.{◌≡◌, length}
 use Rattle.td_visit.specs.Resuming.{completed_up_to}
 use Rattle.td_walk.specs.Visits.{all_completed}
-use Rattle.td_visit.proofs.searching.complete_all.Given as goal
+use Rattle.td_visit.proofs.searching.complete_each.Given as goal
 
 -- the offers that are left make of those that are complete what all make, and stop where they do
 abbrev pub invariant-loop-one : goal.invariant-loop-one
