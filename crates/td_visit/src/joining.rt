@@ -9,40 +9,41 @@ ghost use Rattle.td_walk.specs.Resolving.{resolved};
 
 use crate::searching::has_dynamic;
 use std::alloc::Global;
-use td_cdr::{List, Memory, Shared, Text, Twin};
+use td_cdr::{List, Memory, Shared, Text};
 use td_eval::rank;
 use td_ops::is_among;
 use td_out::Words;
 use td_store::Local;
-use td_value::{Offer, Property};
+use td_value::Offer;
 use td_walk::{Evaluation, Found, Gathered, SubAnswer, resolved};
 
-/// The properties after these evaluations. Those of which none is dynamic stay as they are, and are shared.
+/// The offer with its properties after these evaluations. Those of which none is dynamic stay as they are.
 #[tactic(auto, using(crate::proofs::Resolved::without_dynamic))]
-fn answered(
-    alloc: Global,
-    made: &[Evaluation],
-    properties: &Shared<List<Property>>,
-) -> Result<Shared<List<Property>>, Memory>
-    ensures { IfOk result (λ ps. ps ≡ resolved made.now properties.now) }
+fn resolve(alloc: Global, made: &[Evaluation], offer: &mut Offer) -> Result<(), Memory>
+    ensures { OnOk result (offer.new
+        ≡ record { reference = offer.old.reference; properties = resolved made.now offer.old.properties }) }
 {
-    if !has_dynamic(properties.as_slice()) {
-        return properties.copy(alloc);
+    if !has_dynamic(offer.properties.as_slice()) {
+        return Ok(());
     }
-    let resolved = resolved(alloc, made, properties.as_slice())?;
-    Shared::new(alloc, resolved)
+    let resolved = resolved(alloc, made, offer.properties.as_slice())?;
+    offer.properties = Shared::new(alloc, resolved)?;
+    Ok(())
 }
 
 /// The offer as it is answered.
-fn offer_of(alloc: Global, one: &Found) -> Result<Offer, Memory>
-    ensures { IfOk result (λ offer. offer ≡ offer_of one.now) }
+fn offer_of(alloc: Global, one: Found) -> Result<Offer, Memory>
+    ensures { IfOk result (λ offer. offer ≡ offer_of one) }
 {
-    let reference = one.offer.reference.copy(alloc)?;
-    let properties = answered(alloc, one.made.as_slice(), &one.offer.properties)?;
-    Ok(Offer {
-        reference,
-        properties,
-    })
+    let Found { offer, made } = one;
+    let mut offer = offer.into_offer();
+    match resolve(alloc, made.as_slice(), &mut offer) {
+        Ok(()) => Ok(offer),
+        Err(memory) => {
+            drop(offer);
+            Err(memory)
+        }
+    }
 }
 
 /// Adds the ordinary offers that matched, as resolved.
@@ -51,7 +52,7 @@ fn add_own(alloc: Global, offers: &mut Vec<Offer>, found: List<Found>) -> Result
 {
     for one in found.into_vec() {
         if one.offer.proxy.is_none() {
-            offers.push(offer_of(alloc, &one)?)?;
+            offers.push(offer_of(alloc, one)?)?;
         }
     }
     Ok(())
