@@ -16,7 +16,7 @@ use td_walk::{follows, sub_query_for_link, sub_query_for_path, sub_query_for_pro
 fn link_of(local: &Local) -> Option<&LinkRecord> {
     match &local.path {
         Some(link) => Some(link),
-        None => local.links.get(0),
+        None => local.links.as_slice().first(),
     }
 }
 

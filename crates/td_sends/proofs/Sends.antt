@@ -1,5 +1,6 @@
 -- A trader, and what a group of traders is acted on through, may go to another thread.
 --     any_send, offer_send      an any, an offer
+--     cache_field      what a trader keeps of what queries were served with, as a field
 --     trader_send, stall_send      a trader, and one that stands in a cell
 --     group_pass_field, group_pass_send      a group's pass, as a field and by itself, where the runtime may be shared
 -- Rattle makes such a lemma of each declared type whose fields have one (the modules `TheSendSync`). A TypeCode holds
@@ -36,6 +37,10 @@ use Rattle.td_store.specs.contracts.offers.Offers as offers
 use Rattle.td_store.specs.contracts.record.OfferRecord as offer_record
 use Rattle.td_store.specs.contracts.record.ProxyPart as proxy_part
 use Rattle.td_store.specs.contracts.store.Store as store
+use Rattle.td_store.proofs.record.LinkRecord.TheSendSync as link_cross
+use Rattle.td_trader.proofs.cache.Uses.TheSendSync as uses_cross
+use Rattle.td_trader.specs.contracts.cache.Cache as cache
+use Rattle.td_trader.specs.contracts.cache.CachedSearch as cached_search
 use Rattle.td_trader.specs.contracts.trader.Trader as trader
 use Rattle.td_trader.specs.contracts.trader.Trader.TheInside as trader_inside
 use Rattle.td_types.specs.contracts.types.Types as types
@@ -113,6 +118,10 @@ proxy_part_send = search valued depth 20
 offer_record_send : IsSend offer_record.the_row
 offer_record_send = search (property_sync, proxy_part_send, proxy_part_sync, seen, valued) depth 20
 
+offer_record_sync : IsSync offer_record.the_row
+offer_record_sync =
+    search (shared_cross.the_sync, property_sync, property_send, proxy_part_sync, proxy_part_send, seen, low) depth 20
+
 offers_send : IsSend offers.the_row
 offers_send = search (slab_cross.the_send, offer_record_send, BTreeMap-send, sendable) depth 20
 
@@ -144,6 +153,33 @@ accepted_send =
     recorded_send (accepted.the_field).row _ _ (accepted.the_type).to_one
     (struct_send (shape accepted.the_type) (change_field, (change_reply_cross.the_send, tt)))
 
+-- ---- what a trader keeps of what queries were served with
+ruleset kept =
+    (
+      attributes_cross.the_send,
+      attributes_cross.the_sync,
+      link_cross.the_send,
+      link_cross.the_sync,
+      offer_record_send,
+      offer_record_sync,
+      seen,
+      low,
+    )
+
+cached_search_field : IsSend (cached_search.the_field).row
+cached_search_field =
+    struct_send (shape cached_search.the_type) (
+      text_cross.the_send,
+      (uses_cross.the_field_send, (search sendable, (search kept depth 20, tt))),
+    )
+
+pub cache_field : IsSend (cache.the_field).row
+cache_field =
+    struct_send (shape cache.the_type) (
+      search kept depth 20,
+      (search kept depth 20, (search (cached_search_field, sendable, crosses) depth 20, tt)),
+    )
+
 -- ---- a trader
 pub trader_send : IsSend trader.the_row
 trader_send =
@@ -157,7 +193,13 @@ trader_send =
           search sendable depth 20,
           (
             search (sendable, crosses) depth 20,
-            (store_field, (search (accepted_send, crosses) depth 20, (ring_cross.the_send, (search sendable, tt)))),
+            (
+              store_field,
+              (
+                search (accepted_send, crosses) depth 20,
+                (ring_cross.the_send, (search sendable, (cache_field, tt))),
+              ),
+            ),
           ),
         ),
       ),

@@ -1,14 +1,14 @@
 //! What a query is searched with at one trader.
 
 use crate::record::{LinkRecord, OfferRecord};
-use td_cdr::{List, Octets};
+use td_cdr::{List, Octets, Shared};
 use td_lang::{Constraint, Preference};
 use td_ops::Query;
 use td_policy::{Attributes, Effective, Stated};
 
 /// What a query is searched with at one trader, all of it as it stood at one point of the trader's
 /// history (interface CosTrading::Lookup, query). With a path the mark is 0, and there are no
-/// candidates and no links.
+/// candidates and no links. What queries at one point have in common stands in blocks that they share.
 pub struct Local {
     /// How many changes the trader had accepted.
     pub point: u64,
@@ -21,13 +21,13 @@ pub struct Local {
     pub identifier: Option<Octets>,
     pub stated: Stated,
     pub effective: Effective,
-    pub attributes: Attributes,
+    pub attributes: Shared<Attributes>,
     pub constraint: Constraint,
     pub preference: Preference,
     /// The offers that are searched, by rising number.
-    pub candidates: List<OfferRecord>,
+    pub candidates: Shared<List<OfferRecord>>,
     /// The links in the order of adding.
-    pub links: List<LinkRecord>,
+    pub links: Shared<List<LinkRecord>>,
 }
 
 // By hand, since a derived drop is written out at each exit, and proved again in each crate above.

@@ -1,5 +1,6 @@
 pub mod Alone
 pub mod Begun
+pub mod Cached
 pub mod Counted
 pub mod Growing
 pub mod KeepingLimits

@@ -1,6 +1,7 @@
 pub mod Admitted
 pub mod BeginLaws
 pub mod Beginning
+pub mod Caching
 pub mod Following
 pub mod OfferLimits
 pub mod PlainTraders

@@ -5,10 +5,12 @@ ghost use Rattle.td_cdr.specs.Marks.{remembered};
 ghost use Rattle.td_marks.specs.Keeping.{most_kept};
 ghost use Rattle.td_trader.specs.Beginning.{after_begin, begin_along, begin_here, begin_of, identified, repeated_in};
 ghost use Rattle.td_trader.specs.Beginning.{searched_under};
+ghost use Rattle.td_trader.specs.Caching.{IsCacheOf};
 ghost use Rattle.td_trader.specs.Queries.{parts_of, path_link};
 ghost use Rattle.td_trader.specs.Serving.{local_of};
 
-use crate::local::{path_local, search_local};
+use crate::cache::Cache;
+use crate::local::{path_cached, search_cached};
 use crate::query::{Parts, first_name, judge};
 use std::alloc::Global;
 use td_cdr::{Boxed, Memory, Octets, Twin};
@@ -38,7 +40,7 @@ pub enum Begin {
 /// # Errors
 ///
 /// `Memory` for want of memory alone; nothing is marked then.
-#[tactic(auto, unfolding(crate::specs::Beginning::begin_of, crate::specs::Beginning::after_begin))]
+#[tactic(auto, using(crate::proofs::Cached::nothing_kept))]
 pub fn begin_query(
     alloc: Global,
     bounds: &Bounds,
@@ -52,8 +54,34 @@ pub fn begin_query(
     ensures after { IfOk result (λ b. ring.new ≡ after_begin store.now ring.old query.now b) }
     ensures unchanged { OnErr result (ring.new ≡ ring.old) }
 {
+    let mut cache = Cache::new();
+    begin_cached(alloc, bounds, store, &mut cache, point, ring, query)
+}
+
+/// The same at a trader that keeps what queries at its store have in common.
+///
+/// # Errors
+///
+/// `Memory` for want of memory alone; nothing is marked then.
+#[tactic(auto, unfolding(crate::specs::Beginning::begin_of, crate::specs::Beginning::after_begin))]
+pub(crate) fn begin_cached(
+    alloc: Global,
+    bounds: &Bounds,
+    store: &Store,
+    cache: &mut Cache,
+    point: u64,
+    ring: &mut Ring,
+    query: &Query,
+) -> Result<Begin, Memory>
+    requires begins { bounds.now.begins ≤ 2 ^ 40 }
+    requires cache { IsCacheOf store.now cache.old }
+    ensures begin { IfOk result (λ b. b ≡ begin_of bounds.now store.now point ring.old query.now) }
+    ensures after { IfOk result (λ b. ring.new ≡ after_begin store.now ring.old query.now b) }
+    ensures unchanged { OnErr result (ring.new ≡ ring.old) }
+    ensures cache { IsCacheOf store.now cache.new }
+{
     match judge(alloc, bounds, ring.count(), store, query) {
-        Ok(parts) => begin_taken(alloc, store, point, ring, query, parts),
+        Ok(parts) => begin_taken(alloc, store, cache, point, ring, query, parts),
         Err(Fault::Refused(refusal)) => Ok(Begin::Refused(refused(refusal))),
         Err(Fault::Memory) => Err(Memory),
     }
@@ -64,21 +92,24 @@ pub fn begin_query(
 fn begin_taken(
     alloc: Global,
     store: &Store,
+    cache: &mut Cache,
     point: u64,
     ring: &mut Ring,
     query: &Query,
     parts: Parts,
 ) -> Result<Begin, Memory>
     requires parts { parts ≡ parts_of query.now }
+    requires cache { IsCacheOf store.now cache.old }
     requires few { ring.old.count < 2 ^ 40 }
     ensures begin { IfOk result (λ b. b ≡ begin_along store.now point ring.old query.now
         (path_link store.now.links parts.stated)) }
     ensures after { IfOk result (λ b. ring.new ≡ after_begin store.now ring.old query.now b) }
     ensures unchanged { OnErr result (ring.new ≡ ring.old) }
+    ensures cache { IsCacheOf store.now cache.new }
 {
     match path_link(&store.links, &parts.stated) {
-        Some(link) => Ok(Begin::Path(path_local(alloc, store, query, parts, point, link)?)),
-        None => begin_here(alloc, store, point, ring, query, parts),
+        Some(link) => Ok(Begin::Path(path_cached(alloc, store, cache, query, parts, point, link)?)),
+        None => begin_here(alloc, store, cache, point, ring, query, parts),
     }
 }
 
@@ -97,24 +128,27 @@ fn path_link<'a>(links: &'a Links, stated: &Stated) -> Option<&'a LinkRecord>
 fn begin_here(
     alloc: Global,
     store: &Store,
+    cache: &mut Cache,
     point: u64,
     ring: &mut Ring,
     query: &Query,
     parts: Parts,
 ) -> Result<Begin, Memory>
     requires parts { parts ≡ parts_of query.now }
+    requires cache { IsCacheOf store.now cache.old }
     requires few { ring.old.count < 2 ^ 40 }
     ensures begin { IfOk result (λ b. b ≡ begin_here store.now point ring.old query.now
         (repeated_in ring.old parts.stated)) }
     ensures after { IfOk result (λ b. ring.new ≡ after_begin store.now ring.old query.now b) }
     ensures unchanged { OnErr result (ring.new ≡ ring.old) }
+    ensures cache { IsCacheOf store.now cache.new }
 {
     match repeated(ring, &parts.stated) {
         Some(number) => {
             drop(parts);
             Ok(Begin::Repeat(number))
         }
-        None => begin_search(alloc, store, point, ring, query, parts),
+        None => begin_search(alloc, store, cache, point, ring, query, parts),
     }
 }
 
@@ -133,17 +167,20 @@ fn repeated(ring: &Ring, stated: &Stated) -> Option<u64>
 fn begin_search(
     alloc: Global,
     store: &Store,
+    cache: &mut Cache,
     point: u64,
     ring: &mut Ring,
     query: &Query,
     parts: Parts,
 ) -> Result<Begin, Memory>
     requires parts { parts ≡ parts_of query.now }
+    requires cache { IsCacheOf store.now cache.old }
     requires few { ring.old.count < 2 ^ 40 }
     requires fresh { repeated_in ring.old parts.stated ≡ None }
     ensures begin { IfOk result (λ b. b ≡ begin_here store.now point ring.old query.now None) }
     ensures after { IfOk result (λ b. ring.new ≡ after_begin store.now ring.old query.now b) }
     ensures unchanged { OnErr result (ring.new ≡ ring.old) }
+    ensures cache { IsCacheOf store.now cache.new }
 {
     match identify(
         alloc,
@@ -151,7 +188,7 @@ fn begin_search(
         &store.attributes.request_id_stem,
         &parts.stated,
     ) {
-        Ok(made) => begin_marked(alloc, store, point, ring, query, parts, made),
+        Ok(made) => begin_marked(alloc, store, cache, point, ring, query, parts, made),
         Err(memory) => {
             drop(parts);
             Err(memory)
@@ -182,6 +219,7 @@ fn identify(alloc: Global, ring: &Ring, stem: &Octets, stated: &Stated) -> Resul
 fn begin_marked(
     alloc: Global,
     store: &Store,
+    cache: &mut Cache,
     point: u64,
     ring: &mut Ring,
     query: &Query,
@@ -189,6 +227,7 @@ fn begin_marked(
     made: Made,
 ) -> Result<Begin, Memory>
     requires parts { parts ≡ parts_of query.now }
+    requires cache { IsCacheOf store.now cache.old }
     requires few { ring.old.count < 2 ^ 40 }
     requires made { made ≡ searched_under store.now ring.old query.now }
     requires fresh { remembered ring.old made.identifier ≡ None }
@@ -197,8 +236,18 @@ fn begin_marked(
     ensures begin { IfOk result (λ b. b ≡ begin_here store.now point ring.old query.now None) }
     ensures after { IfOk result (λ b. ring.new ≡ after_begin store.now ring.old query.now b) }
     ensures unchanged { OnErr result (ring.new ≡ ring.old) }
+    ensures cache { IsCacheOf store.now cache.new }
 {
-    let local = local_under(alloc, store, point, ring.count() + 1, query, parts, &made)?;
+    let local = local_under(
+        alloc,
+        store,
+        cache,
+        point,
+        ring.count() + 1,
+        query,
+        parts,
+        &made,
+    )?;
     match ring.mark(alloc, made.identifier.as_slice(), made.counter) {
         Ok(_) => Ok(Begin::Search(local)),
         Err(memory) => {
@@ -212,17 +261,20 @@ fn begin_marked(
 fn local_under(
     alloc: Global,
     store: &Store,
+    cache: &mut Cache,
     point: u64,
     mark: u64,
     query: &Query,
     parts: Parts,
     made: &Made,
 ) -> Result<Boxed<Local>, Memory>
-    requires { parts ≡ parts_of query.now }
-    ensures { IfOk result (λ l. l ≡ local_of store.now point mark made.now.identifier query.now) }
+    requires parts { parts ≡ parts_of query.now }
+    requires cache { IsCacheOf store.now cache.old }
+    ensures served { IfOk result (λ l. l ≡ local_of store.now point mark made.now.identifier query.now) }
+    ensures cache { IsCacheOf store.now cache.new }
 {
     match made.identifier.copy(alloc) {
-        Ok(identifier) => search_local(alloc, store, query, parts, point, mark, identifier),
+        Ok(identifier) => search_cached(alloc, store, cache, query, parts, point, mark, identifier),
         Err(memory) => {
             drop(parts);
             Err(memory)

@@ -4,6 +4,7 @@
 
 mod begin;
 mod begin_laws;
+mod cache;
 mod following;
 mod local;
 mod query;

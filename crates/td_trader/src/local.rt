@@ -1,27 +1,67 @@
 //! What a query is served with at one trader (OMG's Trading Object Service, interface Lookup, query).
 
-ghost use Rattle.std.specs.Prelude.{◌≡◌, IfOk};
+ghost use Rattle.std.specs.Prelude.{◌≡◌, [], IfOk, IfSome};
 ghost use Rattle.td_ops.specs.declared.call.Query.{Query as Asked};
 ghost use Rattle.td_store.specs.Candidates.{candidates};
 ghost use Rattle.td_trader.specs.Queries.{parts_of};
+ghost use Rattle.td_trader.specs.Caching.{IsCacheOf, IsSearchAt};
 ghost use Rattle.td_trader.specs.Serving.{bare_local, candidates_of, copies_of, local_of, path_of};
 ghost use Rattle.td_register.specs.Stores.{Store as Kept};
 
+use crate::cache::{
+    Cache, CachedSearch, search_to_keep, searched_before, share, share_links, uses_of,
+};
 use crate::query::Parts;
 use std::alloc::Global;
 use std::marker::Brand;
 use std::sync::ledger::{Blank, Ledger};
-use td_cdr::{Boxed, List, Memory, Octets, Twin, copy_two};
+use td_cdr::{Boxed, List, Memory, Octets, Shared, Twin};
 use td_ops::Query;
 use td_policy::{Attributes, Effective, Stated, effective_of};
 use td_store::{LinkRecord, Local, OfferRecord, Steps, Store};
+
+/// What a query is searched with at this point, under this identifier and with this mark. What queries
+/// at this store have in common is taken from what is kept, or is kept then.
+///
+/// # Errors
+///
+/// `Memory` for want of memory alone.
+#[tactic(auto, unfolding(crate::specs::Serving::local_of))]
+pub(crate) fn search_cached(
+    alloc: Global,
+    store: &Store,
+    cache: &mut Cache,
+    query: &Query,
+    parts: Parts,
+    point: u64,
+    mark: u64,
+    identifier: Octets,
+) -> Result<Boxed<Local>, Memory>
+    requires parts { parts ≡ parts_of query.now }
+    requires cache { IsCacheOf store.now cache.old }
+    ensures served { IfOk result (λ local. local ≡ local_of store.now point mark identifier query.now) }
+    ensures cache { IsCacheOf store.now cache.new }
+{
+    match copy_searched(alloc, store, cache, query, &parts.stated) {
+        Ok((copies, searched)) => {
+            let mut local = bare_local(parts, copies, searched, point, Some(identifier));
+            local.mark = mark;
+            Boxed::new(alloc, local)
+        }
+        Err(memory) => {
+            drop(parts);
+            drop(identifier);
+            Err(memory)
+        }
+    }
+}
 
 /// What a query is searched with at this point, under this identifier and with this mark.
 ///
 /// # Errors
 ///
 /// `Memory` for want of memory alone.
-#[tactic(auto, unfolding(crate::specs::Serving::local_of))]
+#[tactic(auto, using(crate::proofs::Cached::nothing_kept))]
 pub fn search_local(
     alloc: Global,
     store: &Store,
@@ -34,17 +74,46 @@ pub fn search_local(
     requires { parts ≡ parts_of query.now }
     ensures { IfOk result (λ local. local ≡ local_of store.now point mark identifier query.now) }
 {
-    match copy_searched(alloc, store, query, &parts.stated) {
-        Ok((copies, (candidates, links))) => {
-            let mut local = bare_local(alloc, parts, copies, point, Some(identifier));
-            local.mark = mark;
-            local.candidates = candidates;
-            local.links = links;
+    let mut cache = Cache::new();
+    search_cached(
+        alloc, store, &mut cache, query, parts, point, mark, identifier,
+    )
+}
+
+/// What a query is passed on with over this link, at this point. What queries at this store have in
+/// common is taken from what is kept, or is kept then.
+///
+/// # Errors
+///
+/// `Memory` for want of memory alone.
+#[tactic(auto, unfolding(crate::specs::Serving::path_of))]
+pub(crate) fn path_cached(
+    alloc: Global,
+    store: &Store,
+    cache: &mut Cache,
+    query: &Query,
+    parts: Parts,
+    point: u64,
+    link: &LinkRecord,
+) -> Result<Boxed<Local>, Memory>
+    requires parts { parts ≡ parts_of query.now }
+    requires cache { IsCacheOf store.now cache.old }
+    ensures served { IfOk result (λ local. local ≡ path_of store.now point link.now query.now) }
+    ensures cache { IsCacheOf store.now cache.new }
+{
+    match copy_passed(alloc, store, cache, query, &parts.stated, link) {
+        Ok((copies, passed)) => {
+            let Passed {
+                searched,
+                link,
+                identifier,
+            } = passed;
+            let mut local = bare_local(parts, copies, searched, point, identifier);
+            local.path = Some(link);
             Boxed::new(alloc, local)
         }
         Err(memory) => {
             drop(parts);
-            drop(identifier);
             Err(memory)
         }
     }
@@ -55,7 +124,7 @@ pub fn search_local(
 /// # Errors
 ///
 /// `Memory` for want of memory alone.
-#[tactic(auto, unfolding(crate::specs::Serving::path_of))]
+#[tactic(auto, using(crate::proofs::Cached::nothing_kept))]
 pub fn path_local(
     alloc: Global,
     store: &Store,
@@ -67,37 +136,44 @@ pub fn path_local(
     requires { parts ≡ parts_of query.now }
     ensures { IfOk result (λ local. local ≡ path_of store.now point link.now query.now) }
 {
-    match copy_passed(alloc, store, query, &parts.stated, link) {
-        Ok((copies, (link, identifier))) => {
-            let mut local = bare_local(alloc, parts, copies, point, identifier);
-            local.path = Some(link);
-            Boxed::new(alloc, local)
-        }
-        Err(memory) => {
-            drop(parts);
-            Err(memory)
-        }
-    }
+    let mut cache = Cache::new();
+    path_cached(alloc, store, &mut cache, query, parts, point, link)
 }
 
 /// What every query is served with beside its own words.
 #[derive(Drop)]
 pub(crate) struct Copies {
     query: Query,
-    attributes: Attributes,
+    attributes: Shared<Attributes>,
     effective: Effective,
 }
 
-/// What a query is served with, of which nothing is searched yet.
+/// What is searched: offers by rising number, and links in the order of adding.
+#[derive(Drop)]
+pub(crate) struct Searched {
+    candidates: Shared<List<OfferRecord>>,
+    links: Shared<List<LinkRecord>>,
+}
+
+/// What a query is served with that is passed on.
+#[derive(Drop)]
+pub(crate) struct Passed {
+    /// Nothing is.
+    searched: Searched,
+    link: LinkRecord,
+    identifier: Option<Octets>,
+}
+
+/// What a query is served with.
 fn bare_local(
-    alloc: Global,
     parts: Parts,
     copies: Copies,
+    searched: Searched,
     point: u64,
     identifier: Option<Octets>,
 ) -> Local
     ensures { (s : Kept) (q : Asked) → parts ≡ parts_of q → copies ≡ copies_of s q parts.stated →
-        result ≡ bare_local s point identifier q }
+        result ≡ record (bare_local s point identifier q) { candidates = searched.candidates; links = searched.links } }
 {
     Local {
         point,
@@ -110,17 +186,26 @@ fn bare_local(
         attributes: copies.attributes,
         constraint: parts.constraint,
         preference: parts.preference,
-        candidates: List::new(alloc),
-        links: List::new(alloc),
+        candidates: searched.candidates,
+        links: searched.links,
     }
 }
 
 /// The query, with what the trader serves it with.
-fn copies_of(alloc: Global, store: &Store, query: &Query, stated: &Stated) -> Result<Copies, Memory>
-    ensures { IfOk result (λ copies. copies ≡ copies_of store.now query.now stated.now) }
+fn copies_of(
+    alloc: Global,
+    store: &Store,
+    cache: &mut Cache,
+    query: &Query,
+    stated: &Stated,
+) -> Result<Copies, Memory>
+    requires { IsCacheOf store.now cache.old }
+    ensures copies { IfOk result (λ copies. copies ≡ copies_of store.now query.now stated.now) }
+    ensures cache { IsCacheOf store.now cache.new }
 {
     let effective = effective_of(alloc, stated, &store.attributes)?;
-    let (query, attributes) = copy_two(alloc, query, &store.attributes)?;
+    let query = query.copy(alloc)?;
+    let attributes = share(alloc, &store.attributes, &mut cache.attributes)?;
     Ok(Copies {
         query,
         attributes,
@@ -132,15 +217,22 @@ fn copies_of(alloc: Global, store: &Store, query: &Query, stated: &Stated) -> Re
 fn copy_searched(
     alloc: Global,
     store: &Store,
+    cache: &mut Cache,
     query: &Query,
     stated: &Stated,
-) -> Result<(Copies, (List<OfferRecord>, List<LinkRecord>)), Memory>
-    ensures { IfOk result (λ copied. copied
-        ≡ (copies_of store.now query.now stated.now, (candidates_of store.now query.now stated.now, store.now.links))) }
+) -> Result<(Copies, Searched), Memory>
+    requires { IsCacheOf store.now cache.old }
+    ensures copied { IfOk result (λ copied. copied
+        ≡ (
+          copies_of store.now query.now stated.now,
+          record { candidates = candidates_of store.now query.now stated.now; links = store.now.links },
+        )) }
+    ensures cache { IsCacheOf store.now cache.new }
 {
-    let copies = copies_of(alloc, store, query, stated)?;
-    match found(alloc, store, query, stated, copies.effective.search_card) {
-        Ok(found) => Ok((copies, found)),
+    let copies = copies_of(alloc, store, cache, query, stated)?;
+    let count = copies.effective.search_card;
+    match find_searched(alloc, store, cache, query, stated, count) {
+        Ok(searched) => Ok((copies, searched)),
         Err(memory) => {
             drop(copies);
             Err(memory)
@@ -149,22 +241,53 @@ fn copy_searched(
 }
 
 /// The first so many offers that a query searches, and all links.
-fn found(
+fn find_searched(
     alloc: Global,
     store: &Store,
+    cache: &mut Cache,
     query: &Query,
     stated: &Stated,
     count: u32,
-) -> Result<(List<OfferRecord>, List<LinkRecord>), Memory>
-    ensures { IfOk result (λ found. found ≡ (
-      candidates store.now.types.types store.now.attributes stated.now
-          query.now.service_type count store.now.offers,
-      store.now.links,
-    )) }
+) -> Result<Searched, Memory>
+    requires { IsCacheOf store.now cache.old }
+    ensures searched { IfOk result (λ found. found ≡ record {
+      candidates = candidates store.now.types.types store.now.attributes stated.now
+          query.now.service_type count store.now.offers;
+      links = store.now.links;
+    }) }
+    ensures cache { IsCacheOf store.now cache.new }
 {
-    let candidates = candidates_of(alloc, store, query, stated, count)?;
-    let links = store.links.records(alloc)?;
-    Ok((candidates, links))
+    let links = share_links(alloc, &store.links, &mut cache.links)?;
+    let candidates = share_candidates(alloc, store, &mut cache.search, query, stated, count)?;
+    Ok(Searched { candidates, links })
+}
+
+/// The first so many offers that a query searches: those of the search that is kept, where it is the
+/// same. Others are kept then.
+#[tactic(auto, using(crate::proofs::Cached::by_uses, crate::proofs::Cached::from_uses))]
+fn share_candidates(
+    alloc: Global,
+    store: &Store,
+    kept: &mut Option<CachedSearch>,
+    query: &Query,
+    stated: &Stated,
+    count: u32,
+) -> Result<Shared<List<OfferRecord>>, Memory>
+    requires { IfSome kept.old (IsSearchAt store.now) }
+    ensures found { IfOk result (λ found. found ≡ candidates store.now.types.types store.now.attributes stated.now
+        query.now.service_type count store.now.offers) }
+    ensures kept { IfSome kept.new (IsSearchAt store.now) }
+{
+    let uses = uses_of(stated);
+    match searched_before(alloc, kept, uses, &query.service_type, count) {
+        Some(found) => Ok(found),
+        None => {
+            let candidates = candidates_of(alloc, store, query, stated, count)?;
+            let found = Shared::new(alloc, candidates)?;
+            *kept = search_to_keep(alloc, uses, &query.service_type, count, &found);
+            Ok(found)
+        }
+    }
 }
 
 /// The first so many offers that a query searches, found on a counter of its own.
@@ -212,18 +335,58 @@ fn counted_candidates<L: Ledger>(
 fn copy_passed(
     alloc: Global,
     store: &Store,
+    cache: &mut Cache,
     query: &Query,
     stated: &Stated,
     link: &LinkRecord,
-) -> Result<(Copies, (LinkRecord, Option<Octets>)), Memory>
-    ensures { IfOk result (λ copied. copied
-        ≡ (copies_of store.now query.now stated.now, (link.now, stated.now.request_id))) }
+) -> Result<(Copies, Passed), Memory>
+    requires { IsCacheOf store.now cache.old }
+    ensures copied { IfOk result (λ copied. copied ≡ (
+      copies_of store.now query.now stated.now,
+      record {
+        searched = record { candidates = []; links = [] };
+        link = link.now;
+        identifier = stated.now.request_id;
+      },
+    )) }
+    ensures cache { IsCacheOf store.now cache.new }
 {
-    let copies = copies_of(alloc, store, query, stated)?;
-    match copy_link(alloc, link, stated) {
-        Ok(copied) => Ok((copies, copied)),
+    let copies = copies_of(alloc, store, cache, query, stated)?;
+    match copy_for_path(alloc, link, stated) {
+        Ok(passed) => Ok((copies, passed)),
         Err(memory) => {
             drop(copies);
+            Err(memory)
+        }
+    }
+}
+
+/// A query that is passed on searches nothing.
+fn nothing_searched(alloc: Global) -> Result<Searched, Memory>
+    ensures { IfOk result (λ searched. searched ≡ record { candidates = []; links = [] }) }
+{
+    let candidates = Shared::new(alloc, List::new(alloc))?;
+    let links = Shared::new(alloc, List::new(alloc))?;
+    Ok(Searched { candidates, links })
+}
+
+fn copy_for_path(alloc: Global, link: &LinkRecord, stated: &Stated) -> Result<Passed, Memory>
+    ensures { IfOk result (λ passed. passed ≡ record {
+      searched = record { candidates = []; links = [] };
+      link = link.now;
+      identifier = stated.now.request_id;
+    }) }
+{
+    let (link, identifier) = copy_link(alloc, link, stated)?;
+    match nothing_searched(alloc) {
+        Ok(searched) => Ok(Passed {
+            searched,
+            link,
+            identifier,
+        }),
+        Err(memory) => {
+            drop(link);
+            drop(identifier);
             Err(memory)
         }
     }

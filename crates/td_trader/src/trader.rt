@@ -7,12 +7,14 @@ ghost use Rattle.td_changes.specs.Applying.{is_at_limit, seek};
 ghost use Rattle.td_changes.specs.Histories.{Legal};
 ghost use Rattle.td_changes.specs.Kinds.{is_free};
 ghost use Rattle.td_changes.specs.Numbering.{AreNumbered};
+ghost use Rattle.td_trader.specs.Caching.{IsCacheOf};
 ghost use Rattle.td_trader.specs.OfferLimits.{HasLimitedOffers};
 ghost use Rattle.td_trader.specs.PlainTraders.{AreBounds, HasShortReplies, after_begin, after_change, begin_at};
 ghost use Rattle.td_trader.specs.PlainTraders.{opened, outcome_of, store_of};
 ghost use Rattle.td_changes.specs.Recording.{HasRoom, Records};
 
-use crate::begin::{Begin, begin_query};
+use crate::begin::{Begin, begin_cached};
+use crate::cache::Cache;
 use std::alloc::Global;
 use std::marker::Model;
 use std::snapshot::Snapshot;
@@ -35,6 +37,8 @@ pub struct Trader {
     ring: Ring,
     /// There is room for one more entry of the history.
     reserved: bool,
+    /// What queries were served with since the last accepted change.
+    cache: Cache,
 }
 
 // By hand, since a derived drop is written out at each exit, and proved again in each crate above.
@@ -49,6 +53,7 @@ impl Drop for Trader {
             history: _history,
             ring: _ring,
             reserved: _reserved,
+            cache: _cache,
         } = self;
     }
 }
@@ -58,6 +63,7 @@ impl Model for Trader {
     ghost use Rattle.std.specs.Coded.{codes};
     ghost use Rattle.td_codes.specs.contracts.code.TypeCode as code;
     ghost use Rattle.td_codes.specs.contracts.code.Value as value;
+    ghost use Rattle.td_trader.specs.Caching.{IsCacheOf};
     ghost use Rattle.td_trader.specs.OfferLimits.{HasLimitedOffers};
     ghost use Rattle.td_trader.specs.PlainTraders.{AreBounds, HasShortReplies, IsKept, PlainTrader};
     ghost use Rattle.td_changes.specs.Recording.{HasRoom};
@@ -77,7 +83,7 @@ impl Model for Trader {
 
     ghost invariant = { λ t. AreBounds t.bounds × IsKept t.bounds t.opening.value t.store t.history.items
         × HasRoom t.reserved (vec_len t.history) (vec_capacity t.history) × HasShortReplies t.opening.value
-        × HasLimitedOffers t.opening.value };
+        × HasLimitedOffers t.opening.value × IsCacheOf t.store t.cache };
 }
 
 impl Trader {
@@ -102,6 +108,7 @@ impl Trader {
     {
         drop(stem);
         let history = Vec::new(alloc);
+        let cache = Cache::new();
         match Ring::new(alloc, bounds.ring) {
             Ok(ring) => Ok(Trader {
                 alloc,
@@ -112,6 +119,7 @@ impl Trader {
                 history,
                 ring,
                 reserved: false,
+                cache,
             }),
             Err(memory) => {
                 drop(opening);
@@ -206,12 +214,13 @@ impl Trader {
             store,
             history,
             reserved,
+            cache,
             ..
         } = self;
         if is_at_limit(bounds, history.len()) {
             return barred_outcome(*alloc, store, c);
         }
-        record_change(*alloc, store, history, reserved, c)
+        record_change(*alloc, store, cache, history, reserved, c)
     }
 
     /// How a query begins at the store as it is now, whose offers are within their limits. Where it is
@@ -232,9 +241,10 @@ impl Trader {
             store,
             history,
             ring,
+            cache,
             ..
         } = self;
-        begin_query(*alloc, bounds, store, history.len() as u64, ring, q)
+        begin_cached(*alloc, bounds, store, cache, history.len() as u64, ring, q)
     }
 }
 
@@ -245,21 +255,25 @@ fn is_at_limit(bounds: &Bounds, count: usize) -> bool
     count as u64 >= bounds.changes || count >= MOST_CHANGES
 }
 
-/// Does a change, and puts it at the end of the history if it is accepted. Room for the entry and for the
-/// outcome is taken first.
+/// Does a change, and puts it at the end of the history if it is accepted; nothing that queries were
+/// served with is kept then. Room for the entry and for the outcome is taken first.
+#[tactic(auto, using(crate::proofs::Cached::nothing_kept))]
 fn record_change(
     alloc: Global,
     store: &mut Store,
+    cache: &mut Cache,
     history: &mut Vec<Accepted>,
     reserved: &mut bool,
     c: Change,
 ) -> Result<Outcome, Memory>
     requires numbered { AreNumbered store.old }
+    requires cache { IsCacheOf store.old cache.old }
     requires room { HasRoom reserved.old (vec_len history.old) (vec_capacity history.old) }
     ensures records { Records c store.old store.new history.old.items history.new.items reserved.old reserved.new
         result }
     ensures room { HasRoom reserved.new (vec_len history.new) (vec_capacity history.new) }
     ensures free { reserved.old ≡ true → is_free c ≡ true → IsOk result }
+    ensures cache { IsCacheOf store.new cache.new }
 {
     history.reserve(1)?;
     let told = acceptance(alloc, store, &c)?;
@@ -267,6 +281,7 @@ fn record_change(
         Ok(accepted) => {
             history.push_reserved(accepted);
             *reserved = false;
+            *cache = Cache::new();
             Ok(Outcome::Done(told))
         }
         Err(fault) => {

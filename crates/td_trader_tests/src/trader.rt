@@ -145,6 +145,21 @@ fn candidates_by_policies(rt: HostRuntime) -> Result<(), Fail> {
     follows(&rt, rt.alloc(), KEPT, CANDIDATES)
 }
 
+const AGAIN: &str = "query Printer;;;request_id=q1 => search q1 1 4 2 1 0
+query Printer;;;request_id=q2 => search q2 2 4 2 1 0
+withdraw 7 => done
+query Printer;;;request_id=q3 => search q3 3 5 1 1 0
+withdraw 7 => /UnknownOfferId:1.0
+query Printer;;;request_id=q4 => search q4 4 5 1 1 0
+remove_link b => done
+query Printer;;;request_id=q5 => search q5 5 6 1 0 0";
+
+/// What queries were served with before serves those behind them, until a change is accepted.
+#[test]
+fn what_is_kept_goes_with_a_change(rt: HostRuntime) -> Result<(), Fail> {
+    follows(&rt, rt.alloc(), KEPT, AGAIN)
+}
+
 /// A query with a path has the link, no mark and no candidates.
 #[test]
 fn a_path_is_passed_on(rt: HostRuntime) -> Result<(), Fail> {

@@ -255,6 +255,13 @@ fn call_proxies(
     Ok(None)
 }
 
+/// The links, in the order of adding.
+fn links_of(local: &Local) -> &[LinkRecord]
+    ensures { result.now ≡ local.now.links }
+{
+    local.links.as_slice()
+}
+
 /// Goes on with the traders of the proxy offers, and then with those to which the links lead, in the order of adding.
 #[tactic(auto, using(crate::proofs::Turns::called))]
 fn ask_others(
@@ -273,7 +280,7 @@ fn ask_others(
     if called.is_some() {
         return Ok(called);
     }
-    let (_passed, links) = local.links.as_slice().split_at(others.links);
+    let (_passed, links) = links_of(local).split_at(others.links);
     for link in links {
         let question = ask_over_link(alloc, local, link, answers, others)?;
         if question.is_some() {

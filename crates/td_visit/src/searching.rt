@@ -144,6 +144,13 @@ fn try_candidate(
     Ok(None)
 }
 
+/// The offers that are searched, by rising number.
+fn candidates_of(local: &Local) -> &[OfferRecord]
+    ensures { result.now ≡ local.now.candidates }
+{
+    local.candidates.as_slice()
+}
+
 /// Goes on with the search: adds the candidates that match, in order, as far as there are answers.
 ///
 /// # Errors
@@ -165,7 +172,7 @@ pub(crate) fn search(
 {
     let names = names_asked(alloc, &local.constraint, &local.preference)?;
     let most = local.effective.match_card as usize;
-    let (_tried, candidates) = local.candidates.as_slice().split_at(scan.tried);
+    let (_tried, candidates) = candidates_of(local).split_at(scan.tried);
     for offer in candidates {
         if scan.found.len() >= most {
             return Ok(None);

@@ -22,7 +22,7 @@ loop-link-preserved c =
     let at =
     at_item c.args.local.now.links c.split_at.result.1.now c.call_proxies.new.others.links c.loop-link.link-index
     c.loop-link.others.links c.link-item.result
-    (c.split_at.ensures.back ∙ ap (drop c.call_proxies.new.others.links) c.as_slice.ensures)
+    (c.split_at.ensures.back ∙ ap (drop c.call_proxies.new.others.links) c.links_of.ensures)
     c.loop-link.invariant.1 (omega arith) c.link-item.is in
     let next =
     link_passed c.args.local.now c.args.found.now c.args.answers.now c.loop-link.others c.ask_over_link.new.others
@@ -38,7 +38,7 @@ returns-then-is_some-2-clause-place c =
     let at =
     at_item c.args.local.now.links c.split_at.result.1.now c.call_proxies.new.others.links c.loop-link.link-index
     c.loop-link.others.links c.link-item.result
-    (c.split_at.ensures.back ∙ ap (drop c.call_proxies.new.others.links) c.as_slice.ensures)
+    (c.split_at.ensures.back ∙ ap (drop c.call_proxies.new.others.links) c.links_of.ensures)
     c.loop-link.invariant.1 (omega arith) c.link-item.is in
     let stop =
     link_asks c.args.local.now c.args.found.now c.args.answers.now c.loop-link.others c.ask_over_link.new.others
@@ -54,7 +54,7 @@ returns-then-is_some-2-clause-asks c =
     let at =
     at_item c.args.local.now.links c.split_at.result.1.now c.call_proxies.new.others.links c.loop-link.link-index
     c.loop-link.others.links c.link-item.result
-    (c.split_at.ensures.back ∙ ap (drop c.call_proxies.new.others.links) c.as_slice.ensures)
+    (c.split_at.ensures.back ∙ ap (drop c.call_proxies.new.others.links) c.links_of.ensures)
     c.loop-link.invariant.1 (omega arith) c.link-item.is in
     let stop =
     link_asks c.args.local.now c.args.found.now c.args.answers.now c.loop-link.others c.ask_over_link.new.others
@@ -72,8 +72,8 @@ returns-clause-asks c =
       arith,
       c.loop-link.invariant.1,
       ap length c.split_at.ensures.back,
-      ap length c.as_slice.ensures,
-      length-drop c.call_proxies.new.others.links c.as_slice.result.now,
+      ap length c.links_of.ensures,
+      length-drop c.call_proxies.new.others.links c.links_of.result.now,
       c.in_ok-called.ensures.place.links,
     ) in
     all_asked c.args.local.now c.args.found.now c.args.answers.now c.loop-link.others c.loop-link.invariant.0 all

@@ -20,4 +20,5 @@ invariant_of-self-2 c =
       c.record_change.ensures.room,
       c.self.invariant.3,
       c.self.invariant.4,
+      c.record_change.ensures.cache,
     )

@@ -1,6 +1,7 @@
 use Rattle.std.proofs.Common.{◌≡◌, ◌≤◌, true, false, sym, subst, rules}
 use Rattle.td_register.specs.Registers.{last_number}
 use Rattle.td_trader.specs.OfferLimits.{HasLimitedOffers}
+use Rattle.td_trader.proofs.Cached.{nothing_kept}
 use Rattle.td_trader.proofs.Kept.{kept-opening, short-opening}
 use Rattle.td_trader.proofs.trader.Trader.new.Goals as goal
 
@@ -13,4 +14,5 @@ invariant_of-result c =
       λ (e : false ≡ true). absurd cc,
       short-opening c.of.result.value c.args.opening c.args.stem c.of.ensures c.requires.stem last,
       subst HasLimitedOffers (sym c.of.ensures) c.requires.limited,
+      nothing_kept c.args.opening c.new-cache.result c.new-cache.ensures,
     )
