@@ -9,11 +9,10 @@ ghost use Rattle.td_walk.specs.declared.trace.TraceItem.TheVariants as item;
 ghost use Rattle.td_fed.specs.declared.entering.Entry.TheVariants as entry;
 ghost use Rattle.td_fed.specs.Entering.{opened};
 ghost use Rattle.td_trader.specs.Worlds.{Watches};
-ghost use Rattle.td_walk.specs.declared.trace.Visit.TheVariants as visit;
 
 use std::alloc::Global;
 use td_cdr::{Boxed, List, Memory};
-use td_ops::{Outcome, Query};
+use td_ops::Query;
 use td_store::Local;
 use td_trader::{Begin, Traders};
 use td_visit::Frame;
@@ -81,7 +80,7 @@ fn note_begin(
     match begin {
         Begin::Refused(outcome) => {
             notes.push_reserved(TraceItem::Refused { trader, point });
-            refused(alloc, outcome)
+            Ok(Entry::Ended(Visit::Refused(outcome)))
         }
         Begin::Repeat(mark) => {
             notes.push_reserved(TraceItem::Repeat {
@@ -110,13 +109,6 @@ fn note_begin(
             open(alloc, local)
         }
     }
-}
-
-fn refused(alloc: Global, outcome: Outcome) -> Result<Entry, Memory>
-    ensures { IfOk result (λ e. e ≡ entry.Ended (visit.Refused outcome)) }
-{
-    let outcome = Boxed::new(alloc, outcome)?;
-    Ok(Entry::Ended(Visit::Refused(outcome)))
 }
 
 fn open(alloc: Global, local: Boxed<Local>) -> Result<Entry, Memory>

@@ -103,7 +103,6 @@ fn go_on_from(
 {
     match begin {
         Begin::Refused(outcome) => {
-            let outcome = Boxed::new(alloc, outcome)?;
             let visit = Boxed::new(alloc, Visit::Refused(outcome))?;
             end_at_once(visits, call, visit);
             Ok(())

@@ -7,7 +7,9 @@ ghost use Rattle.td_trader.specs.Beginning.{after_begin, begin_along, begin_here
 ghost use Rattle.td_trader.specs.Beginning.{searched_under};
 ghost use Rattle.td_trader.specs.Caching.{IsCacheOf};
 ghost use Rattle.td_trader.specs.Queries.{parts_of, path_link};
+ghost use Rattle.td_register.specs.Causes.{refused};
 ghost use Rattle.td_trader.specs.Serving.{local_of};
+ghost use Rattle.td_trader.specs.declared.begin.Begin.TheVariants as way;
 
 use crate::cache::Cache;
 use crate::local::{path_cached, search_cached};
@@ -18,14 +20,14 @@ use td_changes::Bounds;
 use td_marks::{Made, Ring};
 use td_ops::{Outcome, Query};
 use td_policy::Stated;
-use td_register::{Fault, refused};
+use td_register::{Fault, Refusal, refused};
 use td_store::{LinkRecord, Links, Local, Store};
 
 /// How a query begins at one trader.
 #[derive(Drop)]
 pub enum Begin {
     /// It is refused, with this outcome.
-    Refused(Outcome),
+    Refused(Boxed<Outcome>),
     /// It was searched here before: its identifier is remembered under the mark of this number.
     Repeat(u64),
     /// It is searched here, and was marked.
@@ -82,9 +84,17 @@ pub(crate) fn begin_cached(
 {
     match judge(alloc, bounds, ring.count(), store, query) {
         Ok(parts) => begin_taken(alloc, store, cache, point, ring, query, parts),
-        Err(Fault::Refused(refusal)) => Ok(Begin::Refused(refused(refusal))),
+        Err(Fault::Refused(refusal)) => refuse(alloc, refusal),
         Err(Fault::Memory) => Err(Memory),
     }
+}
+
+/// Begins a query that is refused.
+fn refuse(alloc: Global, refusal: Refusal) -> Result<Begin, Memory>
+    ensures { IfOk result (λ b. b ≡ way.Refused (refused refusal)) }
+{
+    let outcome = Boxed::new(alloc, refused(refusal))?;
+    Ok(Begin::Refused(outcome))
 }
 
 /// Begins a query that is taken.

@@ -153,7 +153,7 @@ pub fn is_begun(answer: Result<Begin, Memory>, told: &str) -> bool {
 fn begins_so(begin: &Begin, told: &str) -> bool {
     let (word, rest) = told.split_once(' ').unwrap_or((told, ""));
     match begin {
-        Begin::Refused(outcome) => is_outcome(outcome, told),
+        Begin::Refused(outcome) => is_outcome(outcome.get(), told),
         Begin::Repeat(mark) => word == "repeat" && rest.parse::<u64>() == Ok(*mark),
         Begin::Search(local) => word == "search" && is_search(local.get(), rest),
         Begin::Path(local) => word == "path" && is_path(local.get(), rest),
