@@ -1,7 +1,7 @@
 //! The user exceptions of a trader (OMG's Trading Object Service, modules CosTrading, CosTradingDynamic
 //! and CosTradingRepos).
 
-use td_cdr::{List, Text};
+use td_cdr::{Boxed, List, Text};
 use td_value::{Any, FollowOption, Ior, Policy, PropStruct, Property, TypeCode};
 
 /// A user exception, with its members in the order of their declaration: they hold the item at fault.
@@ -138,9 +138,9 @@ pub enum UserException {
     },
     ValueTypeRedefinition {
         type_1: Text,
-        definition_1: PropStruct,
+        definition_1: Boxed<PropStruct>,
         type_2: Text,
-        definition_2: PropStruct,
+        definition_2: Boxed<PropStruct>,
     },
     DuplicateServiceTypeName {
         name: Text,

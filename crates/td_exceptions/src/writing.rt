@@ -112,7 +112,14 @@ fn put_members(alloc: Global, w: &mut Writer, exception: &UserException) -> Resu
             definition_1,
             type_2,
             definition_2,
-        } => put_four(alloc, w, type_1, definition_1, type_2, definition_2),
+        } => put_four(
+            alloc,
+            w,
+            type_1,
+            definition_1.get(),
+            type_2,
+            definition_2.get(),
+        ),
         UserException::DuplicateServiceTypeName { name } => name.write(alloc, w),
     }
 }

@@ -199,18 +199,19 @@ fn of_four(
         },
         _ => UserException::ValueTypeRedefinition {
             type_1: first,
-            definition_1: declared(second),
+            definition_1: declared(alloc, second)?,
             type_2: third,
-            definition_2: declared(fourth),
+            definition_2: declared(alloc, fourth)?,
         },
     };
     Boxed::new(alloc, Outcome::User(exception))
 }
 
-fn declared(name: Text) -> PropStruct {
-    PropStruct {
+fn declared(alloc: Global, name: Text) -> Result<Boxed<PropStruct>, Memory> {
+    let declared = PropStruct {
         name,
         value_type: TypeCode::ULong,
         mode: PropertyMode::Readonly,
-    }
+    };
+    Boxed::new(alloc, declared)
 }

@@ -153,7 +153,7 @@ fn put_fault(told: &mut Vec<u8>, fault: &RepoFault) -> Result<(), Memory> {
             definition_1,
             type_2,
             definition_2,
-        } => put_redefinition(told, type_1, definition_1, type_2, definition_2),
+        } => put_redefinition(told, type_1, definition_1.get(), type_2, definition_2.get()),
         RepoFault::HasSubTypes { the_type, sub_type } => {
             put_all(told, b"HasSubTypes", &[the_type, sub_type])
         }

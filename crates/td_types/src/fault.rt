@@ -3,7 +3,7 @@
 ghost use Rattle.std.specs.Prelude.{◌≡◌};
 ghost use Rattle.td_types.specs.declared.fault.TypesFault.TheVariants.{Memory as memory};
 
-use td_cdr::{Memory, Text};
+use td_cdr::{Boxed, Memory, Text};
 use td_value::PropStruct;
 
 /// An exception of the type repository, with its members (interface
@@ -32,9 +32,9 @@ pub enum RepoFault {
     /// Two definitions of a property don't agree.
     ValueTypeRedefinition {
         type_1: Text,
-        definition_1: PropStruct,
+        definition_1: Boxed<PropStruct>,
         type_2: Text,
-        definition_2: PropStruct,
+        definition_2: Boxed<PropStruct>,
     },
     /// The type has a subtype.
     HasSubTypes {

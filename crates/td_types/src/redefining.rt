@@ -15,7 +15,7 @@ use crate::fault::{RepoFault, TypesFault};
 use crate::modes::is_at_least;
 use std::alloc::Global;
 use std::collections::BTreeMap;
-use td_cdr::{Memory, Text, copy_four};
+use td_cdr::{Boxed, Memory, Text, Twin, copy_two};
 use td_sameness::same_type;
 use td_value::PropStruct;
 
@@ -103,6 +103,26 @@ fn check_definition<'a>(
     }
 }
 
+/// A copy of a definition, in a block of its own.
+fn boxed_copy(alloc: Global, definition: &PropStruct) -> Result<Boxed<PropStruct>, Memory>
+    ensures { IfOk result (λ copy. copy ≡ definition.now) }
+{
+    let copy = definition.copy(alloc)?;
+    Boxed::new(alloc, copy)
+}
+
+fn boxed_copies(
+    alloc: Global,
+    first: &PropStruct,
+    second: &PropStruct,
+) -> Result<(Boxed<PropStruct>, Boxed<PropStruct>), Memory>
+    ensures { IfOk result (λ copies. copies ≡ (first.now, second.now)) }
+{
+    let first = boxed_copy(alloc, first)?;
+    let second = boxed_copy(alloc, second)?;
+    Ok((first, second))
+}
+
 /// Refuses a definition that doesn't agree with the first of its name.
 fn check_agreement(alloc: Global, earlier: Given<'_>, given: Given<'_>) -> Result<(), TypesFault>
     ensures { Judges (conflict (Some (stated earlier.entry)) (stated given.entry)) (λ _. Unit {0}) result }
@@ -110,13 +130,8 @@ fn check_agreement(alloc: Global, earlier: Given<'_>, given: Given<'_>) -> Resul
     if agree(alloc, earlier, given.property)? {
         return Ok(());
     }
-    let (type_1, (definition_1, (type_2, definition_2))) = copy_four(
-        alloc,
-        earlier.type_name,
-        earlier.property,
-        given.type_name,
-        given.property,
-    )?;
+    let (type_1, type_2) = copy_two(alloc, earlier.type_name, given.type_name)?;
+    let (definition_1, definition_2) = boxed_copies(alloc, earlier.property, given.property)?;
     Err(TypesFault::User(RepoFault::ValueTypeRedefinition {
         type_1,
         definition_1,
