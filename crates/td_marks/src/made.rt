@@ -24,7 +24,8 @@ pub(crate) fn make(alloc: Global, stem: &[u8], value: u64) -> Result<Made, Memor
     requires { value + 1 < 2 ^ 64 }
     ensures { IfOk result (λ made. made ≡ made_from stem.now value) }
 {
-    let mut bytes = Vec::from_slice(alloc, stem)?;
+    let mut bytes = Vec::with_capacity(alloc, stem.len().saturating_add(8))?;
+    bytes.extend_from_slice(stem)?;
     bytes.extend_from_slice(&value.to_be_bytes())?;
     Ok(Made {
         identifier: Octets::from_vec(bytes),
