@@ -17,7 +17,6 @@ use Rattle.td_objects.specs.References.{offer_iterator}
 use Rattle.td_lookup.specs.Querying.{first_offers, offers_kept}
 use Rattle.td_lookup.specs.Telling.{PutsBatched, PutsFirst}
 use Rattle.td_ops.specs.Outcomes.{outcome_piece}
-use Rattle.td_reply.specs.declared.answer.ReplyBody.{ReplyBody}
 use Rattle.td_value.specs.declared.structures.Offer.{Offer}
 use Rattle.td_walk.specs.declared.trace.Address.{Address}
 
@@ -54,7 +53,7 @@ pub nothing_written : (head : List Offer → Bool → Piece) (left rest : List O
 nothing_written head left rest n old new false e g = (g.0.0, g.1)
 nothing_written head left rest n old new true e g = absurd (both_ways true e refl)
 
-pub unchanged_after : (old mid new : Draft) (d e : Live) (r : Result ReplyBody Wanting) → mid.bytes ≡ old.bytes
+pub unchanged_after : (old mid new : Draft) (d e : Live) (r : Result (Unit {0}) Wanting) → mid.bytes ≡ old.bytes
     → OnErr r ((e ≡ d) × (new.bytes ≡ mid.bytes)) → OnErr r ((e ≡ d) × (new.bytes ≡ old.bytes))
 unchanged_after old mid new d e (Ok b) same u = tt
 unchanged_after old mid new d e (Err m) same u = (u.0, u.1 ∙ same)
@@ -70,7 +69,7 @@ module _ (home : Address) (name : List ℕ) (n : ℕ) (limits : List (List ℕ))
       record { count = q.count; batch = q.puts.is_batch; bytes = q.puts.bytes; kept = q.kept; some = q.some }
 
   pub tell_first : (trader : List ℕ) (number : ℕ) (reference : Ior) (old new : Draft) (d e : Live)
-      (r : Result ReplyBody Wanting) → trader ≡ name → reference ≡ offer_iterator home name number → number ≡ d.1
+      (r : Result (Unit {0}) Wanting) → trader ≡ name → reference ≡ offer_iterator home name number → number ≡ d.1
       → OnOk r (PutsBatched reference limits trader n offers old new d e)
       → OnOk r (PutsFirst home name n limits offers old new d e)
   tell_first trader number reference old new d e (Ok b) t made next p =
@@ -113,7 +112,7 @@ module _ (home : Address) (name : List ℕ) (n : ℕ) (limits : List (List ℕ))
         some = q.some;
       }
 
-  pub tell_after : (left : List Offer) (old mid new : Draft) (d e : Live) (r : Result ReplyBody Wanting) → left ≡ offers
+  pub tell_after : (left : List Offer) (old mid new : Draft) (d e : Live) (r : Result (Unit {0}) Wanting) → left ≡ offers
       → mid.bytes ≡ old.bytes → mid.order ≡ old.order → OnOk r (PutsFirst home name n limits left mid new d e)
       → OnOk r (PutsFirst home name n limits offers old new d e)
   tell_after left old mid new d e (Ok b) same bytes order p = puts_after left old mid new d e same bytes order p

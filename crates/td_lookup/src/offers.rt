@@ -16,7 +16,7 @@ use td_cdr::{List, Memory, Text, Writer};
 use td_iter::{Desk, Item, OfferIter};
 use td_objects::offer_iterator;
 use td_ops::Query;
-use td_reply::{DeskLabel, ReplyBody};
+use td_reply::DeskLabel;
 use td_value::Offer;
 use td_walk::Address;
 
@@ -40,14 +40,13 @@ pub(crate) fn tell_offers(
     limits: &List<Text>,
     desk: &mut Desk,
     w: &mut Writer,
-) -> Result<ReplyBody, Memory>
+) -> Result<(), Memory>
     requires home { IsAddress home.now }
     requires name { IsTraderName name.now }
     requires limits { AreLimits limits.now }
     requires small { AreSmallOffers (map (chosen q.now.desired) offers) }
     requires start { length w.old.bytes ≡ REPLY_START }
     requires numbers { desk.old.1 < 2 ^ 63 }
-    ensures written { IfOk result (λ b. b ≡ ReplyBody.Written) }
     ensures puts { OnOk result (PutsFirst home.now name.now (min q.now.how_many max_list) limits.now
         (map (chosen q.now.desired) offers) w.old w.new desk.old desk.new) }
     ensures err { OnErr result ((desk.new ≡ desk.old) × (w.new.bytes ≡ w.old.bytes)) }
@@ -76,14 +75,13 @@ fn put_offers(
     limits: &List<Text>,
     desk: &mut Desk,
     w: &mut Writer,
-) -> Result<ReplyBody, Memory>
+) -> Result<(), Memory>
     requires home { IsAddress home.now }
     requires name { IsTraderName name.now }
     requires limits { AreLimits limits.now }
     requires small { AreSmallOffers offers }
     requires start { length w.old.bytes ≡ REPLY_START }
     requires numbers { desk.old.1 < 2 ^ 63 }
-    ensures written { IfOk result (λ b. b ≡ ReplyBody.Written) }
     ensures puts { OnOk result (PutsFirst home.now name.now n limits.now offers w.old w.new desk.old desk.new) }
     ensures err { OnErr result ((desk.new ≡ desk.old) × (w.new.bytes ≡ w.old.bytes)) }
     ensures order { w.new.order ≡ w.old.order }
@@ -94,7 +92,7 @@ fn put_offers(
     match left.whole_batch(alloc, n, w, limits) {
         Ok(true) => {
             drop(left);
-            Ok(ReplyBody::Written)
+            Ok(())
         }
         Ok(false) => put_some(alloc, home, name, n, left, limits, desk, w),
         Err(memory) => {
@@ -115,13 +113,12 @@ fn put_some(
     limits: &List<Text>,
     desk: &mut Desk,
     w: &mut Writer,
-) -> Result<ReplyBody, Memory>
+) -> Result<(), Memory>
     requires home { IsAddress home.now }
     requires name { IsTraderName name.now }
     requires limits { AreLimits limits.now }
     requires start { length w.old.bytes ≡ REPLY_START }
     requires numbers { desk.old.1 < 2 ^ 63 }
-    ensures written { IfOk result (λ b. b ≡ ReplyBody.Written) }
     ensures puts { OnOk result (PutsFirst home.now name.now n limits.now left w.old w.new desk.old desk.new) }
     ensures err { OnErr result ((desk.new ≡ desk.old) × (w.new.bytes ≡ w.old.bytes)) }
     ensures order { w.new.order ≡ w.old.order }
@@ -169,12 +166,11 @@ fn put_first(
     limits: &List<Text>,
     desk: &mut Desk,
     w: &mut Writer,
-) -> Result<ReplyBody, Memory>
+) -> Result<(), Memory>
     requires small { IsSmallReference label.reference }
     requires limits { AreLimits limits.now }
     requires start { length w.old.bytes ≡ REPLY_START }
     requires numbers { desk.old.1 < 2 ^ 63 }
-    ensures written { IfOk result (λ b. b ≡ ReplyBody.Written) }
     ensures puts { OnOk result (PutsBatched label.reference limits.now label.trader n left w.old w.new desk.old
         desk.new) }
     ensures err { OnErr result ((desk.new ≡ desk.old) × (w.new.bytes ≡ w.old.bytes)) }
@@ -186,7 +182,7 @@ fn put_first(
         Ok(more) => {
             drop(reference);
             keep(desk, trader, left, more);
-            Ok(ReplyBody::Written)
+            Ok(())
         }
         Err(memory) => {
             drop(reference);

@@ -171,7 +171,14 @@ fn tell_answer(
     ensures order { w.new.order ≡ w.old.order }
 {
     let SubAnswer { offers, limits } = answer;
-    let told = tell_offers(alloc, home, name, q, max_list, offers, &limits, desk, w);
-    drop(limits);
-    told
+    match tell_offers(alloc, home, name, q, max_list, offers, &limits, desk, w) {
+        Ok(()) => {
+            drop(limits);
+            Ok(ReplyBody::Written)
+        }
+        Err(memory) => {
+            drop(limits);
+            Err(memory)
+        }
+    }
 }
