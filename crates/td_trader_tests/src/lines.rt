@@ -1,5 +1,6 @@
 //! Lines that a trader follows: what it is asked, ` => `, and what it answers.
 
+use crate::alone::is_alone;
 use crate::answers::{is_begun, is_outcome, is_reply};
 use crate::asking::{added_link, call};
 use crate::opening::opened;
@@ -61,7 +62,7 @@ fn first_wrong(alloc: Global, trader: &mut Trader, lines: &'static str) -> &'sta
 }
 
 /// Whether a trader answers so: to a call, to the change that adds a link, or by what is looked for in the trader
-/// itself.
+/// itself; or whether a query begins so at its store.
 fn is_so(alloc: Global, trader: &mut Trader, line: &str) -> bool {
     let (asked, told) = line.split_once(" => ").unwrap_or((line, ""));
     let (word, rest) = asked.split_once(' ').unwrap_or((asked, ""));
@@ -72,6 +73,7 @@ fn is_so(alloc: Global, trader: &mut Trader, line: &str) -> bool {
         "point" => told.parse::<u64>() == Ok(trader.point()),
         "marks" => told.parse::<u64>() == Ok(trader.marks()),
         "reserve" => trader.reserve_change().is_ok(),
+        "begin" | "search" | "path" => is_alone(alloc, trader, word, call(alloc, rest), told),
         _ => answers(alloc, trader, call(alloc, asked), told),
     }
 }

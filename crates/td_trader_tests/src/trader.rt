@@ -160,6 +160,18 @@ fn what_is_kept_goes_with_a_change(rt: HostRuntime) -> Result<(), Fail> {
     follows(&rt, rt.alloc(), KEPT, AGAIN)
 }
 
+const ALONE: &str = "query Printer;;;request_id=q => search q 1 4 2 1 0
+begin query Printer;;;request_id=q => search q 1 4 2 1 0
+search query Printer;;;request_id=q => search q 1 4 2 1 0
+path query Printer;;;starting_trader=b request_id=q => path b q
+marks => 1";
+
+/// The calls that keep nothing serve a query with the same.
+#[test]
+fn a_query_is_served_alone(rt: HostRuntime) -> Result<(), Fail> {
+    follows(&rt, rt.alloc(), KEPT, ALONE)
+}
+
 /// A query with a path has the link, no mark and no candidates.
 #[test]
 fn a_path_is_passed_on(rt: HostRuntime) -> Result<(), Fail> {
