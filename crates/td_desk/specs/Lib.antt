@@ -1,0 +1,9 @@
+pub mod Acting
+pub mod Batching
+pub mod BookLaws
+pub mod Examples
+pub mod Giving
+pub mod OrderLaws
+pub mod Placing
+pub mod Sharing
+pub mod Standings
