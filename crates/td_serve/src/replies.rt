@@ -1,19 +1,25 @@
 //! Where the replies of a session are written.
 
-ghost use Rattle.std.specs.Prelude.{◌≡◌, ◌<◌, ◌≤◌, ◌^◌, [], length, IsTrue, IfOk};
-ghost use Rattle.td_giop.specs.declared.header.TheConstants.{NEWEST_MINOR};
+ghost use Rattle.std.specs.Prelude.{◌≡◌, ◌<◌, ◌≤◌, ◌^◌, [], length, IsTrue, IfOk, if◌then◌else◌};
+ghost use Rattle.td_giop.specs.Written.{sealed};
+ghost use Rattle.td_giop.specs.declared.header.TheConstants.{HEADER_SIZE, NEWEST_MINOR};
 ghost use Rattle.td_ops.specs.Outcomes.{is_short};
-ghost use Rattle.td_serve.specs.ReplyBytes.{IsWritable, locate_reply, outcome_reply};
+ghost use Rattle.td_serve.specs.ReplyBytes.{BeginsReply, IsWritable, locate_reply, outcome_reply, reply_for};
 
 use crate::reply_to::ReplyTo;
 use crate::writing::{write_location, write_short};
 use std::alloc::Global;
 use std::marker::Model;
+use std::mem;
 use td_cdr::{Memory, Order, Writer};
+use td_giop::{seal, start_reply};
 use td_ops::Outcome;
 
 /// How many bytes are reserved for a short reply. NO_MEMORY and the reply of each change that is accepted fit in them.
 const RESERVED: usize = 512;
+
+/// The reply status of a result.
+pub(crate) const NO_EXCEPTION: u32 = 0;
 
 /// Where a session writes the reply to the message in front: 512 bytes are reserved for short ones. Contracts see the
 /// bytes of the reply.
@@ -82,6 +88,65 @@ impl Replies {
     {
         self.is_long = false;
         write_location(&mut self.short, order, minor, id, live);
+    }
+
+    /// Leaves the Reply for a short outcome, for which there is always room; no bytes where none is expected.
+    pub fn answer(&mut self, alloc: Global, to: ReplyTo, outcome: &Outcome)
+        requires version { IsWritable to }
+        requires short { IsTrue (is_short outcome.now) }
+        ensures { self.new ≡ reply_for to outcome.now }
+    {
+        if to.answered {
+            self.tell_short(alloc, to, outcome);
+        } else {
+            self.clear();
+        }
+    }
+
+    /// Begins the Reply with a result: hands out the writer that holds what stands before its body. No reply stands
+    /// here until `finish` or `give_up` takes it back.
+    ///
+    /// # Errors
+    ///
+    /// `Memory` for want of memory alone.
+    pub fn begin(&mut self, alloc: Global, to: ReplyTo) -> Result<Writer, Memory>
+        requires { IsWritable to }
+        ensures begun { IfOk result (λ w. BeginsReply to w) }
+        ensures none { self.new ≡ [] }
+    {
+        self.is_long = false;
+        self.short.clear();
+        let mut writer = mem::replace(&mut self.long, Writer::new(alloc, to.order));
+        writer.restart(to.order);
+        match start_reply(&mut writer, to.minor, to.id, NO_EXCEPTION) {
+            Ok(()) => Ok(writer),
+            Err(memory) => {
+                drop(writer);
+                Err(memory)
+            }
+        }
+    }
+
+    /// Takes the writer back, with a body behind what it held, and leaves this Reply; no bytes where none is expected.
+    pub fn finish(&mut self, to: ReplyTo, writer: Writer)
+        requires { HEADER_SIZE ≤ length writer.bytes }
+        ensures { self.new ≡ (if to.answered then sealed writer.order writer.bytes else []) }
+    {
+        self.long = writer;
+        self.is_long = to.answered;
+        self.short.clear();
+        if to.answered {
+            seal(&mut self.long);
+        }
+    }
+
+    /// Takes the writer back, and leaves no reply.
+    pub fn give_up(&mut self, writer: Writer)
+        ensures none { self.new ≡ [] }
+    {
+        self.is_long = false;
+        self.short.clear();
+        self.long = writer;
     }
 
     /// Leaves the Reply for a short outcome, for which there is always room.

@@ -15,7 +15,7 @@ ghost use Rattle.td_serve.specs.Serving.{Performed, Performs};
 use crate::any_object::{serve_is_a, serve_non_existent};
 use crate::backend::Backend;
 use crate::refusing::{not_begun, serve_refusal};
-use crate::replies::Replies;
+use crate::replies::{NO_EXCEPTION, Replies};
 use crate::reply_to::ReplyTo;
 use crate::settling::settle;
 use std::alloc::Global;
@@ -25,9 +25,6 @@ use td_iter::Desk;
 use td_ops::Call;
 use td_reply::{Answer, Entry, Judged, Object, class_of};
 use td_walk::Address;
-
-/// The reply status of a result.
-const NO_EXCEPTION: u32 = 0;
 
 /// Serves a Request: performs its call, leaves the reply, which has no bytes where none is expected, and answers what
 /// the journal notes. Where memory is wanted the reply is NO_MEMORY, and no change was made then.
