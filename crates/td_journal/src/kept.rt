@@ -1,6 +1,7 @@
 //! A journal that keeps its entries.
 
-ghost use Rattle.std.specs.Prelude.{◌≡◌, ◌<◌, vec_len, vec_capacity};
+ghost use Rattle.std.specs.Prelude.{◌≡◌, ◌<◌, ◌++◌, [], IfNone, vec_len, vec_capacity};
+ghost use Rattle.td_journal.specs.Lists.{as_list};
 
 use crate::journal::Journal;
 use std::alloc::Global;
@@ -19,6 +20,14 @@ impl KeptJournal {
         ensures { result.now ≡ self.now.kept.items }
     {
         self.kept.as_slice()
+    }
+
+    /// Takes the entry out that was noted last.
+    pub fn pop(&mut self) -> Option<Entry>
+        ensures taken { self.old.kept.items ≡ self.new.kept.items ++ as_list result }
+        ensures none { IfNone result (self.old.kept.items ≡ []) }
+    {
+        self.kept.pop()
     }
 }
 

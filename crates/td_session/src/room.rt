@@ -3,7 +3,7 @@
 use std::alloc::Global;
 use std::marker::Model;
 use td_cdr::Memory;
-use td_iter::Desk;
+use td_iter::{Desk, Entry as Kept, Item};
 use td_journal::{Journal, KeptJournal};
 use td_reply::Entry;
 use td_serve::Replies;
@@ -39,7 +39,8 @@ impl<J: Journal> Model for Room<J> {
 }
 
 impl<J: Journal> Room<J> {
-    ghost use Rattle.std.specs.Prelude.{◌≡◌, IfOk};
+    ghost use Rattle.std.specs.Prelude.{◌≡◌, ◌≤◌, ◌^◌, [], IfOk, slice_get};
+    ghost use Rattle.td_iter.specs.Desks.{without_oldest};
     ghost use Rattle.td_objects.specs.References.{IsAddress};
     ghost use Rattle.td_session.specs.Rooms.{IsNew};
 
@@ -64,10 +65,27 @@ impl<J: Journal> Room<J> {
     }
 
     /// The reply to the last message.
-    pub(crate) fn reply(&self) -> &[u8]
+    pub fn reply(&self) -> &[u8]
         ensures { result.now ≡ self.now.replies }
     {
         self.replies.bytes()
+    }
+
+    /// Leaves no iterator, and numbers them from here on. Takes no memory.
+    pub fn restart(&mut self, first: u64)
+        requires low { 1 ≤ first }
+        requires high { first ≤ 2 ^ 62 }
+        ensures { self.new ≡ record self.old { desk = ([], first) } }
+    {
+        self.desk.restart(first);
+    }
+
+    /// Takes the oldest iterator out.
+    pub fn take_item(&mut self) -> Option<Kept<Item>>
+        ensures taken { result ≡ slice_get self.old.desk.0 0 }
+        ensures rest { self.new ≡ record self.old { desk = without_oldest self.old.desk } }
+    {
+        self.desk.pop_front()
     }
 
     /// The journal alone; the iterators and the room for replies are dropped.
@@ -88,12 +106,22 @@ impl<J: Journal> Room<J> {
 }
 
 impl Room<KeptJournal> {
-    ghost use Rattle.std.specs.Prelude.{◌≡◌};
+    ghost use Rattle.std.specs.Prelude.{◌≡◌, ◌++◌, [], IfNone};
+    ghost use Rattle.td_journal.specs.Lists.{as_list};
 
     /// What was noted of each Request that was served, in order.
     pub fn journal(&self) -> &[Entry]
         ensures { result.now ≡ self.now.journal }
     {
         self.journal.entries()
+    }
+
+    /// Takes the entry out of the journal that was noted last.
+    pub fn take_entry(&mut self) -> Option<Entry>
+        ensures taken { self.old.journal ≡ self.new.journal ++ as_list result }
+        ensures none { IfNone result (self.old.journal ≡ []) }
+        ensures rest { self.new ≡ record self.old { journal = self.new.journal } }
+    {
+        self.journal.pop()
     }
 }

@@ -24,7 +24,7 @@ use td_walk::Peers;
 /// # Errors
 ///
 /// `Memory` where there is no room to note a Request; nothing was done then.
-pub(crate) fn answer_holding<T: Traders, P: Peers, G: SendsHeld, W: Words, J: Journal>(
+pub fn answer_holding<T: Traders, P: Peers, G: SendsHeld, W: Words, J: Journal>(
     alloc: Global,
     traders: &mut T,
     room: &mut Room<J>,
