@@ -21,7 +21,10 @@ with_blank d kind = record { nodes = d.nodes ++ blank kind ∷ []; filled = d.fi
 
 -- the node at a place was filled
 abbrev pub with_node : Draft → ℕ → Node → Draft
-with_node d place node = record { nodes = slice_set d.nodes place node; filled = slice_set d.filled place true }
+with_node d place node = record {
+  nodes = slice_set d.nodes place node;
+  filled = slice_set d.filled place true;
+}
 
 abbrev pub is_filled : Draft → ℕ → Bool
 is_filled d place = slice_index_or d.filled place false
@@ -41,8 +44,8 @@ fill_started d place None = cond (is_filled d place) (Err (fault.Twice place)) (
 -- NoPlace of the place, or else of the first such edge, and else Twice
 abbrev pub fill_answer : Draft → ℕ → Node → Result (Unit {0}) GraphFault
 fill_answer d place node =
-    cond (nat_lt place (length d.nodes)) (fill_started d place (first_outside (length d.nodes) node.edges))
-    (Err (fault.NoPlace place))
+    cond (nat_lt place (length d.nodes))
+    (fill_started d place (first_outside (length d.nodes) node.edges)) (Err (fault.NoPlace place))
 
 -- ---- why a graph isn't whole yet
 
@@ -70,5 +73,5 @@ pub record IsValidDraft (d : Draft) : Type 0 where
   pub few : length d.nodes ≤ most_nodes
   pub within : (i k : ℕ) → i < length d.nodes → k < length (node_at d.nodes i).edges
       → edge (node_at d.nodes i) k < length d.nodes
-  pub aliases : (i : ℕ) → i < length d.nodes → is_filled d i ≡ true → is_alias (node_at d.nodes i) ≡ true
-      → length (node_at d.nodes i).edges ≡ 1
+  pub aliases : (i : ℕ) → i < length d.nodes → is_filled d i ≡ true → is_alias (node_at d.nodes i)
+      ≡ true → length (node_at d.nodes i).edges ≡ 1

@@ -21,10 +21,22 @@ struct_of id name place = record {
 
 -- a sequence; bound 0 is none
 abbrev pub sequence_of : (bound place : ℕ) → Node
-sequence_of bound place = record { kind = 19; id = []; names = []; numbers = pos bound ∷ []; edges = place ∷ [] }
+sequence_of bound place = record {
+  kind = 19;
+  id = [];
+  names = [];
+  numbers = pos bound ∷ [];
+  edges = place ∷ [];
+}
 
 abbrev pub alias_of : ℕ → Node
-alias_of place = record { kind = alias_kind; id = codes "IDL:M:1.0"; names = codes "M" ∷ []; numbers = []; edges = place ∷ [] }
+alias_of place = record {
+  kind = alias_kind;
+  id = codes "IDL:M:1.0";
+  names = codes "M" ∷ [];
+  numbers = [];
+  edges = place ∷ [];
+}
 
 -- an enumeration of these names, besides its own
 abbrev pub enum_of : List (List ℕ) → Node
@@ -41,7 +53,8 @@ rolled = struct_of n_id (codes "N") 1 ∷ sequence_of 0 0 ∷ []
 
 -- the same unrolled once, with a bound of the inner sequence
 abbrev pub unrolled : (bound : ℕ) → List Node
-unrolled bound = struct_of n_id (codes "N") 1 ∷ sequence_of 0 2 ∷ struct_of n_id (codes "O") 3 ∷ sequence_of bound 0 ∷ []
+unrolled bound = struct_of n_id (codes "N") 1 ∷ sequence_of 0 2 ∷ struct_of n_id (codes "O") 3
+    ∷ sequence_of bound 0 ∷ []
 
 -- the same behind aliases
 abbrev pub behind_aliases : List Node
@@ -68,8 +81,10 @@ pub record WorkedSameness : Type 0 where
   pub no_id_turned : alike 1 (objref []) 0 (objref (codes "IDL:O:1.0")) 0 ≡ true
   pub two_ids : alike 1 (objref n_id) 0 (objref (codes "IDL:O:1.0")) 0 ≡ false
   -- names don't count, and how many there are does
-  pub names : alike 1 (enum_of (codes "A" ∷ codes "B" ∷ []) ∷ []) 0 (enum_of (codes "C" ∷ codes "D" ∷ []) ∷ []) 0 ≡ true
-  pub count : alike 1 (enum_of (codes "A" ∷ []) ∷ []) 0 (enum_of (codes "A" ∷ codes "B" ∷ []) ∷ []) 0 ≡ false
+  pub names : alike 1 (enum_of (codes "A" ∷ codes "B" ∷ []) ∷ []) 0
+      (enum_of (codes "C" ∷ codes "D" ∷ []) ∷ []) 0 ≡ true
+  pub count : alike 1 (enum_of (codes "A" ∷ []) ∷ []) 0 (enum_of (codes "A" ∷ codes "B" ∷ []) ∷ [])
+      0 ≡ false
   -- a kind
   pub kind : alike 1 rolled 0 (sequence_of 0 0 ∷ []) 0 ≡ false
 

@@ -8,7 +8,8 @@ use Rattle.tc_graph.specs.Whole.{IsWhole}
 
 -- no alias is left once aliases are removed
 abbrev pub AliasesEnd : Type 0
-AliasesEnd = (g : List Node) (i : ℕ) → IsWhole g → i < length g → is_alias (node_at g (bare g i)) ≡ false
+AliasesEnd = (g : List Node) (i : ℕ) → IsWhole g → i < length g → is_alias (node_at g (bare g i))
+    ≡ false
 
 -- a graph is the same as itself
 abbrev pub IsReflexive : Type 0

@@ -31,7 +31,8 @@ pub record IsMarked (rows columns : ℕ) (cells : List Bool) (ps : List Pair) : 
   pub size : length cells ≡ rows * columns
   pub lefts : (k : ℕ) → k < length ps → (pair_at ps k).left < rows
   pub rights : (k : ℕ) → k < length ps → (pair_at ps k).right < columns
-  pub marked : (i j : ℕ) → i < rows → j < columns → slice_index_or cells (i * columns + j) false ≡ true → Has ps i j
+  pub marked : (i j : ℕ) → i < rows → j < columns → slice_index_or cells (i * columns + j) false
+      ≡ true → Has ps i j
   pub room : length ps + unmarked cells ≡ rows * columns
 
 -- the pairs of a list come first in another

@@ -7,8 +7,10 @@ use Rattle.tc_graph.specs.Aliases.{IsInLoop}
 -- each edge leads to a node, and each alias has one edge
 pub record IsClosed (g : List Node) : Type 0 where
   pub few : length g ≤ most_nodes
-  pub within : (i k : ℕ) → i < length g → k < length (node_at g i).edges → edge (node_at g i) k < length g
-  pub aliases : (i : ℕ) → i < length g → is_alias (node_at g i) ≡ true → length (node_at g i).edges ≡ 1
+  pub within : (i k : ℕ) → i < length g → k < length (node_at g i).edges → edge (node_at g i) k
+      < length g
+  pub aliases : (i : ℕ) → i < length g → is_alias (node_at g i) ≡ true → length (node_at g i).edges
+      ≡ 1
 
 -- the node at place 0, the root, is there, and no aliases make a loop
 pub record IsWhole (g : List Node) : Type 0 where

@@ -33,8 +33,10 @@ pub(crate) fn bare(nodes: &[Node], place: u32) -> u32
 pub(crate) fn bare_places(alloc: Global, nodes: &[Node]) -> Result<Vec<u16>, GraphFault>
     requires { IsClosed nodes.now }
     ensures len { IfOk result (λ t. length t.items ≡ length nodes.now) }
-    ensures each { IfOk result (λ t. (k : ℕ) → k < length nodes.now → slice_index t.items k ≡ bare nodes.now k) }
-    ensures within { IfOk result (λ t. (k : ℕ) → k < length nodes.now → slice_index t.items k < length nodes.now) }
+    ensures each { IfOk result (λ t. (k : ℕ) → k < length nodes.now → slice_index t.items k
+        ≡ bare nodes.now k) }
+    ensures within { IfOk result (λ t. (k : ℕ) → k < length nodes.now → slice_index t.items k
+        < length nodes.now) }
     ensures err { IfErr result (λ e. e ≡ GraphFault.Memory) }
 {
     let mut places = Vec::with_capacity(alloc, nodes.len())?;

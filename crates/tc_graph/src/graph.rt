@@ -46,7 +46,8 @@ impl Model for Graph {
 
     ghost view = { λ g. record { nodes = g.nodes.items; filled = g.filled.items } };
 
-    ghost invariant = { λ g. IsValidDraft (record { nodes = g.nodes.items; filled = g.filled.items }) };
+    ghost invariant = { λ g.
+        IsValidDraft (record { nodes = g.nodes.items; filled = g.filled.items }) };
 }
 
 /// The first edge that leads to none of so many nodes.
@@ -64,8 +65,10 @@ fn first_outside(edges: &[u32], count: usize) -> Option<u32>
 /// The least place that isn't filled.
 fn least_open(filled: &[bool]) -> Option<u32>
     requires { length filled.now ≤ most_nodes }
-    ensures some { IfSome result (λ p. IsLeast (length filled.now) (λ i. slice_index_or filled.now i false ≡ false) p) }
-    ensures none { IfNone result ((i : ℕ) → i < length filled.now → slice_index_or filled.now i false ≡ true) }
+    ensures some { IfSome result
+        (λ p. IsLeast (length filled.now) (λ i. slice_index_or filled.now i false ≡ false) p) }
+    ensures none { IfNone result ((i : ℕ) → i < length filled.now
+        → slice_index_or filled.now i false ≡ true) }
 {
     for place in 0..filled.len() {
         if !filled[place] {
@@ -112,7 +115,8 @@ impl Graph {
         ensures ok { OnOk result (self.new ≡ with_blank self.old kind) }
         ensures err { OnErr result (self.new ≡ self.old) }
         ensures full { length self.old.nodes ≡ most_nodes → result ≡ Err GraphFault.Full }
-        ensures room { length self.old.nodes < most_nodes → IfErr result (λ e. e ≡ GraphFault.Memory) }
+        ensures room { length self.old.nodes < most_nodes
+            → IfErr result (λ e. e ≡ GraphFault.Memory) }
     {
         let place = self.nodes.len();
         if place >= MOST_NODES {
@@ -143,7 +147,8 @@ impl Graph {
     /// `NoPlace` of the place or else of the first edge at which no node was started, and else `Twice`
     /// where the node is filled already. The graph is then unchanged.
     pub fn fill(&mut self, place: u32, node: Node) -> Result<(), GraphFault>
-        requires kind { place < length self.old.nodes → node.kind ≡ (node_at self.old.nodes place).kind }
+        requires kind { place < length self.old.nodes
+            → node.kind ≡ (node_at self.old.nodes place).kind }
         requires alias { is_alias node ≡ true → length node.edges ≡ 1 }
         ensures value { result ≡ fill_answer self.old place node }
         ensures ok { OnOk result (self.new ≡ with_node self.old place node) }

@@ -48,7 +48,8 @@ impl Pairs {
     pub(crate) fn new(alloc: Global, rows: usize, columns: usize) -> Result<Pairs, GraphFault>
         requires rows { rows ≤ most_nodes }
         requires columns { columns ≤ most_nodes }
-        ensures value { IfOk result (λ t. t ≡ record { rows = rows; columns = columns; pairs = [] }) }
+        ensures value { IfOk result (λ t. t
+            ≡ record { rows = rows; columns = columns; pairs = [] }) }
         ensures err { IfErr result (λ e. e ≡ GraphFault.Memory) }
     {
         let cells = vec![in alloc; false; rows * columns]?;

@@ -57,14 +57,16 @@ fn add_ends(
 ) -> Result<(), GraphFault>
     requires as_many { length left.now ≡ length right.now }
     requires left_in { (k : ℕ) → k < length left.now → slice_index left.now k < length lefts.now }
-    requires right_in { (k : ℕ) → k < length right.now → slice_index right.now k < length rights.now }
+    requires right_in { (k : ℕ) → k < length right.now → slice_index right.now k
+        < length rights.now }
     requires lefts_in { (k : ℕ) → k < length lefts.now → slice_index lefts.now k < pairs.old.rows }
-    requires rights_in { (k : ℕ) → k < length rights.now → slice_index rights.now k < pairs.old.columns }
+    requires rights_in { (k : ℕ) → k < length rights.now → slice_index rights.now k
+        < pairs.old.columns }
     ensures rows { pairs.new.rows ≡ pairs.old.rows }
     ensures columns { pairs.new.columns ≡ pairs.old.columns }
     ensures adds { OnOk result
-        (AddsEnds (ends_of left.now right.now lefts.now rights.now) (length left.now) pairs.old.pairs
-        pairs.new.pairs) }
+        (AddsEnds (ends_of left.now right.now lefts.now rights.now)
+        (length left.now) pairs.old.pairs pairs.new.pairs) }
     ensures err { IfErr result (λ e. e ≡ GraphFault.Memory) }
 {
     for edge in 0..left.len() {

@@ -108,7 +108,8 @@ impl Whole {
     pub fn same(&self, alloc: Global, other: &Whole) -> Result<bool, GraphFault>
         ensures value { IfOk result (λ yes. IsTrue yes ↔ Same self.now other.now) }
         ensures depth { IfOk result
-            (λ yes. IsTrue yes ↔ Alike (length self.now * length other.now) self.now 0 other.now 0) }
+            (λ yes. IsTrue yes ↔ Alike (length self.now * length other.now)
+            self.now 0 other.now 0) }
         ensures decided { IfOk result
             (λ yes. yes ≡ alike (length self.now * length other.now) self.now 0 other.now 0) }
         ensures err { IfErr result (λ e. e ≡ GraphFault.Memory) }

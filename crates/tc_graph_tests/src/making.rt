@@ -77,7 +77,8 @@ pub fn node_of(alloc: Global, line: &str) -> Result<Node, GraphFault> {
 
 /// Whether a node may fill the place: it has the kind with which that was started, and an alias one edge.
 fn may_fill(graph: &Graph, place: u32, node: &Node) -> bool
-    ensures kind { result ≡ true → place < length graph.now.nodes → node.now.kind ≡ (node_at graph.now.nodes place).kind }
+    ensures kind { result ≡ true → place < length graph.now.nodes
+        → node.now.kind ≡ (node_at graph.now.nodes place).kind }
     ensures alias { result ≡ true → is_alias node.now ≡ true → length node.now.edges ≡ 1 }
 {
     if node.kind == ALIAS && node.edges.len() != 1 {

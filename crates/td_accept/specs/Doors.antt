@@ -12,10 +12,13 @@ pub record Door (X : Type 0) : Type 0 where
 
 -- it was bound to one address more
 abbrev pub bound_to : {X : Type 0} → List ℕ → ℕ → Door X → Door X
-bound_to host port d = record d { addresses = d.addresses ++ record { host = host; port = port } ∷ [] }
+bound_to host port d = record d {
+  addresses = d.addresses ++ record { host = host; port = port }
+      ∷ [];
+}
 
-pub record Binds {X T E : Type 0} (host : List ℕ) (port : ℕ) (before after : Option (Door X)) (result : Result T E)
-    : Type 0 where
+pub record Binds {X T E : Type 0} (host : List ℕ) (port : ℕ) (before after : Option (Door X))
+    (result : Result T E) : Type 0 where
   pub ok : OnOk result (after ≡ option_map (bound_to host port) before)
   pub err : OnErr result (after ≡ before)
 
@@ -26,6 +29,7 @@ Comes None (Some d) after = (d.visitors ≡ []) × (after ≡ Some d)
 Comes {X} (Some visitor) (Some d) after =
     (rest : List X) × (d.visitors ≡ visitor ∷ rest) × (after ≡ Some (record d { visitors = rest }))
 
-pub record Gives {X E : Type 0} (before after : Option (Door X)) (result : Result (Option X) E) : Type 0 where
+pub record Gives {X E : Type 0} (before after : Option (Door X))
+    (result : Result (Option X) E) : Type 0 where
   pub ok : IfOk result (λ came. Comes came before after)
   pub err : OnErr result (after ≡ before)

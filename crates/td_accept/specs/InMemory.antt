@@ -19,14 +19,16 @@ some_of (x ∷ xs) = true
 -- ---- calls. Each fails where its number is among those that do
 
 -- a bind is refused for want of memory alone besides
-pub record Opens {X : Type 0} (host : List ℕ) (port : ℕ) (old new : Listed X) (result : Result (Unit {0}) Failed)
-    : Type 0 where
+pub record Opens {X : Type 0} (host : List ℕ) (port : ℕ) (old new : Listed X)
+    (result : Result (Unit {0}) Failed) : Type 0 where
   pub fails_as_set : OnOk result (fails old.calls ≡ false)
-  pub opened : OnOk result (new ≡ record { door = bound_to host port old.door; calls = counted old.calls })
+  pub opened : OnOk result (new
+      ≡ record { door = bound_to host port old.door; calls = counted old.calls })
   pub refused : OnErr result (new ≡ record old { calls = failed old.calls })
 
 -- a visitor is refused there alone
-pub record Admits {X : Type 0} (old new : Listed X) (result : Result (Option X) Failed) : Type 0 where
+pub record Admits {X : Type 0} (old new : Listed X)
+    (result : Result (Option X) Failed) : Type 0 where
   pub fails_as_set : is_err result ≡ fails old.calls
   pub came : IfOk result (λ came. Comes came (Some old.door) (Some new.door))
   pub counted_on : OnOk result (new.calls ≡ counted old.calls)

@@ -73,7 +73,8 @@ impl<S, K, L, W> MemAccept<S, K, L, W> {
 
     /// Notes one address more.
     fn note(&mut self, host: &[u8], port: u16) -> Result<(), Memory>
-        ensures ok { OnOk result (self.new ≡ record self.old { door = bound_to host.now port self.old.door }) }
+        ensures ok { OnOk result (self.new
+            ≡ record self.old { door = bound_to host.now port self.old.door }) }
         ensures err { OnErr result (self.new ≡ self.old) }
     {
         let host = Text::from_slice(self.alloc, host)?;
@@ -125,7 +126,8 @@ where
     fn bind(&mut self, host: &[u8], port: u16) -> Result<(), Failed>
         ensures same { Unit {0} }
         ensures ok { OnOk result (some_of self.new.door.addresses ≡ true) }
-        ensures err { OnErr result (some_of self.new.door.addresses ≡ some_of self.old.door.addresses) }
+        ensures err { OnErr result (some_of self.new.door.addresses
+            ≡ some_of self.old.door.addresses) }
         ensures told { Binds host.now port (Some self.old.door) (Some self.new.door) result }
         ensures cause { HasCause self.old.calls.faults self.new.calls.faults result }
         ensures exact { Opens host.now port self.old self.new result }

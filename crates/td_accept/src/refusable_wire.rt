@@ -55,7 +55,8 @@ impl<L: Wire> Wire for RefusableWire<L> {
     /// Where it refuses, the connection that stood stands on.
     fn connect(&mut self, host: &[u8], port: u16) -> Result<(), Failed>
         ensures same { L.same self.old.wire self.new.wire }
-        ensures bytes { Connects host.now port (L.told self.old.wire) (L.told self.new.wire) result }
+        ensures bytes { Connects host.now port (L.told self.old.wire)
+            (L.told self.new.wire) result }
         ensures cause { HasCause (L.faults self.old.wire + self.old.refused)
             (L.faults self.new.wire + self.new.refused) result }
         ensures refuses { self.old.refuses ≡ true

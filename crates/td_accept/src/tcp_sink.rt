@@ -49,7 +49,11 @@ impl<'a, R, S> Model for TcpSink<'a, R, S> {
 
     ghost Value = { Connected };
 
-    ghost view = { λ s. record { connected = is_some s.stream; limited = is_some s.limit; faults = s.faults } };
+    ghost view = { λ s. record {
+      connected = is_some s.stream;
+      limited = is_some s.limit;
+      faults = s.faults;
+    } };
 }
 
 impl<'a, R, S> TcpSink<'a, R, S> {

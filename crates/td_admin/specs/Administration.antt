@@ -95,16 +95,16 @@ abbrev pub set_attributes : Store → Attributes → Store
 set_attributes s a = record s { attributes = a }
 
 unfoldable pub set_truth : Store → TruthAttribute → Bool → Comes
-set_truth s which v = unless None (reply.Truth (truth_of which s.attributes)) (set_attributes s (with_truth which v
-    s.attributes))
+set_truth s which v = unless None (reply.Truth (truth_of which s.attributes))
+    (set_attributes s (with_truth which v s.attributes))
 
 unfoldable pub set_number : Store → NumberAttribute → ℕ → Comes
-set_number s which v = unless None (reply.Number (number_of which s.attributes)) (set_attributes s (with_number which
-    v s.attributes))
+set_number s which v = unless None (reply.Number (number_of which s.attributes))
+    (set_attributes s (with_number which v s.attributes))
 
 unfoldable pub set_follow : Store → FollowAttribute → FollowOption → Comes
-set_follow s which v = unless None (reply.Follow (follow_of which s.attributes)) (set_attributes s (with_follow which
-    v s.attributes))
+set_follow s which v = unless None (reply.Follow (follow_of which s.attributes))
+    (set_attributes s (with_follow which v s.attributes))
 
 abbrev pub longest_stem : ℕ
 longest_stem = 64

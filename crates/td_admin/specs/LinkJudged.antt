@@ -13,15 +13,16 @@ use Rattle.td_register.specs.declared.refusal.Fault.TheVariants.{Refused, Memory
 use Rattle.td_register.specs.declared.refusal.Refusal.TheVariants.{Limit}
 
 -- what may be at fault with a new link besides the number of links
-abbrev pub link_cause : Store → (name : List ℕ) → Ior → (def_pass_on limiting : FollowOption) → Option Ior → Cause
+abbrev pub link_cause : Store → (name : List ℕ) → Ior → (def_pass_on limiting : FollowOption)
+    → Option Ior → Cause
 link_cause s name target def_pass_on limiting register =
     name_cause s.links name
     otherwise target_cause target register
     otherwise rules_cause s.attributes.max_link_follow_policy def_pass_on limiting
 
 -- the link, of a new name; or what is at fault
-abbrev pub IsNewLink : Store → (name : List ℕ) → Ior → (def_pass_on limiting : FollowOption) → Option Ior →
-    Result LinkRecord Fault → Type 0
+abbrev pub IsNewLink : Store → (name : List ℕ) → Ior → (def_pass_on limiting : FollowOption)
+    → Option Ior → Result LinkRecord Fault → Type 0
 IsNewLink s name target def_pass_on limiting register (Ok l) =
     (link_cause s name target def_pass_on limiting register ≡ None)
     × (link_of s.links l.name ≡ None)
@@ -31,6 +32,7 @@ IsNewLink s name target def_pass_on limiting register (Err f) =
 
 -- The link came last; or there are as many links as may be, or memory was wanted, and nothing changed.
 abbrev pub IsLinked : {X : Type 0} → LinkRecord → (old new : Store) → Result X Fault → Type 0
-IsLinked l old new (Ok x) = (length old.links < most_links) × (new ≡ record old { links = old.links ++ l ∷ [] })
+IsLinked l old new (Ok x) = (length old.links < most_links)
+    × (new ≡ record old { links = old.links ++ l ∷ [] })
 IsLinked l old new (Err (Refused f)) = (most_links ≤ length old.links) × (f ≡ Limit) × (new ≡ old)
 IsLinked l old new (Err Memory) = new ≡ old

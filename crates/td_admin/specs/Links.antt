@@ -22,8 +22,8 @@ use Rattle.td_register.specs.Stores.{Store}
 
 -- the link of a name
 abbrev pub linked : List LinkRecord → List ℕ → Found LinkRecord
-linked links name = if word_name name then there (link_of links name) (UnknownLinkName name) else raise
-    (IllegalLinkName name)
+linked links name = if word_name name then there (link_of links name)
+    (UnknownLinkName name) else raise (IllegalLinkName name)
 
 -- the first rule permits more than the second
 abbrev pub permits_more : FollowOption → FollowOption → Bool
@@ -33,7 +33,8 @@ permits_more a b = nat_lt (follow_option_number b) (follow_option_number a)
 abbrev pub rules_cause : (maximum def_pass_on limiting : FollowOption) → Cause
 rules_cause maximum def_pass_on limiting =
     raise_if (permits_more def_pass_on limiting) (DefaultFollowTooPermissive def_pass_on limiting)
-    otherwise raise_if (permits_more limiting maximum) (LimitingFollowTooPermissive limiting maximum)
+    otherwise raise_if (permits_more limiting maximum)
+    (LimitingFollowTooPermissive limiting maximum)
 
 -- ---- add_link
 
@@ -45,9 +46,11 @@ name_cause links name =
 -- The target is no Lookup that can be reached, or its Register isn't known.
 abbrev pub target_cause : Ior → Option Ior → Cause
 target_cause target None = raise_if true (InvalidLookupRef target)
-target_cause target (Some register) = raise_if (not (is_some (iiop_of target))) (InvalidLookupRef target)
+target_cause target (Some register) = raise_if (not (is_some (iiop_of target)))
+    (InvalidLookupRef target)
 
-abbrev pub add_link_cause : Store → (name : List ℕ) → Ior → (def_pass_on limiting : FollowOption) → Option Ior → Cause
+abbrev pub add_link_cause : Store → (name : List ℕ) → Ior → (def_pass_on limiting : FollowOption)
+    → Option Ior → Cause
 add_link_cause s name target def_pass_on limiting register =
     name_cause s.links name
     otherwise target_cause target register
@@ -55,12 +58,20 @@ add_link_cause s name target def_pass_on limiting register =
     otherwise limit_if (nat_le most_links (length s.links))
 
 -- the link with this register; none is added without one
-abbrev pub new_links : (name : List ℕ) → Ior → (def_pass_on limiting : FollowOption) → Option Ior → List LinkRecord
+abbrev pub new_links : (name : List ℕ) → Ior → (def_pass_on limiting : FollowOption) → Option Ior
+    → List LinkRecord
 new_links name target def_pass_on limiting None = []
 new_links name target def_pass_on limiting (Some register) =
-    record { name = name; target = target; register = register; def_pass_on = def_pass_on; limiting = limiting } ∷ []
+    record {
+      name = name;
+      target = target;
+      register = register;
+      def_pass_on = def_pass_on;
+      limiting = limiting;
+    } ∷ []
 
-unfoldable pub add_link : Store → (name : List ℕ) → Ior → (def_pass_on limiting : FollowOption) → Option Ior → Comes
+unfoldable pub add_link : Store → (name : List ℕ) → Ior → (def_pass_on limiting : FollowOption)
+    → Option Ior → Comes
 add_link s name target def_pass_on limiting register =
     unless (add_link_cause s name target def_pass_on limiting register) reply.Nothing
     (record s { links = s.links ++ new_links name target def_pass_on limiting register })
@@ -71,13 +82,15 @@ abbrev pub remove_link_cause : Store → List ℕ → Cause
 remove_link_cause s name = given (linked s.links name) (λ l. None)
 
 unfoldable pub remove_link : Store → List ℕ → Comes
-remove_link s name = unless (remove_link_cause s name) reply.Nothing (record s { links = without_link name s.links })
+remove_link s name = unless (remove_link_cause s name) reply.Nothing
+    (record s { links = without_link name s.links })
 
 -- ---- modify_link
 
 abbrev pub modify_link_cause : Store → List ℕ → (def_pass_on limiting : FollowOption) → Cause
 modify_link_cause s name def_pass_on limiting =
-    given (linked s.links name) (λ l. rules_cause s.attributes.max_link_follow_policy def_pass_on limiting)
+    given (linked s.links name)
+    (λ l. rules_cause s.attributes.max_link_follow_policy def_pass_on limiting)
 
 unfoldable pub modify_link : Store → List ℕ → (def_pass_on limiting : FollowOption) → Comes
 modify_link s name def_pass_on limiting =

@@ -41,8 +41,8 @@ exception_of (fault.DuplicatePropertyName name) = user.DuplicatePropertyName nam
 exception_of (fault.DuplicateServiceTypeName name) = user.DuplicateServiceTypeName name
 exception_of (fault.InterfaceTypeMismatch base_service base_if derived_service derived_if) =
     user.ReposInterfaceTypeMismatch base_service base_if derived_service derived_if
-exception_of (fault.ValueTypeRedefinition type_1 definition_1 type_2 definition_2) = user.ValueTypeRedefinition type_1
-    definition_1 type_2 definition_2
+exception_of (fault.ValueTypeRedefinition type_1 definition_1 type_2
+    definition_2) = user.ValueTypeRedefinition type_1 definition_1 type_2 definition_2
 exception_of (fault.HasSubTypes the_type sub_type) = user.HasSubTypes the_type sub_type
 exception_of (fault.AlreadyMasked name) = user.AlreadyMasked name
 exception_of (fault.NotMasked name) = user.NotMasked name
@@ -65,7 +65,8 @@ outcome_of (Ok answer) = Done (reply_of answer.0)
 outcome_of (Err f) = refused (refusal_of f)
 
 unfoldable pub add_type : Store → (name if_name : List ℕ) → List PropStruct → List (List ℕ) → Comes
-add_type s name if_name props super_types = changes_types s (types.add_type s.types name if_name props super_types)
+add_type s name if_name props super_types = changes_types s
+    (types.add_type s.types name if_name props super_types)
 
 unfoldable pub remove_type : Store → List ℕ → Comes
 remove_type s name = changes_types s (types.remove_type s.types name)

@@ -124,8 +124,8 @@ pub fn set_truth(
     attribute: TruthAttribute,
     value: bool,
 ) -> Result<Accepted, Fault>
-    ensures accepts { Accepts (change.SetTruth attribute value) (set_truth store.old attribute value) store.old
-        store.new result }
+    ensures accepts { Accepts (change.SetTruth attribute value)
+        (set_truth store.old attribute value) store.old store.new result }
     ensures free { NeedsNone result }
 {
     let old = truth_of(attribute, &store.attributes);
@@ -147,8 +147,8 @@ pub fn set_number(
     attribute: NumberAttribute,
     value: u32,
 ) -> Result<Accepted, Fault>
-    ensures accepts { Accepts (change.SetNumber attribute value) (set_number store.old attribute value) store.old
-        store.new result }
+    ensures accepts { Accepts (change.SetNumber attribute value)
+        (set_number store.old attribute value) store.old store.new result }
     ensures free { NeedsNone result }
 {
     let old = number_of(attribute, &store.attributes);
@@ -170,8 +170,8 @@ pub fn set_follow(
     attribute: FollowAttribute,
     value: FollowOption,
 ) -> Result<Accepted, Fault>
-    ensures accepts { Accepts (change.SetFollow attribute value) (set_follow store.old attribute value) store.old
-        store.new result }
+    ensures accepts { Accepts (change.SetFollow attribute value)
+        (set_follow store.old attribute value) store.old store.new result }
     ensures free { NeedsNone result }
 {
     let old = follow_of(attribute, &store.attributes);
@@ -193,7 +193,8 @@ pub fn set_request_id_stem(
     store: &mut Store,
     value: Octets,
 ) -> Result<Accepted, Fault>
-    ensures { Accepts (change.SetRequestIdStem value) (set_request_id_stem store.old value) store.old store.new result }
+    ensures { Accepts (change.SetRequestIdStem value) (set_request_id_stem store.old value)
+        store.old store.new result }
 {
     if value.len() > LONGEST_STEM {
         return Err(Fault::Refused(Refusal::Limit));

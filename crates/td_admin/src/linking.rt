@@ -132,7 +132,8 @@ pub fn check_link(
     limiting: FollowOption,
     register: &Option<Ior>,
 ) -> Result<(), Fault>
-    ensures { Judges (link_cause store.now name.now target.now def_pass_on limiting register.now) result }
+    ensures { Judges (link_cause store.now name.now target.now def_pass_on limiting register.now)
+        result }
 {
     match known_register(alloc, store, name, target, def_pass_on, limiting, register) {
         Ok(_) => Ok(()),
@@ -190,8 +191,8 @@ pub fn add_link(
     limiting: FollowOption,
     register: Option<Ior>,
 ) -> Result<Accepted, Fault>
-    ensures { Accepts (change.AddLink name target def_pass_on limiting register) (add_link store.old name target
-        def_pass_on limiting register) store.old store.new result }
+    ensures { Accepts (change.AddLink name target def_pass_on limiting register)
+        (add_link store.old name target def_pass_on limiting register) store.old store.new result }
 {
     let link = new_link(
         alloc,

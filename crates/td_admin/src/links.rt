@@ -17,7 +17,8 @@ use td_value::LinkInfo;
 
 /// The link of a name.
 fn linked<'a>(alloc: Global, links: &'a Links, name: &Text) -> Result<&'a LinkRecord, Fault>
-    ensures { MatchResult result (λ l. linked links.now name.now ≡ Ok l.now) (IsAbsent (linked links.now name.now)) }
+    ensures { MatchResult result (λ l. linked links.now name.now ≡ Ok l.now)
+        (IsAbsent (linked links.now name.now)) }
 {
     if !is_word_name(name.as_slice()) {
         return Err(raised(UserException::IllegalLinkName {
@@ -39,7 +40,8 @@ fn linked<'a>(alloc: Global, links: &'a Links, name: &Text) -> Result<&'a LinkRe
 /// `IllegalLinkName`, `UnknownLinkName`.
 #[tactic(auto, unfolding(crate::specs::Links::remove_link))]
 pub fn remove_link(store: &mut Store, name: Text) -> Result<Accepted, Fault>
-    ensures accepts { Accepts (change.RemoveLink name) (remove_link store.old name) store.old store.new result }
+    ensures accepts { Accepts (change.RemoveLink name)
+        (remove_link store.old name) store.old store.new result }
     ensures free { NeedsNone result }
 {
     if !is_word_name(name.as_slice()) {

@@ -41,8 +41,8 @@ pub fn add_type(
     props: List<PropStruct>,
     super_types: List<Text>,
 ) -> Result<Accepted, Fault>
-    ensures { Accepts (change.AddType name if_name props super_types) (add_type store.old name if_name props
-        super_types) store.old store.new result }
+    ensures { Accepts (change.AddType name if_name props super_types)
+        (add_type store.old name if_name props super_types) store.old store.new result }
 {
     let (name_twin, (if_twin, (props_twin, supers_twin))) = copy_four(
         alloc,
@@ -71,7 +71,8 @@ pub fn add_type(
 /// `IllegalServiceType`, `UnknownServiceType`; `HasSubTypes`; `Memory` for want of memory.
 #[tactic(auto, unfolding(crate::specs::Repositories::remove_type))]
 pub fn remove_type(store: &mut Store, name: Text) -> Result<Accepted, Fault>
-    ensures { Accepts (change.RemoveType name) (remove_type store.old name) store.old store.new result }
+    ensures { Accepts (change.RemoveType name)
+        (remove_type store.old name) store.old store.new result }
 {
     let answer = store.types.remove(&name);
     let reply = change_reply(answer)?;
@@ -85,7 +86,8 @@ pub fn remove_type(store: &mut Store, name: Text) -> Result<Accepted, Fault>
 /// `IllegalServiceType`, `UnknownServiceType`; `AlreadyMasked`.
 #[tactic(auto, unfolding(crate::specs::Repositories::mask_type))]
 pub fn mask_type(store: &mut Store, name: Text) -> Result<Accepted, Fault>
-    ensures accepts { Accepts (change.MaskType name) (mask_type store.old name) store.old store.new result }
+    ensures accepts { Accepts (change.MaskType name)
+        (mask_type store.old name) store.old store.new result }
     ensures free { NeedsNone result }
 {
     match store.types.judge_mask(&name) {
@@ -109,7 +111,8 @@ pub fn mask_type(store: &mut Store, name: Text) -> Result<Accepted, Fault>
 /// `IllegalServiceType`, `UnknownServiceType`; `NotMasked`.
 #[tactic(auto, unfolding(crate::specs::Repositories::unmask_type))]
 pub fn unmask_type(store: &mut Store, name: Text) -> Result<Accepted, Fault>
-    ensures accepts { Accepts (change.UnmaskType name) (unmask_type store.old name) store.old store.new result }
+    ensures accepts { Accepts (change.UnmaskType name)
+        (unmask_type store.old name) store.old store.new result }
     ensures free { NeedsNone result }
 {
     match store.types.judge_unmask(&name) {

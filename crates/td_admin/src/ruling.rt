@@ -58,8 +58,8 @@ pub fn modify_link(
     def_pass_on: FollowOption,
     limiting: FollowOption,
 ) -> Result<Accepted, Fault>
-    ensures accepts { Accepts (change.ModifyLink name def_pass_on limiting) (modify_link store.old name def_pass_on
-        limiting) store.old store.new result }
+    ensures accepts { Accepts (change.ModifyLink name def_pass_on limiting)
+        (modify_link store.old name def_pass_on limiting) store.old store.new result }
     ensures free { NeedsNone result }
 {
     let name = ruled_name(store, name, def_pass_on, limiting)?;

@@ -49,7 +49,12 @@ by_link l = do
   def ← rule_named l.def_pass_on
   limit ← rule_named l.limiting
   other ← reference_in l.target
-  called l.reference (Linking (record { name = l.name; target = other; def_pass_on = def; limiting = limit }))
+  called l.reference (Linking (record {
+    name = l.name;
+    target = other;
+    def_pass_on = def;
+    limiting = limit;
+  }))
 
 abbrev pub by_links : (reference : List ℕ) → Option Asking
 by_links reference = called reference (Looking look.ListLinks)

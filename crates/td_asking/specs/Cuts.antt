@@ -16,7 +16,8 @@ cut_first mark text = option_map (λ n. cut_at n text) (position (is_mark mark) 
 -- where a type ends: at the first colon, or of a sequence at the one behind `seq:`
 abbrev pub type_end : List ℕ → Option ℕ
 type_end text =
-    if bytes_eq (take 4 text) (codes "seq:") then option_map (λ n. n + 4) (position (is_mark 58) (drop 4 text))
+    if bytes_eq (take 4 text) (codes "seq:") then option_map (λ n. n + 4)
+    (position (is_mark 58) (drop 4 text))
     else position (is_mark 58) text
 
 -- the word for a type, and what stands behind the colon that ends it

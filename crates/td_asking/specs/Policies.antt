@@ -25,7 +25,8 @@ with_id None ps = ps
 with_id (Some o) ps = ps ++ policy (octets 0) (codes "request_id") o ∷ []
 
 abbrev pub with_options : Bool → Options → List Policy → List Policy
-with_options exact o ps = with_id o.id (with_follow o.follow (with_hops o.hops (with_exact exact ps)))
+with_options exact o ps = with_id o.id
+    (with_follow o.follow (with_hops o.hops (with_exact exact ps)))
 
 -- ---- from the words
 

@@ -12,7 +12,10 @@ abbrev pub value_in : ValueType → List ℕ → Option Value
 value_in type text = value_of type text
 
 abbrev pub property_with : List ℕ → ValueType → Value → Property
-property_with name type v = record { name = name; value = record { code = code_of type; value = v } }
+property_with name type v = record {
+  name = name;
+  value = record { code = code_of type; value = v };
+}
 
 abbrev pub typed_property : (name : List ℕ) → ValueType → (text : List ℕ) → Option Property
 typed_property name type text = value_in type text >>= λ v. Some (property_with name type v)

@@ -37,7 +37,8 @@ fn desired_of(alloc: Global, names: &[&str]) -> Result<SpecifiedProps, Memory>
 
 /// The service type, the constraint and the preference.
 fn texts_in(alloc: Global, words: &QueryWords<'_>) -> Result<(Text, Text, Text), Memory>
-    ensures { IfOk result (λ t. t ≡ (words.now.service.now, words.now.constraint.now, words.now.preference.now)) }
+    ensures { IfOk result (λ t. t
+        ≡ (words.now.service.now, words.now.constraint.now, words.now.preference.now)) }
 {
     Ok((
         Text::from_slice(alloc, words.service.as_bytes())?,

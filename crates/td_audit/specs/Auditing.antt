@@ -44,27 +44,35 @@ state net asked = record { net = net; asked = asked }
 
 -- The event is accepted, with these queries asked then; or the network refuses it, for its own fault.
 abbrev pub Happens : State → Event → List AskedQuery → Result State Cause → Type 0
-Happens s e asked (Ok t) = (fault_of s.net e ≡ None) × Becomes s.net (step_of s.net e) t.net × (t.asked ≡ asked)
+Happens s e asked (Ok t) = (fault_of s.net e ≡ None) × Becomes s.net (step_of s.net e) t.net
+    × (t.asked ≡ asked)
 Happens s e asked (Err (Net f)) = fault_of s.net e ≡ Some f
 Happens s e asked (Err other) = ⊥
 
 -- what is kept of a query whose call has this number
 abbrev pub asked_as : (call : ℕ) → ReplyForm → Query → AskedQuery
-asked_as call form q = record { call = call; form = form; desired = q.desired; how_many = q.how_many }
+asked_as call form q = record {
+  call = call;
+  form = form;
+  desired = q.desired;
+  how_many = q.how_many;
+}
 
 -- ---- changes
 
 -- A change that is accepted passes with its reply; one that its trader refuses doesn't.
-abbrev pub ChangedAs : State → Event → ReplyForm → Recorded → (outcome : Outcome) → Result State Cause → Type 0
+abbrev pub ChangedAs : State → Event → ReplyForm → Recorded → (outcome : Outcome)
+    → Result State Cause → Type 0
 ChangedAs s e form reply (Done told) (Ok t) =
-    (reply.bytes ≡ spelled form (Done told)) × Becomes s.net (step_of s.net e) t.net × (t.asked ≡ s.asked)
+    (reply.bytes ≡ spelled form (Done told)) × Becomes s.net (step_of s.net e) t.net
+    × (t.asked ≡ s.asked)
 ChangedAs s e form reply (Done told) (Err cause) =
     (reply.bytes ≡ spelled form (Done told) → ⊥) × (cause ≡ Differs)
 ChangedAs s e form reply (User x) r = r ≡ Err Refused
 ChangedAs s e form reply (System kind minor completion) r = r ≡ Err Refused
 
-abbrev pub ChangedIn : State → (n : ℕ) → ReplyForm → Change → Recorded → Option PlainTrader → Result State Cause
-    → Type 0
+abbrev pub ChangedIn : State → (n : ℕ) → ReplyForm → Change → Recorded → Option PlainTrader
+    → Result State Cause → Type 0
 ChangedIn s n form c reply None r = r ≡ Err (Net NoTrader)
 ChangedIn s n form c reply (Some t) r = ChangedAs s (event.Change n c) form reply (outcome_of t c) r
 
@@ -78,7 +86,8 @@ abbrev pub Compared : State → (right : Type 0) → Result State Cause → Type
 Compared s right (Ok t) = right × (t ≡ s)
 Compared s right (Err cause) = (right → ⊥) × (cause ≡ Differs)
 
-abbrev pub LookedIn : State → ReplyForm → Look → Recorded → Option PlainTrader → Result State Cause → Type 0
+abbrev pub LookedIn : State → ReplyForm → Look → Recorded → Option PlainTrader → Result State Cause
+    → Type 0
 LookedIn s form l reply None r = r ≡ Err (Net NoTrader)
 LookedIn s form l reply (Some t) r = Compared s (IsLookReply form l (seek (store_of t) l) reply) r
 
@@ -90,7 +99,8 @@ EndedIn s a reply (Some v) r = Compared s (IsVisitReply a v reply) r
 abbrev pub asked_of : (call : ℕ) → List AskedQuery → Option AskedQuery
 asked_of call asked = find (λ (a : AskedQuery). nat_eq a.call call) asked
 
-abbrev pub RepliedIn : State → (call : ℕ) → Recorded → Option AskedQuery → Result State Cause → Type 0
+abbrev pub RepliedIn : State → (call : ℕ) → Recorded → Option AskedQuery → Result State Cause
+    → Type 0
 RepliedIn s call reply None r = r ≡ Err NotEnded
 RepliedIn s call reply (Some a) r = EndedIn s a reply (visit_at s.net.calls call) r
 
@@ -115,8 +125,8 @@ module _ (home : Address) (names : List (List ℕ)) where
   -- decides.
   pub data Audited : State → (number : ℕ) → List (List ℕ) → Verdict → Type 0 where
     over : {s : State} {n : ℕ} → Audited s n [] (verdict.Yes n)
-    strange : {s : State} {n : ℕ} {first : List ℕ} {rest : List (List ℕ)} → line_of names first ≡ None
-        → Audited s n (first ∷ rest) (verdict.Line (n + 1))
+    strange : {s : State} {n : ℕ} {first : List ℕ} {rest : List (List ℕ)} → line_of names first
+        ≡ None → Audited s n (first ∷ rest) (verdict.Line (n + 1))
     fails : {s : State} {n : ℕ} {first : List ℕ} {rest : List (List ℕ)} {l : Line} {cause : Cause}
         → line_of names first ≡ Some l → Judged s l (Err cause)
         → Audited s n (first ∷ rest) (verdict.No (n + 1) cause)
@@ -132,7 +142,8 @@ pub record Opening : Type 0 where
   pub number : ℕ
   pub lines : List (List ℕ)
 
-abbrev pub opening_by : (words : Option (List ℕ)) → (first : List ℕ) → (rest : List (List ℕ)) → Opening
+abbrev pub opening_by : (words : Option (List ℕ)) → (first : List ℕ) → (rest : List (List ℕ))
+    → Opening
 opening_by (Some ws) first rest = record { words = ws; number = 1; lines = rest }
 opening_by None first rest = record { words = []; number = 0; lines = first ∷ rest }
 
@@ -148,7 +159,8 @@ abbrev pub at_start : List PlainTrader → Address → Opening → State
 at_start traders home o = state (start traders home (trimmed o.words)) []
 
 abbrev pub AuditedFrom : List PlainTrader → Address → Opening → Verdict → Type 0
-AuditedFrom traders home o v = Audited home (names_of traders) (at_start traders home o) o.number o.lines v
+AuditedFrom traders home o v = Audited home (names_of traders)
+    (at_start traders home o) o.number o.lines v
 
 -- what a log comes to for a network of these traders
 abbrev pub Audits : List PlainTrader → Address → (log : List ℕ) → Verdict → Type 0

@@ -33,18 +33,19 @@ abbrev pub told_at : World → (trader place : ℕ) → Option Reply
 told_at w n place = option_and_then (told_in place) (slice_get w.traders n)
 
 -- an accepted change passes with its reply, and a refused one doesn't
-abbrev pub ChangesAs : World → (n : ℕ) → ReplyForm → Change → Recorded → (outcome : Outcome) → Result (Unit {0}) Stop
-    → World → Type 0
+abbrev pub ChangesAs : World → (n : ℕ) → ReplyForm → Change → Recorded → (outcome : Outcome)
+    → Result (Unit {0}) Stop → World → Type 0
 ChangesAs w n form c reply (Done told) r u =
     Stops ((reply.bytes ≡ spelled form (Done told)) × Becomes w (step_of w (event.Change n c)) u)
     (Differing (reply.bytes ≡ spelled form (Done told))) r
 ChangesAs w n form c reply (User x) r u = Stops ⊥ (λ cause. cause ≡ Refused) r
 ChangesAs w n form c reply (System kind minor completion) r u = Stops ⊥ (λ cause. cause ≡ Refused) r
 
-abbrev pub ChangesIn : World → (n : ℕ) → ReplyForm → Change → Recorded → Option PlainTrader → Result (Unit {0}) Stop
-    → World → Type 0
+abbrev pub ChangesIn : World → (n : ℕ) → ReplyForm → Change → Recorded → Option PlainTrader
+    → Result (Unit {0}) Stop → World → Type 0
 ChangesIn w n form c reply None r u = Stops ⊥ (λ cause. cause ≡ Net NoTrader) r
 ChangesIn w n form c reply (Some t) r u = ChangesAs w n form c reply (outcome_of t c) r u
 
-abbrev pub ChangesTo : World → (n : ℕ) → ReplyForm → Change → Recorded → Result (Unit {0}) Stop → World → Type 0
+abbrev pub ChangesTo : World → (n : ℕ) → ReplyForm → Change → Recorded → Result (Unit {0}) Stop
+    → World → Type 0
 ChangesTo w n form c reply r u = ChangesIn w n form c reply (slice_get w.traders n) r u

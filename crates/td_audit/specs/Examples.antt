@@ -26,7 +26,8 @@ pub record WorkedAudits (t : PlainTrader) (home : Address) : Type 0 where
 pub record WorkedOpenings : Type 0 where
   pub words : opening_of (codes "words 7 0" ∷ codes "deliver 0" ∷ [])
       ≡ record { words = 7 ∷ 0 ∷ []; number = 1; lines = codes "deliver 0" ∷ [] }
-  pub none : opening_of (codes "deliver 0" ∷ []) ≡ record { words = []; number = 0; lines = codes "deliver 0" ∷ [] }
+  pub none : opening_of (codes "deliver 0" ∷ [])
+      ≡ record { words = []; number = 0; lines = codes "deliver 0" ∷ [] }
 
 -- call 0 waits for call 1, which was sent
 abbrev pub two_calls : Query → Local → List Call

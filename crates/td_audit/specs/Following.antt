@@ -36,14 +36,16 @@ pub record FollowsTo (root : ℕ) (w : World) (old new : List ℕ) (u : World) :
   pub told : new ≡ old ++ lines_told lines
 
 -- the reply to its query was appended
-pub record PutsReply (home : Address) (name : List ℕ) (c : ℕ) (v : Visit) (old new : List ℕ) : Type 0 where
+pub record PutsReply (home : Address) (name : List ℕ) (c : ℕ) (v : Visit)
+    (old new : List ℕ) : Type 0 where
   pub outcome : Outcome
   pub answers : Answers home name v outcome
   pub octets : AreOctets (spelled form outcome)
   pub told : new ≡ old ++ reply_line c outcome ++ 10 ∷ []
 
 -- a trader was asked, and it was told up to the reply
-pub record AsksOne (home : Address) (n : ℕ) (name : List ℕ) (w : World) (old new : List ℕ) (x : World) : Type 0 where
+pub record AsksOne (home : Address) (n : ℕ) (name : List ℕ) (w : World) (old new : List ℕ)
+    (x : World) : Type 0 where
   pub asked : World
   pub lines : List (List ℕ)
   pub visit : Visit
@@ -53,4 +55,5 @@ pub record AsksOne (home : Address) (n : ℕ) (name : List ℕ) (w : World) (old
   pub follows : Follows (length w.calls) asked lines visit x
   pub answers : Answers home name visit outcome
   pub octets : AreOctets (spelled form outcome)
-  pub told : new ≡ old ++ lines_told (ask_line name ∷ lines ++ reply_line (length w.calls) outcome ∷ [])
+  pub told : new ≡ old ++ lines_told (ask_line name ∷ lines ++ reply_line (length w.calls) outcome
+      ∷ [])

@@ -15,7 +15,8 @@ use Rattle.td_audit.specs.declared.verdict.Verdict.TheVariants as verdict
 module _ (home : Address) (names : List (List ℕ)) where
   -- what a line that was read does
   abbrev pub StepsTo : State → Line → Result (Unit {0}) Stop → State → Type 0
-  StepsTo s l r t = Stops (Judged home names s l (Ok t)) (λ cause. Judged home names s l (Err cause)) r
+  StepsTo s l r t = Stops (Judged home names s l (Ok t))
+      (λ cause. Judged home names s l (Err cause)) r
 
   -- what a line does: it was read, and passes; or it was read, and fails; or it isn't in the table
   pub record Passing (s : State) (first : List ℕ) (t : State) : Type 0 where

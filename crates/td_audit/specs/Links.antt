@@ -14,7 +14,8 @@ use Rattle.td_walk.specs.declared.trace.Address.{Address}
 
 -- of the trader of this name
 abbrev pub register_named : Address → (names : List (List ℕ)) → (name : List ℕ) → Ior
-register_named home names name = if is_some (trader_named names name) then register_reference home name else nil
+register_named home names name = if is_some (trader_named names name)
+    then register_reference home name else nil
 
 -- of the object of a kind that the trader of this name has
 abbrev pub register_of_object : Address → (names : List (List ℕ)) → (name : List ℕ) → Kind → Ior
@@ -27,4 +28,5 @@ register_keyed home names (Some key) = register_of_object home names key.trader 
 
 abbrev pub register_of : Address → (names : List (List ℕ)) → (target : Ior) → Option Ior
 register_of home names target =
-    if is_some (iiop_of target) then Some (register_keyed home names (home_key home target)) else None
+    if is_some (iiop_of target) then Some (register_keyed home names (home_key home target))
+    else None

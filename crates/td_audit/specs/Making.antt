@@ -51,8 +51,9 @@ abbrev pub Answers : Address → (name : List ℕ) → Visit → Outcome → Typ
 Answers home name (visit.Refused r) o = o ≡ r
 Answers home name (visit.Answered a max_list) o =
     (count : ℕ)
-    × IsBatch (offers_found (offer_iterator home name 1) a.limits) (map (chosen drill_query.desired) a.offers)
-    (begun form) (min drill_query.how_many max_list) count
+    × IsBatch (offers_found (offer_iterator home name 1) a.limits)
+    (map (chosen drill_query.desired) a.offers) (begun form) (min drill_query.how_many max_list)
+    count
     × (o ≡ first_offers home name 1 a.limits (map (chosen drill_query.desired) a.offers) count)
 
 -- ---- the lines
@@ -95,7 +96,8 @@ pub record Next : Type 0 where
 
 abbrev pub next_in : (c : ℕ) → Option CallState → Option Next
 next_in c (Some state.Sent) = Some (record { event = event.Deliver c; line = deliver_line c })
-next_in c (Some state.Evaluating) = Some (record { event = event.Value c None; line = no_value_line c })
+next_in c (Some state.Evaluating) = Some
+    (record { event = event.Value c None; line = no_value_line c })
 next_in c (Some state.Ended) = Some (record { event = event.Answer c; line = answer_line c })
 next_in c other = None
 
@@ -107,26 +109,32 @@ pub record Accepts (w : World) (e : Event) (u : World) : Type 0 where
 -- The calls of an Ask go on, the innermost first, until its own has ended.
 pub data Follows (root : ℕ) : World → List (List ℕ) → Visit → World → Type 0 where
   ended : {w : World} {v : Visit} → visit_at w.calls root ≡ Some v → Follows root w [] v w
-  goes : {w u x : World} {lines : List (List ℕ)} {v : Visit} (next : Next) → visit_at w.calls root ≡ None
-      → next_in (innermost (length w.calls) w.calls root) (state_at w.calls (innermost (length w.calls) w.calls root))
+  goes : {w u x : World} {lines : List (List ℕ)} {v : Visit} (next : Next) → visit_at w.calls root
+      ≡ None
+      → next_in (innermost (length w.calls) w.calls root)
+      (state_at w.calls (innermost (length w.calls) w.calls root))
       ≡ Some next
       → Accepts w next.event u → Follows root u lines v x → Follows root w (next.line ∷ lines) v x
 
 -- The traders of these names, from the number n on, are asked one after the other: those that a key can name. The
 -- messages of a log are octets.
-pub data AsksAll (home : Address) : World → (n : ℕ) → (names : List (List ℕ)) → List (List ℕ) → World → Type 0 where
+pub data AsksAll (home : Address) : World → (n : ℕ) → (names : List (List ℕ)) → List (List ℕ)
+    → World → Type 0 where
   none : {w : World} {n : ℕ} → AsksAll home w n [] [] w
-  passes : {w y : World} {n : ℕ} {name : List ℕ} {names lines : List (List ℕ)} → trader_name name ≡ false
-      → AsksAll home w (n + 1) names lines y → AsksAll home w n (name ∷ names) lines y
-  more : {w u x y : World} {n : ℕ} {name : List ℕ} {names : List (List ℕ)} {lines others : List (List ℕ)} {v : Visit}
-      (o : Outcome) → trader_name name ≡ true → AreOctets (request_to name) → Accepts w (event.Ask n drill_query) u
+  passes : {w y : World} {n : ℕ} {name : List ℕ} {names lines : List (List ℕ)} → trader_name name
+      ≡ false → AsksAll home w (n + 1) names lines y → AsksAll home w n (name ∷ names) lines y
+  more : {w u x y : World} {n : ℕ} {name : List ℕ} {names : List (List ℕ)}
+      {lines others : List (List ℕ)} {v : Visit} (o : Outcome) → trader_name name ≡ true
+      → AreOctets (request_to name) → Accepts w (event.Ask n drill_query) u
       → Follows (length w.calls) u lines v x → Answers home name v o → AreOctets (spelled form o)
       → AsksAll home x (n + 1) names others y
-      → AsksAll home w n (name ∷ names) (ask_line name ∷ lines ++ reply_line (length w.calls) o ∷ others) y
+      → AsksAll home w n (name ∷ names) (ask_line name ∷ lines ++ reply_line (length w.calls) o
+      ∷ others) y
 
 -- This is the log of a network of these traders.
 pub record IsLog (traders : List PlainTrader) (home : Address) (log : List ℕ) : Type 0 where
   pub lines : List (List ℕ)
   pub later : World
-  pub asked : AsksAll home (start traders home []) 0 (map (λ (t : PlainTrader). t.name) traders) lines later
+  pub asked : AsksAll home (start traders home []) 0 (map (λ (t : PlainTrader). t.name) traders)
+      lines later
   pub told : log ≡ lines_told lines

@@ -39,14 +39,18 @@ spelled f o = outcome_reply (reply_to f) o
 
 -- what stands in front of a result
 abbrev pub begun : ReplyForm → Draft
-begun f = record { bytes = reply_start f.order (minor_of f.version) f.id 0; order = f.order; room = 0 }
+begun f = record {
+  bytes = reply_start f.order (minor_of f.version) f.id 0;
+  order = f.order;
+  room = 0;
+}
 
 -- ---- lists
 
 -- The reply has the batch of these items for n, and the reference of an iterator for the others. Which reference that
 -- is doesn't matter, but that it is nil exactly where nothing is left, and has at most 4,096 bytes.
-pub record HasBatch {X : Type 0} (head : Ior → Head X) (told : List X → Ior → Reply) (form : ReplyForm) (n : ℕ)
-    (items : List X) (reply : Recorded) : Type 0 where
+pub record HasBatch {X : Type 0} (head : Ior → Head X) (told : List X → Ior → Reply)
+    (form : ReplyForm) (n : ℕ) (items : List X) (reply : Recorded) : Type 0 where
   pub small : IsSmallReference reply.iterator
   pub count : ℕ
   pub batch : IsBatch (head reply.iterator) items (begun form) n count
@@ -55,13 +59,15 @@ pub record HasBatch {X : Type 0} (head : Ior → Head X) (told : List X → Ior 
 
 -- what tells it of a reply that has these bytes: whether something is left, and the message
 abbrev pub ends_so : (more : Bool) → Recorded → (message : List ℕ) → Bool
-ends_so more reply message = if beq (is_nil reply.iterator) more then false else bytes_eq reply.bytes message
+ends_so more reply message = if beq (is_nil reply.iterator)
+    more then false else bytes_eq reply.bytes message
 
 abbrev pub found_with : (limits : List (List ℕ)) → List Offer → Ior → Reply
 found_with limits offers iterator = Found offers iterator limits
 
 -- a batch of offers
-abbrev pub HasOffers : ReplyForm → (n : ℕ) → (limits : List (List ℕ)) → List Offer → Recorded → Type 0
+abbrev pub HasOffers : ReplyForm → (n : ℕ) → (limits : List (List ℕ)) → List Offer → Recorded
+    → Type 0
 HasOffers form n limits offers reply =
     HasBatch (λ iterator. offers_found iterator limits) (found_with limits) form n offers reply
 
@@ -71,13 +77,15 @@ HasIds form n ids reply = HasBatch ids_found (λ some iterator. Ids some iterato
 
 -- ---- looks
 
-abbrev pub IsFoundReply : ReplyForm → (n : ℕ) → Option (List (List ℕ)) → (found : Outcome) → Recorded → Type 0
+abbrev pub IsFoundReply : ReplyForm → (n : ℕ) → Option (List (List ℕ)) → (found : Outcome)
+    → Recorded → Type 0
 IsFoundReply form n None found reply = reply.bytes ≡ spelled form found
 IsFoundReply form n (Some ids) found reply = HasIds form n ids reply
 
 -- Ids are given in batches for the lesser of how many are asked for and the trader's max_list.
 abbrev pub IsLookReply : ReplyForm → Look → (found : Outcome × ℕ) → Recorded → Type 0
-IsLookReply form l found reply = IsFoundReply form (min (how_many l) found.1) (ids_in found.0) found.0 reply
+IsLookReply form l found reply = IsFoundReply form (min (how_many l) found.1)
+    (ids_in found.0) found.0 reply
 
 -- ---- queries
 
@@ -86,4 +94,5 @@ IsLookReply form l found reply = IsFoundReply form (min (how_many l) found.1) (i
 abbrev pub IsVisitReply : AskedQuery → Visit → Recorded → Type 0
 IsVisitReply a (visit.Refused o) reply = reply.bytes ≡ spelled a.form o
 IsVisitReply a (visit.Answered answer max_list) reply =
-    HasOffers a.form (min a.how_many max_list) answer.limits (map (chosen a.desired) answer.offers) reply
+    HasOffers a.form (min a.how_many max_list) answer.limits (map (chosen a.desired) answer.offers)
+    reply

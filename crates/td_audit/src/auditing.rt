@@ -28,7 +28,8 @@ use td_walk::Address;
 /// The change that adds a link.
 fn linked(alloc: Global, group: &Group, link: Boxed<AddLink>) -> Result<Boxed<Change>, Memory>
     requires { IsAddress group.now.home }
-    ensures { IfOk result (λ c. c ≡ link_change link (register_of group.now.home group.now.names link.target)) }
+    ensures { IfOk result (λ c. c
+        ≡ link_change link (register_of group.now.home group.now.names link.target)) }
 {
     let register = register_of(alloc, group, &link.get().target)?;
     Boxed::new(alloc, link_change(link.into_inner(), register))
@@ -129,7 +130,8 @@ fn audit_rest(alloc: Global, group: &Group, net: Net, number: u32, log: &[u8]) -
     requires home { IsAddress group.now.home }
     requires sound { IsSound net }
     requires short { number + length log.now < 2 ^ 32 }
-    ensures { AuditedOrWants group.now.home group.now.names (state net []) number (lines_of log.now) result }
+    ensures { AuditedOrWants group.now.home group.now.names (state net []) number (lines_of log.now)
+        result }
 {
     let mut net = net;
     let mut asked = List::new(alloc);

@@ -39,7 +39,8 @@ pub(crate) fn ask(
 ) -> Result<(), Stop>
     requires sound { IsSound net.old }
     ensures happens { HappensAs net.old (event.Ask trader query) result net.new }
-    ensures asked { OnOk result (asked.new ≡ asked.old ++ asked_as (length net.old.calls) form query ∷ []) }
+    ensures asked { OnOk result (asked.new ≡ asked.old ++ asked_as (length net.old.calls) form query
+        ∷ []) }
     ensures sound { OnOk result (IsSound net.new) }
 {
     let Ok(kept) = asked_as(alloc, net.calls(), form, query.get()) else {

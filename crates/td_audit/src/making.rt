@@ -79,7 +79,8 @@ fn query_request(alloc: Global, key: &[u8]) -> Result<Writer, Memory>
 
 /// Appends hexadecimal digits of these octets, and a line feed.
 fn put_octets(alloc: Global, text: &mut Vec<u8>, octets: &[u8]) -> Result<(), Memory>
-    ensures told { OnOk result (text.new.items ≡ text.old.items ++ encode_lower octets.now ++ 10 ∷ []) }
+    ensures told { OnOk result (text.new.items ≡ text.old.items ++ encode_lower octets.now ++ 10
+        ∷ []) }
     ensures octets { OnOk result (AreOctets octets.now) }
 {
     let digits = hex::encode(alloc, octets)?;
@@ -175,7 +176,8 @@ fn reply_to(alloc: Global, home: &Address, name: &Text, visit: &Visit) -> Result
     requires home { IsAddress home.now }
     requires name { IsTraderName name.now }
     requires limits { HasLimits visit.now }
-    ensures { IfOk result (λ w. (o : Outcome) × Answers home.now name.now visit.now o × (w.bytes ≡ spelled form o)) }
+    ensures { IfOk result (λ w. (o : Outcome) × Answers home.now name.now visit.now o
+        × (w.bytes ≡ spelled form o)) }
 {
     match visit {
         Visit::Answered { answer, max_list } => { reply_with(alloc, home, name, answer, *max_list) }
@@ -195,7 +197,8 @@ fn reply_with(
     requires name { IsTraderName name.now }
     requires limits { AreLimits answer.now.limits }
     ensures { IfOk result (λ w. (o : Outcome)
-        × Answers home.now name.now (visit.Answered answer.now max_list) o × (w.bytes ≡ spelled form o)) }
+        × Answers home.now name.now (visit.Answered answer.now max_list) o
+        × (w.bytes ≡ spelled form o)) }
 {
     let offers = answer.offers.copy(alloc)?;
     let offers = choose_each(alloc, &SpecifiedProps::None, offers)?;
@@ -250,7 +253,8 @@ fn ask_trader(
     requires home { IsAddress home.now }
     requires name { IsTraderName name.now }
     requires sound { IsSound net.old }
-    ensures asks { OnOk result (AsksOne home.now trader name.now net.old text.old.items text.new.items net.new) }
+    ensures asks { OnOk result
+        (AsksOne home.now trader name.now net.old text.old.items text.new.items net.new) }
     ensures sound { OnOk result (IsSound net.new) }
 {
     put_ask(alloc, text, name)?;

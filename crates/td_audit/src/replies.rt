@@ -29,7 +29,8 @@ const SMALL_REFERENCE: usize = 4096;
 /// A writer that holds what stands in front of a reply's body.
 #[tactic(auto, using(crate::proofs::Begun::start_length))]
 pub(crate) fn begin_reply(alloc: Global, form: ReplyForm, status: u32) -> Result<Writer, Memory>
-    ensures bytes { IfOk result (λ w. w.bytes ≡ reply_start form.order (minor_of form.version) form.id status) }
+    ensures bytes { IfOk result (λ w. w.bytes
+        ≡ reply_start form.order (minor_of form.version) form.id status) }
     ensures start { IfOk result (λ w. length w.bytes ≡ REPLY_START) }
     ensures order { IfOk result (λ w. w.order ≡ form.order) }
 {
@@ -91,7 +92,8 @@ pub(crate) fn compare(
 
 /// Whether a reference has at most 4,096 bytes, written in big order from place 0 on.
 fn is_small(alloc: Global, reference: &Ior) -> Result<bool, Memory>
-    ensures { IfOk result (λ b. b ≡ nat_le (length (references.format.writes reference.now Big 0)) SMALL_REFERENCE) }
+    ensures { IfOk result (λ b. b
+        ≡ nat_le (length (references.format.writes reference.now Big 0)) SMALL_REFERENCE) }
 {
     let mut writer = Writer::new(alloc, Order::Big);
     write_ior(alloc, &mut writer, reference)?;
@@ -135,7 +137,8 @@ pub(crate) fn has_ids(
     ids: &[Text],
     reply: &Recorded,
 ) -> Result<bool, Memory>
-    ensures { IfOk result (λ b. MatchBool b (HasIds form n ids.now reply.now) (HasIds form n ids.now reply.now → ⊥)) }
+    ensures { IfOk result (λ b. MatchBool b (HasIds form n ids.now reply.now)
+        (HasIds form n ids.now reply.now → ⊥)) }
 {
     if !is_small(alloc, &reply.iterator)? {
         return Ok(false);

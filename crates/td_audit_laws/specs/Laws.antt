@@ -26,20 +26,23 @@ use Rattle.td_walk_laws.specs.Walks.{answer_in}
 -- A log has one verdict.
 abbrev pub VerdictsAreOne : Type 0
 VerdictsAreOne =
-    (traders : List PlainTrader) (home : Address) (log : List ℕ) (v u : Verdict) → Audits traders home log v
-    → Audits traders home log u → v ≡ u
+    (traders : List PlainTrader) (home : Address) (log : List ℕ) (v u : Verdict)
+    → Audits traders home log v → Audits traders home log u → v ≡ u
 
 -- ---- lines that pass
 
 -- They are read, and each is judged to pass at the state that those before it have left.
-pub data Passes (home : Address) (names : List (List ℕ)) : State → List (List ℕ) → State → Type 0 where
+pub data Passes (home : Address) (names : List (List ℕ)) : State → List (List ℕ) → State
+    → Type 0 where
   none : {s : State} → Passes home names s [] s
-  more : {s t u : State} {first : List ℕ} {rest : List (List ℕ)} {l : Line} → line_of names first ≡ Some l
-      → Judged home names s l (Ok t) → Passes home names t rest u → Passes home names s (first ∷ rest) u
+  more : {s t u : State} {first : List ℕ} {rest : List (List ℕ)} {l : Line} → line_of names first
+      ≡ Some l
+      → Judged home names s l (Ok t) → Passes home names t rest u
+      → Passes home names s (first ∷ rest) u
 
 -- Their events are accepted one after the other, and the lines are counted.
-pub record AreSchedule (home : Address) (names : List (List ℕ)) (s : State) (number : ℕ) (lines : List (List ℕ))
-    (count : ℕ) : Type 0 where
+pub record AreSchedule (home : Address) (names : List (List ℕ)) (s : State) (number : ℕ)
+    (lines : List (List ℕ)) (count : ℕ) : Type 0 where
   pub later : State
   pub passes : Passes home names s lines later
   pub events : List Event
@@ -48,7 +51,8 @@ pub record AreSchedule (home : Address) (names : List (List ℕ)) (s : State) (n
 
 abbrev pub LinesAreSchedules : Type 0
 LinesAreSchedules =
-    (home : Address) (names : List (List ℕ)) (s : State) (number : ℕ) (lines : List (List ℕ)) (count : ℕ)
+    (home : Address) (names : List (List ℕ)) (s : State) (number : ℕ) (lines : List (List ℕ))
+    (count : ℕ)
     → Audited home names s number lines (Yes count) → AreSchedule home names s number lines count
 
 -- ---- replies to queries
@@ -62,7 +66,8 @@ pub record TellsVisit (s : State) (call : ℕ) (reply : Recorded) (v : Visit) : 
 
 -- what one walk gives for this call
 abbrev pub IsOfOneWalk : World → (call : ℕ) → Visit → Type 0
-IsOfOneWalk w call v = IsTree (length w.calls) w.calls (inside w.traders w.home) w.words call (answer_in v)
+IsOfOneWalk w call v = IsTree (length w.calls) w.calls (inside w.traders w.home) w.words call
+    (answer_in v)
 
 pub record TellsOneWalk (s : State) (call : ℕ) (reply : Recorded) : Type 0 where
   pub visit : Visit
@@ -72,9 +77,11 @@ pub record TellsOneWalk (s : State) (call : ℕ) (reply : Recorded) : Type 0 whe
 -- Lines pass from the start of a network on; then an Ask, more lines, and the reply to it.
 abbrev pub RepliesAreOfOneWalk : Type 0
 RepliesAreOfOneWalk =
-    (traders : List PlainTrader) (home : Address) (log : List ℕ) (names before between : List (List ℕ))
-    (s t u v : State) (n : ℕ) (form : ReplyForm) (q : Query) (reply : Recorded) → AreReached traders
+    (traders : List PlainTrader) (home : Address) (log : List ℕ)
+    (names before between : List (List ℕ)) (s t u v : State) (n : ℕ) (form : ReplyForm) (q : Query)
+    (reply : Recorded) → AreReached traders
     → Passes home names (at_start traders home (opening_of (lines_of log))) before s
     → Judged home names s (line.Ask n form q) (Ok t) → Passes home names t between u
     → Judged home names u (line.Reply (length s.net.calls) reply) (Ok v)
-    → Premises s.net.traders (length s.net.calls) u.net.calls → TellsOneWalk u (length s.net.calls) reply
+    → Premises s.net.traders (length s.net.calls) u.net.calls
+    → TellsOneWalk u (length s.net.calls) reply

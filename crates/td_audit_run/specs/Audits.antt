@@ -38,9 +38,11 @@ no_line number why = codes "no " ++ decimal number ++ codes " " ++ cause_word wh
 
 -- the line of the verdict on a log
 abbrev pub SaysVerdict : (log : List ℕ) → Opening → Audited → List ℕ → Type 0
-SaysVerdict log o Printed text = (count : ℕ) × Audits o.traders o.home log (Yes count) × (text ≡ yes_line count)
+SaysVerdict log o Printed text = (count : ℕ) × Audits o.traders o.home log (Yes count)
+    × (text ≡ yes_line count)
 SaysVerdict log o Denied text =
-    (number : ℕ) × (why : Cause) × Audits o.traders o.home log (No number why) × (text ≡ no_line number why)
+    (number : ℕ) × (why : Cause) × Audits o.traders o.home log (No number why)
+    × (text ≡ no_line number why)
 SaysVerdict log o (Strange number) text = Audits o.traders o.home log (Line number) × (text ≡ [])
 SaysVerdict log o Usage text = ⊥
 SaysVerdict log o Missing text = ⊥
@@ -56,34 +58,39 @@ SaysLog o ended text = (ended ≡ Printed) × IsLog o.traders o.home text
 -- ---- an audit
 
 -- The log has this name, and is asked for once the file is accepted.
-pub data AuditsNamed (o : Opening) (told : Option (List Named)) (name : List ℕ) (mid last : ℕ) (ended : Audited)
-    (before after : SinkSeen) : Type 0 where
+pub data AuditsNamed (o : Opening) (told : Option (List Named)) (name : List ℕ) (mid last : ℕ)
+    (ended : Audited) (before after : SinkSeen) : Type 0 where
   missing : HasText told name mid last (Err fault.Failed) → ended ≡ Missing → after ≡ before
       → AuditsNamed o told name mid last ended before after
   long : HasText told name mid last (Err fault.TooLong) → ended ≡ TooLong → after ≡ before
       → AuditsNamed o told name mid last ended before after
   wanting : ended ≡ Memory → after ≡ before → AuditsNamed o told name mid last ended before after
-  audits : (log : List ℕ) → HasText told name mid last (Ok log) → Prints (SaysVerdict log o) ended before after
+  audits : (log : List ℕ) → HasText told name mid last (Ok log)
+      → Prints (SaysVerdict log o) ended before after
       → AuditsNamed o told name mid last ended before after
 
 -- with the text of a file, which is refused or opens what is audited
-pub data AuditsText (text : List ℕ) (told : Option (List Named)) (name : List ℕ) (mid last : ℕ) (ended : Audited)
-    (before after : SinkSeen) : Type 0 where
-  refused : (number : ℕ) (why : LineCause) → opening_of text ≡ Err (refusal number why) → ended ≡ Refused number why
+pub data AuditsText (text : List ℕ) (told : Option (List Named)) (name : List ℕ) (mid last : ℕ)
+    (ended : Audited) (before after : SinkSeen) : Type 0 where
+  refused : (number : ℕ) (why : LineCause) → opening_of text ≡ Err (refusal number why)
+      → ended ≡ Refused number why
       → last ≡ mid → after ≡ before → AuditsText text told name mid last ended before after
   wanting : ended ≡ Memory → after ≡ before → AuditsText text told name mid last ended before after
-  opens : (o : Opening) → opening_of text ≡ Ok o → AuditsNamed o told name mid last ended before after
+  opens : (o : Opening) → opening_of text ≡ Ok o
+      → AuditsNamed o told name mid last ended before after
       → AuditsText text told name mid last ended before after
 
 -- with the names of the file and of the log
-pub data AuditsFile (texts : Shelves) (file log : List ℕ) (ended : Audited) (before after : SinkSeen) : Type 0 where
-  missing : HasText texts.told file texts.before texts.after (Err fault.Failed) → ended ≡ Missing → after ≡ before
-      → AuditsFile texts file log ended before after
-  long : HasText texts.told file texts.before texts.after (Err fault.TooLong) → ended ≡ TooLong → after ≡ before
-      → AuditsFile texts file log ended before after
+pub data AuditsFile (texts : Shelves) (file log : List ℕ) (ended : Audited)
+    (before after : SinkSeen) : Type 0 where
+  missing : HasText texts.told file texts.before texts.after (Err fault.Failed) → ended ≡ Missing
+      → after ≡ before → AuditsFile texts file log ended before after
+  long : HasText texts.told file texts.before texts.after (Err fault.TooLong) → ended ≡ TooLong
+      → after ≡ before → AuditsFile texts file log ended before after
   wanting : ended ≡ Memory → after ≡ before → AuditsFile texts file log ended before after
   has : (mid : ℕ) (text : List ℕ) → HasText texts.told file texts.before mid (Ok text)
-      → AuditsText text texts.told log mid texts.after ended before after → AuditsFile texts file log ended before after
+      → AuditsText text texts.told log mid texts.after ended before after
+      → AuditsFile texts file log ended before after
 
 -- ---- a command
 
@@ -93,7 +100,8 @@ IsUnasked texts = texts.after ≡ texts.before
 -- of the ring of so many traders the log is printed
 abbrev pub Obeys : Option Command → Shelves → Audited → SinkSeen → SinkSeen → Type 0
 Obeys None texts ended before after = (ended ≡ Usage) × IsUnasked texts × (after ≡ before)
-Obeys (Some (Audit file log)) texts ended before after = AuditsFile texts file log ended before after
+Obeys (Some (Audit file log)) texts ended before after = AuditsFile texts file log ended before
+    after
 Obeys (Some (Log count)) texts ended before after =
     PrintsOf SaysLog (generated count) ended before after × IsUnasked texts
 

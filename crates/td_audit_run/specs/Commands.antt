@@ -10,7 +10,8 @@ pub data Command : Type 0 where
   Log : (count : ℕ) → Command
 
 abbrev pub log_command : (word count : List ℕ) → Option Command
-log_command word count = if bytes_eq word (codes "log") then option_map Log (count_of count) else None
+log_command word count = if bytes_eq word (codes "log") then option_map Log (count_of count)
+    else None
 
 abbrev pub audit_command : (word file log : List ℕ) → Option Command
 audit_command word file log = if bytes_eq word (codes "audit") then Some (Audit file log) else None

@@ -18,11 +18,13 @@ Whole text before after = Appends before.written after.written text × (before.f
 -- or its front, and its count of faults rises
 abbrev pub Cut : (text : List ℕ) → SinkSeen → SinkSeen → Type 0
 Cut text before after =
-    Tells text before.written after.written before.faults after.faults × Rose before.faults after.faults
+    Tells text before.written after.written before.faults after.faults
+    × Rose before.faults after.faults
 
 -- A text is printed, and the command ends as is wanted; or its front is, where the sink fails; or nothing is, for want
 -- of memory.
-abbrev pub PrintsText : (wanted : Audited) → (text : List ℕ) → Audited → SinkSeen → SinkSeen → Type 0
+abbrev pub PrintsText : (wanted : Audited) → (text : List ℕ) → Audited → SinkSeen → SinkSeen
+    → Type 0
 PrintsText wanted text Printed before after = (wanted ≡ Printed) × Whole text before after
 PrintsText wanted text Denied before after = (wanted ≡ Denied) × Whole text before after
 PrintsText wanted text PrintFault before after = Cut text before after
@@ -48,8 +50,8 @@ Prints Says TooLong before after = ⊥
 Prints Says (Refused number cause) before after = ⊥
 
 -- with the text of a file, which is refused where it opens nothing or is too long
-abbrev pub PrintsOf : (Says : Opening → Audited → List ℕ → Type 0) → (text : List ℕ) → Audited → SinkSeen → SinkSeen
-    → Type 0
+abbrev pub PrintsOf : (Says : Opening → Audited → List ℕ → Type 0) → (text : List ℕ) → Audited
+    → SinkSeen → SinkSeen → Type 0
 PrintsOf Says text Printed before after =
     (o : Opening) × (opening_of text ≡ Ok o) × Prints (Says o) Printed before after
 PrintsOf Says text Denied before after =

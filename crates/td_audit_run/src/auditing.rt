@@ -27,8 +27,9 @@ pub(crate) fn audit_file<F: Texts, K: Sink>(
     files: &mut F,
     sink: &mut K,
 ) -> Audited
-    ensures { AuditsFile (shelves (F.told files.old) (F.faults files.old) (F.faults files.new)) file.now log.now result
-        (sink_seen (K.written sink.old) (K.faults sink.old)) (sink_seen (K.written sink.new) (K.faults sink.new)) }
+    ensures { AuditsFile (shelves (F.told files.old) (F.faults files.old) (F.faults files.new))
+        file.now log.now result (sink_seen (K.written sink.old) (K.faults sink.old))
+        (sink_seen (K.written sink.new) (K.faults sink.new)) }
 {
     match files.text(alloc, file) {
         Ok(text) => audit_text(alloc, text.as_slice(), log, files, sink),
@@ -47,8 +48,9 @@ fn audit_text<F: Texts, K: Sink>(
     sink: &mut K,
 ) -> Audited
     requires { length text.now ≤ 67108864 }
-    ensures { AuditsText text.now (F.told files.old) log.now (F.faults files.old) (F.faults files.new) result
-        (sink_seen (K.written sink.old) (K.faults sink.old)) (sink_seen (K.written sink.new) (K.faults sink.new)) }
+    ensures { AuditsText text.now (F.told files.old) log.now (F.faults files.old)
+        (F.faults files.new) result (sink_seen (K.written sink.old) (K.faults sink.old))
+        (sink_seen (K.written sink.new) (K.faults sink.new)) }
 {
     match read_file(alloc, text) {
         Ok(opened) => audit_named(alloc, opened, log, files, sink),
@@ -66,8 +68,9 @@ fn audit_named<F: Texts, K: Sink>(
     sink: &mut K,
 ) -> Audited
     requires { IsAddress opened.home }
-    ensures { AuditsNamed (seen opened) (F.told files.old) log.now (F.faults files.old) (F.faults files.new) result
-        (sink_seen (K.written sink.old) (K.faults sink.old)) (sink_seen (K.written sink.new) (K.faults sink.new)) }
+    ensures { AuditsNamed (seen opened) (F.told files.old) log.now (F.faults files.old)
+        (F.faults files.new) result (sink_seen (K.written sink.old) (K.faults sink.old))
+        (sink_seen (K.written sink.new) (K.faults sink.new)) }
 {
     match files.text(alloc, log) {
         Ok(text) => audit_opened(alloc, opened, text.as_slice(), sink),
@@ -82,7 +85,8 @@ fn audit_opened<K: Sink>(alloc: Global, opened: Opened, log: &[u8], sink: &mut K
     requires home { IsAddress opened.home }
     requires short { length log.now ≤ 67108864 }
     ensures { Prints (SaysVerdict log.now (seen opened)) result
-        (sink_seen (K.written sink.old) (K.faults sink.old)) (sink_seen (K.written sink.new) (K.faults sink.new)) }
+        (sink_seen (K.written sink.old) (K.faults sink.old))
+        (sink_seen (K.written sink.new) (K.faults sink.new)) }
 {
     let Opened { home, seed, solo } = opened;
     drop(seed);
@@ -130,7 +134,8 @@ fn cause_word(cause: Cause) -> &'static [u8]
 /// Prints that a log is what the network does.
 fn print_yes<K: Sink>(alloc: Global, count: u32, sink: &mut K) -> Audited
     ensures { PrintsText audited.Printed (yes_line count) result
-        (sink_seen (K.written sink.old) (K.faults sink.old)) (sink_seen (K.written sink.new) (K.faults sink.new)) }
+        (sink_seen (K.written sink.old) (K.faults sink.old))
+        (sink_seen (K.written sink.new) (K.faults sink.new)) }
 {
     match yes_line(alloc, count) {
         Ok(line) => print(sink, line.as_slice()),
@@ -141,7 +146,8 @@ fn print_yes<K: Sink>(alloc: Global, count: u32, sink: &mut K) -> Audited
 /// Prints that it isn't, from which line on and why.
 fn print_no<K: Sink>(alloc: Global, number: u32, cause: Cause, sink: &mut K) -> Audited
     ensures { PrintsText audited.Denied (no_line number cause) result
-        (sink_seen (K.written sink.old) (K.faults sink.old)) (sink_seen (K.written sink.new) (K.faults sink.new)) }
+        (sink_seen (K.written sink.old) (K.faults sink.old))
+        (sink_seen (K.written sink.new) (K.faults sink.new)) }
 {
     match no_line(alloc, number, cause) {
         Ok(line) => print_denial(sink, line.as_slice()),

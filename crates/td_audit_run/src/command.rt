@@ -36,8 +36,9 @@ pub fn run_log<F: Texts, K: Sink, E: Sink>(
 ) -> u8
     ensures { Runs (map string_bytes args.now)
         (shelves (F.told files.old) (F.faults files.old) (F.faults files.new))
-        (sink_seen (K.written sink.old) (K.faults sink.old)) (sink_seen (K.written sink.new) (K.faults sink.new))
-        (E.written faults.old) (E.written faults.new) (E.faults faults.old) (E.faults faults.new) result }
+        (sink_seen (K.written sink.old) (K.faults sink.old))
+        (sink_seen (K.written sink.new) (K.faults sink.new)) (E.written faults.old)
+        (E.written faults.new) (E.faults faults.old) (E.faults faults.new) result }
 {
     let ended = obey(alloc, args, files, sink);
     report(faults, ended);
@@ -48,7 +49,8 @@ pub fn run_log<F: Texts, K: Sink, E: Sink>(
 fn obey<F: Texts, K: Sink>(alloc: Global, args: &[String], files: &mut F, sink: &mut K) -> Audited
     ensures { Obeys (command_of (map string_bytes args.now))
         (shelves (F.told files.old) (F.faults files.old) (F.faults files.new)) result
-        (sink_seen (K.written sink.old) (K.faults sink.old)) (sink_seen (K.written sink.new) (K.faults sink.new)) }
+        (sink_seen (K.written sink.old) (K.faults sink.old))
+        (sink_seen (K.written sink.new) (K.faults sink.new)) }
 {
     match args {
         [word, count] => log_counted(alloc, word.as_str(), count.as_str(), sink),
@@ -69,8 +71,10 @@ fn obey<F: Texts, K: Sink>(alloc: Global, args: &[String], files: &mut F, sink: 
 /// `log N`, for which no file is asked.
 #[tactic(auto, using(crate::proofs::Obey::by_count, crate::proofs::Obey::by_none))]
 fn log_counted<K: Sink>(alloc: Global, word: &str, count: &str, sink: &mut K) -> Audited
-    ensures { (texts : Shelves) → texts.after ≡ texts.before → Obeys (log_command word.now count.now) texts result
-        (sink_seen (K.written sink.old) (K.faults sink.old)) (sink_seen (K.written sink.new) (K.faults sink.new)) }
+    ensures { (texts : Shelves) → texts.after ≡ texts.before
+        → Obeys (log_command word.now count.now) texts result
+        (sink_seen (K.written sink.old) (K.faults sink.old))
+        (sink_seen (K.written sink.new) (K.faults sink.new)) }
 {
     if word != "log" {
         return Audited::Usage;
@@ -92,7 +96,8 @@ fn audit_named<F: Texts, K: Sink>(
 ) -> Audited
     ensures { Obeys (audit_command word.now file.now log.now)
         (shelves (F.told files.old) (F.faults files.old) (F.faults files.new)) result
-        (sink_seen (K.written sink.old) (K.faults sink.old)) (sink_seen (K.written sink.new) (K.faults sink.new)) }
+        (sink_seen (K.written sink.old) (K.faults sink.old))
+        (sink_seen (K.written sink.new) (K.faults sink.new)) }
 {
     if word == "audit" {
         audit_file(alloc, file, log, files, sink)

@@ -23,7 +23,8 @@ const LONGEST_TEXT: usize = 67_108_864;
 pub(crate) fn print_log<K: Sink>(alloc: Global, count: u32, sink: &mut K) -> Audited
     requires least { 1 ≤ count }
     requires most { count ≤ 64 }
-    ensures { PrintsOf SaysLog (generated count) result (sink_seen (K.written sink.old) (K.faults sink.old))
+    ensures { PrintsOf SaysLog (generated count) result
+        (sink_seen (K.written sink.old) (K.faults sink.old))
         (sink_seen (K.written sink.new) (K.faults sink.new)) }
 {
     match make_file(alloc, count) {
@@ -50,7 +51,8 @@ fn log_text<K: Sink>(alloc: Global, text: &[u8], sink: &mut K) -> Audited
 /// Prints the log of what was opened.
 fn log_opened<K: Sink>(alloc: Global, opened: Opened, sink: &mut K) -> Audited
     requires { IsAddress opened.home }
-    ensures { Prints (SaysLog (seen opened)) result (sink_seen (K.written sink.old) (K.faults sink.old))
+    ensures { Prints (SaysLog (seen opened)) result
+        (sink_seen (K.written sink.old) (K.faults sink.old))
         (sink_seen (K.written sink.new) (K.faults sink.new)) }
 {
     let Opened { home, seed, solo } = opened;

@@ -10,7 +10,8 @@ use td_tell::write_all;
 
 /// Prints a text with which all is well.
 pub(crate) fn print<K: Sink>(sink: &mut K, text: &[u8]) -> Audited
-    ensures { PrintsText audited.Printed text.now result (sink_seen (K.written sink.old) (K.faults sink.old))
+    ensures { PrintsText audited.Printed text.now result
+        (sink_seen (K.written sink.old) (K.faults sink.old))
         (sink_seen (K.written sink.new) (K.faults sink.new)) }
 {
     match write_all(sink, text) {
@@ -21,7 +22,8 @@ pub(crate) fn print<K: Sink>(sink: &mut K, text: &[u8]) -> Audited
 
 /// Prints a text that denies what was asked.
 pub(crate) fn print_denial<K: Sink>(sink: &mut K, text: &[u8]) -> Audited
-    ensures { PrintsText audited.Denied text.now result (sink_seen (K.written sink.old) (K.faults sink.old))
+    ensures { PrintsText audited.Denied text.now result
+        (sink_seen (K.written sink.old) (K.faults sink.old))
         (sink_seen (K.written sink.new) (K.faults sink.new)) }
 {
     match write_all(sink, text) {

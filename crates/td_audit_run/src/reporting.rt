@@ -10,8 +10,8 @@ use td_out::Sink;
 
 /// Writes the line for a command that ended so. Where the sink fails, the rest of the line is lost.
 pub(crate) fn report<E: Sink>(faults: &mut E, ended: Audited)
-    ensures { Tells (line_of ended) (E.written faults.old) (E.written faults.new) (E.faults faults.old)
-        (E.faults faults.new) }
+    ensures { Tells (line_of ended) (E.written faults.old) (E.written faults.new)
+        (E.faults faults.old) (E.faults faults.new) }
 {
     match ended {
         Audited::Usage => report_command(faults, Ended::Usage),
@@ -28,8 +28,8 @@ pub(crate) fn report<E: Sink>(faults: &mut E, ended: Audited)
 
 /// A number between two texts.
 fn write_line<E: Sink>(faults: &mut E, before: &[u8], number: u32, after: &[u8])
-    ensures { Tells (numbered before.now number after.now) (E.written faults.old) (E.written faults.new)
-        (E.faults faults.old) (E.faults faults.new) }
+    ensures { Tells (numbered before.now number after.now) (E.written faults.old)
+        (E.written faults.new) (E.faults faults.old) (E.faults faults.new) }
 {
     let _ = write_numbered(faults, before, number, after);
 }

@@ -20,7 +20,8 @@ use Rattle.td_out.specs.Texts.{Named, longest_text, text_named}
 -- The log that was made of a file's traders passes.
 abbrev pub FilesLogsPass : Type 0
 FilesLogsPass =
-    (text log : List ℕ) (o : Opening) → AreOctets text → opening_of text ≡ Ok o → IsLog o.traders o.home log
+    (text log : List ℕ) (o : Opening) → AreOctets text → opening_of text ≡ Ok o
+    → IsLog o.traders o.home log
     → length log < 2 ^ 32 → Audits o.traders o.home log (Yes (length (lines_of log)))
 
 -- ---- the commands
@@ -56,8 +57,10 @@ abbrev pub RingLogsPass : Type 0
 RingLogsPass =
     (count : ℕ) (o : Opening) (log file name : List ℕ) (texts : Shelves) (before after : SinkSeen)
     (written0 written1 : Option (List ℕ)) (faults0 faults1 status : ℕ) → 1 ≤ count → count ≤ 64
-    → opening_of (generated count) ≡ Ok o → IsLog o.traders o.home log → AreNamed texts file name count log
-    → Runs (codes "audit" ∷ file ∷ name ∷ []) texts before after written0 written1 faults0 faults1 status
+    → opening_of (generated count) ≡ Ok o → IsLog o.traders o.home log
+    → AreNamed texts file name count log
+    → Runs (codes "audit" ∷ file ∷ name ∷ []) texts before after written0 written1 faults0 faults1
+    status
     → EndsWithYes log before after status
 
 -- ---- how long a ring's log is
@@ -65,5 +68,5 @@ RingLogsPass =
 -- at most 128 lines for each trader
 abbrev pub RingLogsAreShort : Type 0
 RingLogsAreShort =
-    (count : ℕ) (o : Opening) (log : List ℕ) → 1 ≤ count → count ≤ 64 → opening_of (generated count) ≡ Ok o
-    → (is : IsLog o.traders o.home log) → length is.lines ≤ 128 * count
+    (count : ℕ) (o : Opening) (log : List ℕ) → 1 ≤ count → count ≤ 64 → opening_of (generated count)
+    ≡ Ok o → (is : IsLog o.traders o.home log) → length is.lines ≤ 128 * count

@@ -25,17 +25,20 @@ abbrev pub fresh_stream : Stream
 fresh_stream = record { start = 0; rest = []; limit = reply_limit }
 
 -- a connection to where a profile says; want of memory is met once it stands, and ends it
-abbrev pub Connected : Iiop → (before after : Option Traffic) → (f0 f1 : ℕ) → Result Stream PeerFault → Type 0
-Connected p before after f0 f1 (Ok s) = (s ≡ fresh_stream) × (after ≡ option_map (opened p.host p.port) before)
+abbrev pub Connected : Iiop → (before after : Option Traffic) → (f0 f1 : ℕ)
+    → Result Stream PeerFault → Type 0
+Connected p before after f0 f1 (Ok s) = (s ≡ fresh_stream)
+    × (after ≡ option_map (opened p.host p.port) before)
 Connected p before after f0 f1 (Err fault.Wire) = Rose f0 f1 × Unopened before after
 Connected p before after f0 f1 (Err fault.Grammar) = ⊥
 Connected p before after f0 f1 (Err fault.Exception) = ⊥
-Connected p before after f0 f1 (Err fault.Memory) = after ≡ option_map ended (option_map (opened p.host p.port) before)
+Connected p before after f0 f1 (Err fault.Memory) = after
+    ≡ option_map ended (option_map (opened p.host p.port) before)
 
 -- The reply is what the bytes come to that the new connection gives, and over it the request was written and no more.
 -- It has ended since.
-pub record Answers {A : Type 0} (reads : Reading A) (request : List ℕ) (p : Iiop) (t : Traffic) (after : Option Traffic)
-    (a : A) : Type 0 where
+pub record Answers {A : Type 0} (reads : Reading A) (request : List ℕ) (p : Iiop) (t : Traffic)
+    (after : Option Traffic) (a : A) : Type 0 where
   pub size : ℕ
   pub rest : List ℕ
   pub is : replied reads first_id (next_given t) ≡ told a size
@@ -43,9 +46,10 @@ pub record Answers {A : Type 0} (reads : Reading A) (request : List ℕ) (p : Ii
 
 -- What a call over a connection to there answers: what the reply tells; that the bytes are outside the grammar; that
 -- they ended before a message was whole, or the wire failed; or want of memory.
-abbrev pub CalledAt : {A : Type 0} → Reading A → (request : List ℕ) → Iiop → (before after : Option Traffic)
-    → (f0 f1 : ℕ) → Result A PeerFault → Type 0
-CalledAt reads request p before after f0 f1 (Ok a) = IfSome before (λ t. Answers reads request p t after a)
+abbrev pub CalledAt : {A : Type 0} → Reading A → (request : List ℕ) → Iiop
+    → (before after : Option Traffic) → (f0 f1 : ℕ) → Result A PeerFault → Type 0
+CalledAt reads request p before after f0 f1 (Ok a) = IfSome before
+    (λ t. Answers reads request p t after a)
 CalledAt reads request p before after f0 f1 (Err fault.Wire) =
     Rose f0 f1 ⊎ IfSome before (λ t. replied reads first_id (next_given t) ≡ short)
 CalledAt reads request p before after f0 f1 (Err fault.Grammar) =
@@ -58,7 +62,8 @@ CalledAt reads request p before after f0 f1 (Err fault.Memory) = ⊤
 abbrev pub Called : {A : Type 0} → Reading A → (request : Iiop → List ℕ) → (target : Ior)
     → (before after : Option Traffic) → (f0 f1 : ℕ) → Result A PeerFault → Type 0
 Called reads request target before after f0 f1 (Ok a) =
-    (p : Iiop) × (iiop_of target ≡ Some p) × IfSome before (λ t. Answers reads (request p) p t after a)
+    (p : Iiop) × (iiop_of target ≡ Some p)
+    × IfSome before (λ t. Answers reads (request p) p t after a)
 Called reads request target before after f0 f1 (Err fault.Wire) =
     Rose f0 f1 ⊎ IfSome before (λ t. replied reads first_id (next_given t) ≡ short)
 Called reads request target before after f0 f1 (Err fault.Grammar) =

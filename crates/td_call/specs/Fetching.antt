@@ -20,7 +20,8 @@ pub record Brought (old new : Stream) (before after : Option Traffic) : Type 0 w
   pub gives : Gives piece before after
 
 -- a try at more bytes: there were some, or the connection has none left
-abbrev pub Tries : (old new : Stream) → (before after : Option Traffic) → (f0 f1 : ℕ) → Result Bool PeerFault → Type 0
+abbrev pub Tries : (old new : Stream) → (before after : Option Traffic) → (f0 f1 : ℕ)
+    → Result Bool PeerFault → Type 0
 Tries old new before after f0 f1 (Ok true) =
     (b : Brought old new before after) × (0 < length b.piece) × (length b.piece ≤ piece_size)
 Tries old new before after f0 f1 (Ok false) = (new ≡ old) × IfSome before (λ t. left_of t ≡ [])
@@ -33,8 +34,8 @@ abbrev pub IsWhole : List ℕ → Type 0
 IsWhole held = (size : ℕ) × (first_at reply_limit held ≡ Ok (Some size))
 
 -- a whole message is held; else the wire failed or the bytes ended before one was whole, or a header is bad
-abbrev pub Fetches : (old new : Stream) → (before after : Option Traffic) → (f0 f1 : ℕ) → Result (Unit {0}) PeerFault
-    → Type 0
+abbrev pub Fetches : (old new : Stream) → (before after : Option Traffic) → (f0 f1 : ℕ)
+    → Result (Unit {0}) PeerFault → Type 0
 Fetches old new before after f0 f1 (Ok u) = Brought old new before after × IsWhole new.rest
 Fetches old new before after f0 f1 (Err fault.Wire) =
     Rose f0 f1 ⊎ IfSome before (λ t. first_at reply_limit (old.rest ++ left_of t) ≡ Ok None)
@@ -54,11 +55,13 @@ IsRead found (Err fault.Wire) = ⊥
 IsRead found (Err fault.Exception) = ⊥
 
 -- what the bytes that are held come to, whatever follows them
-abbrev pub ReadsFront : {A : Type 0} → Reading A → (id : ℕ) → (held : List ℕ) → Result A PeerFault → Type 0
+abbrev pub ReadsFront : {A : Type 0} → Reading A → (id : ℕ) → (held : List ℕ) → Result A PeerFault
+    → Type 0
 ReadsFront reads id held (Ok a) =
     (size : ℕ) × (first_at reply_limit held ≡ Ok (Some size))
     × ((more : List ℕ) → replied reads id (held ++ more) ≡ told a size)
-ReadsFront reads id held (Err fault.Grammar) = (more : List ℕ) → replied reads id (held ++ more) ≡ strange
+ReadsFront reads id held (Err fault.Grammar) = (more : List ℕ) → replied reads id (held ++ more)
+    ≡ strange
 ReadsFront reads id held (Err fault.Wire) = first_at reply_limit held ≡ Ok None
 ReadsFront reads id held (Err fault.Exception) = ⊥
 ReadsFront reads id held (Err fault.Memory) = ⊤
@@ -67,8 +70,8 @@ ReadsFront reads id held (Err fault.Memory) = ⊤
 
 -- The reply is what the bytes come to that are held and that the connection gives. The request was written and no more,
 -- and what follows the reply is held or left.
-pub record Replies {A : Type 0} (reads : Reading A) (id : ℕ) (request held held_after : List ℕ) (t : Traffic)
-    (after : Option Traffic) (a : A) : Type 0 where
+pub record Replies {A : Type 0} (reads : Reading A) (id : ℕ) (request held held_after : List ℕ)
+    (t : Traffic) (after : Option Traffic) (a : A) : Type 0 where
   pub size : ℕ
   pub rest : List ℕ
   pub is : replied reads id (held ++ left_of t) ≡ told a size

@@ -48,7 +48,8 @@ pub data LeavesAt (request : List ℕ) (p : Iiop) (before after : Option Traffic
   over : (last : Option Traffic) → Moves request (option_map (opened p.host p.port) before) last
       → after ≡ option_map ended last → LeavesAt request p before after
 
-pub data Leaves (request : Iiop → List ℕ) (target : Ior) (before after : Option Traffic) : Type 0 where
+pub data Leaves (request : Iiop → List ℕ) (target : Ior)
+    (before after : Option Traffic) : Type 0 where
   -- so it is with an object that has no IIOP profile
   untouched : after ≡ before → Leaves request target before after
   reached : (p : Iiop) → iiop_of target ≡ Some p → LeavesAt (request p) p before after

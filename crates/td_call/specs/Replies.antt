@@ -47,15 +47,17 @@ reply_body id kind order message =
     if nat_eq kind REPLY then body_of id (reply_at (behind_header order message)) else None
 
 -- what a whole message tells
-abbrev pub message_read : {A : Type 0} → Reading A → (id : ℕ) → (kind : ℕ) → Order → (message : List ℕ) → Option A
+abbrev pub message_read : {A : Type 0} → Reading A → (id : ℕ) → (kind : ℕ) → Order
+    → (message : List ℕ) → Option A
 message_read reads id kind order message =
     option_and_then (λ (b : ℕ × At). reads b.0 b.1) (reply_body id kind order message)
 
-abbrev pub by_header : {A : Type 0} → Reading A → (id : ℕ) → (given : List ℕ) → Result (Option Header) FrameFault
-    → Comes A
+abbrev pub by_header : {A : Type 0} → Reading A → (id : ℕ) → (given : List ℕ)
+    → Result (Option Header) FrameFault → Comes A
 by_header reads id given (Ok (Some h)) =
     if nat_lt (length given) (HEADER_SIZE + h.size) then short
-    else comes_of (message_read reads id h.kind h.order (take (HEADER_SIZE + h.size) given)) (HEADER_SIZE + h.size)
+    else comes_of (message_read reads id h.kind h.order (take (HEADER_SIZE + h.size) given))
+    (HEADER_SIZE + h.size)
 by_header reads id given (Ok None) = short
 by_header reads id given (Err f) = strange
 

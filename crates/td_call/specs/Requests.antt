@@ -21,7 +21,8 @@ abbrev pub spoken : (minor : ℕ) → ℕ
 spoken minor = if nat_eq minor 0 then 0 else 1
 
 -- a Request for an operation of the object with this profile, and what is written for its parameters
-unfoldable pub request_bytes : (id : ℕ) → Iiop → (operation : List ℕ) → (parameters : Piece) → List ℕ
+unfoldable pub request_bytes : (id : ℕ) → Iiop → (operation : List ℕ) → (parameters : Piece)
+    → List ℕ
 request_bytes id p operation parameters =
     let start : List ℕ = request_start Big (spoken p.minor) id true p.key operation in
     sealed Big (start ++ parameters Big (length start))
@@ -32,8 +33,10 @@ request_of id p c = request_bytes id p (name_of (operation_in c)) (call_piece c)
 
 -- the parameters of evalDP: name, returned_type, extra_info (OMG's Trading Object Service, interface DynamicPropEval)
 abbrev pub evaluation_piece : (name : List ℕ) → TypeCode → Any → Piece
-evaluation_piece name returned extra = (text & type_code & any_value).format.writes (name, (returned, extra))
+evaluation_piece name returned extra = (text & type_code & any_value).format.writes
+    (name, (returned, extra))
 
 -- the Request for an evaluation
 abbrev pub evaluation_of : (id : ℕ) → Iiop → (name : List ℕ) → TypeCode → Any → List ℕ
-evaluation_of id p name returned extra = request_bytes id p (codes "evalDP") (evaluation_piece name returned extra)
+evaluation_of id p name returned extra = request_bytes id p (codes "evalDP")
+    (evaluation_piece name returned extra)

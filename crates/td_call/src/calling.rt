@@ -45,8 +45,8 @@ pub fn profile_of(alloc: Global, target: &Ior) -> Result<Iiop, PeerFault>
 /// `Wire` where the wire failed, and `Memory`.
 pub fn connect<L: Wire>(alloc: Global, wire: &mut L, profile: &Iiop) -> Result<Framer, PeerFault>
     ensures same { L.same wire.old wire.new }
-    ensures connected { Connected profile.now (L.told wire.old) (L.told wire.new) (L.faults wire.old)
-        (L.faults wire.new) result }
+    ensures connected { Connected profile.now (L.told wire.old) (L.told wire.new)
+        (L.faults wire.old) (L.faults wire.new) result }
     ensures later { L.faults wire.old ≤ L.faults wire.new }
 {
     match wire.connect(profile.host.as_slice(), profile.port) {
@@ -104,7 +104,8 @@ pub fn call_over<L: Wire>(
     ensures called { Called (outcome_told call.now) (λ p. request_of first_id p call.now) target.now
         (L.told wire.old) (L.told wire.new) (L.faults wire.old) (L.faults wire.new) result }
     ensures admitted { IfOk result (λ a. AdmitsTold call.now a) }
-    ensures leaves { Leaves (λ p. request_of first_id p call.now) target.now (L.told wire.old) (L.told wire.new) }
+    ensures leaves { Leaves (λ p. request_of first_id p call.now) target.now (L.told wire.old)
+        (L.told wire.new) }
     ensures disconnected { StaysDisconnected (L.told wire.old) (L.told wire.new) }
     ensures later { L.faults wire.old ≤ L.faults wire.new }
 {
@@ -122,11 +123,12 @@ fn call_at<L: Wire>(
     call: &Call,
 ) -> Result<Answered, PeerFault>
     ensures same { L.same wire.old wire.new }
-    ensures called { CalledAt (outcome_told call.now) (request_of first_id profile.now call.now) profile.now
-        (L.told wire.old) (L.told wire.new) (L.faults wire.old) (L.faults wire.new) result }
+    ensures called { CalledAt (outcome_told call.now) (request_of first_id profile.now call.now)
+        profile.now (L.told wire.old) (L.told wire.new) (L.faults wire.old)
+        (L.faults wire.new) result }
     ensures admitted { IfOk result (λ a. AdmitsTold call.now a) }
-    ensures leaves { LeavesAt (request_of first_id profile.now call.now) profile.now (L.told wire.old)
-        (L.told wire.new) }
+    ensures leaves { LeavesAt (request_of first_id profile.now call.now) profile.now
+        (L.told wire.old) (L.told wire.new) }
     ensures later { L.faults wire.old ≤ L.faults wire.new }
 {
     match connect(alloc, wire, profile) {
@@ -159,8 +161,8 @@ pub fn evaluate_over<L: Wire>(
         (λ p. evaluation_of first_id p name.now returned.now extra.now) evaluator.now
         (L.told wire.old) (L.told wire.new) (L.faults wire.old) (L.faults wire.new) result }
     ensures admitted { IfOk result (λ o. AdmitsValue o) }
-    ensures leaves { Leaves (λ p. evaluation_of first_id p name.now returned.now extra.now) evaluator.now
-        (L.told wire.old) (L.told wire.new) }
+    ensures leaves { Leaves (λ p. evaluation_of first_id p name.now returned.now extra.now)
+        evaluator.now (L.told wire.old) (L.told wire.new) }
     ensures disconnected { StaysDisconnected (L.told wire.old) (L.told wire.new) }
     ensures later { L.faults wire.old ≤ L.faults wire.new }
 {
@@ -185,8 +187,8 @@ fn evaluate_at<L: Wire>(
         (evaluation_of first_id profile.now name.now returned.now extra.now) profile.now
         (L.told wire.old) (L.told wire.new) (L.faults wire.old) (L.faults wire.new) result }
     ensures admitted { IfOk result (λ o. AdmitsValue o) }
-    ensures leaves { LeavesAt (evaluation_of first_id profile.now name.now returned.now extra.now) profile.now
-        (L.told wire.old) (L.told wire.new) }
+    ensures leaves { LeavesAt (evaluation_of first_id profile.now name.now returned.now extra.now)
+        profile.now (L.told wire.old) (L.told wire.new) }
     ensures later { L.faults wire.old ≤ L.faults wire.new }
 {
     match evaluation_request(alloc, FIRST_ID, profile, name, returned, extra) {

@@ -31,8 +31,9 @@ fn send<L: Wire>(wire: &mut L, framer: &mut Framer, request: &[u8]) -> Result<()
     requires limit { framer.old.limit ≡ reply_limit }
     requires room { framer.old.start + length framer.old.rest + 2 ^ 27 < 2 ^ 64 }
     ensures same { L.same wire.old wire.new }
-    ensures fetches { Fetches framer.old framer.new (option_map (wrote request.now) (L.told wire.old)) (L.told wire.new)
-        (L.faults wire.old) (L.faults wire.new) result }
+    ensures fetches { Fetches framer.old framer.new
+        (option_map (wrote request.now) (L.told wire.old)) (L.told wire.new) (L.faults wire.old)
+        (L.faults wire.new) result }
     ensures moves { Moves request.now (L.told wire.old) (L.told wire.new) }
     ensures later { L.faults wire.old ≤ L.faults wire.new }
     ensures grows { framer.new.start + length framer.new.rest
@@ -61,8 +62,9 @@ fn exchange_outcome<L: Wire>(
     requires limit { framer.old.limit ≡ reply_limit }
     requires room { framer.old.start + length framer.old.rest + 2 ^ 27 < 2 ^ 64 }
     ensures same { L.same wire.old wire.new }
-    ensures exchanges { Exchanges (outcome_told call.now) id request.now framer.old.rest framer.new.rest
-        (L.told wire.old) (L.told wire.new) (L.faults wire.old) (L.faults wire.new) result }
+    ensures exchanges { Exchanges (outcome_told call.now)
+        id request.now framer.old.rest framer.new.rest (L.told wire.old) (L.told wire.new)
+        (L.faults wire.old) (L.faults wire.new) result }
     ensures admitted { IfOk result (λ a. AdmitsTold call.now a) }
     ensures moves { Moves request.now (L.told wire.old) (L.told wire.new) }
     ensures later { L.faults wire.old ≤ L.faults wire.new }
@@ -99,8 +101,9 @@ pub fn exchange_call<L: Wire>(
     requires limit { framer.old.limit ≡ reply_limit }
     requires room { framer.old.start + length framer.old.rest + 2 ^ 27 < 2 ^ 64 }
     ensures same { L.same wire.old wire.new }
-    ensures exchanges { Exchanges (outcome_told call.now) id (request_of id profile.now call.now) framer.old.rest
-        framer.new.rest (L.told wire.old) (L.told wire.new) (L.faults wire.old) (L.faults wire.new) result }
+    ensures exchanges { Exchanges (outcome_told call.now) id (request_of id profile.now call.now)
+        framer.old.rest framer.new.rest (L.told wire.old) (L.told wire.new) (L.faults wire.old)
+        (L.faults wire.new) result }
     ensures admitted { IfOk result (λ a. AdmitsTold call.now a) }
     ensures moves { Moves (request_of id profile.now call.now) (L.told wire.old) (L.told wire.new) }
     ensures later { L.faults wire.old ≤ L.faults wire.new }
@@ -130,8 +133,9 @@ pub(crate) fn exchange_evaluation<L: Wire>(
     requires limit { framer.old.limit ≡ reply_limit }
     requires room { framer.old.start + length framer.old.rest + 2 ^ 27 < 2 ^ 64 }
     ensures same { L.same wire.old wire.new }
-    ensures exchanges { Exchanges (evaluation_told returned.now) id request.now framer.old.rest framer.new.rest
-        (L.told wire.old) (L.told wire.new) (L.faults wire.old) (L.faults wire.new) result }
+    ensures exchanges { Exchanges (evaluation_told returned.now)
+        id request.now framer.old.rest framer.new.rest (L.told wire.old) (L.told wire.new)
+        (L.faults wire.old) (L.faults wire.new) result }
     ensures admitted { IfOk result (λ o. AdmitsValue o) }
     ensures moves { Moves request.now (L.told wire.old) (L.told wire.new) }
     ensures later { L.faults wire.old ≤ L.faults wire.new }

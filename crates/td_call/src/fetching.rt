@@ -23,8 +23,8 @@ fn is_whole(framer: &mut Framer) -> Result<bool, FrameFault>
     requires { framer.old.limit ≡ reply_limit }
     ensures framer { framer.new ≡ framer.old }
     ensures found { MatchResult result
-        (λ b. MatchBool b (IsWhole framer.old.rest) (first_at reply_limit framer.old.rest ≡ Ok None))
-        (λ e. first_at reply_limit framer.old.rest ≡ Err e) }
+        (λ b. MatchBool b (IsWhole framer.old.rest) (first_at reply_limit framer.old.rest
+        ≡ Ok None)) (λ e. first_at reply_limit framer.old.rest ≡ Err e) }
 {
     match framer.next_message() {
         Err(fault) => Err(fault),
@@ -42,8 +42,8 @@ fn is_whole(framer: &mut Framer) -> Result<bool, FrameFault>
 fn take_piece<L: Wire>(wire: &mut L, framer: &mut Framer) -> Result<bool, PeerFault>
     requires { framer.old.start + (length framer.old.rest + piece_size) < 2 ^ 64 }
     ensures same { L.same wire.old wire.new }
-    ensures tries { Tries framer.old framer.new (L.told wire.old) (L.told wire.new) (L.faults wire.old)
-        (L.faults wire.new) result }
+    ensures tries { Tries framer.old framer.new (L.told wire.old) (L.told wire.new)
+        (L.faults wire.old) (L.faults wire.new) result }
     ensures later { L.faults wire.old ≤ L.faults wire.new }
     ensures kept { OnErr result (framer.new ≡ framer.old) }
     ensures draws { Draws (L.told wire.old) (L.told wire.new) }
@@ -69,8 +69,8 @@ pub(crate) fn fetch<L: Wire>(wire: &mut L, framer: &mut Framer) -> Result<(), Pe
     requires limit { framer.old.limit ≡ reply_limit }
     requires room { framer.old.start + length framer.old.rest + 2 ^ 27 < 2 ^ 64 }
     ensures same { L.same wire.old wire.new }
-    ensures fetches { Fetches framer.old framer.new (L.told wire.old) (L.told wire.new) (L.faults wire.old)
-        (L.faults wire.new) result }
+    ensures fetches { Fetches framer.old framer.new (L.told wire.old) (L.told wire.new)
+        (L.faults wire.old) (L.faults wire.new) result }
     ensures later { L.faults wire.old ≤ L.faults wire.new }
     ensures grows { framer.new.start + length framer.new.rest
         ≤ framer.old.start + length framer.old.rest + 2 ^ 27 }

@@ -19,8 +19,10 @@ use td_walk::PeerFault;
 #[tactic(auto, unfolding(crate::specs::Replies::reply_body))]
 fn reply_body<'a>(message: &Raw<'a>, id: u32) -> Option<(u32, Reader<'a>)>
     requires { IsReadable message.now.bytes.now }
-    ensures { MatchOption result (reply_body id message.now.kind message.now.order message.now.bytes.now ≡ None)
-        (λ b. reply_body id message.now.kind message.now.order message.now.bytes.now ≡ Some (b.0, b.1)) }
+    ensures { MatchOption result
+        (reply_body id message.now.kind message.now.order message.now.bytes.now ≡ None)
+        (λ b. reply_body id message.now.kind message.now.order message.now.bytes.now
+        ≡ Some (b.0, b.1)) }
 {
     if message.kind != REPLY {
         return None;
@@ -33,8 +35,10 @@ fn reply_body<'a>(message: &Raw<'a>, id: u32) -> Option<(u32, Reader<'a>)>
 
 /// Those behind a head, where it is of a reply to the request of this id.
 fn body_of<'a>(head: &ReplyHead<'a>, id: u32) -> Option<(u32, Reader<'a>)>
-    ensures { MatchOption result (body_of id (Ok (reply_head head.now.id head.now.status, head.now.body)) ≡ None)
-        (λ b. body_of id (Ok (reply_head head.now.id head.now.status, head.now.body)) ≡ Some (b.0, b.1)) }
+    ensures { MatchOption result
+        (body_of id (Ok (reply_head head.now.id head.now.status, head.now.body)) ≡ None)
+        (λ b. body_of id (Ok (reply_head head.now.id head.now.status, head.now.body))
+        ≡ Some (b.0, b.1)) }
 {
     if head.id == id {
         Some((head.status, head.body.copied()))
@@ -52,8 +56,8 @@ fn read_outcome_in(
     call: &Call,
 ) -> Result<Answered, PeerFault>
     requires { IsReadable message.now.bytes.now }
-    ensures reads { IsRead (message_read (outcome_told call.now) id message.now.kind message.now.order
-        message.now.bytes.now) result }
+    ensures reads { IsRead (message_read (outcome_told call.now)
+        id message.now.kind message.now.order message.now.bytes.now) result }
     ensures admitted { IfOk result (λ a. AdmitsTold call.now a) }
 {
     match reply_body(message, id) {
@@ -74,8 +78,8 @@ fn read_evaluation_in(
     returned: &TypeCode,
 ) -> Result<Option<Boxed<Any>>, PeerFault>
     requires { IsReadable message.now.bytes.now }
-    ensures reads { IsRead (message_read (evaluation_told returned.now) id message.now.kind message.now.order
-        message.now.bytes.now) result }
+    ensures reads { IsRead (message_read (evaluation_told returned.now)
+        id message.now.kind message.now.order message.now.bytes.now) result }
     ensures admitted { IfOk result (λ o. AdmitsValue o) }
 {
     match reply_body(message, id) {

@@ -59,7 +59,8 @@ pub(crate) fn evaluation_request(
     returned: &TypeCode,
     extra: &Any,
 ) -> Result<Writer, Memory>
-    ensures { IfOk result (λ w. w.bytes ≡ evaluation_of id profile.now name.now returned.now extra.now) }
+    ensures { IfOk result (λ w. w.bytes
+        ≡ evaluation_of id profile.now name.now returned.now extra.now) }
 {
     let mut w = Writer::new(alloc, Order::Big);
     let key = profile.key.as_slice();

@@ -176,7 +176,8 @@ failure_format {F = F} {X = X} bad = record {
 abbrev pub union_format : {F K Y : Type 0} → Format F K → (Y → K) → (K → Format F Y) → Format F Y
 union_format {F = F} {K = K} {Y = Y} tag tag_of arm = record {
   reads = λ a. tag.reads a >>= λ k. (arm k.0).reads k.1;
-  spells = λ order place y b. SpellsThen tag.spells (λ k. (arm k).spells) order place (tag_of y, y) b;
+  spells = λ order place y b. SpellsThen tag.spells (λ k. (arm k).spells) order place (tag_of y, y)
+      b;
   admits = λ y. tag.admits (tag_of y) × (arm (tag_of y)).admits y;
   writes = λ y. tag.writes (tag_of y) then (arm (tag_of y)).writes y;
 }
@@ -195,7 +196,8 @@ abbrev pub or_fault : {F Y : Type 0} → Option Y → F → At → Read F Y
 or_fault (Some y) e next = Ok (y, next)
 or_fault None e next = Err e
 
-abbrev pub partial_format : {F X Y : Type 0} → (X → Option Y) → (Y → X) → (X → At → F) → Format F X → Format F Y
+abbrev pub partial_format : {F X Y : Type 0} → (X → Option Y) → (Y → X) → (X → At → F) → Format F X
+    → Format F Y
 partial_format {F = F} {X = X} {Y = Y} to from bad g = record {
   reads = λ a. g.reads a >>= λ x. or_fault (to x.0) (bad x.0 a) x.1;
   spells = λ order place y b. g.spells order place (from y) b;
@@ -215,13 +217,15 @@ upwards k zero = []
 upwards k (suc n) = k ∷ upwards (suc k) n
 
 -- an enumeration: each value by its place in the list of all
-abbrev pub enumeration_format : {F Y : Type 0} → List Y → (Y → ℕ) → (ℕ → At → F) → Format F ℕ → Format F Y
+abbrev pub enumeration_format : {F Y : Type 0} → List Y → (Y → ℕ) → (ℕ → At → F) → Format F ℕ
+    → Format F Y
 enumeration_format ys number_of bad g = partial_format (nth ys) number_of bad g
 
 -- the first of these that has this name
 abbrev pub value_named : {K : Type 0} → (K → List ℕ) → List K → List ℕ → Option K
 value_named name_of [] name = None
-value_named name_of (k ∷ ks) name = if bytes_eq name (name_of k) then Some k else value_named name_of ks name
+value_named name_of (k ∷ ks) name = if bytes_eq name (name_of k)
+    then Some k else value_named name_of ks name
 
 -- inside an encapsulation, in the order of what it stands in
 abbrev pub encapsulation_format : {F X : Type 0} → (CdrFault → F) → Format F X → Format F X
@@ -273,20 +277,22 @@ Gives is_memory new (Ok y) reading = reading ≡ Ok (y, new)
 Gives is_memory new (Err e) reading = Unless (is_memory e) (reading ≡ Err e)
 
 -- these bytes were appended, where the call did not fail; else some may have been, behind those that were there
-pub record Puts {E : Type 0} (piece : Piece) (old new : Draft) (result : Result (Unit {0}) E) : Type 0 where
+pub record Puts {E : Type 0} (piece : Piece) (old new : Draft)
+    (result : Result (Unit {0}) E) : Type 0 where
   pub done : OnOk result (new.bytes ≡ old.bytes ++ piece old.order (length old.bytes))
   pub order : new.order ≡ old.order
   pub kept : OnErr result (take (length old.bytes) new.bytes ≡ old.bytes)
 
 -- A whole call answers what the format says, and a value that has a spelling. The reader is unchanged where it refuses.
-pub record Reads {F Y : Type 0} (is_memory : F → Bool) (f : Format F Y) (old new : At) (result : Result Y F) : Type
-    0 where
+pub record Reads {F Y : Type 0} (is_memory : F → Bool) (f : Format F Y) (old new : At)
+    (result : Result Y F) : Type 0 where
   pub gives : Gives is_memory new result (f.reads old)
   pub unchanged : OnErr result (new ≡ old)
   pub admitted : IfOk result (λ y. f.admits y)
 
 -- these bytes were appended, or none
-pub record Appends {E : Type 0} (piece : Piece) (old new : Draft) (result : Result (Unit {0}) E) : Type 0 where
+pub record Appends {E : Type 0} (piece : Piece) (old new : Draft)
+    (result : Result (Unit {0}) E) : Type 0 where
   pub done : OnOk result (new.bytes ≡ old.bytes ++ piece old.order (length old.bytes))
   pub order : new.order ≡ old.order
   pub refused : OnErr result (new.bytes ≡ old.bytes)

@@ -21,24 +21,22 @@ abbrev pub each_fault : {F : Type 0} → (At → F) → Faults F
 each_fault bad a f = f ≡ bad a
 
 -- no value, or one that may not stand there
-pub data RestrictionFault {F X : Type 0} (spells : Order → ℕ → X → List ℕ → Type 0) (good : X → Bool) (bad : X → At → F)
-    (inner : At → F → Type 0)
-    (a : At) (f : F) : Type 0 where
+pub data RestrictionFault {F X : Type 0} (spells : Order → ℕ → X → List ℕ → Type 0)
+    (good : X → Bool) (bad : X → At → F) (inner : At → F → Type 0) (a : At) (f : F) : Type 0 where
   unread : inner a f → RestrictionFault spells good bad inner a f
   unfit : (x : X) (next : At) → Found spells a x next → good x ≡ false → f ≡ bad x a
       → RestrictionFault spells good bad inner a f
 
 -- no value, or one that stands for nothing
-pub data PartialFault {F X Y : Type 0} (spells : Order → ℕ → X → List ℕ → Type 0) (to : X → Option Y) (bad : X → At → F)
-    (inner : At → F → Type 0)
-    (a : At) (f : F) : Type 0 where
+pub data PartialFault {F X Y : Type 0} (spells : Order → ℕ → X → List ℕ → Type 0)
+    (to : X → Option Y) (bad : X → At → F) (inner : At → F → Type 0) (a : At) (f : F) : Type 0 where
   unread : inner a f → PartialFault spells to bad inner a f
   unknown : (x : X) (next : At) → Found spells a x next → to x ≡ None → f ≡ bad x a
       → PartialFault spells to bad inner a f
 
 -- of so many values one is none, at the place where those before it end
-pub record ArrayFault {F X : Type 0} (g : Format F X) (inner : At → F → Type 0) (count : ℕ) (a : At) (f : F) : Type
-    0 where
+pub record ArrayFault {F X : Type 0} (g : Format F X) (inner : At → F → Type 0) (count : ℕ) (a : At)
+    (f : F) : Type 0 where
   pub before : List X
   pub next : At
   pub fewer : length before < count
@@ -47,4 +45,5 @@ pub record ArrayFault {F X : Type 0} (g : Format F X) (inner : At → F → Type
 
 -- no number, or one of so many values behind it is none
 abbrev pub SequenceFault : {F X : Type 0} → (CdrFault → F) → Format F X → Faults F → Faults F
-SequenceFault c g inner = ThenFault (SpellsNumber 4) (OuterFault c (NumberFault 4)) (ArrayFault g inner)
+SequenceFault c g inner = ThenFault (SpellsNumber 4) (OuterFault c (NumberFault 4))
+    (ArrayFault g inner)

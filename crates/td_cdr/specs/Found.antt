@@ -21,8 +21,8 @@ use Rattle.td_cdr.specs.Joined.{after-after, Found-then}
 
 -- ---- signed numbers
 
-signed-found : (width : Width) (size : ℕ) (a : At) (v : ℤ) (next : At) → signed_at width size a ≡ Ok (v, next)
-    → Found (SpellsSigned width size) a v next
+signed-found : (width : Width) (size : ℕ) (a : At) (v : ℤ) (next : At) → signed_at width size a
+    ≡ Ok (v, next) → Found (SpellsSigned width size) a v next
 unfolding signed_at
 signed-found width size a v next e =
     let made : ℤ × At = (v, next) in
@@ -34,8 +34,8 @@ signed-found width size a v next e =
       parts = f.parts;
       moved = f.moved;
     } in
-    subst (λ (p : ℤ × At). Found (SpellsSigned width size) a p.0 p.1) (ok_is (cast_signed width n.0.0, n.0.1) made n.2)
-    here
+    subst (λ (p : ℤ × At). Found (SpellsSigned width size) a p.0 p.1)
+    (ok_is (cast_signed width n.0.0, n.0.1) made n.2) here
 
 signed-only : (width : Width) (size : ℕ) (a : At) (v : ℤ) (b rest : List ℕ)
     → SpellsSigned width size a.order (a.place - a.origin) v b → a.rest ≡ b ++ rest
@@ -46,7 +46,8 @@ signed-only width size a v b rest s e =
     let one = number-only size a n b rest (record { long = s.long; value = refl }) e in
     rw (one, s.value) refl
 
-pub signed-joins : (width : Width) (size : ℕ) → Joins (SpellsSigned width size) (signed_at width size)
+pub signed-joins : (width : Width) (size : ℕ)
+    → Joins (SpellsSigned width size) (signed_at width size)
 signed-joins width size = record {
   found = λ a v next _ e. signed-found width size a v next e;
   only = λ a v b rest _ s e. signed-only width size a v b rest s e;
@@ -63,7 +64,8 @@ pub truth-only : (place n : ℕ) (b : Bool) → IsFlag b n → truth place n ≡
 truth-only place n false told = rw told refl
 truth-only place n true told = rw told refl
 
-boolean-found : (a : At) (v : Bool) (next : At) → boolean_at a ≡ Ok (v, next) → Found SpellsBoolean a v next
+boolean-found : (a : At) (v : Bool) (next : At) → boolean_at a ≡ Ok (v, next)
+    → Found SpellsBoolean a v next
 unfolding boolean_at
 boolean-found a v next e =
     let made : Bool × At = (v, next) in
@@ -72,13 +74,18 @@ boolean-found a v next e =
     let f = number-found 1 a n.0.0 n.0.1 n.1 in
     let here : Found SpellsBoolean a t.0 n.0.1 = record {
       bytes = f.bytes;
-      spelled = record { flag = n.0.0; told = truth-found a.place n.0.0 t.0 t.1; octet = f.spelled };
+      spelled = record {
+        flag = n.0.0;
+        told = truth-found a.place n.0.0 t.0 t.1;
+        octet = f.spelled;
+      };
       parts = f.parts;
       moved = f.moved;
     } in
     subst (λ (p : Bool × At). Found SpellsBoolean a p.0 p.1) (ok_is (t.0, n.0.1) made t.2) here
 
-boolean-only : (a : At) (v : Bool) (b rest : List ℕ) → SpellsBoolean a.order (a.place - a.origin) v b
+boolean-only : (a : At) (v : Bool) (b rest : List ℕ)
+    → SpellsBoolean a.order (a.place - a.origin) v b
     → a.rest ≡ b ++ rest → boolean_at a ≡ Ok (v, after (length b) a)
 unfolding boolean_at
 boolean-only a v b rest s e =
@@ -97,17 +104,23 @@ boolean-joins = record {
 -- a text and a NUL end in a NUL
 pub ends_in_nul-closed : (text : List ℕ) → HasNoNul text → ends_in_nul (text ++ 0 ∷ []) ≡ true
 ends_in_nul-closed text free =
-    let long : length (text ++ 0 ∷ []) - 1 ≡ length text = omega (arith, length-append text (0 ∷ [])) in
-    let last : get_or (text ++ 0 ∷ []) (length text) 0 ≡ 0 = get_or_at text 0 [] 0 (length text) refl in
-    let before : take (length text) (text ++ 0 ∷ []) ≡ text = take_at text (0 ∷ []) (length text) refl in
+    let long : length (text ++ 0 ∷ []) - 1
+    ≡ length text = omega (arith, length-append text (0 ∷ [])) in
+    let last : get_or (text ++ 0 ∷ []) (length text) 0
+    ≡ 0 = get_or_at text 0 [] 0 (length text) refl in
+    let before : take (length text) (text ++ 0 ∷ [])
+    ≡ text = take_at text (0 ∷ []) (length text) refl in
     rw (long, last, before, free) refl
 
-pub text_of-closed : (place : ℕ) (text : List ℕ) → HasNoNul text → text_of place (text ++ 0 ∷ []) ≡ Ok text
+pub text_of-closed : (place : ℕ) (text : List ℕ) → HasNoNul text → text_of place (text ++ 0 ∷ [])
+    ≡ Ok text
 text_of-closed place text free =
-    let long : length (text ++ 0 ∷ []) - 1 ≡ length text = omega (arith, length-append text (0 ∷ [])) in
+    let long : length (text ++ 0 ∷ []) - 1
+    ≡ length text = omega (arith, length-append text (0 ∷ [])) in
     let some : eqb (length (text ++ 0 ∷ [])) 0 ≡ false =
     ne_eqb _ _ (λ e. absurd (omega (arith, length-append text (0 ∷ [])))) in
-    let before : take (length text) (text ++ 0 ∷ []) ≡ text = take_at text (0 ∷ []) (length text) refl in
+    let before : take (length text) (text ++ 0 ∷ [])
+    ≡ text = take_at text (0 ∷ []) (length text) refl in
     rw (some, ends_in_nul-closed text free, long, before) refl
 
 -- bytes that end in a NUL are those before it and the NUL
@@ -116,12 +129,18 @@ pub closed-ends_in_nul : (kept : List ℕ) → 0 < length kept → ends_in_nul k
 closed-ends_in_nul kept some e =
     let both = and_parts (eqb (get_or kept (length kept - 1) 0) 0) (not (has_nul (front kept))) e in
     let last : get_or kept (length kept - 1) 0 ≡ 0 = eqb-true _ _ both.0 in
-    let split : take (length kept - 1 + 1) kept ≡ take (length kept - 1) kept ++ get_or kept (length kept - 1) 0 ∷ [] =
+    let split : take (length kept - 1 + 1) kept ≡ take (length kept - 1) kept
+    ++ get_or kept (length kept - 1) 0 ∷ [] =
     take_more kept (length kept - 1) 0 (omega arith) in
-    let whole : take (length kept - 1 + 1) kept ≡ kept = take_all (length kept - 1 + 1) kept (omega arith) in
-    (not-true (has_nul (front kept)) both.1, sym whole ∙ split ∙ ap (λ (x : ℕ). front kept ++ x ∷ []) last)
+    let whole : take (length kept - 1 + 1) kept
+    ≡ kept = take_all (length kept - 1 + 1) kept (omega arith) in (
+      not-true (has_nul (front kept)) both.1,
+      sym whole ∙ split
+          ∙ ap (λ (x : ℕ). front kept ++ x ∷ []) last,
+    )
 
-text-found-some : (place : ℕ) (kept text : List ℕ) (t : Bool) → t ≡ ends_in_nul kept → 0 < length kept
+text-found-some : (place : ℕ) (kept text : List ℕ) (t : Bool) → t ≡ ends_in_nul kept
+    → 0 < length kept
     → cond t (Ok (front kept)) (Err (BadString place)) ≡ Ok text → IsText text kept
 text-found-some place kept text true is some e =
     let both = closed-ends_in_nul kept some (sym is) in
@@ -129,9 +148,10 @@ text-found-some place kept text true is some e =
 text-found-some place kept text false is some e = absurd cc
 
 text-found-at : (place : ℕ) (kept text : List ℕ) (empty : Bool) → empty ≡ eqb (length kept) 0
-    → cond empty (Ok []) (cond (ends_in_nul kept) (Ok (front kept)) (Err (BadString place))) ≡ Ok text
-    → IsText text kept
-text-found-at place kept text true is e = absent (sym (ok_is [] text e)) (nil_from_length kept (eqb-true _ _ (sym is)))
+    → cond empty (Ok []) (cond (ends_in_nul kept) (Ok (front kept)) (Err (BadString place)))
+    ≡ Ok text → IsText text kept
+text-found-at place kept text true is e = absent (sym (ok_is [] text e))
+    (nil_from_length kept (eqb-true _ _ (sym is)))
 text-found-at place kept text false is e =
     let some : 0 < length kept = omega (arith, eqb-false _ _ (sym is)) in
     text-found-some place kept text (ends_in_nul kept) refl some e
@@ -148,18 +168,24 @@ string-found : (a : At) (v : List ℕ) (next : At) → a.origin ≤ a.place → 
 unfolding string_at
 string-found a v next h e =
     let made : List ℕ × At = (v, next) in
-    let o = bind_ok (octets_at a) (λ bytes. text_of (aligned 4 a) bytes.0 >>= λ text. Ok (text, bytes.1)) made e in
+    let o = bind_ok (octets_at a)
+    (λ bytes. text_of (aligned 4 a) bytes.0 >>= λ text. Ok (text, bytes.1)) made e in
     let t = bind_ok (text_of (aligned 4 a) o.0.0) (λ text. Ok (text, o.0.1)) made o.2 in
     let f = octets-found a o.0.0 o.0.1 h o.1 in
     let here : Found SpellsString a t.0 o.0.1 = record {
       bytes = f.bytes;
-      spelled = record { kept = o.0.0; text = text-found (aligned 4 a) o.0.0 t.0 t.1; octets = f.spelled };
+      spelled = record {
+        kept = o.0.0;
+        text = text-found (aligned 4 a) o.0.0 t.0 t.1;
+        octets = f.spelled;
+      };
       parts = f.parts;
       moved = f.moved;
     } in
     subst (λ (p : List ℕ × At). Found SpellsString a p.0 p.1) (ok_is (t.0, o.0.1) made t.2) here
 
-string-only : (a : At) (v b rest : List ℕ) → a.origin ≤ a.place → SpellsString a.order (a.place - a.origin) v b
+string-only : (a : At) (v b rest : List ℕ) → a.origin ≤ a.place
+    → SpellsString a.order (a.place - a.origin) v b
     → a.rest ≡ b ++ rest → string_at a ≡ Ok (v, after (length b) a)
 unfolding string_at
 string-only a v b rest h s e =
@@ -172,21 +198,24 @@ string-joins = record { found = string-found; only = string-only }
 
 -- ---- one item after another
 
-module _ {X Y : Type 0} (first : Order → ℕ → X → List ℕ → Type 0) (second : X → Order → ℕ → Y → List ℕ → Type 0)
-    (read_first : At → Result (X × At) CdrFault) (read_second : X → At → Result (Y × At) CdrFault) where
-  then-found : Joins first read_first → ((x : X) → Joins (second x) (read_second x)) → (a : At) (v : X × Y) (next : At)
+module _ {X Y : Type 0} (first : Order → ℕ → X → List ℕ → Type 0)
+    (second : X → Order → ℕ → Y → List ℕ → Type 0) (read_first : At → Result (X × At) CdrFault)
+    (read_second : X → At → Result (Y × At) CdrFault) where
+  then-found : Joins first read_first → ((x : X) → Joins (second x) (read_second x))
+      → (a : At) (v : X × Y) (next : At)
       → a.origin ≤ a.place → read_then read_first read_second a ≡ Ok (v, next)
       → Found (SpellsThen first second) a v next
   then-found j k a v next h e =
       let made : (X × Y) × At = (v, next) in
-      let x = bind_ok (read_first a) (λ v. read_second v.0 v.1 >>= λ w. Ok ((v.0, w.0), w.1)) made e in
+      let x = bind_ok (read_first a) (λ v. read_second v.0 v.1 >>= λ w. Ok ((v.0, w.0), w.1))
+      made e in
       let y = bind_ok (read_second x.0.0 x.0.1) (λ w. Ok ((x.0.0, w.0), w.1)) made x.2 in
       let f = j.found a x.0.0 x.0.1 h x.1 in
       let on : x.0.1.origin ≤ x.0.1.place = rw f.moved (omega arith) in
       let g = (k x.0.0).found x.0.1 y.0.0 y.0.1 on y.1 in
       let here = Found-then first second a x.0.1 y.0.1 x.0.0 y.0.0 h f g in
-      subst (λ (p : (X × Y) × At). Found (SpellsThen first second) a p.0 p.1) (ok_is ((x.0.0, y.0.0), y.0.1) made y.2)
-      here
+      subst (λ (p : (X × Y) × At). Found (SpellsThen first second) a p.0 p.1)
+      (ok_is ((x.0.0, y.0.0), y.0.1) made y.2) here
 
   then-only : Joins first read_first → ((x : X) → Joins (second x) (read_second x))
       → (a : At) (v : X × Y) (b rest : List ℕ) → a.origin ≤ a.place
@@ -196,8 +225,10 @@ module _ {X Y : Type 0} (first : Order → ℕ → X → List ℕ → Type 0) (s
       let next = after (length s.front) a in
       let whole : a.rest ≡ s.front ++ (s.back ++ rest) =
       e ∙ ap (λ (x : List ℕ). x ++ rest) s.parts ∙ append_assoc s.front s.back rest in
-      let one : read_first a ≡ Ok (v.0, next) = j.only a v.0 s.front (s.back ++ rest) h s.spelled whole in
-      let left : next.rest ≡ s.back ++ rest = rw whole (drop_at s.front (s.back ++ rest) (length s.front) refl) in
+      let one : read_first a ≡ Ok (v.0, next) = j.only a v.0 s.front (s.back ++ rest)
+      h s.spelled whole in
+      let left : next.rest ≡ s.back
+      ++ rest = rw whole (drop_at s.front (s.back ++ rest) (length s.front) refl) in
       let spelled : second v.0 next.order (next.place - next.origin) v.1 s.back =
       rw (moved-place (length s.front) a h) s.then_spelled in
       let two : read_second v.0 next ≡ Ok (v.1, after (length s.back) next) =

@@ -50,8 +50,8 @@ Spells (pair first second) = SpellsThen (Spells first) (λ _. Spells second)
 Spells (encapsulated inner) = SpellsWithin (Spells inner)
 
 -- one reading after another
-abbrev pub read_then : {X Y : Type 0} → (At → Result (X × At) CdrFault) → (X → At → Result (Y × At) CdrFault) → At
-    → Result ((X × Y) × At) CdrFault
+abbrev pub read_then : {X Y : Type 0} → (At → Result (X × At) CdrFault)
+    → (X → At → Result (Y × At) CdrFault) → At → Result ((X × Y) × At) CdrFault
 read_then first second a = first a >>= λ v. second v.0 v.1 >>= λ w. Ok ((v.0, w.0), w.1)
 
 -- how the item is read

@@ -23,7 +23,8 @@ pub bind_ok : {F A B : Type 0} (r : Result A F) (f : A → Result B F) (y : B) �
 bind_ok (Ok x) f y e = (x, refl, e)
 bind_ok (Err d) f y e = absurd cc
 
-pub guard_ok : {A : Type 0} (b : Bool) (d : CdrFault) (x y : A) → cond b (Err d) (Ok x) ≡ Ok y → (b ≡ false) × (x ≡ y)
+pub guard_ok : {A : Type 0} (b : Bool) (d : CdrFault) (x y : A) → cond b (Err d) (Ok x) ≡ Ok y
+    → (b ≡ false) × (x ≡ y)
 guard_ok true d x y e = absurd cc
 guard_ok false d x y e = (refl, cc)
 
@@ -43,12 +44,14 @@ number-found size a v next e =
     guard_ok (ltb (length a.rest) (p + size)) (Short (aligned size a))
     (take size (drop p a.rest), after (p + size) a) cell.0 cell.1 in
     let fits : p + size ≤ length a.rest = ltb-false _ _ g.0 in
-    let len : length (take (p + size) a.rest) ≡ p + size = omega (arith, length-take (p + size) a.rest) in
+    let len : length (take (p + size) a.rest)
+    ≡ p + size = omega (arith, length-take (p + size) a.rest) in
     let made : ℕ × At = (v, next) in
     let both = ok_is (number a.order size cell.0.0, cell.0.1) made cell.2 in
     let v-is : number a.order size (take size (drop p a.rest)) ≡ v =
     ap (λ (c : List ℕ × At). number a.order size c.0) g.1 ∙ ap (λ (c : ℕ × At). c.0) both in
-    let next-is : after (p + size) a ≡ next = ap (λ (c : List ℕ × At). c.1) g.1 ∙ ap (λ (c : ℕ × At). c.1) both in
+    let next-is : after (p + size) a ≡ next = ap (λ (c : List ℕ × At). c.1) g.1
+    ∙ ap (λ (c : ℕ × At). c.1) both in
     record {
       bytes = take (p + size) a.rest;
       spelled = record { long = len; value = rw drop-take v-is };
@@ -56,7 +59,8 @@ number-found size a v next e =
       moved = rw (len) (sym next-is);
     }
 
-pub number-only : (size : ℕ) (a : At) (v : ℕ) (b rest : List ℕ) → SpellsNumber size a.order (a.place - a.origin) v b
+pub number-only : (size : ℕ) (a : At) (v : ℕ) (b rest : List ℕ)
+    → SpellsNumber size a.order (a.place - a.origin) v b
     → a.rest ≡ b ++ rest → number_at size a ≡ Ok (v, after (length b) a)
 unfolding number_at cell_at
 number-only size a v b rest s e =
@@ -64,7 +68,8 @@ number-only size a v b rest s e =
     let fits : ltb (length a.rest) (p + size) ≡ false =
     le-ltb _ _ (omega (arith, s.long, ap length e, length-append b rest)) in
     let front : take (p + size) a.rest ≡ b = rw e (take_at b rest (p + size) s.long) in
-    let value : number a.order size (take size (drop p a.rest)) ≡ v = rw (← drop-take p size a.rest, front) s.value in
+    let value : number a.order size (take size (drop p a.rest))
+    ≡ v = rw (← drop-take p size a.rest, front) s.value in
     rw (fits, value, s.long) refl
 
 pub number-joins : (size : ℕ) → Joins (SpellsNumber size) (number_at size)
@@ -83,27 +88,37 @@ moved-place n a h = omega arith
 pub after-after : (m n : ℕ) (a : At) → after n (after m a) ≡ after (m + n) a
 after-after m n a = rw (drop-drop, add_assoc) refl
 
-pub Found-then : {X Y : Type 0} (first : Order → ℕ → X → List ℕ → Type 0) (second : X → Order → ℕ → Y → List ℕ → Type 0)
-    (a b c : At) (x : X) (y : Y)
-    → a.origin ≤ a.place → Found first a x b → Found (second x) b y c → Found (SpellsThen first second) a (x, y) c
+pub Found-then : {X Y : Type 0} (first : Order → ℕ → X → List ℕ → Type 0)
+    (second : X → Order → ℕ → Y → List ℕ → Type 0) (a b c : At) (x : X) (y : Y)
+    → a.origin ≤ a.place → Found first a x b → Found (second x) b y c
+    → Found (SpellsThen first second) a (x, y) c
 Found-then first second a b c x y h f g =
-    let place-is : b.place - b.origin ≡ (a.place - a.origin) + length f.bytes = rw f.moved (omega arith) in
+    let place-is : b.place - b.origin ≡ (a.place - a.origin)
+    + length f.bytes = rw f.moved (omega arith) in
     let order-is : b.order ≡ a.order = rw f.moved refl in
     let second-is : second x a.order ((a.place - a.origin) + length f.bytes) y g.bytes =
     rw (← order-is, ← place-is) g.spelled in
     record {
       bytes = f.bytes ++ g.bytes;
-      spelled = record { front = f.bytes; back = g.bytes; parts = refl; spelled = f.spelled; then_spelled = second-is };
-      parts = f.parts ∙ ap (λ (r : List ℕ). f.bytes ++ r) g.parts ∙ sym (append_assoc f.bytes g.bytes c.rest);
+      spelled = record {
+        front = f.bytes;
+        back = g.bytes;
+        parts = refl;
+        spelled = f.spelled;
+        then_spelled = second-is;
+      };
+      parts = f.parts ∙ ap (λ (r : List ℕ). f.bytes ++ r) g.parts
+          ∙ sym (append_assoc f.bytes g.bytes c.rest);
       moved =
-          g.moved ∙ ap (after (length g.bytes)) f.moved ∙ after-after (length f.bytes) (length g.bytes) a
+          g.moved ∙ ap (after (length g.bytes)) f.moved
+          ∙ after-after (length f.bytes) (length g.bytes) a
           ∙ ap (λ (n : ℕ). after n a) (sym (length-append f.bytes g.bytes));
     }
 
 -- ---- octets
 
-octets-made : (a : At) (count : ℕ) (b : At) → count ≤ length b.rest → Found (SpellsNumber 4) a count b
-    → Found SpellsOctets a (take count b.rest) (after count b)
+octets-made : (a : At) (count : ℕ) (b : At) → count ≤ length b.rest
+    → Found (SpellsNumber 4) a count b → Found SpellsOctets a (take count b.rest) (after count b)
 octets-made a count b fits f =
     let len : length (take count b.rest) ≡ count = omega (arith, length-take count b.rest) in
     record {
@@ -117,22 +132,23 @@ octets-made a count b fits f =
           ∙ ap (λ (n : ℕ). after n a) (rw length-append (rw len refl));
     }
 
-pub octets-found : (a : At) (v : List ℕ) (next : At) → a.origin ≤ a.place → octets_at a ≡ Ok (v, next)
-    → Found SpellsOctets a v next
+pub octets-found : (a : At) (v : List ℕ) (next : At) → a.origin ≤ a.place
+    → octets_at a ≡ Ok (v, next) → Found SpellsOctets a v next
 unfolding octets_at
 octets-found a v next h e =
     let n =
     bind_ok (number_at 4 a) (λ n.
-    cond (ltb (length n.1.rest) n.0) (Err (TooLong (aligned 4 a))) (Ok (take n.0 n.1.rest, after n.0 n.1)))
-    (v, next) e in
+    cond (ltb (length n.1.rest) n.0) (Err (TooLong (aligned 4 a)))
+    (Ok (take n.0 n.1.rest, after n.0 n.1))) (v, next) e in
     let made : List ℕ × At = (v, next) in
     let g =
-    guard_ok (ltb (length n.0.1.rest) n.0.0) (TooLong (aligned 4 a)) (take n.0.0 n.0.1.rest, after n.0.0 n.0.1) made
-    n.2 in
+    guard_ok (ltb (length n.0.1.rest) n.0.0) (TooLong (aligned 4 a))
+    (take n.0.0 n.0.1.rest, after n.0.0 n.0.1) made n.2 in
     subst (λ (p : List ℕ × At). Found SpellsOctets a p.0 p.1) g.1
     (octets-made a n.0.0 n.0.1 (ltb-false _ _ g.0) (number-found 4 a n.0.0 n.0.1 n.1))
 
-pub octets-only : (a : At) (v b rest : List ℕ) → a.origin ≤ a.place → SpellsOctets a.order (a.place - a.origin) v b
+pub octets-only : (a : At) (v b rest : List ℕ) → a.origin ≤ a.place
+    → SpellsOctets a.order (a.place - a.origin) v b
     → a.rest ≡ b ++ rest → octets_at a ≡ Ok (v, after (length b) a)
 unfolding octets_at
 octets-only a v b rest h s e =
@@ -144,7 +160,8 @@ octets-only a v b rest h s e =
     rw whole (drop_at s.count (v ++ rest) (length s.count) refl) in
     let fits : ltb (length (drop (length s.count) a.rest)) (length v) ≡ false =
     rw left (le-ltb _ _ (omega (arith, length-append v rest))) in
-    let here : take (length v) (drop (length s.count) a.rest) ≡ v = rw left (take_at v rest (length v) refl) in
+    let here : take (length v) (drop (length s.count) a.rest)
+    ≡ v = rw left (take_at v rest (length v) refl) in
     let len : length b ≡ length s.count + length v = rw s.parts (length-append s.count v) in
     rw (one, fits, here, after-after (length s.count) (length v) a, len) refl
 
@@ -166,27 +183,59 @@ pub inside-found : (short end : ℕ) (octets : List ℕ) (inner : At) → length
 inside-found short end [] inner le e = absurd cc
 inside-found short end (zero ∷ bs) inner le e =
     subst (λ (x : At). IsInside end (0 ∷ bs) x)
-    (ok_is (record { rest = bs; place = end - length bs; origin = end - suc (length bs); order = Big }) inner e)
-    (record { little = false; flag = 0; told = refl; parts = refl; order_is = refl; place_is = omega arith })
+    (ok_is (record {
+      rest = bs;
+      place = end - length bs;
+      origin = end - suc (length bs);
+      order = Big;
+    }) inner e) (record {
+      little = false;
+      flag = 0;
+      told = refl;
+      parts = refl;
+      order_is = refl;
+      place_is = omega arith;
+    })
 inside-found short end (suc zero ∷ bs) inner le e =
     subst (λ (x : At). IsInside end (1 ∷ bs) x)
-    (ok_is (record { rest = bs; place = end - length bs; origin = end - suc (length bs); order = Little }) inner e)
-    (record { little = true; flag = 1; told = refl; parts = refl; order_is = refl; place_is = omega arith })
+    (ok_is (record {
+      rest = bs;
+      place = end - length bs;
+      origin = end - suc (length bs);
+      order = Little;
+    }) inner e)
+    (record {
+      little = true;
+      flag = 1;
+      told = refl;
+      parts = refl;
+      order_is = refl;
+      place_is = omega arith;
+    })
 inside-found short end (suc (suc n) ∷ bs) inner le e = absurd cc
 
 pub inside-only : (short end flag : ℕ) (little : Bool) (bs : List ℕ) → IsFlag little flag
     → inside short end (flag ∷ bs)
-    ≡ Ok (record { rest = bs; place = end - length bs; origin = end - suc (length bs); order = order_of little })
+    ≡ Ok (record {
+      rest = bs;
+      place = end - length bs;
+      origin = end - suc (length bs);
+      order = order_of little;
+    })
 inside-only short end flag false bs told = rw told refl
 inside-only short end flag true bs told = rw told refl
 
-pub within-made : {Y : Type 0} (inner : Order → ℕ → Y → List ℕ → Type 0) (a b x y : At) (octets : List ℕ) (v : Y)
-    → Found SpellsOctets a octets b → IsInside b.place octets x → Found inner x v y → Found (SpellsWithin inner) a v b
+pub within-made : {Y : Type 0} (inner : Order → ℕ → Y → List ℕ → Type 0) (a b x y : At)
+    (octets : List ℕ) (v : Y)
+    → Found SpellsOctets a octets b → IsInside b.place octets x → Found inner x v y
+    → Found (SpellsWithin inner) a v b
 within-made inner a b x y octets v f i g =
     let one : x.place - x.origin ≡ 1 = omega (arith, i.place_is) in
     let spelled-in : inner (order_of i.little) 1 v g.bytes = rw (← i.order_is, ← one) g.spelled in
-    let octets-are : octets ≡ i.flag ∷ (g.bytes ++ y.rest) = i.parts ∙ ap (λ (x : List ℕ). i.flag ∷ x) g.parts in
-    let spelled-out : SpellsOctets a.order (a.place - a.origin) (i.flag ∷ (g.bytes ++ y.rest)) f.bytes =
+    let octets-are : octets ≡ i.flag ∷ (g.bytes ++ y.rest) = i.parts
+    ∙ ap (λ (x : List ℕ). i.flag ∷ x) g.parts in
+    let spelled-out : SpellsOctets a.order (a.place - a.origin)
+    (i.flag ∷ (g.bytes ++ y.rest)) f.bytes =
     rw (← octets-are) f.spelled in
     record {
       bytes = f.bytes;
@@ -204,18 +253,20 @@ within-made inner a b x y octets v f i g =
       moved = f.moved;
     }
 
-within-found : {Y : Type 0} (inner : Order → ℕ → Y → List ℕ → Type 0) (reading : At → Result (Y × At) CdrFault)
-    → Joins inner reading → (a : At) (v : Y) (next : At) → a.origin ≤ a.place → within reading a ≡ Ok (v, next)
-    → Found (SpellsWithin inner) a v next
+within-found : {Y : Type 0} (inner : Order → ℕ → Y → List ℕ → Type 0)
+    (reading : At → Result (Y × At) CdrFault)
+    → Joins inner reading → (a : At) (v : Y) (next : At) → a.origin ≤ a.place → within reading a
+    ≡ Ok (v, next) → Found (SpellsWithin inner) a v next
 unfolding encapsulation_at
 within-found {Y = Y} inner reading j a v next h e =
     let made : Y × At = (v, next) in
     let enc = bind_ok (encapsulation_at a) (λ e. reading e.0 >>= λ v. Ok (v.0, e.1)) made e in
     let val = bind_ok (reading enc.0.0) (λ v. Ok (v.0, enc.0.1)) made enc.2 in
     let oct =
-    bind_ok (octets_at a) (λ bytes. inside (aligned 4 a) bytes.1.place bytes.0 >>= λ inner. Ok (inner, bytes.1))
-    enc.0 enc.1 in
-    let ins = bind_ok (inside (aligned 4 a) oct.0.1.place oct.0.0) (λ inner. Ok (inner, oct.0.1)) enc.0 oct.2 in
+    bind_ok (octets_at a) (λ bytes. inside (aligned 4 a) bytes.1.place bytes.0 >>= λ inner.
+    Ok (inner, bytes.1)) enc.0 enc.1 in
+    let ins = bind_ok (inside (aligned 4 a) oct.0.1.place oct.0.0)
+    (λ inner. Ok (inner, oct.0.1)) enc.0 oct.2 in
     let enc-is : (ins.0, oct.0.1) ≡ enc.0 = ok_is (ins.0, oct.0.1) enc.0 ins.2 in
     let f = octets-found a oct.0.0 oct.0.1 h oct.1 in
     let within-end : length oct.0.0 ≤ oct.0.1.place =
@@ -235,7 +286,8 @@ within-found {Y = Y} inner reading j a v next h e =
     within-made inner a oct.0.1 ins.0 val.0.1 oct.0.0 val.0.0 f i g in
     subst (λ (p : Y × At). Found (SpellsWithin inner) a p.0 p.1) last here
 
-within-only : {Y : Type 0} (inner : Order → ℕ → Y → List ℕ → Type 0) (reading : At → Result (Y × At) CdrFault)
+within-only : {Y : Type 0} (inner : Order → ℕ → Y → List ℕ → Type 0)
+    (reading : At → Result (Y × At) CdrFault)
     → Joins inner reading → (a : At) (v : Y) (b rest : List ℕ) → a.origin ≤ a.place
     → SpellsWithin inner a.order (a.place - a.origin) v b → a.rest ≡ b ++ rest
     → within reading a ≡ Ok (v, after (length b) a)
@@ -255,13 +307,18 @@ within-only {Y = Y} inner reading j a v b rest h s e =
       origin = end - suc (length body);
       order = order_of s.little;
     } in
-    let spelled : inner where-it-is.order (where-it-is.place - where-it-is.origin) v s.body = rw origin s.spelled in
+    let spelled : inner where-it-is.order (where-it-is.place - where-it-is.origin)
+    v s.body = rw origin s.spelled in
     let three = j.only where-it-is v s.body s.ignored (omega (arith, long)) spelled refl in
     rw (one, two, three) refl
 
-pub within-joins : {Y : Type 0} (inner : Order → ℕ → Y → List ℕ → Type 0) (reading : At → Result (Y × At) CdrFault)
+pub within-joins : {Y : Type 0} (inner : Order → ℕ → Y → List ℕ → Type 0)
+    (reading : At → Result (Y × At) CdrFault)
     → Joins inner reading → Joins (SpellsWithin inner) (within reading)
-within-joins inner reading j = record { found = within-found inner reading j; only = within-only inner reading j }
+within-joins inner reading j = record {
+  found = within-found inner reading j;
+  only = within-only inner reading j;
+}
 
 -- ---- what is written has the spelling
 
@@ -269,11 +326,14 @@ pub length-bytes_of : (order : Order) (size v : ℕ) → length (bytes_of order 
 length-bytes_of Big size v = length-bytes_high_first size v
 length-bytes_of Little size v = length-bytes_low_first 0 size v
 
-number-bytes_of : (order : Order) (size v : ℕ) → v < 256 ^ size → number order size (bytes_of order size v) ≡ v
+number-bytes_of : (order : Order) (size v : ℕ) → v < 256 ^ size
+    → number order size (bytes_of order size v) ≡ v
 number-bytes_of Big size v lt =
-    ap (number Big size) (sym (append-nil (bytes_of Big size v))) ∙ big_number-reads_back size v [] lt
+    ap (number Big size) (sym (append-nil (bytes_of Big size v)))
+    ∙ big_number-reads_back size v [] lt
 number-bytes_of Little size v lt =
-    ap (number Little size) (sym (append-nil (bytes_of Little size v))) ∙ little_number-reads_back size v [] lt
+    ap (number Little size) (sym (append-nil (bytes_of Little size v)))
+    ∙ little_number-reads_back size v [] lt
 
 pub written_number-spelled : (size : ℕ) (order : Order) (place v : ℕ) → v < 256 ^ size
     → SpellsNumber size order place v (written_number size order place v)

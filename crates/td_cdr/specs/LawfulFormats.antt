@@ -31,11 +31,13 @@ use Rattle.td_cdr.specs.Format.{or_fault, partial_format, nth, upwards, enumerat
 use Rattle.td_cdr.specs.Format.{encapsulation_format, uncons, array_format, other_writing, sequence_format}
 use Rattle.td_cdr.specs.Lawful.{AreOctets, Lawful}
 
-pub fault_ok : {E F A : Type 0} (c : E → F) (r : Result A E) (x : A) → as_fault c r ≡ Ok x → r ≡ Ok x
+pub fault_ok : {E F A : Type 0} (c : E → F) (r : Result A E) (x : A) → as_fault c r ≡ Ok x
+    → r ≡ Ok x
 fault_ok c (Ok y) x e = cc
 fault_ok c (Err d) x e = absurd cc
 
-check_ok : {F A : Type 0} (b : Bool) (d : F) (x y : A) → cond b (done x) (Err d) ≡ Ok y → IsTrue b × (x ≡ y)
+check_ok : {F A : Type 0} (b : Bool) (d : F) (x y : A) → cond b (done x) (Err d) ≡ Ok y → IsTrue b
+    × (x ≡ y)
 check_ok true d x y e = (refl, cc)
 check_ok false d x y e = absurd cc
 
@@ -43,8 +45,8 @@ check_is : {F A : Type 0} (b : Bool) (d : F) (x : A) → IsTrue b → cond b (do
 check_is true d x t = refl
 check_is false d x t = absurd cc
 
-later : {Y : Type 0} (spells : Order → ℕ → Y → List ℕ → Type 0) (a : At) (v : Y) (b : At) → Found spells a v b
-    → a.origin ≤ a.place → b.origin ≤ b.place
+later : {Y : Type 0} (spells : Order → ℕ → Y → List ℕ → Type 0) (a : At) (v : Y) (b : At)
+    → Found spells a v b → a.origin ≤ a.place → b.origin ≤ b.place
 later spells a v b f h = rw f.moved (omega arith)
 
 -- ---- the primitives
@@ -57,12 +59,14 @@ number-lawful size = record {
   written = λ order place v ok short. written_number-spelled size order place v ok;
 }
 
-pub signed-lawful : (width : Width) (size : ℕ) → 256 ^ size ≡ 2 ^ bits width → Lawful (signed width size)
+pub signed-lawful : (width : Width) (size : ℕ) → 256 ^ size ≡ 2 ^ bits width
+    → Lawful (signed width size)
 signed-lawful width size same = record {
   found = (signed-joins width size).found;
   only = (signed-joins width size).only;
   admitted = signed-admitted width size (omega (arith, same));
-  written = λ order place v ok short. written_signed-spelled width size order place v (omega (arith, same)) ok;
+  written = λ order place v ok short. written_signed-spelled width size order place v
+      (omega (arith, same)) ok;
 }
 
 pub boolean-lawful : Lawful boolean
@@ -106,7 +110,8 @@ text-lawful = record {
 
 -- ---- ways to build a format
 
-pub with_fault-lawful : {E F Y : Type 0} (c : E → F) (g : Format E Y) → Lawful g → Lawful (with_fault c g)
+pub with_fault-lawful : {E F Y : Type 0} (c : E → F) (g : Format E Y) → Lawful g
+    → Lawful (with_fault c g)
 with_fault-lawful c g l = record {
   found = λ a v next h e. l.found a v next h (fault_ok c (g.reads a) (v, next) e);
   only = λ a v b rest h s e. ap (as_fault c) (l.only a v b rest h s e);
@@ -122,11 +127,13 @@ other_writing-lawful w g l same = record {
   only = l.only;
   admitted = l.admitted;
   written =
-      λ order place v ok short. let e = same v order place ok in rw (← e) (l.written order place v ok (rw e short));
+      λ order place v ok short. let e = same v order place ok in rw (← e)
+      (l.written order place v ok (rw e short));
 }
 
 two-found : {F X Y : Type 0} (first : Format F X) (second : X → Format F Y) → Lawful first
-    → ((x : X) → Lawful (second x)) → (a : At) (x : X × At) (y : Y × At) → a.origin ≤ a.place → first.reads a ≡ Ok x
+    → ((x : X) → Lawful (second x)) → (a : At) (x : X × At) (y : Y × At) → a.origin ≤ a.place
+    → first.reads a ≡ Ok x
     → (second x.0).reads x.1 ≡ Ok y → Found (dependent_pair first second).spells a (x.0, y.0) y.1
 two-found first second j k a x y h e d =
     let f = j.found a x.0 x.1 h e in
@@ -139,30 +146,36 @@ two_read first second a v next =
 
 two-only : {F X Y : Type 0} (first : Format F X) (second : X → Format F Y) → Lawful first
     → ((x : X) → Lawful (second x)) → (a : At) (v : X × Y) (b rest : List ℕ) → a.origin ≤ a.place
-    → SpellsThen first.spells (λ x. (second x).spells) a.order (a.place - a.origin) v b → a.rest ≡ b ++ rest
-    → two_read first second a v (after (length b) a)
+    → SpellsThen first.spells (λ x. (second x).spells) a.order (a.place - a.origin) v b
+    → a.rest ≡ b ++ rest → two_read first second a v (after (length b) a)
 two-only first second j k a v b rest h s e =
     let whole : a.rest ≡ s.front ++ (s.back ++ rest) =
     e ∙ ap (λ (x : List ℕ). x ++ rest) s.parts ∙ append_assoc s.front s.back rest in
     let one = j.only a v.0 s.front (s.back ++ rest) h s.spelled whole in
     let left : drop (length s.front) a.rest ≡ s.back ++ rest =
     rw whole (drop_at s.front (s.back ++ rest) (length s.front) refl) in
-    let here : (second v.0).spells a.order ((after (length s.front) a).place - a.origin) v.1 s.back =
+    let here : (second v.0).spells a.order ((after (length s.front) a).place - a.origin)
+    v.1 s.back =
     rw (moved-place (length s.front) a h) s.then_spelled in
     let two = (k v.0).only (after (length s.front) a) v.1 s.back rest (omega arith) here left in
-    let len : length b ≡ length s.front + length s.back = rw s.parts (length-append s.front s.back) in (
+    let len : length b ≡ length s.front + length s.back = rw s.parts (length-append s.front s.back)
+    in (
       after (length s.front) a,
       one,
-      rw (len) (two ∙ ap (λ (x : At). Ok (v.1, x)) (after-after (length s.front) (length s.back) a)),
+      rw (len) (two ∙ ap (λ (x : At). Ok (v.1, x))
+          (after-after (length s.front) (length s.back) a)),
     )
 
 both-admitted : {F X Y : Type 0} (first : Format F X) (second : X → Format F Y) → Lawful first
-    → ((x : X) → Lawful (second x)) → (order : Order) (place : ℕ) (v : X × Y) (b : List ℕ) → AreOctets b
-    → SpellsThen first.spells (λ x. (second x).spells) order place v b → first.admits v.0 × (second v.0).admits v.1
+    → ((x : X) → Lawful (second x)) → (order : Order) (place : ℕ) (v : X × Y) (b : List ℕ)
+    → AreOctets b
+    → SpellsThen first.spells (λ x. (second x).spells) order place v b → first.admits v.0
+    × (second v.0).admits v.1
 both-admitted first second j k order place v b o s =
     let whole : AreOctets (s.front ++ s.back) = subst AreOctets s.parts o in (
       j.admitted order place v.0 s.front (octets-front s.front s.back whole) s.spelled,
-      (k v.0).admitted order (place + length s.front) v.1 s.back (octets-back s.front s.back whole) s.then_spelled,
+      (k v.0).admitted order (place + length s.front) v.1 s.back (octets-back s.front s.back whole)
+          s.then_spelled,
     )
 
 both-written : {F X Y : Type 0} (first : Format F X) (second : X → Format F Y) → Lawful first
@@ -180,38 +193,43 @@ both-written first second j k order place v ok short =
       back = back;
       parts = refl;
       spelled = j.written order place v.0 ok.0 (omega (arith, short, len));
-      then_spelled = (k v.0).written order (place + length front) v.1 ok.1 (omega (arith, short, len));
+      then_spelled = (k v.0).written order (place + length front) v.1 ok.1
+          (omega (arith, short, len));
     }
 
 pair_on-found : {F X Y : Type 0} (first : Format F X) (second : X → Format F Y) → Lawful first
     → ((x : X) → Lawful (second x)) → (a : At) (v : X × Y) (next : At) → a.origin ≤ a.place
-    → (dependent_pair first second).reads a ≡ Ok (v, next) → Found (dependent_pair first second).spells a v next
+    → (dependent_pair first second).reads a ≡ Ok (v, next)
+    → Found (dependent_pair first second).spells a v next
 pair_on-found {X = X} {Y = Y} first second j k a v next h e =
     let made-it : (X × Y) × At = (v, next) in
-    let x = bind_ok (first.reads a) (λ x. (second x.0).reads x.1 >>= λ y. Ok ((x.0, y.0), y.1)) made-it e in
+    let x = bind_ok (first.reads a) (λ x. (second x.0).reads x.1 >>= λ y. Ok ((x.0, y.0), y.1))
+    made-it e in
     let y = bind_ok ((second x.0.0).reads x.0.1) (λ y. Ok ((x.0.0, y.0), y.1)) made-it x.2 in
     subst (λ (p : (X × Y) × At). Found (dependent_pair first second).spells a p.0 p.1)
     (ok_is ((x.0.0, y.0.0), y.0.1) made-it y.2) (two-found first second j k a x.0 y.0 h x.1 y.1)
 
-pub dependent_pair-lawful : {F X Y : Type 0} (first : Format F X) (second : X → Format F Y) → Lawful first
-    → ((x : X) → Lawful (second x)) → Lawful (dependent_pair first second)
+pub dependent_pair-lawful : {F X Y : Type 0} (first : Format F X) (second : X → Format F Y)
+    → Lawful first → ((x : X) → Lawful (second x)) → Lawful (dependent_pair first second)
 dependent_pair-lawful first second j k = record {
   found = pair_on-found first second j k;
-  only = λ a v b rest h s e. let t = two-only first second j k a v b rest h s e in rw (t.1, t.2) refl;
+  only = λ a v b rest h s e. let t = two-only first second j k a v b rest h s e in rw (t.1, t.2)
+      refl;
   admitted = λ order place v b o s. both-admitted first second j k order place v b o s;
   written = λ order place v ok short. both-written first second j k order place v ok short;
 }
 
 infixr 5 ◌&&&◌
-pub ◌&&&◌ : {F X Y : Type 0} {first : Format F X} {second : Format F Y} → Lawful first → Lawful second
-    → Lawful (first & second)
+pub ◌&&&◌ : {F X Y : Type 0} {first : Format F X} {second : Format F Y} → Lawful first
+    → Lawful second → Lawful (first & second)
 j &&& k = dependent_pair-lawful _ _ j (λ _. k)
 
-tagged-found : {F K Y : Type 0} (tag : Format F K) (tag_of : Y → K) (arm : K → Format F Y) → Lawful tag
-    → ((k : K) → Lawful (arm k))
-    → ((k : K) (order : Order) (place : ℕ) (y : Y) (b : List ℕ) → (arm k).spells order place y b → k ≡ tag_of y)
-    → (a : At) (v : Y) (next : At) → a.origin ≤ a.place → (union_format tag tag_of arm).reads a ≡ Ok (v, next)
-    → Found (union_format tag tag_of arm).spells a v next
+tagged-found : {F K Y : Type 0} (tag : Format F K) (tag_of : Y → K) (arm : K → Format F Y)
+    → Lawful tag → ((k : K) → Lawful (arm k))
+    → ((k : K) (order : Order) (place : ℕ) (y : Y) (b : List ℕ) → (arm k).spells order place y b
+    → k ≡ tag_of y)
+    → (a : At) (v : Y) (next : At) → a.origin ≤ a.place → (union_format tag tag_of arm).reads a
+    ≡ Ok (v, next) → Found (union_format tag tag_of arm).spells a v next
 tagged-found {K = K} {Y = Y} tag tag_of arm j k told a v next h e =
     let made-it : Y × At = (v, next) in
     let x = bind_ok (tag.reads a) (λ x. (arm x.0).reads x.1) made-it e in
@@ -223,27 +241,29 @@ tagged-found {K = K} {Y = Y} tag tag_of arm j k told a v next h e =
       bytes = here.bytes;
       spelled =
           subst
-          (λ (k : K). SpellsThen tag.spells (λ k. (arm k).spells) a.order (a.place - a.origin) (k, v) here.bytes)
-          is
-          here.spelled;
+          (λ (k : K). SpellsThen tag.spells (λ k. (arm k).spells) a.order (a.place - a.origin)
+          (k, v) here.bytes) is here.spelled;
       parts = here.parts;
       moved = here.moved;
     }
 
-pub union_format-lawful : {F K Y : Type 0} (tag : Format F K) (tag_of : Y → K) (arm : K → Format F Y) → Lawful tag
+pub union_format-lawful : {F K Y : Type 0} (tag : Format F K) (tag_of : Y → K)
+    (arm : K → Format F Y) → Lawful tag
     → ((k : K) → Lawful (arm k))
-    → ((k : K) (order : Order) (place : ℕ) (y : Y) (b : List ℕ) → (arm k).spells order place y b → k ≡ tag_of y)
-    → Lawful (union_format tag tag_of arm)
+    → ((k : K) (order : Order) (place : ℕ) (y : Y) (b : List ℕ) → (arm k).spells order place y b
+    → k ≡ tag_of y) → Lawful (union_format tag tag_of arm)
 union_format-lawful tag tag_of arm j k told = record {
   found = tagged-found tag tag_of arm j k told;
-  only = λ a v b rest h s e. let t = two-only tag arm j k a (tag_of v, v) b rest h s e in rw (t.1, t.2) refl;
+  only = λ a v b rest h s e. let t = two-only tag arm j k a (tag_of v, v) b rest h s e in rw
+      (t.1, t.2) refl;
   admitted = λ order place v b o s. both-admitted tag arm j k order place (tag_of v, v) b o s;
   written = λ order place v ok short. both-written tag arm j k order place (tag_of v, v) ok short;
 }
 
-made-found : {F X Y : Type 0} (to : X → Y) (from : Y → X) (g : Format F X) → Lawful g → ((x : X) → from (to x) ≡ x)
-    → (a : At) (v : Y) (next : At) → a.origin ≤ a.place → (structure_format to from g).reads a ≡ Ok (v, next)
-    → Found (structure_format to from g).spells a v next
+made-found : {F X Y : Type 0} (to : X → Y) (from : Y → X) (g : Format F X) → Lawful g
+    → ((x : X) → from (to x) ≡ x)
+    → (a : At) (v : Y) (next : At) → a.origin ≤ a.place → (structure_format to from g).reads a
+    ≡ Ok (v, next) → Found (structure_format to from g).spells a v next
 made-found {X = X} {Y = Y} to from g l back a v next h e =
     let made-it : Y × At = (v, next) in
     let x = bind_ok (g.reads a) (λ x. Ok (to x.0, x.1)) made-it e in
@@ -251,15 +271,17 @@ made-found {X = X} {Y = Y} to from g l back a v next h e =
     let here : Found (structure_format to from g).spells a (to x.0.0) x.0.1 =
     record {
       bytes = w.bytes;
-      spelled = subst (λ (z : X). g.spells a.order (a.place - a.origin) z w.bytes) (sym (back x.0.0)) w.spelled;
+      spelled = subst (λ (z : X). g.spells a.order (a.place - a.origin) z w.bytes)
+          (sym (back x.0.0)) w.spelled;
       parts = w.parts;
       moved = w.moved;
     } in
-    subst (λ (p : Y × At). Found (structure_format to from g).spells a p.0 p.1) (ok_is (to x.0.0, x.0.1) made-it x.2)
-    here
+    subst (λ (p : Y × At). Found (structure_format to from g).spells a p.0 p.1)
+    (ok_is (to x.0.0, x.0.1) made-it x.2) here
 
 pub structure_format-lawful : {F X Y : Type 0} (to : X → Y) (from : Y → X) (g : Format F X)
-    → ((x : X) → from (to x) ≡ x) → ((y : Y) → to (from y) ≡ y) → Lawful g → Lawful (structure_format to from g)
+    → ((x : X) → from (to x) ≡ x) → ((y : Y) → to (from y) ≡ y) → Lawful g
+    → Lawful (structure_format to from g)
 structure_format-lawful {F = F} {Y = Y} to from g back forth l = record {
   found = made-found to from g l back;
   only =
@@ -270,19 +292,26 @@ structure_format-lawful {F = F} {Y = Y} to from g back forth l = record {
 }
 
 variant-found : {F X Y : Type 0} (to : X → Y) (from : Y → Option X) (g : Format F X) → Lawful g
-    → (a : At) (v : Y) (next : At) → a.origin ≤ a.place → (variant_format to from g).reads a ≡ Ok (v, next)
-    → Found (variant_format to from g).spells a v next
+    → (a : At) (v : Y) (next : At) → a.origin ≤ a.place → (variant_format to from g).reads a
+    ≡ Ok (v, next) → Found (variant_format to from g).spells a v next
 variant-found {X = X} {Y = Y} to from g l a v next h e =
     let made-it : Y × At = (v, next) in
     let x = bind_ok (g.reads a) (λ x. Ok (to x.0, x.1)) made-it e in
     let w = l.found a x.0.0 x.0.1 h x.1 in
-    subst (λ (p : Y × At). Found (variant_format to from g).spells a p.0 p.1) (ok_is (to x.0.0, x.0.1) made-it x.2)
-    (record { bytes = w.bytes; spelled = (x.0.0, refl, w.spelled); parts = w.parts; moved = w.moved })
+    subst (λ (p : Y × At). Found (variant_format to from g).spells a p.0 p.1)
+    (ok_is (to x.0.0, x.0.1) made-it x.2)
+    (record {
+      bytes = w.bytes;
+      spelled = (x.0.0, refl, w.spelled);
+      parts = w.parts;
+      moved = w.moved;
+    })
 
-variant-written : {F X Y : Type 0} (to : X → Y) (from : Y → Option X) (g : Format F X) → Lawful g → (x : X)
-    → from (to x) ≡ Some x → (order : Order) (place : ℕ) → g.admits x
+variant-written : {F X Y : Type 0} (to : X → Y) (from : Y → Option X) (g : Format F X) → Lawful g
+    → (x : X) → from (to x) ≡ Some x → (order : Order) (place : ℕ) → g.admits x
     → length (none_or g.writes (from (to x)) order place) < 2 ^ 32
-    → (variant_format to from g).spells order place (to x) (none_or g.writes (from (to x)) order place)
+    → (variant_format to from g).spells order place (to x)
+    (none_or g.writes (from (to x)) order place)
 variant-written to from g l x back order place ok short =
     let e : none_or g.writes (from (to x)) order place ≡ g.writes x order place = rw back refl in
     (x, refl, rw e (l.written order place x ok (rw (← e) short)))
@@ -292,7 +321,8 @@ pub variant_format-lawful : {F X Y : Type 0} (to : X → Y) (from : Y → Option
 variant_format-lawful {F = F} {Y = Y} to from g back l = record {
   found = variant-found to from g l;
   only =
-      λ a v b rest h s e. rw (l.only a s.0 b rest h s.2 e) (ap (λ (y : Y). done {F = F} (y, after (length b) a)) s.1);
+      λ a v b rest h s e. rw (l.only a s.0 b rest h s.2 e)
+      (ap (λ (y : Y). done {F = F} (y, after (length b) a)) s.1);
   admitted = λ order place v b o s. (s.0, s.1, l.admitted order place s.0 b o s.2);
   written = λ order place v ok.
       subst (λ (y : Y). length (none_or g.writes (from y) order place) < 2 ^ 32
@@ -303,7 +333,8 @@ variant_format-lawful {F = F} {Y = Y} to from g back l = record {
 
 after-zero : (a : At) → after 0 a ≡ a
 after-zero a =
-    ap (λ (n : ℕ). record { rest = a.rest; place = n; origin = a.origin; order = a.order }) (add-zero a.place)
+    ap (λ (n : ℕ). record { rest = a.rest; place = n; origin = a.origin; order = a.order })
+    (add-zero a.place)
 
 pub constant_format-lawful : {F X : Type 0} (x : X) → Lawful (constant_format {F = F} x)
 constant_format-lawful {F = F} {X = X} x = record {
@@ -316,7 +347,8 @@ constant_format-lawful {F = F} {X = X} x = record {
   written = λ order place v ok short. (ok, refl);
 }
 
-skipped-found : {F X : Type 0} (x : X) (g : Format F X) → Lawful g → (a : At) (v : Unit {0}) (next : At)
+skipped-found : {F X : Type 0} (x : X) (g : Format F X) → Lawful g → (a : At) (v : Unit {0})
+    (next : At)
     → a.origin ≤ a.place → (placeholder_format x g).reads a ≡ Ok (v, next)
     → Found (placeholder_format x g).spells a v next
 skipped-found {F = F} x g l a v next h e =
@@ -345,8 +377,8 @@ failure_format-lawful bad = record {
 }
 
 checked-found : {F X : Type 0} (ok : X → Bool) (bad : X → At → F) (g : Format F X) → Lawful g
-    → (a : At) (v : X) (next : At) → a.origin ≤ a.place → (restriction_format ok bad g).reads a ≡ Ok (v, next)
-    → Found (restriction_format ok bad g).spells a v next
+    → (a : At) (v : X) (next : At) → a.origin ≤ a.place → (restriction_format ok bad g).reads a
+    ≡ Ok (v, next) → Found (restriction_format ok bad g).spells a v next
 checked-found {X = X} ok bad g l a v next h e =
     let made-it : X × At = (v, next) in
     let x = bind_ok (g.reads a) (λ x. cond (ok x.0) (Ok x) (Err (bad x.0 a))) made-it e in
@@ -355,36 +387,42 @@ checked-found {X = X} ok bad g l a v next h e =
     subst (λ (p : X × At). Found (restriction_format ok bad g).spells a p.0 p.1) c.1
     (record { bytes = w.bytes; spelled = (c.0, w.spelled); parts = w.parts; moved = w.moved })
 
-pub restriction_format-lawful : {F X : Type 0} (ok : X → Bool) (bad : X → At → F) (g : Format F X) → Lawful g
-    → Lawful (restriction_format ok bad g)
+pub restriction_format-lawful : {F X : Type 0} (ok : X → Bool) (bad : X → At → F) (g : Format F X)
+    → Lawful g → Lawful (restriction_format ok bad g)
 restriction_format-lawful ok bad g l = record {
   found = checked-found ok bad g l;
-  only = λ a v b rest h s e. rw (l.only a v b rest h s.1 e) (check_is (ok v) (bad v a) (v, after (length b) a) s.0);
+  only = λ a v b rest h s e. rw (l.only a v b rest h s.1 e)
+      (check_is (ok v) (bad v a) (v, after (length b) a) s.0);
   admitted = λ order place v b o s. (s.0, l.admitted order place v b o s.1);
   written = λ order place v is short. (is.0, l.written order place v is.1 short);
 }
 
-refined_ok : {F Y : Type 0} (o : Option Y) (e : F) (next : At) (p : Y × At) → or_fault o e next ≡ Ok p
-    → (o ≡ Some p.0) × (next ≡ p.1)
+refined_ok : {F Y : Type 0} (o : Option Y) (e : F) (next : At) (p : Y × At) → or_fault o e next
+    ≡ Ok p → (o ≡ Some p.0) × (next ≡ p.1)
 refined_ok {F = F} (Some y) e next p h =
     let is = ok_is {F = F} (y, next) p h in (ap (λ q. Some q.0) is, ap (λ q. q.1) is)
 refined_ok None e next p h = absurd cc
 
-refined-found : {F X Y : Type 0} (to : X → Option Y) (from : Y → X) (bad : X → At → F) (g : Format F X) → Lawful g
-    → ((x : X) (y : Y) → to x ≡ Some y → from y ≡ x) → (a : At) (v : Y) (next : At) → a.origin ≤ a.place
-    → (partial_format to from bad g).reads a ≡ Ok (v, next) → Found (partial_format to from bad g).spells a v next
+refined-found : {F X Y : Type 0} (to : X → Option Y) (from : Y → X) (bad : X → At → F)
+    (g : Format F X) → Lawful g
+    → ((x : X) (y : Y) → to x ≡ Some y → from y ≡ x) → (a : At) (v : Y) (next : At)
+    → a.origin ≤ a.place
+    → (partial_format to from bad g).reads a ≡ Ok (v, next)
+    → Found (partial_format to from bad g).spells a v next
 refined-found {X = X} {Y = Y} to from bad g l back a v next h e =
     let x = bind_ok (g.reads a) (λ x. or_fault (to x.0) (bad x.0 a) x.1) (v, next) e in
     let t = refined_ok (to x.0.0) (bad x.0.0 a) x.0.1 (v, next) x.2 in
     let w = l.found a x.0.0 x.0.1 h x.1 in
     record {
       bytes = w.bytes;
-      spelled = subst (λ (z : X). g.spells a.order (a.place - a.origin) z w.bytes) (sym (back x.0.0 v t.0)) w.spelled;
+      spelled = subst (λ (z : X). g.spells a.order (a.place - a.origin) z w.bytes)
+          (sym (back x.0.0 v t.0)) w.spelled;
       parts = subst (λ (n : At). a.rest ≡ w.bytes ++ n.rest) t.1 w.parts;
       moved = subst (λ (n : At). n ≡ after (length w.bytes) a) t.1 w.moved;
     }
 
-pub partial_format-lawful : {F X Y : Type 0} (to : X → Option Y) (from : Y → X) (bad : X → At → F) (g : Format F X)
+pub partial_format-lawful : {F X Y : Type 0} (to : X → Option Y) (from : Y → X) (bad : X → At → F)
+    (g : Format F X)
     → ((y : Y) → to (from y) ≡ Some y) → ((x : X) (y : Y) → to x ≡ Some y → from y ≡ x) → Lawful g
     → Lawful (partial_format to from bad g)
 partial_format-lawful {F = F} {Y = Y} to from bad g forth back l = record {
@@ -394,26 +432,29 @@ partial_format-lawful {F = F} {Y = Y} to from bad g forth back l = record {
   written = λ order place v ok short. l.written order place (from v) ok short;
 }
 
-nth-number : {Y : Type 0} (number_of : Y → ℕ) (ys : List Y) (k n : ℕ) (y : Y) → map number_of ys ≡ upwards k (length ys)
-    → nth ys n ≡ Some y → number_of y ≡ k + n
+nth-number : {Y : Type 0} (number_of : Y → ℕ) (ys : List Y) (k n : ℕ) (y : Y) → map number_of ys
+    ≡ upwards k (length ys) → nth ys n ≡ Some y → number_of y ≡ k + n
 nth-number number_of [] k n y e h = absurd cc
 nth-number {Y = Y} number_of (z ∷ zs) k zero y e h =
-    let is : z ≡ y = cc in let at : number_of z ≡ k = cc in sym (ap number_of is) ∙ at ∙ sym (add-zero k)
+    let is : z ≡ y = cc in let at : number_of z ≡ k = cc in sym (ap number_of is) ∙ at
+    ∙ sym (add-zero k)
 nth-number number_of (z ∷ zs) k (suc n) y e h =
     let rest : map number_of zs ≡ upwards (suc k) (length zs) = cc in
     let here = nth-number number_of zs (suc k) n y rest h in
     omega (arith, here)
 
-pub enumeration_format-lawful : {F Y : Type 0} (ys : List Y) (number_of : Y → ℕ) (bad : ℕ → At → F) (g : Format F ℕ)
-    → ((y : Y) → nth ys (number_of y) ≡ Some y) → map number_of ys ≡ upwards 0 (length ys) → Lawful g
-    → Lawful (enumeration_format ys number_of bad g)
+pub enumeration_format-lawful : {F Y : Type 0} (ys : List Y) (number_of : Y → ℕ) (bad : ℕ → At → F)
+    (g : Format F ℕ)
+    → ((y : Y) → nth ys (number_of y) ≡ Some y) → map number_of ys ≡ upwards 0 (length ys)
+    → Lawful g → Lawful (enumeration_format ys number_of bad g)
 enumeration_format-lawful ys number_of bad g forth all l =
     partial_format-lawful (nth ys) number_of bad g forth
     (λ n y h. let here = nth-number number_of ys 0 n y all h in omega (arith, here)) l
 
-named-at : {K : Type 0} (name_of : K → List ℕ) (k z : K) (name : List ℕ) (rest : Option K) (b : Bool)
-    → b ≡ bytes_eq name (name_of k) → (rest ≡ Some z → name_of z ≡ name) → cond b (Some k) rest ≡ Some z
-    → name_of z ≡ name
+named-at : {K : Type 0} (name_of : K → List ℕ) (k z : K) (name : List ℕ) (rest : Option K)
+    (b : Bool)
+    → b ≡ bytes_eq name (name_of k) → (rest ≡ Some z → name_of z ≡ name) → cond b (Some k) rest
+    ≡ Some z → name_of z ≡ name
 named-at name_of k z name rest true is later h =
     let same : k ≡ z = cc in sym ((bytes_eq-Decides name (name_of k)).0 (sym is) ∙ ap name_of same)
 named-at name_of k z name rest false is later h = later h
@@ -427,19 +468,22 @@ value_named-name name_of (l ∷ ks) name k h =
 
 -- ---- inside an encapsulation
 
-inside-finds : {F Y : Type 0} (c : CdrFault → F) (g : Format F Y) → Lawful g → (a : At) (v : Y) (next : At)
+inside-finds : {F Y : Type 0} (c : CdrFault → F) (g : Format F Y) → Lawful g
+    → (a : At) (v : Y) (next : At)
     → a.origin ≤ a.place → (encapsulation_format c g).reads a ≡ Ok (v, next)
     → Found (encapsulation_format c g).spells a v next
 unfolding encapsulation_at
 inside-finds {Y = Y} c g l a v next h e =
     let made-it : Y × At = (v, next) in
-    let enc = bind_ok (as_fault c (encapsulation_at a)) (λ e. g.reads e.0 >>= λ v. Ok (v.0, e.1)) made-it e in
+    let enc = bind_ok (as_fault c (encapsulation_at a)) (λ e. g.reads e.0 >>= λ v. Ok (v.0, e.1))
+    made-it e in
     let val = bind_ok (g.reads enc.0.0) (λ v. Ok (v.0, enc.0.1)) made-it enc.2 in
     let oct =
     bind_ok (octets_at a)
     (λ bytes. inside_of (aligned 4 a) bytes.1.place bytes.0 >>= λ inner. Ok (inner, bytes.1)) enc.0
     (fault_ok c _ enc.0 enc.1) in
-    let ins = bind_ok (inside_of (aligned 4 a) oct.0.1.place oct.0.0) (λ inner. Ok (inner, oct.0.1)) enc.0 oct.2 in
+    let ins = bind_ok (inside_of (aligned 4 a) oct.0.1.place oct.0.0)
+    (λ inner. Ok (inner, oct.0.1)) enc.0 oct.2 in
     let enc-is : (ins.0, oct.0.1) ≡ enc.0 = ok_is (ins.0, oct.0.1) enc.0 ins.2 in
     let f = octets-found a oct.0.0 oct.0.1 h oct.1 in
     let within-end : length oct.0.0 ≤ oct.0.1.place =
@@ -458,9 +502,10 @@ inside-finds {Y = Y} c g l a v next h e =
     subst (λ (p : Y × At). Found (encapsulation_format c g).spells a p.0 p.1) last
     (within-made g.spells a oct.0.1 ins.0 val.0.1 oct.0.0 val.0.0 f i w)
 
-inside-only_reads : {F Y : Type 0} (c : CdrFault → F) (g : Format F Y) → Lawful g → (a : At) (v : Y) (b rest : List ℕ)
-    → a.origin ≤ a.place → SpellsWithin g.spells a.order (a.place - a.origin) v b → a.rest ≡ b ++ rest
-    → (encapsulation_format c g).reads a ≡ Ok (v, after (length b) a)
+inside-only_reads : {F Y : Type 0} (c : CdrFault → F) (g : Format F Y) → Lawful g
+    → (a : At) (v : Y) (b rest : List ℕ)
+    → a.origin ≤ a.place → SpellsWithin g.spells a.order (a.place - a.origin) v b
+    → a.rest ≡ b ++ rest → (encapsulation_format c g).reads a ≡ Ok (v, after (length b) a)
 unfolding encapsulation_at
 inside-only_reads {Y = Y} c g l a v b rest h s e =
     let body = s.body ++ s.ignored in
@@ -477,13 +522,15 @@ inside-only_reads {Y = Y} c g l a v b rest h s e =
       origin = end - suc (length body);
       order = order_of s.little;
     } in
-    let spelled : g.spells where-it-is.order (where-it-is.place - where-it-is.origin) v s.body = rw origin s.spelled in
+    let spelled : g.spells where-it-is.order (where-it-is.place - where-it-is.origin)
+    v s.body = rw origin s.spelled in
     let three = l.only where-it-is v s.body s.ignored (omega (arith, long)) spelled refl in
     rw (one, two, three) refl
 
 enclosed-octets : (order : Order) (place : ℕ) (body : List ℕ)
     → length (written_octets order place (flag order ∷ body)) < 2 ^ 32
-    → SpellsOctets order place (flag order ∷ (body ++ [])) (written_octets order place (flag order ∷ body))
+    → SpellsOctets order place (flag order ∷ (body ++ []))
+    (written_octets order place (flag order ∷ body))
 enclosed-octets order place body short =
     let octets : List ℕ = flag order ∷ body in
     let few : length octets < 2 ^ 32 =
@@ -497,9 +544,11 @@ within-few order place body short =
     let one : length octets ≡ suc (length body) = refl in
     omega (arith, short, one, length-append (written_number 4 order place (length octets)) octets)
 
-inside-written : {F Y : Type 0} (c : CdrFault → F) (g : Format F Y) → Lawful g → (order : Order) (place : ℕ) (y : Y)
+inside-written : {F Y : Type 0} (c : CdrFault → F) (g : Format F Y) → Lawful g
+    → (order : Order) (place : ℕ) (y : Y)
     → g.admits y → length ((encapsulation_format c g).writes y order place) < 2 ^ 32
-    → (encapsulation_format c g).spells order place y ((encapsulation_format c g).writes y order place)
+    → (encapsulation_format c g).spells order place y
+    ((encapsulation_format c g).writes y order place)
 inside-written c g l Big place y ok short =
     record {
       little = false;
@@ -527,7 +576,8 @@ encapsulation_format-lawful c g l = record {
   found = inside-finds c g l;
   only = inside-only_reads c g l;
   admitted = λ order place v b o s.
-      let all : AreOctets (s.octets.count ++ (s.flag ∷ (s.body ++ s.ignored))) = subst AreOctets s.octets.parts o in
+      let all : AreOctets (s.octets.count ++ (s.flag ∷ (s.body ++ s.ignored))) = subst AreOctets
+      s.octets.parts o in
       let behind =
       octets-back (s.flag ∷ []) (s.body ++ s.ignored)
       (octets-back s.octets.count (s.flag ∷ (s.body ++ s.ignored)) all) in
@@ -537,23 +587,27 @@ encapsulation_format-lawful c g l = record {
 
 -- ---- sequences
 
-pub array_format-lawful : {F X : Type 0} (g : Format F X) → Lawful g → (n : ℕ) → Lawful (array_format g n)
+pub array_format-lawful : {F X : Type 0} (g : Format F X) → Lawful g → (n : ℕ)
+    → Lawful (array_format g n)
 array_format-lawful g l zero = constant_format-lawful []
 array_format-lawful g l (suc n) =
     variant_format-lawful (λ p. p.0 ∷ p.1) uncons (g & array_format g n) (λ x. refl)
     (dependent_pair-lawful g (λ _. array_format g n) l (λ _. array_format-lawful g l n))
 
-pub times-length : {F X : Type 0} (g : Format F X) (n : ℕ) (order : Order) (place : ℕ) (xs : List X) (b : List ℕ)
+pub times-length : {F X : Type 0} (g : Format F X) (n : ℕ) (order : Order) (place : ℕ) (xs : List X)
+    (b : List ℕ)
     → (array_format g n).spells order place xs b → n ≡ length xs
 times-length {X = X} g zero order place xs b s = ap (length {A = X}) s.0
 times-length {X = X} g (suc n) order place xs b s =
-    ap suc (times-length g n order (place + length s.2.front) s.0.1 s.2.back s.2.then_spelled) ∙ ap (length {A = X}) s.1
+    ap suc (times-length g n order (place + length s.2.front) s.0.1 s.2.back s.2.then_spelled)
+    ∙ ap (length {A = X}) s.1
 
 pub times-row : {F X : Type 0} (g : Format F X) (xs : List X) (order : Order) (place : ℕ)
     → (array_format g (length xs)).writes xs order place ≡ row (map g.writes xs) order place
 times-row g [] order place = refl
 times-row g (x ∷ xs) order place =
-    ap (λ (b : List ℕ). g.writes x order place ++ b) (times-row g xs order (place + length (g.writes x order place)))
+    ap (λ (b : List ℕ). g.writes x order place ++ b)
+    (times-row g xs order (place + length (g.writes x order place)))
 
 pub sequence_format-lawful : {F X : Type 0} (c : CdrFault → F) (g : Format F X) → Lawful g
     → Lawful (sequence_format c g)
@@ -567,16 +621,17 @@ sequence_format-lawful c g l =
 -- ---- what follows of each format
 
 -- what is written for an admitted value is read back, whatever follows
-pub reads_back : {F Y : Type 0} (f : Format F Y) → Lawful f → (y : Y) (a : At) (rest : List ℕ) → f.admits y
-    → a.origin ≤ a.place → length (f.writes y a.order (a.place - a.origin)) < 2 ^ 32
+pub reads_back : {F Y : Type 0} (f : Format F Y) → Lawful f → (y : Y) (a : At) (rest : List ℕ)
+    → f.admits y → a.origin ≤ a.place → length (f.writes y a.order (a.place - a.origin)) < 2 ^ 32
     → a.rest ≡ f.writes y a.order (a.place - a.origin) ++ rest
     → f.reads a ≡ Ok (y, after (length (f.writes y a.order (a.place - a.origin))) a)
-reads_back f l y a rest ok h short e = l.only a y _ rest h (l.written a.order (a.place - a.origin) y ok short) e
+reads_back f l y a rest ok h short e = l.only a y _ rest h
+    (l.written a.order (a.place - a.origin) y ok short) e
 
 -- what is read is admitted
-pub read-admitted : {F Y : Type 0} (f : Format F Y) → Lawful f → (a : At) (v : Y) (next : At) → a.origin ≤ a.place
-    → AreOctets a.rest → f.reads a ≡ Ok (v, next) → f.admits v
+pub read-admitted : {F Y : Type 0} (f : Format F Y) → Lawful f → (a : At) (v : Y) (next : At)
+    → a.origin ≤ a.place → AreOctets a.rest → f.reads a ≡ Ok (v, next) → f.admits v
 read-admitted f l a v next h o e =
     let w = l.found a v next h e in
-    l.admitted a.order (a.place - a.origin) v w.bytes (octets-front w.bytes next.rest (subst AreOctets w.parts o))
-    w.spelled
+    l.admitted a.order (a.place - a.origin) v w.bytes
+    (octets-front w.bytes next.rest (subst AreOctets w.parts o)) w.spelled

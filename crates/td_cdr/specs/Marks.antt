@@ -32,7 +32,8 @@ Holds m identifier number = In (entry_of identifier number) m.kept
 
 -- the number under which an identifier is remembered
 abbrev pub remembered : Marks → List ℕ → Option ℕ
-remembered m identifier = option_map (λ e. e.number) (find (λ e. bytes_eq e.identifier identifier) m.kept)
+remembered m identifier = option_map (λ e. e.number)
+    (find (λ e. bytes_eq e.identifier identifier) m.kept)
 
 -- numbered from above first up to last
 abbrev pub Numbered : ℕ → List Remembered → ℕ → Type 0

@@ -29,7 +29,8 @@ word_name name = nat_le 1 (length name) && nat_le (length name) 256 && list_all 
 -- a letter, and then letters, digits and `_`, 256 bytes at most
 abbrev pub identifier : List ℕ → Bool
 identifier [] = false
-identifier (first ∷ others) = is_letter first && nat_le (length others) 255 && list_all is_word others
+identifier (first ∷ others) = is_letter first && nat_le (length others) 255
+    && list_all is_word others
 
 -- 1 to 32 letters, digits, `_` and `-`
 abbrev pub trader_name : List ℕ → Bool

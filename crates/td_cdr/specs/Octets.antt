@@ -14,7 +14,8 @@ use mir.Val.{bits}
 use Rattle.td_cdr.specs.Gap.{gap}
 use Rattle.td_cdr.specs.Lawful.{AreOctets}
 
-each_front : (xs ys : List ℕ) (i : ℕ) → ((k : ℕ) → get_or (xs ++ ys) k 0 < 256) → get_or xs i 0 < 256
+each_front : (xs ys : List ℕ) (i : ℕ) → ((k : ℕ) → get_or (xs ++ ys) k 0 < 256)
+    → get_or xs i 0 < 256
 each_front [] ys i h = omega arith
 each_front (x ∷ xs) ys zero h = h 0
 each_front (x ∷ xs) ys (suc i) h = each_front xs ys i (λ k. h (suc k))
@@ -43,10 +44,11 @@ number-admitted size order place v b o s =
     (number-lt order size (drop (gap size place) b) (octets-drop (gap size place) b o))
 
 pub signed-admitted : (width : Width) (size : ℕ) → 256 ^ size ≤ 2 ^ bits width
-    → (order : Order) (place : ℕ) (v : ℤ) (b : List ℕ) → AreOctets b → SpellsSigned width size order place v b
-    → FitsSigned width v
+    → (order : Order) (place : ℕ) (v : ℤ) (b : List ℕ) → AreOctets b
+    → SpellsSigned width size order place v b → FitsSigned width v
 signed-admitted width size fits order place v b o s =
     let n = number order size (drop (gap size place) b) in
-    let low : n < 256 ^ size = number-lt order size (drop (gap size place) b) (octets-drop (gap size place) b o) in
+    let low : n < 256 ^ size = number-lt order size (drop (gap size place) b)
+    (octets-drop (gap size place) b o) in
     subst (λ (z : ℤ). FitsSigned width z) s.value
     (sfits_to_z {w = width} {n = n} (Fits-of_lt {w = width} {n = n} (omega arith)))

@@ -66,7 +66,8 @@ boolean_at a = do
 unfoldable pub octets_at : At → Result (List ℕ × At) CdrFault
 octets_at a = do
   n ← number_at 4 a
-  if nat_lt (length n.1.rest) n.0 then Err (TooLong (aligned 4 a)) else Ok (take n.0 n.1.rest, after n.0 n.1)
+  if nat_lt (length n.1.rest) n.0 then Err (TooLong (aligned 4 a)) else Ok
+      (take n.0 n.1.rest, after n.0 n.1)
 
 -- Strings and Wide Strings: bytes behind their number, the last a NUL
 unfoldable pub string_at : At → Result (List ℕ × At) CdrFault
@@ -81,7 +82,12 @@ abbrev pub inside : ℕ → ℕ → List ℕ → Result At CdrFault
 inside short end [] = Err (Short short)
 inside short end (flag ∷ bytes) = do
   little ← truth (end - suc (length bytes)) flag
-  Ok (record { rest = bytes; place = end - length bytes; origin = end - suc (length bytes); order = order_of little })
+  Ok (record {
+    rest = bytes;
+    place = end - length bytes;
+    origin = end - suc (length bytes);
+    order = order_of little;
+  })
 
 -- Encapsulation: a sequence of octets, with the reader inside it and the one behind it
 unfoldable pub encapsulation_at : At → Result (At × At) CdrFault
@@ -95,6 +101,7 @@ abbrev pub within : {Y : Type 0} → (At → Result (Y × At) CdrFault) → At �
 within reading a = encapsulation_at a >>= λ e. reading e.0 >>= λ v. Ok (v.0, e.1)
 
 -- What a call of a reader answered, seen by view, is what reading gives. A refused reader is unchanged.
-abbrev pub GivesOrStays : {X Y : Type 0} → (X → Y) → At → At → Result X CdrFault → Result (Y × At) CdrFault → Type 0
+abbrev pub GivesOrStays : {X Y : Type 0} → (X → Y) → At → At → Result X CdrFault
+    → Result (Y × At) CdrFault → Type 0
 GivesOrStays view old new (Ok x) reading = reading ≡ Ok (view x, new)
 GivesOrStays view old new (Err e) reading = (reading ≡ Err e) × (new ≡ old)

@@ -31,7 +31,8 @@ pub bind_err : {F A B : Type 0} (r : Result A F) (f : A → Result B F) (d : F) 
 bind_err (Ok x) f d e = inr (x, refl, e)
 bind_err (Err c) f d e = inl cc
 
-pub guard_err : {A : Type 0} (b : Bool) (d f : CdrFault) (x : A) → cond b (Err d) (Ok x) ≡ Err f → (b ≡ true) × (f ≡ d)
+pub guard_err : {A : Type 0} (b : Bool) (d f : CdrFault) (x : A) → cond b (Err d) (Ok x) ≡ Err f
+    → (b ≡ true) × (f ≡ d)
 guard_err true d f x e = (refl, cc)
 guard_err false d f x e = absurd cc
 
@@ -42,9 +43,10 @@ outer_cause c (Ok x) f e = absurd cc
 outer_cause c (Err d) f e = (d, refl, cc)
 
 -- what was found is what is read
-pub read_again : {F Y : Type 0} (spells : Order → ℕ → Y → List ℕ → Type 0) (reading : At → Result (Y × At) F)
-    → Joins spells reading → (a : At) (v : Y) (next : At) → a.origin ≤ a.place → Found spells a v next
-    → reading a ≡ Ok (v, next)
+pub read_again : {F Y : Type 0} (spells : Order → ℕ → Y → List ℕ → Type 0)
+    (reading : At → Result (Y × At) F)
+    → Joins spells reading → (a : At) (v : Y) (next : At) → a.origin ≤ a.place
+    → Found spells a v next → reading a ≡ Ok (v, next)
 read_again {F = F} {Y = Y} spells reading j a v next h f =
     let made : At → Result (Y × At) F = λ x. Ok (v, x) in
     j.only a v f.bytes next.rest h f.spelled f.parts ∙ ap made (sym f.moved)
@@ -63,14 +65,18 @@ number-told size a f e =
       | inr r ↦ absurd (cc r.2)
     ]
 
-number-refused : (size : ℕ) (a : At) (f : CdrFault) → NumberFault size a f → number_at size a ≡ Err f
+number-refused : (size : ℕ) (a : At) (f : CdrFault) → NumberFault size a f → number_at size a
+    ≡ Err f
 unfolding number_at cell_at
 number-refused size a f n =
     let past : ltb (length a.rest) (padding size a + size) ≡ true = lt-ltb _ _ n.past in
     rw (past, n.fault) refl
 
 pub number-refuses : (size : ℕ) → Refuses (NumberFault size) (number_at size)
-number-refuses size = record { told = λ a f _ e. number-told size a f e; only = λ a f _ n. number-refused size a f n }
+number-refuses size = record {
+  told = λ a f _ e. number-told size a f e;
+  only = λ a f _ n. number-refused size a f n;
+}
 
 pub signed-refuses : (width : Width) (size : ℕ) → Refuses (NumberFault size) (signed_at width size)
 unfolding signed_at
@@ -83,7 +89,8 @@ signed-refuses width size = record {
 
 -- ---- booleans
 
-pub truth-told : (place n : ℕ) (f : CdrFault) → truth place n ≡ Err f → (1 < n) × (f ≡ BadBoolean place)
+pub truth-told : (place n : ℕ) (f : CdrFault) → truth place n ≡ Err f → (1 < n)
+    × (f ≡ BadBoolean place)
 truth-told place zero f e = absurd cc
 truth-told place (suc zero) f e = absurd cc
 truth-told place (suc (suc n)) f e = (omega arith, cc)
@@ -105,7 +112,8 @@ boolean-told a f e =
       ]
     ]
 
-boolean-refused : (a : At) (f : CdrFault) → a.origin ≤ a.place → BooleanFault a f → boolean_at a ≡ Err f
+boolean-refused : (a : At) (f : CdrFault) → a.origin ≤ a.place → BooleanFault a f
+    → boolean_at a ≡ Err f
 unfolding boolean_at
 boolean-refused a f h (BooleanFault.cut n) = rw (number-refused 1 a f n) refl
 boolean-refused a f h (BooleanFault.above octet next found lt fault) =
@@ -121,16 +129,17 @@ octets-told : (a : At) (f : CdrFault) → octets_at a ≡ Err f → OctetsFault 
 unfolding octets_at
 octets-told a f e =
     elim (bind_err (number_at 4 a)
-    (λ n. cond (ltb (length n.1.rest) n.0) (Err (TooLong (aligned 4 a))) (Ok (take n.0 n.1.rest, after n.0 n.1))) f
-    e) [
+    (λ n. cond (ltb (length n.1.rest) n.0) (Err (TooLong (aligned 4 a)))
+    (Ok (take n.0 n.1.rest, after n.0 n.1))) f e) [
       | inl r ↦ OctetsFault.cut (number-told 4 a f r)
       | inr r ↦ let g =
-          guard_err (ltb (length r.0.1.rest) r.0.0) (TooLong (aligned 4 a)) f (take r.0.0 r.0.1.rest, after r.0.0 r.0.1)
-          r.2 in
+          guard_err (ltb (length r.0.1.rest) r.0.0)
+          (TooLong (aligned 4 a)) f (take r.0.0 r.0.1.rest, after r.0.0 r.0.1) r.2 in
           OctetsFault.above r.0.0 r.0.1 (number-found 4 a r.0.0 r.0.1 r.1) (ltb-true _ _ g.0) g.1
     ]
 
-octets-refused : (a : At) (f : CdrFault) → a.origin ≤ a.place → OctetsFault a f → octets_at a ≡ Err f
+octets-refused : (a : At) (f : CdrFault) → a.origin ≤ a.place → OctetsFault a f
+    → octets_at a ≡ Err f
 unfolding octets_at
 octets-refused a f h (OctetsFault.cut n) = rw (number-refused 4 a f n) refl
 octets-refused a f h (OctetsFault.above count next found lt fault) =
@@ -144,11 +153,13 @@ octets-refuses = record { told = λ a f _ e. octets-told a f e; only = octets-re
 -- ---- strings
 
 text_of-told-some : (place : ℕ) (kept : List ℕ) (f : CdrFault) (t : Bool) → t ≡ ends_in_nul kept
-    → cond t (Ok (front kept)) (Err (BadString place)) ≡ Err f → (ends_in_nul kept ≡ false) × (f ≡ BadString place)
+    → cond t (Ok (front kept)) (Err (BadString place)) ≡ Err f → (ends_in_nul kept ≡ false)
+    × (f ≡ BadString place)
 text_of-told-some place kept f true is e = absurd cc
 text_of-told-some place kept f false is e = (sym is, cc)
 
-text_of-told-at : (place : ℕ) (kept : List ℕ) (f : CdrFault) (empty : Bool) → empty ≡ eqb (length kept) 0
+text_of-told-at : (place : ℕ) (kept : List ℕ) (f : CdrFault) (empty : Bool)
+    → empty ≡ eqb (length kept) 0
     → cond empty (Ok []) (cond (ends_in_nul kept) (Ok (front kept)) (Err (BadString place))) ≡ Err f
     → (0 < length kept) × (ends_in_nul kept ≡ false) × (f ≡ BadString place)
 text_of-told-at place kept f true is e = absurd cc
@@ -165,7 +176,8 @@ text_of-told place kept f e =
     (g.0, open_ended, g.2)
 
 text_of-refused-at : (place : ℕ) (kept : List ℕ) → 0 < length kept → ¬ (IsClosed kept) → (t : Bool)
-    → t ≡ ends_in_nul kept → cond t (Ok (front kept)) (Err (BadString place)) ≡ Err (BadString place)
+    → t ≡ ends_in_nul kept → cond t (Ok (front kept)) (Err (BadString place))
+    ≡ Err (BadString place)
 text_of-refused-at place kept some not_closed true is =
     let c = closed-ends_in_nul kept some (sym is) in
     absurd (not_closed (record { text = front kept; free = c.0; ends = c.1 }))
@@ -180,7 +192,8 @@ text_of-refused place kept some not_closed =
 string-told : (a : At) (f : CdrFault) → a.origin ≤ a.place → string_at a ≡ Err f → StringFault a f
 unfolding string_at
 string-told a f h e =
-    elim (bind_err (octets_at a) (λ bytes. text_of (aligned 4 a) bytes.0 >>= λ text. Ok (text, bytes.1)) f e) [
+    elim (bind_err (octets_at a)
+    (λ bytes. text_of (aligned 4 a) bytes.0 >>= λ text. Ok (text, bytes.1)) f e) [
       | inl r ↦ StringFault.octets (octets-told a f r)
       | inr r ↦ elim (bind_err (text_of (aligned 4 a) r.0.0) (λ text. Ok (text, r.0.1)) f r.2) [
         | inl t ↦ let g = text_of-told (aligned 4 a) r.0.0 f t in
@@ -189,7 +202,8 @@ string-told a f h e =
       ]
     ]
 
-string-refused : (a : At) (f : CdrFault) → a.origin ≤ a.place → StringFault a f → string_at a ≡ Err f
+string-refused : (a : At) (f : CdrFault) → a.origin ≤ a.place → StringFault a f
+    → string_at a ≡ Err f
 unfolding string_at
 string-refused a f h (StringFault.octets o) = rw (octets-refused a f h o) refl
 string-refused a f h (StringFault.unclosed kept next found some not_closed fault) =
@@ -201,7 +215,8 @@ string-refuses = record { told = string-told; only = string-refused }
 
 -- ---- faults of an outer layer, and values seen as others
 
-pub outer-refuses : {E F Y : Type 0} (c : E → F) (faults : At → E → Type 0) (reading : At → Result (Y × At) E)
+pub outer-refuses : {E F Y : Type 0} (c : E → F) (faults : At → E → Type 0)
+    (reading : At → Result (Y × At) E)
     → Refuses faults reading → Refuses (OuterFault c faults) (λ a. as_fault c (reading a))
 outer-refuses c faults reading r = record {
   told =
@@ -221,7 +236,8 @@ mapped-refuses faults reading map r = record {
 }
 
 -- the same reading, said in another way
-pub same-refuses : {F Y : Type 0} (faults : At → F → Type 0) (reading other : At → Result (Y × At) F)
+pub same-refuses : {F Y : Type 0} (faults : At → F → Type 0)
+    (reading other : At → Result (Y × At) F)
     → ((a : At) → reading a ≡ other a) → Refuses faults reading → Refuses faults other
 same-refuses faults reading other same r = record {
   told = λ a f h e. r.told a f h (same a ∙ e);
@@ -230,48 +246,60 @@ same-refuses faults reading other same r = record {
 
 -- ---- one item after another
 
-pub moved-on : {X : Type 0} (spells : Order → ℕ → X → List ℕ → Type 0) (a : At) (v : X) (next : At) → a.origin ≤ a.place
-    → Found spells a v next → next.origin ≤ next.place
+pub moved-on : {X : Type 0} (spells : Order → ℕ → X → List ℕ → Type 0) (a : At) (v : X) (next : At)
+    → a.origin ≤ a.place → Found spells a v next → next.origin ≤ next.place
 moved-on spells a v next h f = rw f.moved (omega arith)
 
-chain-refused : {F X Y : Type 0} (spells : Order → ℕ → X → List ℕ → Type 0) (first : At → F → Type 0)
-    (second : X → At → F → Type 0) (read_first : At → Result (X × At) F) (read_second : X → At → Result (Y × At) F)
-    → Joins spells read_first → Refuses first read_first → ((x : X) → Refuses (second x) (read_second x))
+chain-refused : {F X Y : Type 0} (spells : Order → ℕ → X → List ℕ → Type 0)
+    (first : At → F → Type 0) (second : X → At → F → Type 0) (read_first : At → Result (X × At) F)
+    (read_second : X → At → Result (Y × At) F)
+    → Joins spells read_first → Refuses first read_first
+    → ((x : X) → Refuses (second x) (read_second x))
     → (a : At) (f : F) → a.origin ≤ a.place → ThenFault spells first second a f
     → (read_first a >>= λ x. read_second x.0 x.1) ≡ Err f
-chain-refused spells first second read_first read_second j r s a f h (ThenFault.first d) = rw (r.only a f h d) refl
-chain-refused spells first second read_first read_second j r s a f h (ThenFault.second v next found d) =
-    rw (read_again spells read_first j a v next h found) ((s v).only next f (moved-on spells a v next h found) d)
+chain-refused spells first second read_first read_second j r s a f h (ThenFault.first d) = rw
+    (r.only a f h d) refl
+chain-refused spells first second read_first read_second j r s a f h
+    (ThenFault.second v next found d) =
+    rw (read_again spells read_first j a v next h found)
+    ((s v).only next f (moved-on spells a v next h found) d)
 
 -- the second reading may depend on what the first one gave
-pub chain-refuses : {F X Y : Type 0} (spells : Order → ℕ → X → List ℕ → Type 0) (first : At → F → Type 0)
-    (second : X → At → F → Type 0) (read_first : At → Result (X × At) F) (read_second : X → At → Result (Y × At) F)
-    → Joins spells read_first → Refuses first read_first → ((x : X) → Refuses (second x) (read_second x))
+pub chain-refuses : {F X Y : Type 0} (spells : Order → ℕ → X → List ℕ → Type 0)
+    (first : At → F → Type 0) (second : X → At → F → Type 0) (read_first : At → Result (X × At) F)
+    (read_second : X → At → Result (Y × At) F)
+    → Joins spells read_first → Refuses first read_first
+    → ((x : X) → Refuses (second x) (read_second x))
     → Refuses (ThenFault spells first second) (λ a. read_first a >>= λ x. read_second x.0 x.1)
 chain-refuses spells first second read_first read_second j r s = record {
   told = λ a f h e. elim (bind_err (read_first a) (λ x. read_second x.0 x.1) f e) [
     | inl t ↦ ThenFault.first (r.told a f h t)
     | inr t ↦ let found = j.found a t.0.0 t.0.1 h t.1 in
-        ThenFault.second t.0.0 t.0.1 found ((s t.0.0).told t.0.1 f (moved-on spells a t.0.0 t.0.1 h found) t.2)
+        ThenFault.second t.0.0 t.0.1 found
+        ((s t.0.0).told t.0.1 f (moved-on spells a t.0.0 t.0.1 h found) t.2)
   ];
   only = chain-refused spells first second read_first read_second j r s;
 }
 
-abbrev pub both_read : {F X Y : Type 0} → (At → Result (X × At) F) → (X → At → Result (Y × At) F) → At
-    → Result ((X × Y) × At) F
+abbrev pub both_read : {F X Y : Type 0} → (At → Result (X × At) F) → (X → At → Result (Y × At) F)
+    → At → Result ((X × Y) × At) F
 both_read first second a = first a >>= λ x. second x.0 x.1 >>= λ y. Ok ((x.0, y.0), y.1)
 
-pub pair-refuses : {F X Y : Type 0} (spells : Order → ℕ → X → List ℕ → Type 0) (first : At → F → Type 0)
-    (second : X → At → F → Type 0) (read_first : At → Result (X × At) F) (read_second : X → At → Result (Y × At) F)
-    → Joins spells read_first → Refuses first read_first → ((x : X) → Refuses (second x) (read_second x))
+pub pair-refuses : {F X Y : Type 0} (spells : Order → ℕ → X → List ℕ → Type 0)
+    (first : At → F → Type 0) (second : X → At → F → Type 0) (read_first : At → Result (X × At) F)
+    (read_second : X → At → Result (Y × At) F)
+    → Joins spells read_first → Refuses first read_first
+    → ((x : X) → Refuses (second x) (read_second x))
     → Refuses (ThenFault spells first second) (both_read read_first read_second)
 pair-refuses spells first second read_first read_second j r s =
-    chain-refuses spells first second read_first (λ x a. read_second x a >>= λ y. Ok ((x, y.0), y.1)) j r
+    chain-refuses spells first second read_first
+    (λ x a. read_second x a >>= λ y. Ok ((x, y.0), y.1)) j r
     (λ x. mapped-refuses (second x) (read_second x) (λ y. ((x, y.0), y.1)) (s x))
 
 -- ---- encapsulations
 
-octets-end : (a : At) (v : List ℕ) (next : At) → Found SpellsOctets a v next → next.place ≡ order_place a + length v
+octets-end : (a : At) (v : List ℕ) (next : At) → Found SpellsOctets a v next
+    → next.place ≡ order_place a + length v
 octets-end a v next f =
     omega (
       arith,
@@ -281,12 +309,12 @@ octets-end a v next f =
       f.spelled.counted.long,
     )
 
-order-stands : (a : At) (flag : ℕ) (body : List ℕ) (next : At) → Found SpellsOctets a (flag ∷ body) next
-    → next.place - suc (length body) ≡ order_place a
+order-stands : (a : At) (flag : ℕ) (body : List ℕ) (next : At)
+    → Found SpellsOctets a (flag ∷ body) next → next.place - suc (length body) ≡ order_place a
 order-stands a flag body next f = omega (arith, octets-end a (flag ∷ body) next f)
 
-body-stands : (a : At) (flag : ℕ) (body : List ℕ) (next : At) → Found SpellsOctets a (flag ∷ body) next
-    → next.place - length body ≡ order_place a + 1
+body-stands : (a : At) (flag : ℕ) (body : List ℕ) (next : At)
+    → Found SpellsOctets a (flag ∷ body) next → next.place - length body ≡ order_place a + 1
 body-stands a flag body next f = omega (arith, octets-end a (flag ∷ body) next f)
 
 abbrev stands_at : At → List ℕ → Bool → At
@@ -300,12 +328,15 @@ stands_at next body little = record {
 abbrev ok_at : At → Result At CdrFault
 ok_at x = Ok x
 
-abbrev pub enclosed_read : {F Y : Type 0} → (CdrFault → F) → (At → Result (Y × At) F) → At → Result (Y × At) F
+abbrev pub enclosed_read : {F Y : Type 0} → (CdrFault → F) → (At → Result (Y × At) F) → At
+    → Result (Y × At) F
 enclosed_read c inner a = as_fault c (encapsulation_at a) >>= λ e. inner e.0 >>= λ v. Ok (v.0, e.1)
 
-module _ {F Y : Type 0} (c : CdrFault → F) (inner : At → F → Type 0) (reading : At → Result (Y × At) F) where
+module _ {F Y : Type 0} (c : CdrFault → F) (inner : At → F → Type 0)
+    (reading : At → Result (Y × At) F) where
   -- the octets were read, and none of them is a place inside
-  inside-told : (a : At) (bytes : List ℕ) (next : At) (f : CdrFault) (g : F) → Found SpellsOctets a bytes next
+  inside-told : (a : At) (bytes : List ℕ) (next : At) (f : CdrFault) (g : F)
+      → Found SpellsOctets a bytes next
       → inside (aligned 4 a) next.place bytes ≡ Err f → g ≡ c f → WithinFault c inner a g
   inside-told a [] next f g found e is =
       WithinFault.empty next found (is ∙ ap c (sym (err_is At (Short (aligned 4 a)) f e)))
@@ -326,14 +357,15 @@ module _ {F Y : Type 0} (c : CdrFault → F) (inner : At → F → Type 0) (read
       ]
 
   stands-within : (a : At) (flag : ℕ) (body : List ℕ) (next : At) (little : Bool)
-      → Found SpellsOctets a (flag ∷ body) next → stands_at next body little ≡ within_at a little body
+      → Found SpellsOctets a (flag ∷ body) next → stands_at next body little
+      ≡ within_at a little body
   stands-within a flag body next little found =
       rw (order-stands a flag body next found, body-stands a flag body next found) refl
 
   -- the octets were read, and what is inside is refused
   value-told : Refuses inner reading → (a : At) (bytes : List ℕ) (next : At) (f : F) (x : At)
-      → Found SpellsOctets a bytes next → inside (aligned 4 a) next.place bytes ≡ Ok x → reading x ≡ Err f
-      → WithinFault c inner a f
+      → Found SpellsOctets a bytes next → inside (aligned 4 a) next.place bytes ≡ Ok x
+      → reading x ≡ Err f → WithinFault c inner a f
   value-told r a [] next f x found e d = absurd (cc e)
   value-told r a (flag ∷ body) next f x found e d =
       let place = next.place - suc (length body) in
@@ -352,17 +384,18 @@ module _ {F Y : Type 0} (c : CdrFault → F) (inner : At → F → Type 0) (read
       WithinFault.inside t.0 flag body next found (truth-found place flag t.0 t.1)
       (r.told (within_at a t.0 body) f (omega arith) refused)
 
-  enclosing-told : (a : At) (e : CdrFault) (f : F) → a.origin ≤ a.place → encapsulation_at a ≡ Err e → f ≡ c e
-      → WithinFault c inner a f
+  enclosing-told : (a : At) (e : CdrFault) (f : F) → a.origin ≤ a.place → encapsulation_at a ≡ Err e
+      → f ≡ c e → WithinFault c inner a f
   unfolding encapsulation_at
   enclosing-told a e f h t is =
       elim (bind_err (octets_at a)
       (λ bytes. inside (aligned 4 a) bytes.1.place bytes.0 >>= λ inner. Ok (inner, bytes.1)) e t) [
         | inl o ↦ WithinFault.octets (record { cause = e; holds = octets-told a e o; fault = is })
-        | inr o ↦ elim (bind_err (inside (aligned 4 a) o.0.1.place o.0.0) (λ inner. Ok (inner, o.0.1)) e o.2) [
-          | inl i ↦ inside-told a o.0.0 o.0.1 e f (octets-found a o.0.0 o.0.1 h o.1) i is
-          | inr i ↦ absurd (cc i.2)
-        ]
+        | inr o ↦ elim (bind_err (inside (aligned 4 a) o.0.1.place o.0.0)
+            (λ inner. Ok (inner, o.0.1)) e o.2) [
+              | inl i ↦ inside-told a o.0.0 o.0.1 e f (octets-found a o.0.0 o.0.1 h o.1) i is
+              | inr i ↦ absurd (cc i.2)
+            ]
       ]
 
   enclosed-told : Refuses inner reading → (a : At) (enclosed : At × At) (f : F) → a.origin ≤ a.place
@@ -370,27 +403,32 @@ module _ {F Y : Type 0} (c : CdrFault → F) (inner : At → F → Type 0) (read
   unfolding encapsulation_at
   enclosed-told r a enclosed f h t u =
       let o =
-      bind_ok (octets_at a) (λ bytes. inside (aligned 4 a) bytes.1.place bytes.0 >>= λ inner. Ok (inner, bytes.1))
-      enclosed t in
-      let i = bind_ok (inside (aligned 4 a) o.0.1.place o.0.0) (λ inner. Ok (inner, o.0.1)) enclosed o.2 in
+      bind_ok (octets_at a) (λ bytes. inside (aligned 4 a) bytes.1.place bytes.0 >>= λ inner.
+      Ok (inner, bytes.1)) enclosed t in
+      let i = bind_ok (inside (aligned 4 a) o.0.1.place o.0.0)
+      (λ inner. Ok (inner, o.0.1)) enclosed o.2 in
       let same : i.0 ≡ enclosed.0 = ap (λ (p : At × At). p.0) (ok_is (i.0, o.0.1) enclosed i.2) in
-      value-told r a o.0.0 o.0.1 f enclosed.0 (octets-found a o.0.0 o.0.1 h o.1) (i.1 ∙ ap ok_at same) u
+      value-told r a o.0.0 o.0.1 f enclosed.0 (octets-found a o.0.0 o.0.1 h o.1)
+      (i.1 ∙ ap ok_at same) u
 
-  within-told : Refuses inner reading → (a : At) (f : F) → a.origin ≤ a.place → enclosed_read c reading a ≡ Err f
-      → WithinFault c inner a f
+  within-told : Refuses inner reading → (a : At) (f : F) → a.origin ≤ a.place
+      → enclosed_read c reading a ≡ Err f → WithinFault c inner a f
   within-told r a f h e =
-      elim (bind_err (as_fault c (encapsulation_at a)) (λ e. reading e.0 >>= λ v. Ok (v.0, e.1)) f e) [
-        | inl t ↦ let cause = outer_cause c (encapsulation_at a) f t in enclosing-told a cause.0 f h cause.1 cause.2
+      elim (bind_err (as_fault c (encapsulation_at a)) (λ e. reading e.0 >>= λ v. Ok (v.0, e.1))
+      f e) [
+        | inl t ↦ let cause = outer_cause c (encapsulation_at a) f t in enclosing-told a cause.0 f h
+            cause.1 cause.2
         | inr t ↦ elim (bind_err (reading t.0.0) (λ v. Ok (v.0, t.0.1)) f t.2) [
           | inl u ↦ enclosed-told r a t.0 f h (fault_ok c (encapsulation_at a) t.0 t.1) u
           | inr u ↦ absurd (cc u.2)
         ]
       ]
 
-  within-refused : Refuses inner reading → (a : At) (f : F) → a.origin ≤ a.place → WithinFault c inner a f
-      → enclosed_read c reading a ≡ Err f
+  within-refused : Refuses inner reading → (a : At) (f : F) → a.origin ≤ a.place
+      → WithinFault c inner a f → enclosed_read c reading a ≡ Err f
   unfolding encapsulation_at
-  within-refused r a f h (WithinFault.octets o) = rw (octets-refused a o.cause h o.holds, o.fault) refl
+  within-refused r a f h (WithinFault.octets o) = rw (octets-refused a o.cause h o.holds, o.fault)
+      refl
   within-refused r a f h (WithinFault.empty next found fault) =
       let one = read_again SpellsOctets octets_at octets-joins a [] next h found in
       rw (one, fault) refl
@@ -402,8 +440,10 @@ module _ {F Y : Type 0} (c : CdrFault → F) (inner : At → F → Type 0) (read
       let one = read_again SpellsOctets octets_at octets-joins a (flag ∷ body) next h found in
       let two = truth-only (next.place - suc (length body)) flag little told in
       let three : reading (stands_at next body little) ≡ Err f =
-      rw (stands-within a flag body next little found) (r.only (within_at a little body) f (omega arith) d) in
+      rw (stands-within a flag body next little found)
+      (r.only (within_at a little body) f (omega arith) d) in
       rw (one, two, three) refl
 
-  pub within-refuses : Refuses inner reading → Refuses (WithinFault c inner) (enclosed_read c reading)
+  pub within-refuses : Refuses inner reading
+      → Refuses (WithinFault c inner) (enclosed_read c reading)
   within-refuses r = record { told = within-told r; only = within-refused r }

@@ -61,7 +61,8 @@ signed width size same = record {
   format = with_fault Cdr (a_signed width size);
   lawful = with_fault-lawful Cdr (a_signed width size) (signed-lawful width size same);
   faults = OuterFault Cdr (NumberFault size);
-  refuses = with_fault-refuses Cdr (a_signed width size) (NumberFault size) (signed-refuses width size);
+  refuses = with_fault-refuses Cdr (a_signed width size) (NumberFault size)
+      (signed-refuses width size);
 }
 
 abbrev pub short : Sound ValueFault ℤ
@@ -132,18 +133,20 @@ j & k = record {
   lawful = j.lawful &&& k.lawful;
   faults = ThenFault j.format.spells j.faults (λ _. k.faults);
   refuses =
-      dependent_pair-refuses j.format (λ _. k.format) j.faults (λ _. k.faults) j.lawful j.refuses (λ _. k.refuses);
+      dependent_pair-refuses j.format (λ _. k.format) j.faults (λ _. k.faults) j.lawful j.refuses
+      (λ _. k.refuses);
 }
 
 -- one after another, the second of which depends on the first
 abbrev pub pair_on : {F X Y : Type 0} → Sound F X → (X → Sound F Y) → Sound F (X × Y)
 pair_on first second = record {
   format = dependent_pair first.format (λ x. (second x).format);
-  lawful = dependent_pair-lawful first.format (λ x. (second x).format) first.lawful (λ x. (second x).lawful);
+  lawful = dependent_pair-lawful first.format (λ x. (second x).format) first.lawful
+      (λ x. (second x).lawful);
   faults = ThenFault first.format.spells first.faults (λ x. (second x).faults);
   refuses =
-      dependent_pair-refuses first.format (λ x. (second x).format) first.faults (λ x. (second x).faults) first.lawful
-      first.refuses (λ x. (second x).refuses);
+      dependent_pair-refuses first.format (λ x. (second x).format) first.faults
+      (λ x. (second x).faults) first.lawful first.refuses (λ x. (second x).refuses);
 }
 
 -- a structure, from its members and to them
@@ -160,13 +163,15 @@ structure to from back forth g = record {
 abbrev pub bad_value : ℕ → At → ValueFault
 bad_value n a = BadValue (aligned 4 a)
 
-abbrev pub enumeration : {Y : Type 0} (ys : List Y) (number_of : Y → ℕ) → ((y : Y) → nth ys (number_of y) ≡ Some y)
+abbrev pub enumeration : {Y : Type 0} (ys : List Y) (number_of : Y → ℕ)
+    → ((y : Y) → nth ys (number_of y) ≡ Some y)
     → map number_of ys ≡ upwards 0 (length ys) → Sound ValueFault Y
 enumeration ys number_of forth all = record {
   format = enumeration_format ys number_of bad_value ulong.format;
   lawful = enumeration_format-lawful ys number_of bad_value ulong.format forth all ulong.lawful;
   faults = PartialFault ulong.format.spells (nth ys) bad_value ulong.faults;
-  refuses = partial_format-refuses (nth ys) number_of bad_value ulong.format ulong.faults ulong.lawful ulong.refuses;
+  refuses = partial_format-refuses (nth ys) number_of bad_value ulong.format ulong.faults
+      ulong.lawful ulong.refuses;
 }
 
 -- only such values; the fault of another may name where it stands
@@ -188,7 +193,8 @@ failure bad = record {
 }
 
 -- any value of g is passed over; x is written
-abbrev pub placeholder : {F X : Type 0} (x : X) (g : Sound F X) → g.format.admits x → Sound F (Unit {0})
+abbrev pub placeholder : {F X : Type 0} (x : X) (g : Sound F X) → g.format.admits x
+    → Sound F (Unit {0})
 placeholder x g ok = record {
   format = placeholder_format x g.format;
   lawful = placeholder_format-lawful x g.format ok g.lawful;
@@ -197,8 +203,8 @@ placeholder x g ok = record {
 }
 
 -- the values of one variant
-abbrev pub variant : {F X Y : Type 0} (to : X → Y) (from : Y → Option X) → ((x : X) → from (to x) ≡ Some x) → Sound F X
-    → Sound F Y
+abbrev pub variant : {F X Y : Type 0} (to : X → Y) (from : Y → Option X)
+    → ((x : X) → from (to x) ≡ Some x) → Sound F X → Sound F Y
 variant to from back g = record {
   format = variant_format to from g.format;
   lawful = variant_format-lawful to from g.format back g.lawful;
@@ -224,11 +230,13 @@ pub record Arm (F K Y : Type 0) (tag_of : Y → K) : Type 1 where
   pub faults : Faults F
   pub refuses : Refuses faults format.reads
   pub tag : K
-  pub told : (order : Order) (place : ℕ) (y : Y) (b : List ℕ) → format.spells order place y b → tag ≡ tag_of y
+  pub told : (order : Order) (place : ℕ) (y : Y) (b : List ℕ) → format.spells order place y b
+      → tag ≡ tag_of y
 
 -- those of one variant, by its members
 abbrev pub arm : {F K X Y : Type 0} {tag_of : Y → K} (k : K) (to : X → Y) (from : Y → Option X)
-    → ((x : X) → from (to x) ≡ Some x) → ((x : X) → k ≡ tag_of (to x)) → Sound F X → Arm F K Y tag_of
+    → ((x : X) → from (to x) ≡ Some x) → ((x : X) → k ≡ tag_of (to x)) → Sound F X
+    → Arm F K Y tag_of
 arm {tag_of = tag_of} k to from back told g = record {
   format = variant_format to from g.format;
   lawful = variant_format-lawful to from g.format back g.lawful;
@@ -254,8 +262,8 @@ abbrev pub IsTable : {F K Y : Type 0} {tag_of : Y → K} → (K → Arm F K Y ta
 IsTable {K = K} arms = (k : K) → (arms k).tag ≡ k
 
 -- a union: its discriminator, and then the arm that this chooses
-abbrev pub union : {F K Y : Type 0} → Sound F K → (tag_of : Y → K) → (arms : K → Arm F K Y tag_of) → IsTable arms
-    → Sound F Y
+abbrev pub union : {F K Y : Type 0} → Sound F K → (tag_of : Y → K) → (arms : K → Arm F K Y tag_of)
+    → IsTable arms → Sound F Y
 union tag tag_of arms table = record {
   format = union_format tag.format tag_of (λ k. (arms k).format);
   lawful =
@@ -263,21 +271,22 @@ union tag tag_of arms table = record {
       (λ k order place y b s. sym (table k) ∙ (arms k).told order place y b s);
   faults = ThenFault tag.format.spells tag.faults (λ k. (arms k).faults);
   refuses =
-      union_format-refuses tag.format tag_of (λ k. (arms k).format) tag.faults (λ k. (arms k).faults) tag.lawful
-      tag.refuses (λ k. (arms k).refuses);
+      union_format-refuses tag.format tag_of (λ k. (arms k).format) tag.faults
+      (λ k. (arms k).faults) tag.lawful tag.refuses (λ k. (arms k).refuses);
 }
 
 -- a value of the format that the value before it selects, where the value tells which that was
 abbrev pub selection : {F K Y : Type 0} (tag : Sound F K) (tag_of : Y → K) (arms : K → Sound F Y)
-    → ((k : K) (order : Order) (place : ℕ) (y : Y) (b : List ℕ) → (arms k).format.spells order place y b → k ≡ tag_of y)
-    → Sound F Y
+    → ((k : K) (order : Order) (place : ℕ) (y : Y) (b : List ℕ)
+    → (arms k).format.spells order place y b → k ≡ tag_of y) → Sound F Y
 selection tag tag_of arms told = record {
   format = union_format tag.format tag_of (λ k. (arms k).format);
-  lawful = union_format-lawful tag.format tag_of (λ k. (arms k).format) tag.lawful (λ k. (arms k).lawful) told;
+  lawful = union_format-lawful tag.format tag_of (λ k. (arms k).format) tag.lawful
+      (λ k. (arms k).lawful) told;
   faults = ThenFault tag.format.spells tag.faults (λ k. (arms k).faults);
   refuses =
-      union_format-refuses tag.format tag_of (λ k. (arms k).format) tag.faults (λ k. (arms k).faults) tag.lawful
-      tag.refuses (λ k. (arms k).refuses);
+      union_format-refuses tag.format tag_of (λ k. (arms k).format) tag.faults
+      (λ k. (arms k).faults) tag.lawful tag.refuses (λ k. (arms k).refuses);
 }
 
 -- ---- choices that no byte tells
@@ -290,8 +299,8 @@ either false g k = k
 -- ---- the same bytes, written in another way
 
 abbrev pub other_writing : {F Y : Type 0} (w : Y → Piece) (g : Sound F Y)
-    → ((y : Y) (order : Order) (place : ℕ) → g.format.admits y → g.format.writes y order place ≡ w y order place)
-    → Sound F Y
+    → ((y : Y) (order : Order) (place : ℕ) → g.format.admits y → g.format.writes y order place
+    ≡ w y order place) → Sound F Y
 other_writing w g same = record {
   format = otherwise_written w g.format;
   lawful = other_writing-lawful w g.format g.lawful same;

@@ -21,7 +21,8 @@ pub record SpellsNumber (size : ℕ) (order : Order) (place : ℕ) (v : ℕ) (b 
   pub value : number order size (drop (gap size place) b) ≡ v
 
 -- the same of a signed number, whose bytes are in two's complement
-pub record SpellsSigned (width : Width) (size : ℕ) (order : Order) (place : ℕ) (v : ℤ) (b : List ℕ) : Type 0 where
+pub record SpellsSigned (width : Width) (size : ℕ) (order : Order) (place : ℕ) (v : ℤ)
+    (b : List ℕ) : Type 0 where
   pub long : length b ≡ gap size place + size
   pub value : cast_signed width (number order size (drop (gap size place) b)) ≡ v
 
@@ -60,8 +61,8 @@ pub record SpellsThen {X Y : Type 0} (first : Order → ℕ → X → List ℕ �
 
 -- Encapsulation: octets, the first of which tells the order for the value that is spelled from place 1 on; bytes may
 -- follow it
-pub record SpellsWithin {Y : Type 0} (inner : Order → ℕ → Y → List ℕ → Type 0) (order : Order) (place : ℕ) (v : Y)
-    (b : List ℕ) : Type 0 where
+pub record SpellsWithin {Y : Type 0} (inner : Order → ℕ → Y → List ℕ → Type 0) (order : Order)
+    (place : ℕ) (v : Y) (b : List ℕ) : Type 0 where
   pub little : Bool
   pub flag : ℕ
   pub body : List ℕ
@@ -71,15 +72,18 @@ pub record SpellsWithin {Y : Type 0} (inner : Order → ℕ → Y → List ℕ �
   pub spelled : inner (order_of little) 1 v body
 
 -- what a reading found: a spelling at its place, which it went over
-pub record Found {Y : Type 0} (spells : Order → ℕ → Y → List ℕ → Type 0) (a : At) (v : Y) (next : At) : Type 0 where
+pub record Found {Y : Type 0} (spells : Order → ℕ → Y → List ℕ → Type 0) (a : At) (v : Y)
+    (next : At) : Type 0 where
   pub bytes : List ℕ
   pub spelled : spells a.order (a.place - a.origin) v bytes
   pub parts : a.rest ≡ bytes ++ next.rest
   pub moved : next ≡ after (length bytes) a
 
 -- what is read is spelled so, and what is spelled so is read whatever follows
-pub record Joins {F Y : Type 0} (spells : Order → ℕ → Y → List ℕ → Type 0) (reading : At → Result (Y × At) F) : Type
-    0 where
-  pub found : (a : At) (v : Y) (next : At) → a.origin ≤ a.place → reading a ≡ Ok (v, next) → Found spells a v next
-  pub only : (a : At) (v : Y) (b rest : List ℕ) → a.origin ≤ a.place → spells a.order (a.place - a.origin) v b
+pub record Joins {F Y : Type 0} (spells : Order → ℕ → Y → List ℕ → Type 0)
+    (reading : At → Result (Y × At) F) : Type 0 where
+  pub found : (a : At) (v : Y) (next : At) → a.origin ≤ a.place → reading a ≡ Ok (v, next)
+      → Found spells a v next
+  pub only : (a : At) (v : Y) (b rest : List ℕ) → a.origin ≤ a.place
+      → spells a.order (a.place - a.origin) v b
       → a.rest ≡ b ++ rest → reading a ≡ Ok (v, after (length b) a)

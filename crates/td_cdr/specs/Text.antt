@@ -25,4 +25,5 @@ ends_in_nul bytes = nat_eq (slice_index bytes (length bytes - 1)) 0 && not (has_
 -- what a string's bytes, its length at place, say: no bytes are no text
 abbrev pub text_of : ℕ → List ℕ → Result (List ℕ) CdrFault
 text_of place bytes =
-    if nat_eq (length bytes) 0 then Ok [] else if ends_in_nul bytes then Ok (front bytes) else Err (BadString place)
+    if nat_eq (length bytes) 0 then Ok [] else if ends_in_nul bytes then Ok (front bytes) else Err
+    (BadString place)

@@ -19,8 +19,10 @@ abbrev pub written_octets : Order → ℕ → List ℕ → List ℕ
 written_octets order place v = written_number 4 order place (length v) ++ v
 
 -- these bytes were appended; a writer that refuses is as before, and refuses only for want of room
-pub record Adds {E : Type 0} (more : List ℕ) (old new : Draft) (result : Result (Unit {0}) E) : Type 0 where
-  pub done : OnOk result ((new.bytes ≡ old.bytes ++ more) × (new.order ≡ old.order) × (old.room ≤ new.room))
+pub record Adds {E : Type 0} (more : List ℕ) (old new : Draft)
+    (result : Result (Unit {0}) E) : Type 0 where
+  pub done : OnOk result ((new.bytes ≡ old.bytes ++ more) × (new.order ≡ old.order)
+      × (old.room ≤ new.room))
   pub refused : OnErr result ((new ≡ old) × (old.room < length old.bytes + length more))
 
 -- Encapsulation: the first octet tells the order in which the bytes after it are written

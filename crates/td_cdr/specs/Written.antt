@@ -18,7 +18,8 @@ use Rattle.td_cdr.specs.Joined.{written_number-spelled, written_octets-spelled}
 
 pub written_signed-spelled : (width : Width) (size : ℕ) (order : Order) (place : ℕ) (v : ℤ)
     → 2 ^ bits width ≤ 256 ^ size → FitsSigned width v
-    → SpellsSigned width size order place v (written_number size order place (cast_unsigned width v))
+    → SpellsSigned width size order place v
+    (written_number size order place (cast_unsigned width v))
 written_signed-spelled width size order place v wide fits =
     let below : cast_unsigned width v < 2 ^ bits width = Fits-lt-pow (Fits-of_z fits) in
     let s = written_number-spelled size order place (cast_unsigned width v) (omega arith) in
@@ -40,16 +41,17 @@ written_boolean-spelled order place v = record {
   octet = written_number-spelled 1 order place (from_bool v) (flag-below v);
 }
 
-pub written_string-spelled : (order : Order) (place : ℕ) (v : List ℕ) → HasNoNul v → length v + 1 < 2 ^ 32
-    → SpellsString order place v (written_octets order place (v ++ 0 ∷ []))
+pub written_string-spelled : (order : Order) (place : ℕ) (v : List ℕ) → HasNoNul v
+    → length v + 1 < 2 ^ 32 → SpellsString order place v (written_octets order place (v ++ 0 ∷ []))
 written_string-spelled order place v free short = record {
   kept = v ++ 0 ∷ [];
   text = closed free refl;
-  octets = written_octets-spelled order place (v ++ 0 ∷ []) (omega (arith, length-append v (0 ∷ [])));
+  octets = written_octets-spelled order place (v ++ 0 ∷ [])
+      (omega (arith, length-append v (0 ∷ [])));
 }
 
-pub written_pair-spelled : (first second : Item) (order : Order) (place : ℕ) (v : ValueOf first) (w : ValueOf second)
-    (front back : List ℕ)
+pub written_pair-spelled : (first second : Item) (order : Order) (place : ℕ) (v : ValueOf first)
+    (w : ValueOf second) (front back : List ℕ)
     → Spells first order place v front → Spells second order (place + length front) w back
     → Spells (pair first second) order place (v, w) (front ++ back)
 written_pair-spelled first second order place v w front back s t = record {
@@ -60,7 +62,8 @@ written_pair-spelled first second order place v w front back s t = record {
   then_spelled = t;
 }
 
-pub written_within-spelled : (item : Item) (order inner : Order) (place : ℕ) (v : ValueOf item) (body : List ℕ)
+pub written_within-spelled : (item : Item) (order inner : Order) (place : ℕ) (v : ValueOf item)
+    (body : List ℕ)
     → Spells item inner 1 v body → length body + 1 < 2 ^ 32
     → Spells (encapsulated item) order place v (written_octets order place (flag inner ∷ body))
 written_within-spelled item order Big place v body s short =

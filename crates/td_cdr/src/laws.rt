@@ -21,9 +21,12 @@ ghost use Rattle.td_cdr.specs.Items.{Item, pair, encapsulated, ValueOf, Spells, 
 pub fn is_read()
     ensures joins { (item : Item) → Joins (Spells item) (reading item) }
     ensures refuses { (item : Item) → Refuses (IsFaulty item) (reading item) }
-    ensures takes_no_memory { (item : Item) (a : At) → a.origin ≤ a.place → reading item a ≢ Err Memory }
-    ensures one_value { (item : Item) (order : Order) (place : ℕ) (v w : ValueOf item) (b c more others : List ℕ)
-        → Spells item order place v b → Spells item order place w c → b ++ more ≡ c ++ others → v ≡ w }
+    ensures takes_no_memory { (item : Item) (a : At) → a.origin ≤ a.place
+        → reading item a ≢ Err Memory }
+    ensures one_value { (item : Item) (order : Order) (place : ℕ) (v w : ValueOf item)
+        (b c more others : List ℕ)
+        → Spells item order place v b → Spells item order place w c → b ++ more ≡ c ++ others
+        → v ≡ w }
 {}
 
 /// What a writer appends is a spelling: of a number that fits its size, of a boolean as 0 or 1, of
@@ -44,11 +47,13 @@ pub fn is_written()
         → SpellsOctets order place v (written_octets order place v) }
     ensures string { (order : Order) (place : ℕ) (v : List ℕ) → HasNoNul v → length v + 1 < 2 ^ 32
         → SpellsString order place v (written_octets order place (v ++ 0 ∷ [])) }
-    ensures pair { (first second : Item) (order : Order) (place : ℕ) (v : ValueOf first) (w : ValueOf second)
-        (front back : List ℕ)
+    ensures pair { (first second : Item) (order : Order) (place : ℕ) (v : ValueOf first)
+        (w : ValueOf second) (front back : List ℕ)
         → Spells first order place v front → Spells second order (place + length front) w back
         → Spells (pair first second) order place (v, w) (front ++ back) }
-    ensures encapsulated { (item : Item) (order inner : Order) (place : ℕ) (v : ValueOf item) (body : List ℕ)
+    ensures encapsulated { (item : Item) (order inner : Order) (place : ℕ) (v : ValueOf item)
+        (body : List ℕ)
         → Spells item inner 1 v body → length body + 1 < 2 ^ 32
-        → Spells (encapsulated item) order place v (written_octets order place (flag inner ∷ body)) }
+        → Spells (encapsulated item) order place v
+        (written_octets order place (flag inner ∷ body)) }
 {}

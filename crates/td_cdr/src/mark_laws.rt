@@ -8,13 +8,14 @@ ghost use Rattle.td_cdr.specs.Marks.{Marks, Holds, remembered, Orderly, marked, 
 #[tactic(auto, using(crate::proofs::Marking::is_held, crate::proofs::Marking::is_not_held))]
 pub fn the_kept_are_remembered()
     ensures held { (m : Marks) (i : List ℕ) (n : ℕ) → remembered m i ≡ Some n → Holds m i n }
-    ensures not_held { (m : Marks) (i : List ℕ) → remembered m i ≡ None → (n : ℕ) → Holds m i n → ⊥ }
+    ensures not_held { (m : Marks) (i : List ℕ) → remembered m i ≡ None → (n : ℕ) → Holds m i n
+        → ⊥ }
 {}
 
 /// A mark of an identifier that isn't remembered: the marks are later then and in order, and the mark is new.
 pub fn marks_follow()
-    ensures { (m : Marks) (i : List ℕ) (c : ℕ) → Orderly m → m.counter ≤ c → ((n : ℕ) → Holds m i n → ⊥)
-        → Follows m (marked m i c) }
+    ensures { (m : Marks) (i : List ℕ) (c : ℕ) → Orderly m → m.counter ≤ c
+        → ((n : ℕ) → Holds m i n → ⊥) → Follows m (marked m i c) }
 {}
 
 /// What is remembered behind one more mark: that one with the next number, no other that wasn't, and each that there

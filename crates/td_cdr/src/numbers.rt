@@ -68,7 +68,8 @@ impl Spelled for i16 {
 
     ghost lawful = { with_fault-lawful Cdr (signed w16 2) (signed-lawful w16 2 refl) };
 
-    ghost refuses = { with_fault-refuses Cdr (signed w16 2) (NumberFault 2) (signed-refuses w16 2) };
+    ghost refuses = { with_fault-refuses Cdr (signed w16 2) (NumberFault 2)
+        (signed-refuses w16 2) };
 }
 
 impl Spelled for i32 {
@@ -86,7 +87,8 @@ impl Spelled for i32 {
 
     ghost lawful = { with_fault-lawful Cdr (signed w32 4) (signed-lawful w32 4 refl) };
 
-    ghost refuses = { with_fault-refuses Cdr (signed w32 4) (NumberFault 4) (signed-refuses w32 4) };
+    ghost refuses = { with_fault-refuses Cdr (signed w32 4) (NumberFault 4)
+        (signed-refuses w32 4) };
 }
 
 impl Spelled for i64 {
@@ -104,5 +106,6 @@ impl Spelled for i64 {
 
     ghost lawful = { with_fault-lawful Cdr (signed w64 8) (signed-lawful w64 8 refl) };
 
-    ghost refuses = { with_fault-refuses Cdr (signed w64 8) (NumberFault 8) (signed-refuses w64 8) };
+    ghost refuses = { with_fault-refuses Cdr (signed w64 8) (NumberFault 8)
+        (signed-refuses w64 8) };
 }

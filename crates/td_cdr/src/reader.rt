@@ -29,7 +29,12 @@ impl<'a> Model for Reader<'a> {
 
     ghost Value = { At };
 
-    ghost view = { λ r. record { rest = r.rest.now; place = r.place; origin = r.origin; order = r.order } };
+    ghost view = { λ r. record {
+      rest = r.rest.now;
+      place = r.place;
+      origin = r.origin;
+      order = r.order;
+    } };
 
     ghost invariant = { λ r. (r.origin ≤ r.place) × (r.place + length r.rest.now < 2 ^ 32) };
 }
@@ -46,7 +51,12 @@ impl<'a> Reader<'a> {
     pub fn new(bytes: &'a [u8], place: u32, order: Order) -> Reader<'a>
         requires within { place ≤ length bytes.now }
         requires short { length bytes.now < 2 ^ 32 }
-        ensures { result ≡ record { rest = drop place bytes.now; place = place; origin = 0; order = order } }
+        ensures { result ≡ record {
+          rest = drop place bytes.now;
+          place = place;
+          origin = 0;
+          order = order;
+        } }
     {
         Reader {
             rest: &bytes[place as usize..],
@@ -331,7 +341,8 @@ fn truth_of(byte: u8, place: u32) -> Result<bool, CdrFault>
 
 /// What stands before the closing NUL of a string's bytes, which have their length at `place`.
 fn text_before(bytes: &[u8], place: u32) -> Result<&[u8], CdrFault>
-    ensures { MatchResult result (λ t. text_of place bytes.now ≡ Ok t.now) (λ e. text_of place bytes.now ≡ Err e) }
+    ensures { MatchResult result (λ t. text_of place bytes.now ≡ Ok t.now)
+        (λ e. text_of place bytes.now ≡ Err e) }
 {
     if bytes.is_empty() {
         return Ok(bytes);

@@ -37,7 +37,8 @@ pub fn put_three<A: Spelled, B: Spelled, C: Spelled>(
     b: &B,
     c: &C,
 ) -> Result<(), Memory>
-    ensures { Puts ((A.format & B.format & C.format).writes (a.now, (b.now, c.now))) w.old w.new result }
+    ensures { Puts ((A.format & B.format & C.format).writes (a.now, (b.now, c.now)))
+        w.old w.new result }
 {
     a.write(alloc, w)?;
     put_two(alloc, w, b, c)

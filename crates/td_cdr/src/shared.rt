@@ -171,7 +171,8 @@ pub fn share_owned_three<A: Drop, B: Drop, C: Drop>(
     alloc: Global,
     owned: (A, (B, C)),
 ) -> Result<(Shared<A>, (Shared<B>, Shared<C>)), Memory>
-    ensures { IfOk result (λ shared. (shared.0 ≡ owned.0) × (shared.1.0 ≡ owned.1.0) × (shared.1.1 ≡ owned.1.1)) }
+    ensures { IfOk result (λ shared. (shared.0 ≡ owned.0) × (shared.1.0 ≡ owned.1.0)
+        × (shared.1.1 ≡ owned.1.1)) }
 {
     let (first, others) = owned;
     let first = Shared::new(alloc, first)?;

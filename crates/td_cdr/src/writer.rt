@@ -56,9 +56,11 @@ impl Writer {
     ///
     /// `Memory` for want of memory, or where the writer would come to 2^32 bytes; it is then unchanged.
     pub fn reserve(&mut self, bytes: usize) -> Result<(), Memory>
-        ensures ok { OnOk result ((self.new.bytes ≡ self.old.bytes) × (self.new.order ≡ self.old.order)
+        ensures ok { OnOk result ((self.new.bytes ≡ self.old.bytes)
+            × (self.new.order ≡ self.old.order)
             × (length self.old.bytes + bytes ≤ self.new.room) × (self.old.room ≤ self.new.room)) }
-        ensures err { OnErr result ((self.new ≡ self.old) × (self.old.room < length self.old.bytes + bytes)) }
+        ensures err { OnErr result ((self.new ≡ self.old)
+            × (self.old.room < length self.old.bytes + bytes)) }
     {
         if bytes > (u32::MAX as usize) - self.bytes.len() {
             return Err(Memory);
@@ -119,7 +121,8 @@ impl Writer {
     ///
     /// `Memory` for want of room; the writer is then unchanged.
     pub fn octet(&mut self, v: u8) -> Result<(), Memory>
-        ensures { Adds (written_number 1 self.old.order (length self.old.bytes) v) self.old self.new result }
+        ensures { Adds (written_number 1 self.old.order (length self.old.bytes) v)
+            self.old self.new result }
     {
         self.put_octet(v)
     }
@@ -130,7 +133,8 @@ impl Writer {
     ///
     /// `Memory` for want of room; the writer is then unchanged.
     pub fn u16(&mut self, v: u16) -> Result<(), Memory>
-        ensures { Adds (written_number 2 self.old.order (length self.old.bytes) v) self.old self.new result }
+        ensures { Adds (written_number 2 self.old.order (length self.old.bytes) v)
+            self.old self.new result }
     {
         let mut cell = [0u8; 2];
         match self.order {
@@ -146,7 +150,8 @@ impl Writer {
     ///
     /// `Memory` for want of room; the writer is then unchanged.
     pub fn u64(&mut self, v: u64) -> Result<(), Memory>
-        ensures { Adds (written_number 8 self.old.order (length self.old.bytes) v) self.old self.new result }
+        ensures { Adds (written_number 8 self.old.order (length self.old.bytes) v)
+            self.old self.new result }
     {
         let mut cell = [0u8; 8];
         match self.order {
@@ -162,7 +167,8 @@ impl Writer {
     ///
     /// `Memory` for want of room; the writer is then unchanged.
     pub fn u32(&mut self, v: u32) -> Result<(), Memory>
-        ensures { Adds (written_number 4 self.old.order (length self.old.bytes) v) self.old self.new result }
+        ensures { Adds (written_number 4 self.old.order (length self.old.bytes) v)
+            self.old self.new result }
     {
         let mut cell = [0u8; 4];
         match self.order {
@@ -178,7 +184,8 @@ impl Writer {
     ///
     /// `Memory` for want of room; the writer is then unchanged.
     pub fn octets(&mut self, v: &[u8]) -> Result<(), Memory>
-        ensures { Adds (written_octets self.old.order (length self.old.bytes) v.now) self.old self.new result }
+        ensures { Adds (written_octets self.old.order (length self.old.bytes) v.now)
+            self.old self.new result }
     {
         let size = v.len();
         let held = self.bytes.len();
@@ -274,8 +281,8 @@ impl Writer {
     /// `Memory` for want of room; the writer is then unchanged.
     pub fn encapsulate(&mut self, inner: &Writer) -> Result<(), Memory>
         requires { BeginsWithOrder inner.now }
-        ensures { Adds (written_octets self.old.order (length self.old.bytes) inner.now.bytes) self.old self.new
-            result }
+        ensures { Adds (written_octets self.old.order (length self.old.bytes) inner.now.bytes)
+            self.old self.new result }
     {
         self.octets(inner.bytes())
     }
@@ -300,8 +307,8 @@ impl Writer {
     ///
     /// `Memory` for want of room; the writer is then unchanged.
     pub fn string(&mut self, v: &[u8]) -> Result<(), Memory>
-        ensures { Adds (written_octets self.old.order (length self.old.bytes) (v.now ++ 0 ∷ [])) self.old self.new
-            result }
+        ensures { Adds (written_octets self.old.order (length self.old.bytes) (v.now ++ 0 ∷ []))
+            self.old self.new result }
     {
         let size = v.len();
         let held = self.bytes.len();

@@ -143,7 +143,8 @@ module _ {B : Type 0} where
     pub record Owned (number : X → ℕ) (views : List (View B)) : Type 0 where
       pub owner : ℕ → ℕ
       pub each : (i : ℕ) (a : X) → Holds views i a → i ≡ owner (number a)
-      pub rises : (i : ℕ) (v : View B) → get_elem? views i ≡ some v → v.spent ≡ false → Rises number (own v)
+      pub rises : (i : ℕ) (v : View B) → get_elem? views i ≡ some v → v.spent ≡ false
+          → Rises number (own v)
 
   -- each place from the length at the opening on is an own place of a view that isn't spent
   pub record Placed (first n : ℕ) (views : List (View B)) : Type 0 where
@@ -156,10 +157,12 @@ module _ {B : Type 0} where
     pub within : (i : ℕ) (a : Mark) → Holds marks_of views i a → a.number ≤ m.count
     pub kept : (i : ℕ) (a : Mark) → Holds marks_of views i a → m.count < a.number + m.ring
         → In (record { identifier = a.identifier; number = a.number }) m.kept
-    pub below : (i : ℕ) (a : Mark) → Holds marks_of views i a → (k : ℕ) → a.made ≡ Some k → k < m.counter
-    pub made : (i : ℕ) (a : Mark) → Holds marks_of views i a → (k : ℕ) → a.made ≡ Some k → IsMadeOf a.identifier k
-    pub apart : (i j : ℕ) (a b : Mark) → Holds marks_of views i a → Holds marks_of views j b → a.number < b.number
-        → Gap m.ring a b
+    pub below : (i : ℕ) (a : Mark) → Holds marks_of views i a → (k : ℕ) → a.made ≡ Some k
+        → k < m.counter
+    pub made : (i : ℕ) (a : Mark) → Holds marks_of views i a → (k : ℕ) → a.made ≡ Some k
+        → IsMadeOf a.identifier k
+    pub apart : (i j : ℕ) (a b : Mark) → Holds marks_of views i a → Holds marks_of views j b
+        → a.number < b.number → Gap m.ring a b
 
   module _ (later : B → B → Type 0) where
     -- what was seen, if anything, was earlier than b
@@ -179,7 +182,8 @@ module _ {B : Type 0} where
       pub record Free (s : State B (View B)) (b : B) : Type 0 where
         pub word : s.words ≡ 0 ∷ size b ∷ (kept b).count ∷ []
         pub home : s.homes ≡ some b ∷ []
-        pub views : (i : ℕ) (v : View B) → get_elem? s.views i ≡ some v → (v.holds ≡ false) × BothBefore v b
+        pub views : (i : ℕ) (v : View B) → get_elem? s.views i ≡ some v → (v.holds ≡ false)
+            × BothBefore v b
 
       -- the seat i holds the turn with the view h, and took the book as b, later than all that was seen
       pub record Taken (s : State B (View B)) (i : ℕ) (h : View B) (b : B) : Type 0 where
@@ -188,7 +192,8 @@ module _ {B : Type 0} where
         pub seat : get_elem? s.views i ≡ some h
         pub holds : h.holds ≡ true
         pub took : h.seen ≡ Some b
-        pub views : (j : ℕ) (v : View B) → get_elem? s.views j ≡ some v → ((j ≡ i) ⊎ (v.holds ≡ false)) × BothBefore v b
+        pub views : (j : ℕ) (v : View B) → get_elem? s.views j ≡ some v
+            → ((j ≡ i) ⊎ (v.holds ≡ false)) × BothBefore v b
 
       abbrev pub Stands : State B (View B) → B → Type 0
       Stands s b = Free s b ⊎ ((i : ℕ) × (h : View B) × Taken s i h b)
@@ -206,8 +211,8 @@ module _ {B : Type 0} where
 
       abbrev pub Takes : Step B → Me B (View B) → ℕ → Me B (View B) → Type 0
       Takes s v found w =
-          (found ≡ 0 → (b : B) × (w ≡ (holding v.0 b (size b) (kept b).count, (0, b) ∷ v.1)) × BothBefore v.0 b)
-          × (found ≢ 0 → w ≡ v)
+          (found ≡ 0 → (b : B) × (w ≡ (holding v.0 b (size b) (kept b).count, (0, b) ∷ v.1))
+          × BothBefore v.0 b) × (found ≢ 0 → w ≡ v)
 
       -- what a meeting learns
       pub record Learns (v : View B) (w : View B) : Type 0 where
@@ -227,7 +232,8 @@ module _ {B : Type 0} where
     abbrev pub Marked : Maybe B → View B → List (ℕ × B) → ℕ → Me B (View B) → Type 0
     Marked None v xs m w = ⊥
     Marked (Some b) v [] m w = ⊥
-    Marked (Some b) v (x ∷ xs) m w = w ≡ (marked v x.1 (marks_between (kept b) (kept x.1)) m, x ∷ xs)
+    Marked (Some b) v (x ∷ xs) m w = w
+        ≡ (marked v x.1 (marks_between (kept b) (kept x.1)) m, x ∷ xs)
 
     abbrev pub Marks_counted : Step B → Me B (View B) → ℕ → Me B (View B) → Type 0
     Marks_counted s v found w = Marked v.0.seen v.0 v.1 found w
@@ -237,7 +243,8 @@ module _ {B : Type 0} where
 
   abbrev pub Gave : (B → Marks) → View B → List (ℕ × B) → Me B (View B) → Type 0
   Gave kept v [] w = ⊥
-  Gave kept v (x ∷ xs) w = (w ≡ (resting v, xs)) × Rises number_of v.own_marks × Spaced (kept x.1).ring v.own_marks
+  Gave kept v (x ∷ xs) w = (w ≡ (resting v, xs)) × Rises number_of v.own_marks
+      × Spaced (kept x.1).ring v.own_marks
 
   abbrev pub Gives : (B → Marks) → Step B → Me B (View B) → ℕ → Me B (View B) → Type 0
   Gives kept s v found w = Gave kept v.0 v.1 w
@@ -245,8 +252,8 @@ module _ {B : Type 0} where
   -- the view after a turn that took b and left c
   abbrev pub after_turn : (B → ℕ) → (B → Marks) → View B → B → B → View B
   after_turn size kept v b c =
-      resting (marked (counted (holding v b (size b) (kept b).count) (size c)) c (marks_between (kept b) (kept c))
-      (kept c).count)
+      resting (marked (counted (holding v b (size b) (kept b).count) (size c)) c
+      (marks_between (kept b) (kept c)) (kept c).count)
 
 -- one turn: the book was later than what was seen, the act was done on it, and what it left is what is seen now
 pub record Turned {B A R : Type 0} (later : B → B → Type 0) (size : B → ℕ) (kept : B → Marks)

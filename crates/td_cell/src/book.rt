@@ -45,9 +45,11 @@ pub trait Book {
 
     ghost later_marks: { (b c : Self) → later b c → Later (remembers b) (remembers c) };
 
-    ghost acts_later: { (b : Self) (a : Self.Act) (r : Self.Reply) (c : Self) → acts b a r c → later b c };
+    ghost acts_later: { (b : Self) (a : Self.Act) (r : Self.Reply) (c : Self) → acts b a r c
+        → later b c };
 
-    ghost acts_once: { (b : Self) (a : Self.Act) (r : Self.Reply) (c : Self) → acts b a r c → size c ≤ size b + 1 };
+    ghost acts_once: { (b : Self) (a : Self.Act) (r : Self.Reply) (c : Self) → acts b a r c
+        → size c ≤ size b + 1 };
 
     ghost acts_mark: { (b : Self) (a : Self.Act) (r : Self.Reply) (c : Self) →
         acts b a r c → MarksOnce (remembers b) (remembers c) };

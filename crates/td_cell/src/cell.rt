@@ -34,7 +34,8 @@ impl<B: Book + Drop> Cell<B> {
     pub fn open(alloc: Global, book: B) -> Result<(Cell<B>, Pass<B>), Memory>
         ensures own { IfOk result (λ r. Belongs r.1 r.0 × IsOpening r.1) }
         ensures opened { IfOk result (λ r. opened r.0 ≡ book) }
-        ensures seen { IfOk result (λ r. knowledge r.1 ≡ first_view book (B.size book) (B.remembers book).count) }
+        ensures seen { IfOk result (λ r. knowledge r.1
+            ≡ first_view book (B.size book) (B.remembers book).count) }
     {
         let about = Snapshot::of(&book);
         let changes = book.changes();
@@ -64,7 +65,11 @@ impl<B: Book + Drop> Cell<B> {
         requires free { (seat.old.me.1 ≡ []) × (seat.old.me.0.spent ≡ false) }
         ensures own { (seat.new.table_id ≡ seat.old.table_id) × (seat.new.id ≡ seat.old.id) }
         ensures taken { (b : B) × BothBefore B.later seat.old.me.0 b
-            × (seat.new.me ≡ (holding seat.old.me.0 b (B.size b) (B.remembers b).count, (0, b) ∷ [])) }
+            × (seat.new.me ≡ (
+              holding seat.old.me.0 b (B.size b) (B.remembers b).count,
+              (0, b)
+                  ∷ [],
+            )) }
     {
         for _ in rt.forever() {
             if self
@@ -84,8 +89,10 @@ impl<B: Book + Drop> Cell<B> {
     fn act<R: Wait>(&self, rt: &R, seat: &mut Seat<B, View<B>>, a: B::Act) -> (B::Reply, u64)
         requires own { seat.old.table_id ≡ self.now.table.shared.table_id }
         requires free { (seat.old.me.1 ≡ []) × (seat.old.me.0.spent ≡ false) }
-        ensures own { (seat.new.table_id ≡ seat.old.table_id) × (seat.new.id ≡ seat.old.id) × (seat.new.me.1 ≡ []) }
-        ensures turned { Turned B.later B.size B.remembers B.acts seat.old.me.0 a result.0 seat.new.me.0 }
+        ensures own { (seat.new.table_id ≡ seat.old.table_id) × (seat.new.id ≡ seat.old.id)
+            × (seat.new.me.1 ≡ []) }
+        ensures turned { Turned B.later B.size B.remembers B.acts seat.old.me.0 a result.0
+            seat.new.me.0 }
         ensures changes { result.1 ≡ seat.new.me.0.changes }
     {
         self.take(rt, seat);
@@ -105,7 +112,8 @@ impl<B: Book + Drop> Cell<B> {
     pub fn turn<R: Wait>(&self, rt: &R, pass: &mut Pass<B>, a: B::Act) -> B::Reply
         requires { Belongs pass.old self.now }
         ensures own { SameCell pass.new pass.old }
-        ensures turned { Turned B.later B.size B.remembers B.acts (knowledge pass.old) a result (knowledge pass.new) }
+        ensures turned { Turned B.later B.size B.remembers B.acts (knowledge pass.old) a result
+            (knowledge pass.new) }
         ensures once { (knowledge pass.new).turns ≡ (knowledge pass.old).turns + 1 }
         ensures same { SameNumbers (knowledge pass.old) (knowledge pass.new) }
     {
@@ -126,7 +134,8 @@ impl<B: Book + Drop> Cell<B> {
         ensures own { IfOk result (λ p. SameCell pass.new pass.old × SameCell p pass.old) }
         ensures opening { IfOk result (λ p. knowledge pass.new ≡ opener (knowledge pass.old)) }
         ensures split_off { IfOk result (λ p. knowledge p ≡ split_off (knowledge pass.old)) }
-        ensures err { OnErr result (SameCell pass.new pass.old × (knowledge pass.new ≡ knowledge pass.old)) }
+        ensures err { OnErr result (SameCell pass.new pass.old
+            × (knowledge pass.new ≡ knowledge pass.old)) }
     {
         if pass.splits == u64::MAX {
             return Err(Memory);
@@ -149,9 +158,10 @@ impl<B: Book + Drop> Cell<B> {
         requires split_off { IsSplitOff pass.old told }
         ensures own { SameCell pass.new pass.old }
         ensures opening { IsOpening pass.new }
-        ensures met { (knowledge pass.new).met ≡ slice_set (knowledge pass.old).met ((knowledge told).number - 1) true }
-        ensures learned { Learns B.later B.size B.remembers (meeting (knowledge pass.old) (knowledge told))
-            (knowledge pass.new) }
+        ensures met { (knowledge pass.new).met
+            ≡ slice_set (knowledge pass.old).met ((knowledge told).number - 1) true }
+        ensures learned { Learns B.later B.size B.remembers
+            (meeting (knowledge pass.old) (knowledge told)) (knowledge pass.new) }
     {
         let Pass { seat, changes, .. } = told;
         self.table.shared.join_seat::<Meeting>(&mut pass.seat, seat);
@@ -179,10 +189,12 @@ impl<B: Book + Drop> Cell<B> {
         requires own { Belongs pass self }
         requires opening { IsOpening pass }
         ensures met { IfOk result (λ b. all_met (knowledge pass).met ≡ true) }
-        ensures later { IfOk result (λ b. Before B.later (knowledge pass).seen b × B.later (opened self) b) }
+        ensures later { IfOk result (λ b. Before B.later (knowledge pass).seen b
+            × B.later (opened self) b) }
         ensures places { IfOk result
             (λ b. (k : ℕ) → B.size (opened self) ≤ k → k < B.size b → In k (knowledge pass).own) }
-        ensures err { IfErr result (λ r. (all_met (knowledge pass).met ≡ false) × (r ≡ (self, pass))) }
+        ensures err { IfErr result (λ r. (all_met (knowledge pass).met ≡ false)
+            × (r ≡ (self, pass))) }
     {
         if !self.whole(&pass) {
             return Err((self, pass));

@@ -20,22 +20,26 @@ use Rattle.td_register.specs.declared.refusal.Refusal.TheVariants.{Limit}
 
 -- what a change comes to, however many came before it
 unfoldable pub comes_to : Store → Change → Comes
-comes_to s (change.Export reference service_type properties) = register.export s reference service_type properties
+comes_to s (change.Export reference service_type properties) = register.export s reference
+    service_type properties
 comes_to s (change.Withdraw id) = register.withdraw s id
 comes_to s (change.Modify id deleted changed) = register.modify s id deleted changed
-comes_to s (change.WithdrawUsingConstraint service_type constraint) = register.withdraw_using_constraint s
-    service_type constraint
-comes_to s (change.AddLink name target def_pass_on limiting reg) = links.add_link s name target def_pass_on limiting reg
+comes_to s (change.WithdrawUsingConstraint service_type
+    constraint) = register.withdraw_using_constraint s service_type constraint
+comes_to s (change.AddLink name target def_pass_on limiting reg) = links.add_link s name target
+    def_pass_on limiting reg
 comes_to s (change.RemoveLink name) = links.remove_link s name
-comes_to s (change.ModifyLink name def_pass_on limiting) = links.modify_link s name def_pass_on limiting
-comes_to s (change.ExportProxy target service_type properties if_match_all recipe policies) = proxies.export_proxy s
-    target service_type properties if_match_all recipe policies
+comes_to s (change.ModifyLink name def_pass_on limiting) = links.modify_link s name def_pass_on
+    limiting
+comes_to s (change.ExportProxy target service_type properties if_match_all recipe
+    policies) = proxies.export_proxy s target service_type properties if_match_all recipe policies
 comes_to s (change.WithdrawProxy id) = proxies.withdraw_proxy s id
 comes_to s (change.SetTruth attribute value) = admin.set_truth s attribute value
 comes_to s (change.SetNumber attribute value) = admin.set_number s attribute value
 comes_to s (change.SetFollow attribute value) = admin.set_follow s attribute value
 comes_to s (change.SetRequestIdStem value) = admin.set_request_id_stem s value
-comes_to s (change.AddType name if_name props super_types) = types.add_type s name if_name props super_types
+comes_to s (change.AddType name if_name props super_types) = types.add_type s name if_name props
+    super_types
 comes_to s (change.RemoveType name) = types.remove_type s name
 comes_to s (change.MaskType name) = types.mask_type s name
 comes_to s (change.UnmaskType name) = types.unmask_type s name

@@ -26,14 +26,18 @@ abbrev pub boolean : PropertyMode → List ℕ → PropStruct
 boolean mode name = record { name = name; value_type = code.Boolean; mode = mode }
 
 abbrev pub truth : List ℕ → Property
-truth name = record { name = name; value = record { code = code.Boolean; value = value.Boolean true } }
+truth name = record {
+  name = name;
+  value = record { code = code.Boolean; value = value.Boolean true };
+}
 
 abbrev pub types : Repository
 types = record {
   types = record {
     name = printer;
     if_name = codes "IDL:Printer:1.0";
-    props = boolean Normal (codes "Colour") ∷ boolean Normal (codes "Duplex") ∷ boolean Readonly (codes "Serial") ∷ [];
+    props = boolean Normal (codes "Colour") ∷ boolean Normal (codes "Duplex")
+        ∷ boolean Readonly (codes "Serial") ∷ [];
     supers = [];
     masked = false;
     incarnation = 1;

@@ -16,20 +16,21 @@ use Rattle.td_changes.specs.declared.bounds.Bounds.{Bounds}
 use Rattle.td_register.specs.declared.history.Accepted.{Accepted}
 
 -- The reply is the next number as an id, and that offer is the last one in the store.
-pub record TakesNext (s : Store) (reference : Ior) (type_name : List ℕ) (properties : List Property) (told : Reply)
-    (after : Store) : Type 0 where
+pub record TakesNext (s : Store) (reference : Ior) (type_name : List ℕ) (properties : List Property)
+    (told : Reply) (after : Store) : Type 0 where
   pub number : after.last_offer ≡ s.last_offer + 1
   pub told_is : told ≡ reply.Id (id_of after.last_offer)
   pub offers : after.offers ≡ s.offers ++ exported s reference type_name properties ∷ []
 
 -- What a change comes to at the end of a history, and the history behind it: it is legal again, the store behind it is
 -- the one that the change left, and an accepted change is the entry at the point where it was made.
-pub record Extends (bounds : Bounds) (opening : Store) (history : List Accepted) (c : Change) (a : Applied) (after :
-    List Accepted) : Type 0 where
+pub record Extends (bounds : Bounds) (opening : Store) (history : List Accepted) (c : Change)
+    (a : Applied) (after : List Accepted) : Type 0 where
   pub legal : Legal bounds opening after
   pub store : after_all opening after ≡ a.store
   pub stands : (told : Reply) → a.outcome ≡ Done told → StandsAt after (length history) c told
 
 -- what a change comes to after a history
 abbrev pub applied_after : Bounds → (opening : Store) → List Accepted → Change → Applied
-applied_after bounds opening history c = apply_counted bounds (length history) (after_all opening history) c
+applied_after bounds opening history c = apply_counted bounds (length history)
+    (after_all opening history) c

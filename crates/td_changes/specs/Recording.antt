@@ -14,7 +14,8 @@ HasRoom reserved count capacity = reserved ≡ true → count < capacity
 
 -- The outcome and the store are as said, and an accepted change is the last entry, in the room that was reserved; or
 -- memory was wanted, and nothing changed.
-abbrev pub Records : Change → (s t : Store) → (h k : List Accepted) → (r q : Bool) → Result Outcome Wanting → Type 0
+abbrev pub Records : Change → (s t : Store) → (h k : List Accepted) → (r q : Bool)
+    → Result Outcome Wanting → Type 0
 Records c s t h k r q (Ok o) =
     ((apply s c).outcome ≡ o) × ((apply s c).store ≡ t) × (k ≡ noted h c o)
     × (q ≡ (if is_done o then false else r))

@@ -59,8 +59,8 @@ fn bar_export_proxy(
     properties: &List<Property>,
     part: &ProxyPart,
 ) -> Result<Refusal, Memory>
-    ensures { IsBarredBy (export_proxy store.now target.now service_type.now properties.now part.now.if_match_all
-        part.now.recipe part.now.policies) result }
+    ensures { IsBarredBy (export_proxy store.now target.now service_type.now properties.now
+        part.now.if_match_all part.now.recipe part.now.policies) result }
 {
     or_limit(check_export_proxy(alloc, store, target, service_type, properties, part))
 }
@@ -101,7 +101,8 @@ fn bar_withdraw_using_constraint(
     service_type: &Text,
     constraint: &Text,
 ) -> Result<Refusal, Memory>
-    ensures { IsBarredBy (withdraw_using_constraint store.now service_type.now constraint.now) result }
+    ensures { IsBarredBy (withdraw_using_constraint store.now service_type.now constraint.now)
+        result }
 {
     or_limit(check_withdraw_met(alloc, store, service_type, constraint))
 }
@@ -149,7 +150,8 @@ fn bar_add_link(
     limiting: FollowOption,
     register: &Option<Ior>,
 ) -> Result<Refusal, Memory>
-    ensures { IsBarredBy (add_link store.now name.now target.now def_pass_on limiting register.now) result }
+    ensures { IsBarredBy (add_link store.now name.now target.now def_pass_on limiting register.now)
+        result }
 {
     or_limit(check_link(alloc, store, name, target, def_pass_on, limiting, register))
 }
@@ -210,7 +212,8 @@ fn bar_add_type(
     props: &List<PropStruct>,
     super_types: &List<Text>,
 ) -> Result<Refusal, Memory>
-    ensures { IsBarredBy (add_type store.now name.now if_name.now props.now super_types.now) result }
+    ensures { IsBarredBy (add_type store.now name.now if_name.now props.now super_types.now)
+        result }
 {
     match store
         .types

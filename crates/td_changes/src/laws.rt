@@ -24,16 +24,19 @@ ghost use Rattle.td_register.specs.declared.history.Accepted.{Accepted};
 /// A refused change leaves the store as it was, whatever refused it.
 pub fn refused_changes_leave_the_store()
     ensures counted { (bounds : Bounds) (count : ℕ) (s : Store) (c : Change) →
-        is_done (apply_counted bounds count s c).outcome ≡ false → (apply_counted bounds count s c).store ≡ s }
-    ensures uncounted { (s : Store) (c : Change) → is_done (apply s c).outcome ≡ false → (apply s c).store ≡ s }
+        is_done (apply_counted bounds count s c).outcome ≡ false
+        → (apply_counted bounds count s c).store ≡ s }
+    ensures uncounted { (s : Store) (c : Change) → is_done (apply s c).outcome ≡ false
+        → (apply s c).store ≡ s }
 {}
 
 /// An accepted export takes the number behind the last one that was given, also where that offer is
 /// gone.
 pub fn exports_take_the_next_number()
-    ensures { (s : Store) (reference : Ior) (type_name : List ℕ) (properties : List Property) (told : Reply) →
-        (apply s (change.Export reference type_name properties)).outcome ≡ outcome.Done told →
-        TakesNext s reference type_name properties told (apply s (change.Export reference type_name properties)).store }
+    ensures { (s : Store) (reference : Ior) (type_name : List ℕ) (properties : List Property)
+        (told : Reply) → (apply s (change.Export reference type_name properties)).outcome
+        ≡ outcome.Done told → TakesNext s reference type_name properties told
+        (apply s (change.Export reference type_name properties)).store }
 {}
 
 /// An accepted change is answered with a reply that a history keeps in short (`td_register::ChangeReply`).
@@ -64,7 +67,8 @@ pub fn points_lead_to_stores()
 /// a withdrawn number is unknown, and a text that is no number is no id; 65 octets are too many for a
 /// stem.
 pub fn worked_examples()
-    ensures masked { (apply masked (export_printer [])).outcome ≡ outcome.User (user.UnknownServiceType printer) }
+    ensures masked { (apply masked (export_printer [])).outcome
+        ≡ outcome.User (user.UnknownServiceType printer) }
     ensures next { (apply opening (export_printer [])).outcome ≡ outcome.Done (reply.Id (id_of 8)) }
     ensures readonly { (apply with_printer modify_all).outcome
         ≡ outcome.User (user.ReadonlyProperty printer (codes "Serial")) }
@@ -73,5 +77,6 @@ pub fn worked_examples()
         ≡ outcome.User (user.UnknownOfferId (codes "7")) }
     ensures illegal { (apply opening (change.Withdraw (codes "07"))).outcome
         ≡ outcome.User (user.IllegalOfferId (codes "07")) }
-    ensures stem { (apply opening (change.SetRequestIdStem (replicate 65 0))).outcome ≡ system limit.ImpLimit }
+    ensures stem { (apply opening (change.SetRequestIdStem (replicate 65 0))).outcome
+        ≡ system limit.ImpLimit }
 {}

@@ -56,15 +56,18 @@ reference_line home name own = word_of own ++ reference_text home name own ++ co
 
 abbrev pub reference_lines : Address → (name : List ℕ) → List ℕ
 reference_lines home name =
-    reference_line home name Lookup ++ reference_line home name Register ++ reference_line home name Link
-    ++ reference_line home name Proxy ++ reference_line home name Admin ++ reference_line home name Types
+    reference_line home name Lookup ++ reference_line home name Register
+    ++ reference_line home name Link
+    ++ reference_line home name Proxy ++ reference_line home name Admin
+    ++ reference_line home name Types
 
 -- ---- a trader, and all of them
 
 -- proxy offers are among the offers
 abbrev pub trader_lines : Address → PlainTrader → List ℕ
 trader_lines home t =
-    count_line t.name (length (store_of t).types.types) (length (store_of t).offers) (length (store_of t).links)
+    count_line t.name (length (store_of t).types.types) (length (store_of t).offers)
+    (length (store_of t).links)
     ++ reference_lines home t.name
 
 abbrev pub all_lines : Address → List PlainTrader → List ℕ

@@ -40,7 +40,8 @@ fn put_counts(
     offers: usize,
     links: usize,
 ) -> Result<(), Memory>
-    ensures { OnOk result (text.new.items ≡ text.old.items ++ count_line name.now types offers links) }
+    ensures { OnOk result (text.new.items
+        ≡ text.old.items ++ count_line name.now types offers links) }
 {
     put(text, b"trader ")?;
     put(text, name)?;

@@ -85,7 +85,8 @@ fn put_reference(
     own: Own,
 ) -> Result<(), Memory>
     requires { IsAddress home.now }
-    ensures { OnOk result (text.new.items ≡ text.old.items ++ reference_line home.now name.now own) }
+    ensures { OnOk result (text.new.items
+        ≡ text.old.items ++ reference_line home.now name.now own) }
 {
     put(text, word_of(own))?;
     let reference = reference_text(alloc, home, name, own)?;

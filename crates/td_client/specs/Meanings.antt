@@ -17,7 +17,8 @@ use Rattle.td_gather.specs.declared.gathered.Gathered.{Gathered}
 use Rattle.td_gather.specs.declared.gathered.Gathered.TheVariants.{Offers, Refused}
 
 -- what an answer means, where there is one
-abbrev pub with_meaning : {A B : Type 0} → (A → Result B PeerFault) → Result A PeerFault → Result B PeerFault
+abbrev pub with_meaning : {A B : Type 0} → (A → Result B PeerFault) → Result A PeerFault
+    → Result B PeerFault
 with_meaning meaning (Ok a) = meaning a
 with_meaning meaning (Err e) = Err e
 

@@ -53,10 +53,11 @@ impl<L: Wire> Caller<L> {
     /// Each but `Memory` raises the caller's own count.
     pub fn call(&mut self, alloc: Global, target: &Ior, call: &Call) -> Result<Answered, PeerFault>
         ensures same { L.same self.old.wire self.new.wire }
-        ensures called { Called (outcome_told call.now) (λ p. request_of first_id p call.now) target.now
-            (L.told self.old.wire) (L.told self.new.wire) (L.faults self.old.wire) (L.faults self.new.wire) result }
-        ensures leaves { Leaves (λ p. request_of first_id p call.now) target.now (L.told self.old.wire)
-            (L.told self.new.wire) }
+        ensures called { Called (outcome_told call.now) (λ p. request_of first_id p call.now)
+            target.now (L.told self.old.wire) (L.told self.new.wire) (L.faults self.old.wire)
+            (L.faults self.new.wire) result }
+        ensures leaves { Leaves (λ p. request_of first_id p call.now) target.now
+            (L.told self.old.wire) (L.told self.new.wire) }
         ensures disconnected { StaysDisconnected (L.told self.old.wire) (L.told self.new.wire) }
         ensures calls { self.new.calls ≡ self.old.calls }
         ensures count { self.new.faults ≡ count_after self.old.faults result }
@@ -76,8 +77,8 @@ impl<L: Wire> Caller<L> {
     /// without an IIOP profile are `Grammar`.
     pub fn ask(&mut self, alloc: Global, target: &Ior, q: &Query) -> Result<Gathered, PeerFault>
         ensures same { L.same self.old.wire self.new.wire }
-        ensures asks { Asks target.now q.now (L.told self.old.wire) (L.told self.new.wire) (L.faults self.old.wire)
-            (L.faults self.new.wire) result }
+        ensures asks { Asks target.now q.now (L.told self.old.wire) (L.told self.new.wire)
+            (L.faults self.old.wire) (L.faults self.new.wire) result }
         ensures leaves { AskLeaves target.now q.now (L.told self.old.wire) (L.told self.new.wire) }
         ensures disconnected { StaysDisconnected (L.told self.old.wire) (L.told self.new.wire) }
         ensures fit { IfOk result (λ g. GivesFitOffers g) }

@@ -29,7 +29,8 @@ impl Model for Calls {
 
     ghost Value = { List Exchange };
 
-    ghost coded = { coded_list (exchange_code ior_row.the_row.coded query_row.the_row.coded code_row.the_row.coded
+    ghost coded = { coded_list
+        (exchange_code ior_row.the_row.coded query_row.the_row.coded code_row.the_row.coded
         any_row.the_row.coded answer_row.the_row.coded fault_row.the_row.coded) };
 
     ghost use Rattle.td_client.specs.Noted.{exchanges};

@@ -17,7 +17,8 @@ use td_walk::{PeerFault, SubAnswer};
 
 /// Notes a call with its fault, and counts the fault.
 fn keep_fault(calls: &mut Calls, faults: &mut u64, call: CallNote, fault: PeerFault)
-    ensures noted { calls.new ≡ calls.old ++ record { call = call_of call; gave = Failed fault } ∷ [] }
+    ensures noted { calls.new ≡ calls.old ++ record { call = call_of call; gave = Failed fault }
+        ∷ [] }
     ensures counted { faults.new ≡ raised faults.old }
     ensures later { faults.old ≤ faults.new }
 {
@@ -53,8 +54,8 @@ pub(crate) fn note_offers(
     answer: &Result<SubAnswer, PeerFault>,
 )
     requires { IfOk answer.now (λ a. HasWritableOffers a) }
-    ensures noted { IsNoted (λ a. Answered a) (call_of call) calls.old calls.new faults.old faults.new
-        answer.now }
+    ensures noted { IsNoted (λ a. Answered a)
+        (call_of call) calls.old calls.new faults.old faults.new answer.now }
     ensures counted { faults.new ≡ count_after faults.old answer.now }
 {
     match answer {
@@ -75,8 +76,8 @@ pub(crate) fn note_value(
     answer: &Result<Boxed<Any>, PeerFault>,
 )
     requires { IfOk answer.now (λ v. any_value.format.admits v) }
-    ensures noted { IsNoted (λ v. Evaluated v) (call_of call) calls.old calls.new faults.old faults.new
-        answer.now }
+    ensures noted { IsNoted (λ v. Evaluated v)
+        (call_of call) calls.old calls.new faults.old faults.new answer.now }
     ensures counted { faults.new ≡ count_after faults.old answer.now }
 {
     match answer {
@@ -97,8 +98,8 @@ pub(crate) fn note_reference(
     answer: &Result<Ior, PeerFault>,
 )
     requires { IfOk answer.now (λ r. reference.format.admits r) }
-    ensures noted { IsNoted (λ r. Referred r) (call_of call) calls.old calls.new faults.old faults.new
-        answer.now }
+    ensures noted { IsNoted (λ r. Referred r)
+        (call_of call) calls.old calls.new faults.old faults.new answer.now }
     ensures counted { faults.new ≡ count_after faults.old answer.now }
 {
     match answer {

@@ -49,8 +49,9 @@ impl<L: Wire> Peers for Caller<L> {
     fn query(&mut self, alloc: Global, target: &Ior, q: &Query) -> Result<SubAnswer, PeerFault>
         ensures same { L.same self.old.wire self.new.wire }
         ensures count { self.new.faults ≡ count_after self.old.faults result }
-        ensures noted { IsNoted (λ a. Answered a) (Querying target.now q.now) self.old.calls self.new.calls
-            self.old.faults self.new.faults result }
+        ensures noted { IsNoted (λ a. Answered a)
+            (Querying target.now q.now) self.old.calls self.new.calls self.old.faults
+            self.new.faults result }
         ensures small { IfOk result (λ a. HasSmallOffers a) }
         ensures exact { (r : Result Given PeerFault) × Asks target.now q.now (L.told self.old.wire)
             (L.told self.new.wire) (L.faults self.old.wire) (L.faults self.new.wire) r
@@ -79,14 +80,16 @@ impl<L: Wire> Peers for Caller<L> {
     ) -> Result<Boxed<Any>, PeerFault>
         ensures same { L.same self.old.wire self.new.wire }
         ensures count { self.new.faults ≡ count_after self.old.faults result }
-        ensures noted { IsNoted (λ v. Evaluated v) (Evaluating evaluator.now name.now returned.now extra.now)
+        ensures noted { IsNoted (λ v. Evaluated v)
+            (Evaluating evaluator.now name.now returned.now extra.now)
             self.old.calls self.new.calls self.old.faults self.new.faults result }
         ensures exact { (r : Result (Option Any) PeerFault) × Called (evaluation_told returned.now)
-            (λ p. evaluation_of first_id p name.now returned.now extra.now) evaluator.now (L.told self.old.wire)
-            (L.told self.new.wire) (L.faults self.old.wire) (L.faults self.new.wire) r
+            (λ p. evaluation_of first_id p name.now returned.now extra.now) evaluator.now
+            (L.told self.old.wire) (L.told self.new.wire) (L.faults self.old.wire)
+            (L.faults self.new.wire) r
             × (result ≡ with_meaning value_meant r) }
-        ensures leaves { Leaves (λ p. evaluation_of first_id p name.now returned.now extra.now) evaluator.now
-            (L.told self.old.wire) (L.told self.new.wire) }
+        ensures leaves { Leaves (λ p. evaluation_of first_id p name.now returned.now extra.now)
+            evaluator.now (L.told self.old.wire) (L.told self.new.wire) }
         ensures disconnected { StaysDisconnected (L.told self.old.wire) (L.told self.new.wire) }
     {
         let answer = value_meant(evaluate_over(
@@ -112,14 +115,16 @@ impl<L: Wire> Peers for Caller<L> {
     fn register_of(&mut self, alloc: Global, lookup: &Ior) -> Result<Ior, PeerFault>
         ensures same { L.same self.old.wire self.new.wire }
         ensures count { self.new.faults ≡ count_after self.old.faults result }
-        ensures noted { IsNoted (λ r. Referred r) (RegisterOf lookup.now) self.old.calls self.new.calls
-            self.old.faults self.new.faults result }
+        ensures noted { IsNoted (λ r. Referred r)
+            (RegisterOf lookup.now) self.old.calls self.new.calls self.old.faults self.new.faults
+            result }
         ensures admitted { IfOk result (λ r. reference.format.admits r) }
         ensures exact { (r : Result Told PeerFault) × Called (outcome_told register_call)
-            (λ p. request_of first_id p register_call) lookup.now (L.told self.old.wire) (L.told self.new.wire)
-            (L.faults self.old.wire) (L.faults self.new.wire) r × (result ≡ with_meaning reference_meant r) }
-        ensures leaves { Leaves (λ p. request_of first_id p register_call) lookup.now (L.told self.old.wire)
-            (L.told self.new.wire) }
+            (λ p. request_of first_id p register_call) lookup.now (L.told self.old.wire)
+            (L.told self.new.wire) (L.faults self.old.wire) (L.faults self.new.wire) r
+            × (result ≡ with_meaning reference_meant r) }
+        ensures leaves { Leaves (λ p. request_of first_id p register_call) lookup.now
+            (L.told self.old.wire) (L.told self.new.wire) }
         ensures disconnected { StaysDisconnected (L.told self.old.wire) (L.told self.new.wire) }
     {
         let answer = reference_meant(ask_register(alloc, &mut self.wire, lookup));
@@ -140,8 +145,9 @@ impl<L: Wire> Peers for Caller<L> {
     ) -> Result<Ior, PeerFault>
         ensures same { L.same self.old.wire self.new.wire }
         ensures count { self.new.faults ≡ count_after self.old.faults result }
-        ensures noted { IsNoted (λ r. Referred r) (Resolving register.now name.now) self.old.calls self.new.calls
-            self.old.faults self.new.faults result }
+        ensures noted { IsNoted (λ r. Referred r)
+            (Resolving register.now name.now) self.old.calls self.new.calls self.old.faults
+            self.new.faults result }
         ensures admitted { IfOk result (λ r. reference.format.admits r) }
         ensures exact { (r : Result Told PeerFault) × Called (outcome_told (resolve_call name.now))
             (λ p. request_of first_id p (resolve_call name.now)) register.now (L.told self.old.wire)

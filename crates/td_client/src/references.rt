@@ -26,8 +26,9 @@ pub(crate) fn ask_register<L: Wire>(
     lookup: &Ior,
 ) -> Result<Answered, PeerFault>
     ensures same { L.same wire.old wire.new }
-    ensures called { Called (outcome_told register_call) (λ p. request_of first_id p register_call) lookup.now
-        (L.told wire.old) (L.told wire.new) (L.faults wire.old) (L.faults wire.new) result }
+    ensures called { Called (outcome_told register_call) (λ p. request_of first_id p register_call)
+        lookup.now (L.told wire.old) (L.told wire.new) (L.faults wire.old)
+        (L.faults wire.new) result }
     ensures admitted { IfOk result (λ a. AdmitsTold register_call a) }
     ensures leaves { Leaves (λ p. request_of first_id p register_call) lookup.now (L.told wire.old)
         (L.told wire.new) }
@@ -53,11 +54,11 @@ pub(crate) fn ask_to_resolve<L: Wire>(
 ) -> Result<Answered, PeerFault>
     ensures same { L.same wire.old wire.new }
     ensures called { Called (outcome_told (resolve_call name.now))
-        (λ p. request_of first_id p (resolve_call name.now)) register.now (L.told wire.old) (L.told wire.new)
-        (L.faults wire.old) (L.faults wire.new) result }
+        (λ p. request_of first_id p (resolve_call name.now)) register.now (L.told wire.old)
+        (L.told wire.new) (L.faults wire.old) (L.faults wire.new) result }
     ensures admitted { IfOk result (λ a. AdmitsTold (resolve_call name.now) a) }
-    ensures leaves { Leaves (λ p. request_of first_id p (resolve_call name.now)) register.now (L.told wire.old)
-        (L.told wire.new) }
+    ensures leaves { Leaves (λ p. request_of first_id p (resolve_call name.now)) register.now
+        (L.told wire.old) (L.told wire.new) }
     ensures disconnected { StaysDisconnected (L.told wire.old) (L.told wire.new) }
 {
     match name.copy(alloc) {

@@ -16,14 +16,15 @@ sunk bytes faults = record { bytes = bytes; faults = faults }
 
 -- all of a text is printed, and the status is this one, or the sink failed
 pub data Prints (text : List ℕ) (status : ℕ) : (before after : Sunk) → ℕ → Type 0 where
-  all_printed : (a b : Sunk) → Appends a.bytes b.bytes text → a.faults ≤ b.faults → Prints text status a b status
+  all_printed : (a b : Sunk) → Appends a.bytes b.bytes text → a.faults ≤ b.faults
+      → Prints text status a b status
   sink_failed : (a b : Sunk) → Tells text a.bytes b.bytes a.faults b.faults → Rose a.faults b.faults
       → Prints text status a b 7
 
 -- the lines of an outcome are printed; or the reply isn't that of the operation, or memory is wanting for the lines,
 -- and nothing is printed
 pub data Shows (o : Outcome) : (before after : Sunk) → ℕ → Type 0 where
-  shown : (text : List ℕ) (a b : Sunk) (n : ℕ) → outcome_lines o ≡ Some text → Prints text (outcome_status o) a b n
-      → Shows o a b n
+  shown : (text : List ℕ) (a b : Sunk) (n : ℕ) → outcome_lines o ≡ Some text
+      → Prints text (outcome_status o) a b n → Shows o a b n
   unshown : (a : Sunk) → outcome_lines o ≡ None → Shows o a a 8
   no_lines : (a : Sunk) → Shows o a a 9

@@ -15,8 +15,8 @@ use Rattle.td_client_run.specs.declared.outcome.Outcome.{Outcome}
 
 -- an object is asked, and what came is printed; where nothing came, nothing is printed
 pub data Performs (asking : Asking) : (line0 line1 : Line) → (sink0 sink1 : Sunk) → ℕ → Type 0 where
-  answered : (o : Outcome) (v w : Line) (a b : Sunk) (n : ℕ) → Sends asking v w (Ok o) → Shows o a b n
-      → Performs asking v w a b n
+  answered : (o : Outcome) (v w : Line) (a b : Sunk) (n : ℕ) → Sends asking v w (Ok o)
+      → Shows o a b n → Performs asking v w a b n
   failed : (fault : PeerFault) (v w : Line) (a : Sunk) → Sends asking v w (Err fault)
       → Performs asking v w a a (fault_status fault)
 
@@ -24,7 +24,8 @@ pub data Performs (asking : Asking) : (line0 line1 : Line) → (sink0 sink1 : Su
 pub data Refuses : Refusal → (faults0 faults1 : Sunk) → ℕ → Type 0 where
   by_clap : (e : Error) (text : List ℕ) (f g : Sunk) → Tells text f.bytes g.bytes f.faults g.faults
       → Refuses (refusal.Words e) f g 2
-  by_form : (f g : Sunk) → Tells (codes "usage\n") f.bytes g.bytes f.faults g.faults → Refuses refusal.Form f g 2
+  by_form : (f g : Sunk) → Tells (codes "usage\n") f.bytes g.bytes f.faults g.faults
+      → Refuses refusal.Form f g 2
   no_memory : (r : Refusal) (f : Sunk) → Refuses r f f 9
 
 -- the words ask an object for something, which it is asked for, or they are refused

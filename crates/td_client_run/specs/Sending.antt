@@ -28,15 +28,17 @@ line told faults = record { told = told; faults = faults }
 
 -- one Request for a call, over a connection of its own, and its reply. Where it fails too, no more than the one Request
 -- was written, over no more than the one connection, which has ended.
-pub record Calls (target : Ior) (c : Call) (before after : Line) (r : Result Told PeerFault) : Type 0 where
-  pub called : Called (outcome_told c) (λ p. request_of first_id p c) target before.told after.told before.faults
-      after.faults r
+pub record Calls (target : Ior) (c : Call) (before after : Line)
+    (r : Result Told PeerFault) : Type 0 where
+  pub called : Called (outcome_told c)
+      (λ p. request_of first_id p c) target before.told after.told before.faults after.faults r
   pub leaves : Leaves (λ p. request_of first_id p c) target before.told after.told
   pub disconnected : StaysDisconnected before.told after.told
 
 -- A query over a connection of its own, and what is gathered. Where it fails too, a front of its requests was written,
 -- over no more than the one connection, which has ended.
-pub record Queries (target : Ior) (q : Query) (before after : Line) (r : Result Given PeerFault) : Type 0 where
+pub record Queries (target : Ior) (q : Query) (before after : Line)
+    (r : Result Given PeerFault) : Type 0 where
   pub asks : Asks target q before.told after.told before.faults after.faults r
   pub leaves : AskLeaves target q before.told after.told
   pub disconnected : StaysDisconnected before.told after.told

@@ -35,7 +35,8 @@ pub fn client_run<L: Wire, K: Sink, E: Sink>(
 ) -> u8
     ensures runs { Runs (map string_bytes args.now) (line (L.told wire.old) (L.faults wire.old))
         (line (L.told wire.new) (L.faults wire.new)) (sunk (K.written sink.old) (K.faults sink.old))
-        (sunk (K.written sink.new) (K.faults sink.new)) (sunk (E.written faults.old) (E.faults faults.old))
+        (sunk (K.written sink.new) (K.faults sink.new))
+        (sunk (E.written faults.old) (E.faults faults.old))
         (sunk (E.written faults.new) (E.faults faults.new)) result }
     ensures documented { (asked : Asked) → Spells (map string_bytes args.now) asked
         → list_any has_nul (map string_bytes args.now) ≡ false
@@ -56,7 +57,8 @@ fn obey<L: Wire, K: Sink, E: Sink>(
 ) -> u8
     ensures { Runs (map string_bytes args.now) (line (L.told wire.old) (L.faults wire.old))
         (line (L.told wire.new) (L.faults wire.new)) (sunk (K.written sink.old) (K.faults sink.old))
-        (sunk (K.written sink.new) (K.faults sink.new)) (sunk (E.written faults.old) (E.faults faults.old))
+        (sunk (K.written sink.new) (K.faults sink.new))
+        (sunk (E.written faults.old) (E.faults faults.old))
         (sunk (E.written faults.new) (E.faults faults.new)) result }
 {
     match asking_in(alloc, args) {

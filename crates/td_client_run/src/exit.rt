@@ -28,7 +28,8 @@ pub fn run_client<L: Wire, K: Sink, E: Sink>(
 ) -> ExitCode
     ensures { Runs (map string_bytes args.now) (line (L.told wire.old) (L.faults wire.old))
         (line (L.told wire.new) (L.faults wire.new)) (sunk (K.written sink.old) (K.faults sink.old))
-        (sunk (K.written sink.new) (K.faults sink.new)) (sunk (E.written faults.old) (E.faults faults.old))
+        (sunk (K.written sink.new) (K.faults sink.new))
+        (sunk (E.written faults.old) (E.faults faults.old))
         (sunk (E.written faults.new) (E.faults faults.new)) (exit_status result) }
 {
     ExitCode::from(client_run(alloc, args, wire, sink, faults))
@@ -73,8 +74,8 @@ fn wants_memory(e: &io::Error) -> bool {
 /// What is done where the words can't be had.
 fn refuse_words<E: Sink>(faults: &mut E, wants_memory: bool) -> u8
     ensures { MatchBool wants_memory (result ≡ 9) ((result ≡ 2)
-        × Tells (codes "usage\n") (E.written faults.old) (E.written faults.new) (E.faults faults.old)
-        (E.faults faults.new)) }
+        × Tells (codes "usage\n") (E.written faults.old) (E.written faults.new)
+        (E.faults faults.old) (E.faults faults.new)) }
 {
     if wants_memory {
         return 9;

@@ -12,5 +12,6 @@ ghost use Rattle.td_wire.specs.Connections.{Traffic};
 /// means that what came is no reply to the request.
 pub fn answers_have_lines()
     ensures { (words : List (List ℕ)) (asking : Asking) (t : Traffic) (v w : Line) (o : Outcome)
-        → asking_in words ≡ Some asking → v.told ≡ Some t → Sends asking v w (Ok o) → IsSome (outcome_lines o) }
+        → asking_in words ≡ Some asking → v.told ≡ Some t → Sends asking v w (Ok o)
+        → IsSome (outcome_lines o) }
 {}

@@ -23,7 +23,8 @@ pub enum Outcome {
 
 /// Puts the lines of a query's outcome behind these bytes, where there are any.
 fn put_gathered(alloc: Global, out: &mut Vec<u8>, gathered: &Gathered) -> Result<bool, Memory>
-    ensures { IfOk result (λ put. Puts (gathered_lines gathered.now) put out.old.items out.new.items) }
+    ensures { IfOk result (λ put. Puts (gathered_lines gathered.now)
+        put out.old.items out.new.items) }
 {
     match gathered {
         Gathered::Offers(found) => {
@@ -40,7 +41,8 @@ pub(crate) fn put_outcome(
     out: &mut Vec<u8>,
     outcome: &Outcome,
 ) -> Result<bool, Memory>
-    ensures { IfOk result (λ put. Puts (outcome_lines outcome.now) put out.old.items out.new.items) }
+    ensures { IfOk result (λ put.
+        Puts (outcome_lines outcome.now) put out.old.items out.new.items) }
 {
     match outcome {
         Outcome::Gathered(gathered) => put_gathered(alloc, out, gathered),

@@ -22,8 +22,8 @@ pub(crate) fn send<L: Wire>(
     asking: &Asking,
     wire: &mut L,
 ) -> Result<Outcome, PeerFault>
-    ensures { Sends asking.now (line (L.told wire.old) (L.faults wire.old)) (line (L.told wire.new) (L.faults wire.new))
-        result }
+    ensures { Sends asking.now (line (L.told wire.old) (L.faults wire.old))
+        (line (L.told wire.new) (L.faults wire.new)) result }
 {
     match asking {
         Asking::Query { target, query } => match ask_over(alloc, wire, target, query) {

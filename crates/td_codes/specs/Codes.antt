@@ -48,12 +48,14 @@ positive = restriction (λ n. nat_lt 0 n) bad_value ulong
 
 abbrev pub member : Sound ValueFault TypeCode → Sound ValueFault Member
 member inner =
-    structure (λ p. record { name = p.0; code = p.1 }) (λ m. (m.name, m.code)) (λ _. refl) (λ _. refl) (text & inner)
+    structure (λ p. record { name = p.0; code = p.1 }) (λ m. (m.name, m.code)) (λ _. refl)
+    (λ _. refl) (text & inner)
 
 abbrev pub arm_of : Sound ValueFault Value → Sound ValueFault TypeCode → Sound ValueFault Arm
 arm_of label inner =
     structure (λ p. record { label = p.0; name = p.1.name; code = p.1.code })
-    (λ a. (a.label, record { name = a.name; code = a.code })) (λ _. refl) (λ _. refl) (label & member inner)
+    (λ a. (a.label, record { name = a.name; code = a.code })) (λ _. refl) (λ _. refl)
+    (label & member inner)
 
 -- the index of a union's default arm: -1 for none
 abbrev pub default_index : Sound ValueFault ℤ
@@ -67,7 +69,8 @@ arm_count default = restriction (λ n. not (int_lt default (pos 0)) || nat_lt 0 
 abbrev pub head : Sound ValueFault (ℤ × ℕ)
 head = restriction (λ h. int_lt h.0 (pos h.1)) bad_value (pair_on default_index arm_count)
 
-map-same : {X Y : Type 0} (f g : X → Y) → ((x : X) → f x ≡ g x) → (xs : List X) → map f xs ≡ map g xs
+map-same : {X Y : Type 0} (f g : X → Y) → ((x : X) → f x ≡ g x) → (xs : List X)
+    → map f xs ≡ map g xs
 map-same f g is [] = refl
 map-same {Y = Y} f g is (x ∷ xs) =
     ap (λ (y : Y). y ∷ map f xs) (is x) ∙ ap (λ (ys : List Y). g x ∷ ys) (map-same f g is xs)
@@ -79,7 +82,8 @@ head_of p = (p.0, length p.1)
 abbrev pub arms_after : Sound ValueFault Arm → (h : ℤ × ℕ) → Sound ValueFault (ℤ × List Arm)
 arms_after g h = variant (λ arms. (h.0, arms)) (λ p. Some p.1) (λ _. refl) (array g h.1)
 
-pub arms_after-head : (g : Sound ValueFault Arm) (h : ℤ × ℕ) (order : Order) (place : ℕ) (p : ℤ × List Arm) (b : List ℕ)
+pub arms_after-head : (g : Sound ValueFault Arm) (h : ℤ × ℕ) (order : Order) (place : ℕ)
+    (p : ℤ × List Arm) (b : List ℕ)
     → (arms_after g h).format.spells order place p b → h ≡ head_of p
 arms_after-head g h order place p b s =
     ap (λ (n : ℕ). (h.0, n)) (times-length g.format h.1 order place s.0 b s.2) ∙ ap head_of s.1
@@ -109,7 +113,8 @@ fields_in (c.Except id name members) = Some ((id, name), members)
 fields_in l = None
 
 abbrev pub union_in : Layer → Option (((List ℕ × List ℕ) × TypeCode) × (ℤ × List Arm))
-union_in (c.TypeCode::Union id name switch default arms) = Some (((id, name), switch), (default, arms))
+union_in (c.TypeCode::Union id name switch default arms) = Some
+    (((id, name), switch), (default, arms))
 union_in l = None
 
 abbrev pub names_in : Layer → Option ((List ℕ × List ℕ) × List (List ℕ))
@@ -129,8 +134,8 @@ alias_in l = None
 
 abbrev pub object_code : Sound ValueFault TypeCode
 object_code =
-    variant (λ p. code.ObjRef p.0 p.1) (λ t. object_in (out-TypeCode t)) (λ p. ap object_in (code-object p.0 p.1))
-    (text & text)
+    variant (λ p. code.ObjRef p.0 p.1) (λ t. object_in (out-TypeCode t))
+    (λ p. ap object_in (code-object p.0 p.1)) (text & text)
 
 abbrev pub struct_code : Sound ValueFault TypeCode → Sound ValueFault TypeCode
 struct_code inner =
@@ -149,13 +154,13 @@ enum_code =
 
 abbrev pub sequence_code : Sound ValueFault TypeCode → Sound ValueFault TypeCode
 sequence_code inner =
-    variant (λ p. code.Sequence p.0 p.1) (λ t. item_in (out-TypeCode t)) (λ p. ap item_in (code-sequence p.0 p.1))
-    (inner & ulong)
+    variant (λ p. code.Sequence p.0 p.1) (λ t. item_in (out-TypeCode t))
+    (λ p. ap item_in (code-sequence p.0 p.1)) (inner & ulong)
 
 abbrev pub array_code : Sound ValueFault TypeCode → Sound ValueFault TypeCode
 array_code inner =
-    variant (λ p. code.Array p.0 p.1) (λ t. item_in (out-TypeCode t)) (λ p. ap item_in (code-array p.0 p.1))
-    (inner & positive)
+    variant (λ p. code.Array p.0 p.1) (λ t. item_in (out-TypeCode t))
+    (λ p. ap item_in (code-array p.0 p.1)) (inner & positive)
 
 abbrev pub alias_code : Sound ValueFault TypeCode → Sound ValueFault TypeCode
 alias_code inner =
@@ -165,12 +170,13 @@ alias_code inner =
 abbrev pub union_code : ℕ → (Mode → Sound ValueFault TypeCode) → Sound ValueFault TypeCode
 union_code levels inner =
     variant (λ p. code.Union p.0.0.0 p.0.0.1 p.0.1 p.1.0 p.1.1) (λ t. union_in (out-TypeCode t))
-    (λ p. ap union_in (code-union p.0.0.0 p.0.0.1 p.0.1 p.1.0 p.1.1)) (union_parameters levels inner)
+    (λ p. ap union_in (code-union p.0.0.0 p.0.0.1 p.0.1 p.1.0 p.1.1))
+    (union_parameters levels inner)
 
 -- where what is inside tells the kind, so does the encapsulation
 abbrev pub encapsulation_arm : (k : CodeKind) (g : Sound ValueFault TypeCode)
-    → ((order : Order) (place : ℕ) (t : TypeCode) (b : List ℕ) → g.format.spells order place t b → k ≡ kind_of t)
-    → Arm_of ValueFault CodeKind TypeCode kind_of
+    → ((order : Order) (place : ℕ) (t : TypeCode) (b : List ℕ) → g.format.spells order place t b
+    → k ≡ kind_of t) → Arm_of ValueFault CodeKind TypeCode kind_of
 encapsulation_arm k g told = record {
   format = (encapsulation g).format;
   lawful = (encapsulation g).lawful;
@@ -199,17 +205,20 @@ module _ (levels : ℕ) (inner : Mode → Sound ValueFault TypeCode) (mode : Mod
       (λ order place t b s. sym (ap kind_of_layer (code-object s.0.0 s.0.1)) ∙ ap kind_of s.1)
   parameters kind.Struct =
       encapsulation_arm kind.Struct (struct_code (inner Inner))
-      (λ order place t b s. sym (ap kind_of_layer (code-struct s.0.0.0 s.0.0.1 s.0.1)) ∙ ap kind_of s.1)
+      (λ order place t b s. sym (ap kind_of_layer (code-struct s.0.0.0 s.0.0.1 s.0.1))
+      ∙ ap kind_of s.1)
   parameters kind.Union =
       encapsulation_arm kind.Union (union_code levels inner)
-      (λ order place t b s. sym (ap kind_of_layer (code-union s.0.0.0.0 s.0.0.0.1 s.0.0.1 s.0.1.0 s.0.1.1))
+      (λ order place t b s. sym
+      (ap kind_of_layer (code-union s.0.0.0.0 s.0.0.0.1 s.0.0.1 s.0.1.0 s.0.1.1))
       ∙ ap kind_of s.1)
   parameters kind.Enum =
       encapsulation_arm kind.Enum enum_code
-      (λ order place t b s. sym (ap kind_of_layer (code-enum s.0.0.0 s.0.0.1 s.0.1)) ∙ ap kind_of s.1)
+      (λ order place t b s. sym (ap kind_of_layer (code-enum s.0.0.0 s.0.0.1 s.0.1))
+      ∙ ap kind_of s.1)
   parameters kind.Str =
-      arm kind.Str (λ n. code.Str n) (λ t. bound_in (out-TypeCode t)) (λ n. ap bound_in (code-str n))
-      (λ n. sym (ap kind_of_layer (code-str n))) ulong
+      arm kind.Str (λ n. code.Str n) (λ t. bound_in (out-TypeCode t))
+      (λ n. ap bound_in (code-str n)) (λ n. sym (ap kind_of_layer (code-str n))) ulong
   parameters kind.Sequence =
       encapsulation_arm kind.Sequence (sequence_code (inner Inner))
       (λ order place t b s. sym (ap kind_of_layer (code-sequence s.0.0 s.0.1)) ∙ ap kind_of s.1)
@@ -218,10 +227,12 @@ module _ (levels : ℕ) (inner : Mode → Sound ValueFault TypeCode) (mode : Mod
       (λ order place t b s. sym (ap kind_of_layer (code-array s.0.0 s.0.1)) ∙ ap kind_of s.1)
   parameters kind.Alias =
       encapsulation_arm kind.Alias (alias_code (inner (under mode)))
-      (λ order place t b s. sym (ap kind_of_layer (code-alias s.0.0.0 s.0.0.1 s.0.1)) ∙ ap kind_of s.1)
+      (λ order place t b s. sym (ap kind_of_layer (code-alias s.0.0.0 s.0.0.1 s.0.1))
+      ∙ ap kind_of s.1)
   parameters kind.Except =
       encapsulation_arm kind.Except (except_code (inner Inner))
-      (λ order place t b s. sym (ap kind_of_layer (code-except s.0.0.0 s.0.0.1 s.0.1)) ∙ ap kind_of s.1)
+      (λ order place t b s. sym (ap kind_of_layer (code-except s.0.0.0 s.0.0.1 s.0.1))
+      ∙ ap kind_of s.1)
   parameters kind.LongLong = bare_arm code.LongLong
   parameters kind.ULongLong = bare_arm code.ULongLong
 
@@ -256,9 +267,11 @@ module _ (levels : ℕ) (inner : Mode → Sound ValueFault TypeCode) (mode : Mod
   -- ---- what is written
 
   module _ (w : (m : Mode) → (inner m).format.writes ≡ code_piece) where
-    members-same : (ms : List Member) → map (member (inner Inner)).format.writes ms ≡ map member_piece ms
+    members-same : (ms : List Member) → map (member (inner Inner)).format.writes ms
+        ≡ map member_piece ms
     members-same ms =
-        map-same _ _ (λ m. ap (λ (v : TypeCode → Piece). text.format.writes m.name then v m.code) (w Inner)
+        map-same _ _ (λ m. ap (λ (v : TypeCode → Piece). text.format.writes m.name then v m.code)
+        (w Inner)
         ∙ sym (member_piece-is m))
         ms
 
@@ -271,48 +284,62 @@ module _ (levels : ℕ) (inner : Mode → Sound ValueFault TypeCode) (mode : Mod
         ∙ sym (arm_piece-is a))
         arms
 
-    union-same : (id name : List ℕ) (switch : TypeCode) (default : ℤ) (arms : List Arm) (order : Order) (place : ℕ)
-        → (encapsulation (union_parameters levels inner)).format.writes (((id, name), switch), (default, arms)) order
-        place
+    union-same : (id name : List ℕ) (switch : TypeCode) (default : ℤ) (arms : List Arm)
+        (order : Order) (place : ℕ)
+        → (encapsulation (union_parameters levels inner)).format.writes
+        (((id, name), switch), (default, arms)) order place
         ≡ encapsulation_piece ((header_piece id name then code_piece switch)
         then (head_piece default (length arms) then row (map arm_piece arms)))
         order place
     union-same id name switch default arms order place =
         let g = (arm_of (labels levels switch) (inner Inner)).format in
-        let rows : (p : ℕ) → (array_format g (length arms)).writes arms order p ≡ row (map arm_piece arms) order p =
-        λ p. times-row g arms order p ∙ ap (λ (ps : List Piece). row ps order p) (arms-same switch arms) in
+        let rows : (p : ℕ) → (array_format g (length arms)).writes arms order p
+        ≡ row (map arm_piece arms) order p =
+        λ p. times-row g arms order p ∙ ap (λ (ps : List Piece). row ps order p)
+        (arms-same switch arms) in
         rw (w Switch, rows) refl
 
     -- no format of these spells a graph
-    no-graph : (t : TypeCode) (graph : List Node) → out-TypeCode t ≡ c.Linked graph → kind_and_parameters.format.admits t
-        → ⊥
+    no-graph : (t : TypeCode) (graph : List Node) → out-TypeCode t ≡ c.Linked graph
+        → kind_and_parameters.format.admits t → ⊥
     no-graph t graph e ok =
         let null : code.Null ≡ t =
         subst (λ (l : Layer). (parameters (kind_of_layer l)).format.admits t) e ok.1 in
-        let same : ◌≡◌ {A = Layer} c.Null (c.Linked graph) = sym code-null ∙ ap out-TypeCode null ∙ e in
+        let same : ◌≡◌ {A = Layer} c.Null (c.Linked graph) = sym code-null ∙ ap out-TypeCode null
+        ∙ e in
         absurd cc
 
     same-at : (t : TypeCode) (l : Layer) → out-TypeCode t ≡ l → kind_and_parameters.format.admits t
         → (order : Order) (place : ℕ)
-        → kind_and_parameters.format.writes t order place ≡ code_layer (layer_pieces (out-TypeCode t)) order place
+        → kind_and_parameters.format.writes t order place
+        ≡ code_layer (layer_pieces (out-TypeCode t)) order place
     same-at t c.Null e ok order place = rw e (append-nil (kind_piece kind.Null order place))
     same-at t c.Void e ok order place = rw e (append-nil (kind_piece kind.Void order place))
-    same-at t c.TypeCode::Short e ok order place = rw e (append-nil (kind_piece kind.Short order place))
-    same-at t c.TypeCode::Long e ok order place = rw e (append-nil (kind_piece kind.Long order place))
-    same-at t c.TypeCode::UShort e ok order place = rw e (append-nil (kind_piece kind.UShort order place))
-    same-at t c.TypeCode::ULong e ok order place = rw e (append-nil (kind_piece kind.ULong order place))
-    same-at t c.TypeCode::Boolean e ok order place = rw e (append-nil (kind_piece kind.Boolean order place))
-    same-at t c.TypeCode::Char e ok order place = rw e (append-nil (kind_piece kind.Char order place))
-    same-at t c.TypeCode::Octet e ok order place = rw e (append-nil (kind_piece kind.Octet order place))
+    same-at t c.TypeCode::Short e ok order place = rw e
+        (append-nil (kind_piece kind.Short order place))
+    same-at t c.TypeCode::Long e ok order place = rw e
+        (append-nil (kind_piece kind.Long order place))
+    same-at t c.TypeCode::UShort e ok order place = rw e
+        (append-nil (kind_piece kind.UShort order place))
+    same-at t c.TypeCode::ULong e ok order place = rw e
+        (append-nil (kind_piece kind.ULong order place))
+    same-at t c.TypeCode::Boolean e ok order place = rw e
+        (append-nil (kind_piece kind.Boolean order place))
+    same-at t c.TypeCode::Char e ok order place = rw e
+        (append-nil (kind_piece kind.Char order place))
+    same-at t c.TypeCode::Octet e ok order place = rw e
+        (append-nil (kind_piece kind.Octet order place))
     same-at t c.AnyCode e ok order place = rw e (append-nil (kind_piece kind.AnyCode order place))
-    same-at t c.TypeCode::Code e ok order place = rw e (append-nil (kind_piece kind.Code order place))
+    same-at t c.TypeCode::Code e ok order place = rw e
+        (append-nil (kind_piece kind.Code order place))
     same-at t (c.TypeCode::ObjRef id name) e ok order place = rw (e, e) refl
     same-at t (c.TypeCode::Struct id name members) e ok order place =
         rw (e, e, members-same members, length-map members member_piece) refl
     same-at t (c.TypeCode::Union id name switch default arms) e ok order place =
         rw (e, e, length-map arms arm_piece)
         (ap (λ (b : List ℕ). kind_piece kind.Union order place ++ b)
-        (union-same id name switch default arms order (place + length (kind_piece kind.Union order place))))
+        (union-same id name switch default arms order
+        (place + length (kind_piece kind.Union order place))))
     same-at t (c.TypeCode::Enum id name names) e ok order place = rw (e, e) refl
     same-at t (c.TypeCode::Str bound) e ok order place = rw (e, e) refl
     same-at t (c.Sequence item bound) e ok order place = rw (e, e, w Inner) refl
@@ -320,14 +347,17 @@ module _ (levels : ℕ) (inner : Mode → Sound ValueFault TypeCode) (mode : Mod
     same-at t (c.Alias id name item) e ok order place = rw (e, e, w (under mode)) refl
     same-at t (c.Except id name members) e ok order place =
         rw (e, e, members-same members, length-map members member_piece) refl
-    same-at t c.TypeCode::LongLong e ok order place = rw e (append-nil (kind_piece kind.LongLong order place))
-    same-at t c.TypeCode::ULongLong e ok order place = rw e (append-nil (kind_piece kind.ULongLong order place))
+    same-at t c.TypeCode::LongLong e ok order place = rw e
+        (append-nil (kind_piece kind.LongLong order place))
+    same-at t c.TypeCode::ULongLong e ok order place = rw e
+        (append-nil (kind_piece kind.ULongLong order place))
     same-at t (c.Linked graph) e ok order place = absurd (no-graph t graph e ok)
 
     pub same : (t : TypeCode) (order : Order) (place : ℕ) → kind_and_parameters.format.admits t
         → kind_and_parameters.format.writes t order place ≡ code_piece t order place
     same t order place ok =
-        same-at t (out-TypeCode t) refl ok order place ∙ sym (ap (λ (p : Piece). p order place) (code_piece-layer t))
+        same-at t (out-TypeCode t) refl ok order place
+        ∙ sym (ap (λ (p : Piece). p order place) (code_piece-layer t))
 
 -- a format of TypeCodes that are written so
 pub record CodeFormat : Type 1 where
@@ -348,12 +378,14 @@ no_arm k = record {
 unfoldable pub code_formats : ℕ → Mode → CodeFormat
 code_formats zero mode = record {
   sound =
-      other_writing code_piece (union (deep_kind mode) kind_of no_arm (λ _. refl)) (λ t order place ok. absurd ok.1);
+      other_writing code_piece (union (deep_kind mode) kind_of no_arm (λ _. refl))
+      (λ t order place ok. absurd ok.1);
   writes = refl;
 }
 code_formats (suc levels) mode = record {
   sound =
-      other_writing code_piece (kind_and_parameters levels (λ m. (code_formats levels m).sound) mode)
+      other_writing code_piece
+      (kind_and_parameters levels (λ m. (code_formats levels m).sound) mode)
       (same levels (λ m. (code_formats levels m).sound) mode (λ m. (code_formats levels m).writes));
   writes = refl;
 }

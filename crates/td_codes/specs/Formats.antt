@@ -17,6 +17,8 @@ abbrev pub nonempty_sequence : {X : Type 0} → Sound ValueFault X → Sound Val
 nonempty_sequence g = restriction is_some (λ xs a. fault.BadValue (aligned 4 a)) (sequence g)
 
 -- so many values as are admitted
-pub array-size : {F X : Type 0} (g : Format F X) (n : ℕ) (xs : List X) → (array_format g n).admits xs → n ≡ length xs
+pub array-size : {F X : Type 0} (g : Format F X) (n : ℕ) (xs : List X)
+    → (array_format g n).admits xs → n ≡ length xs
 array-size {X = X} g zero xs ok = ap (length {A = X}) ok
-array-size {X = X} g (suc n) xs ok = ap suc (array-size g n ok.0.1 ok.2.1) ∙ ap (length {A = X}) ok.1
+array-size {X = X} g (suc n) xs ok = ap suc (array-size g n ok.0.1 ok.2.1)
+    ∙ ap (length {A = X}) ok.1

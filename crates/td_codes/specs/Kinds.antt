@@ -45,9 +45,10 @@ number_of kind.ULongLong = 24
 
 abbrev pub all_kinds : List CodeKind
 all_kinds =
-    kind.Null ∷ kind.Void ∷ kind.Short ∷ kind.Long ∷ kind.UShort ∷ kind.ULong ∷ kind.Boolean ∷ kind.Char ∷ kind.Octet
-    ∷ kind.AnyCode ∷ kind.Code ∷ kind.ObjRef ∷ kind.Struct ∷ kind.Union ∷ kind.Enum ∷ kind.Str ∷ kind.Sequence
-    ∷ kind.Array ∷ kind.Alias ∷ kind.Except ∷ kind.LongLong ∷ kind.ULongLong ∷ []
+    kind.Null ∷ kind.Void ∷ kind.Short ∷ kind.Long ∷ kind.UShort ∷ kind.ULong ∷ kind.Boolean
+    ∷ kind.Char ∷ kind.Octet
+    ∷ kind.AnyCode ∷ kind.Code ∷ kind.ObjRef ∷ kind.Struct ∷ kind.Union ∷ kind.Enum ∷ kind.Str
+    ∷ kind.Sequence ∷ kind.Array ∷ kind.Alias ∷ kind.Except ∷ kind.LongLong ∷ kind.ULongLong ∷ []
 
 -- the highest number that CORBA gives to a kind
 abbrev pub last_number : ℕ
@@ -108,16 +109,19 @@ kind_fault k a = fault.BadValue (aligned 4 a)
 
 -- ---- the format
 
-kind_by_number-at : (k z : CodeKind) (n : ℕ) (rest : Option CodeKind) (b : Bool) → (n == number_of k) ≡ b
+kind_by_number-at : (k z : CodeKind) (n : ℕ) (rest : Option CodeKind) (b : Bool)
+    → (n == number_of k) ≡ b
     → (rest ≡ Some z → number_of z ≡ n) → cond b (Some k) rest ≡ Some z → number_of z ≡ n
 kind_by_number-at k z n rest true is later h =
     let same : k ≡ z = cc in sym (eqb-true n (number_of k) is ∙ ap number_of same)
 kind_by_number-at k z n rest false is later h = later h
 
-pub kind_by_number-number : (ks : List CodeKind) (n : ℕ) (k : CodeKind) → kind_by_number ks n ≡ Some k → number_of k ≡ n
+pub kind_by_number-number : (ks : List CodeKind) (n : ℕ) (k : CodeKind) → kind_by_number ks n
+    ≡ Some k → number_of k ≡ n
 kind_by_number-number [] n k h = absurd cc
 kind_by_number-number (l ∷ ks) n k h =
-    kind_by_number-at l k n (kind_by_number ks n) (n == number_of l) refl (kind_by_number-number ks n k) h
+    kind_by_number-at l k n (kind_by_number ks n)
+    (n == number_of l) refl (kind_by_number-number ks n k) h
 
 -- no two kinds have one number
 pub each_numbered : (k : CodeKind) → kind_by_number all_kinds (number_of k) ≡ Some k
@@ -147,20 +151,24 @@ each_numbered kind.ULongLong = refl
 -- a kind by its number, wherever it stands
 abbrev pub any_kind : (ℕ → ValueFault) → Mode → Sound ValueFault CodeKind
 any_kind indirection_fault mode = record {
-  format = partial_format (kind_by_number all_kinds) number_of (number_fault indirection_fault mode) ulong.format;
+  format = partial_format (kind_by_number all_kinds) number_of (number_fault indirection_fault mode)
+      ulong.format;
   lawful =
-      partial_format-lawful (kind_by_number all_kinds) number_of (number_fault indirection_fault mode) ulong.format
-      each_numbered (kind_by_number-number all_kinds) ulong.lawful;
+      partial_format-lawful (kind_by_number all_kinds) number_of
+      (number_fault indirection_fault mode) ulong.format each_numbered
+      (kind_by_number-number all_kinds) ulong.lawful;
   faults =
-      PartialFault ulong.format.spells (kind_by_number all_kinds) (number_fault indirection_fault mode) ulong.faults;
+      PartialFault ulong.format.spells (kind_by_number all_kinds)
+      (number_fault indirection_fault mode) ulong.faults;
   refuses =
-      partial_format-refuses (kind_by_number all_kinds) number_of (number_fault indirection_fault mode) ulong.format
-      ulong.faults ulong.lawful ulong.refuses;
+      partial_format-refuses (kind_by_number all_kinds) number_of
+      (number_fault indirection_fault mode) ulong.format ulong.faults ulong.lawful ulong.refuses;
 }
 
 -- a kind that may stand there
 abbrev pub kind_in : (ℕ → ValueFault) → Mode → Sound ValueFault CodeKind
-kind_in indirection_fault mode = restriction (may_stand mode) kind_fault (any_kind indirection_fault mode)
+kind_in indirection_fault mode = restriction (may_stand mode) kind_fault
+    (any_kind indirection_fault mode)
 
 -- the fault of an indirection, by whether it is one level too deep
 abbrev pub indirection_fault : Bool → ℕ → ValueFault
@@ -172,4 +180,5 @@ kind_at mode = kind_in (indirection_fault false) mode
 
 -- one level too deep: none may stand there
 abbrev pub deep_kind : Mode → Sound ValueFault CodeKind
-deep_kind mode = restriction (λ k. false) (λ k a. fault.Depth (aligned 4 a)) (kind_in (indirection_fault true) mode)
+deep_kind mode = restriction (λ k. false) (λ k a. fault.Depth (aligned 4 a))
+    (kind_in (indirection_fault true) mode)

@@ -75,13 +75,14 @@ short_in (c.Value::Short x) = Some x
 short_in l = None
 
 abbrev pub short_variant : Sound ValueFault Value
-short_variant = variant (λ x. value.Short x) (λ v. short_in (out-Value v)) (λ x. ap short_in (value-short x)) short
+short_variant = variant (λ x. value.Short x) (λ v. short_in (out-Value v))
+    (λ x. ap short_in (value-short x)) short
 
 pub short-plain : (v : Value) (order : Order) (place : ℕ) → short_variant.format.admits v
     → short_variant.format.writes v order place ≡ plain_piece v order place
 short-plain v order place ok =
-    subst (λ (v : Value). short_variant.format.writes v order place ≡ plain_piece v order place) ok.1
-    (rw (value-short ok.0) refl)
+    subst (λ (v : Value). short_variant.format.writes v order place ≡ plain_piece v order place)
+    ok.1 (rw (value-short ok.0) refl)
 
 abbrev pub short_value : Sound ValueFault Value
 short_value = other_writing plain_piece short_variant short-plain
@@ -91,7 +92,8 @@ long_in (c.Value::Long x) = Some x
 long_in l = None
 
 abbrev pub long_variant : Sound ValueFault Value
-long_variant = variant (λ x. value.Long x) (λ v. long_in (out-Value v)) (λ x. ap long_in (value-long x)) long
+long_variant = variant (λ x. value.Long x) (λ v. long_in (out-Value v))
+    (λ x. ap long_in (value-long x)) long
 
 pub long-plain : (v : Value) (order : Order) (place : ℕ) → long_variant.format.admits v
     → long_variant.format.writes v order place ≡ plain_piece v order place
@@ -108,13 +110,14 @@ ushort_in l = None
 
 abbrev pub ushort_variant : Sound ValueFault Value
 ushort_variant =
-    variant (λ x. value.UShort x) (λ v. ushort_in (out-Value v)) (λ x. ap ushort_in (value-ushort x)) (number 2)
+    variant (λ x. value.UShort x) (λ v. ushort_in (out-Value v))
+    (λ x. ap ushort_in (value-ushort x)) (number 2)
 
 pub ushort-plain : (v : Value) (order : Order) (place : ℕ) → ushort_variant.format.admits v
     → ushort_variant.format.writes v order place ≡ plain_piece v order place
 ushort-plain v order place ok =
-    subst (λ (v : Value). ushort_variant.format.writes v order place ≡ plain_piece v order place) ok.1
-    (rw (value-ushort ok.0) refl)
+    subst (λ (v : Value). ushort_variant.format.writes v order place ≡ plain_piece v order place)
+    ok.1 (rw (value-ushort ok.0) refl)
 
 abbrev pub ushort_value : Sound ValueFault Value
 ushort_value = other_writing plain_piece ushort_variant ushort-plain
@@ -124,13 +127,14 @@ ulong_in (c.Value::ULong x) = Some x
 ulong_in l = None
 
 abbrev pub ulong_variant : Sound ValueFault Value
-ulong_variant = variant (λ x. value.ULong x) (λ v. ulong_in (out-Value v)) (λ x. ap ulong_in (value-ulong x)) (number 4)
+ulong_variant = variant (λ x. value.ULong x) (λ v. ulong_in (out-Value v))
+    (λ x. ap ulong_in (value-ulong x)) (number 4)
 
 pub ulong-plain : (v : Value) (order : Order) (place : ℕ) → ulong_variant.format.admits v
     → ulong_variant.format.writes v order place ≡ plain_piece v order place
 ulong-plain v order place ok =
-    subst (λ (v : Value). ulong_variant.format.writes v order place ≡ plain_piece v order place) ok.1
-    (rw (value-ulong ok.0) refl)
+    subst (λ (v : Value). ulong_variant.format.writes v order place ≡ plain_piece v order place)
+    ok.1 (rw (value-ulong ok.0) refl)
 
 abbrev pub ulong_value : Sound ValueFault Value
 ulong_value = other_writing plain_piece ulong_variant ulong-plain
@@ -141,13 +145,14 @@ longlong_in l = None
 
 abbrev pub longlong_variant : Sound ValueFault Value
 longlong_variant =
-    variant (λ x. value.LongLong x) (λ v. longlong_in (out-Value v)) (λ x. ap longlong_in (value-longlong x)) longlong
+    variant (λ x. value.LongLong x) (λ v. longlong_in (out-Value v))
+    (λ x. ap longlong_in (value-longlong x)) longlong
 
 pub longlong-plain : (v : Value) (order : Order) (place : ℕ) → longlong_variant.format.admits v
     → longlong_variant.format.writes v order place ≡ plain_piece v order place
 longlong-plain v order place ok =
-    subst (λ (v : Value). longlong_variant.format.writes v order place ≡ plain_piece v order place) ok.1
-    (rw (value-longlong ok.0) refl)
+    subst (λ (v : Value). longlong_variant.format.writes v order place ≡ plain_piece v order place)
+    ok.1 (rw (value-longlong ok.0) refl)
 
 abbrev pub longlong_value : Sound ValueFault Value
 longlong_value = other_writing plain_piece longlong_variant longlong-plain
@@ -158,14 +163,14 @@ ulonglong_in l = None
 
 abbrev pub ulonglong_variant : Sound ValueFault Value
 ulonglong_variant =
-    variant (λ x. value.ULongLong x) (λ v. ulonglong_in (out-Value v)) (λ x. ap ulonglong_in (value-ulonglong x))
-    (number 8)
+    variant (λ x. value.ULongLong x) (λ v. ulonglong_in (out-Value v))
+    (λ x. ap ulonglong_in (value-ulonglong x)) (number 8)
 
 pub ulonglong-plain : (v : Value) (order : Order) (place : ℕ) → ulonglong_variant.format.admits v
     → ulonglong_variant.format.writes v order place ≡ plain_piece v order place
 ulonglong-plain v order place ok =
-    subst (λ (v : Value). ulonglong_variant.format.writes v order place ≡ plain_piece v order place) ok.1
-    (rw (value-ulonglong ok.0) refl)
+    subst (λ (v : Value). ulonglong_variant.format.writes v order place ≡ plain_piece v order place)
+    ok.1 (rw (value-ulonglong ok.0) refl)
 
 abbrev pub ulonglong_value : Sound ValueFault Value
 ulonglong_value = other_writing plain_piece ulonglong_variant ulonglong-plain
@@ -176,13 +181,14 @@ boolean_in l = None
 
 abbrev pub boolean_variant : Sound ValueFault Value
 boolean_variant =
-    variant (λ x. value.Boolean x) (λ v. boolean_in (out-Value v)) (λ x. ap boolean_in (value-boolean x)) boolean
+    variant (λ x. value.Boolean x) (λ v. boolean_in (out-Value v))
+    (λ x. ap boolean_in (value-boolean x)) boolean
 
 pub boolean-plain : (v : Value) (order : Order) (place : ℕ) → boolean_variant.format.admits v
     → boolean_variant.format.writes v order place ≡ plain_piece v order place
 boolean-plain v order place ok =
-    subst (λ (v : Value). boolean_variant.format.writes v order place ≡ plain_piece v order place) ok.1
-    (rw (value-boolean ok.0) refl)
+    subst (λ (v : Value). boolean_variant.format.writes v order place ≡ plain_piece v order place)
+    ok.1 (rw (value-boolean ok.0) refl)
 
 abbrev pub boolean_value : Sound ValueFault Value
 boolean_value = other_writing plain_piece boolean_variant boolean-plain
@@ -192,7 +198,8 @@ char_in (c.Value::Char x) = Some x
 char_in l = None
 
 abbrev pub char_variant : Sound ValueFault Value
-char_variant = variant (λ x. value.Char x) (λ v. char_in (out-Value v)) (λ x. ap char_in (value-char x)) (number 1)
+char_variant = variant (λ x. value.Char x) (λ v. char_in (out-Value v))
+    (λ x. ap char_in (value-char x)) (number 1)
 
 pub char-plain : (v : Value) (order : Order) (place : ℕ) → char_variant.format.admits v
     → char_variant.format.writes v order place ≡ plain_piece v order place
@@ -208,13 +215,14 @@ octet_in (c.Value::Octet x) = Some x
 octet_in l = None
 
 abbrev pub octet_variant : Sound ValueFault Value
-octet_variant = variant (λ x. value.Octet x) (λ v. octet_in (out-Value v)) (λ x. ap octet_in (value-octet x)) (number 1)
+octet_variant = variant (λ x. value.Octet x) (λ v. octet_in (out-Value v))
+    (λ x. ap octet_in (value-octet x)) (number 1)
 
 pub octet-plain : (v : Value) (order : Order) (place : ℕ) → octet_variant.format.admits v
     → octet_variant.format.writes v order place ≡ plain_piece v order place
 octet-plain v order place ok =
-    subst (λ (v : Value). octet_variant.format.writes v order place ≡ plain_piece v order place) ok.1
-    (rw (value-octet ok.0) refl)
+    subst (λ (v : Value). octet_variant.format.writes v order place ≡ plain_piece v order place)
+    ok.1 (rw (value-octet ok.0) refl)
 
 abbrev pub octet_value : Sound ValueFault Value
 octet_value = other_writing plain_piece octet_variant octet-plain
@@ -236,11 +244,12 @@ enum_variant count =
     variant (λ n. value.Enum n) (λ v. enum_in (out-Value v)) (λ n. ap enum_in (value-enum n))
     (restriction (λ n. nat_lt n count) bad_value (number 4))
 
-pub enum-plain : (count : ℕ) (v : Value) (order : Order) (place : ℕ) → (enum_variant count).format.admits v
+pub enum-plain : (count : ℕ) (v : Value) (order : Order) (place : ℕ)
+    → (enum_variant count).format.admits v
     → (enum_variant count).format.writes v order place ≡ plain_piece v order place
 enum-plain count v order place ok =
-    subst (λ (v : Value). (enum_variant count).format.writes v order place ≡ plain_piece v order place) ok.1
-    (rw (value-enum ok.0) refl)
+    subst (λ (v : Value). (enum_variant count).format.writes v order place
+    ≡ plain_piece v order place) ok.1 (rw (value-enum ok.0) refl)
 
 abbrev pub one_of : ℕ → Sound ValueFault Value
 one_of count = other_writing plain_piece (enum_variant count) (enum-plain count)
@@ -284,7 +293,8 @@ unfoldable pub spelled_labels : ℕ → TypeCode → Sound ValueFault Value
 spelled_labels zero code = failure no_value
 spelled_labels (suc n) code = label_layer (spelled_labels n) (out-TypeCode code)
 
-pub labels-plain : (n : ℕ) (t : TypeCode) (v : Value) (order : Order) (place : ℕ) → (spelled_labels n t).format.admits v
+pub labels-plain : (n : ℕ) (t : TypeCode) (v : Value) (order : Order) (place : ℕ)
+    → (spelled_labels n t).format.admits v
     → (spelled_labels n t).format.writes v order place ≡ plain_piece v order place
 unfolding spelled_labels
 labels-plain zero t v order place ok = absurd ok

@@ -45,16 +45,20 @@ code-any = ap out-TypeCode (sym code.rolls-AnyCode) ∙ out-roll-TypeCode c.AnyC
 pub code-code : out-TypeCode code.Code ≡ c.TypeCode::Code
 code-code = ap out-TypeCode (sym code.rolls-Code) ∙ out-roll-TypeCode c.TypeCode::Code
 
-pub code-object : (id : List ℕ) (name : List ℕ) → out-TypeCode (code.ObjRef id name) ≡ c.TypeCode::ObjRef id name
-code-object id name = ap out-TypeCode (sym (code.rolls-ObjRef id name)) ∙ out-roll-TypeCode (c.TypeCode::ObjRef id name)
+pub code-object : (id : List ℕ) (name : List ℕ) → out-TypeCode (code.ObjRef id name)
+    ≡ c.TypeCode::ObjRef id name
+code-object id name = ap out-TypeCode (sym (code.rolls-ObjRef id name))
+    ∙ out-roll-TypeCode (c.TypeCode::ObjRef id name)
 
 pub code-struct : (id : List ℕ) (name : List ℕ) (members : List Member)
     → out-TypeCode (code.Struct id name members) ≡ c.TypeCode::Struct id name members
 code-struct id name members =
-    ap out-TypeCode (sym (code.rolls-Struct id name members)) ∙ out-roll-TypeCode (c.TypeCode::Struct id name members)
+    ap out-TypeCode (sym (code.rolls-Struct id name members))
+    ∙ out-roll-TypeCode (c.TypeCode::Struct id name members)
 
 pub code-union : (id : List ℕ) (name : List ℕ) (switch : TypeCode) (default : ℤ) (arms : List Arm)
-    → out-TypeCode (code.Union id name switch default arms) ≡ c.TypeCode::Union id name switch default arms
+    → out-TypeCode (code.Union id name switch default arms)
+    ≡ c.TypeCode::Union id name switch default arms
 code-union id name switch default arms =
     ap out-TypeCode (sym (code.rolls-Union id name switch default arms))
     ∙ out-roll-TypeCode (c.TypeCode::Union id name switch default arms)
@@ -62,17 +66,22 @@ code-union id name switch default arms =
 pub code-enum : (id : List ℕ) (name : List ℕ) (names : List (List ℕ))
     → out-TypeCode (code.Enum id name names) ≡ c.TypeCode::Enum id name names
 code-enum id name names =
-    ap out-TypeCode (sym (code.rolls-Enum id name names)) ∙ out-roll-TypeCode (c.TypeCode::Enum id name names)
+    ap out-TypeCode (sym (code.rolls-Enum id name names))
+    ∙ out-roll-TypeCode (c.TypeCode::Enum id name names)
 
 pub code-str : (bound : ℕ) → out-TypeCode (code.Str bound) ≡ c.TypeCode::Str bound
-code-str bound = ap out-TypeCode (sym (code.rolls-Str bound)) ∙ out-roll-TypeCode (c.TypeCode::Str bound)
+code-str bound = ap out-TypeCode (sym (code.rolls-Str bound))
+    ∙ out-roll-TypeCode (c.TypeCode::Str bound)
 
-pub code-sequence : (item : TypeCode) (bound : ℕ) → out-TypeCode (code.Sequence item bound) ≡ c.Sequence item bound
+pub code-sequence : (item : TypeCode) (bound : ℕ) → out-TypeCode (code.Sequence item bound)
+    ≡ c.Sequence item bound
 code-sequence item bound =
-    ap out-TypeCode (sym (code.rolls-Sequence item bound)) ∙ out-roll-TypeCode (c.Sequence item bound)
+    ap out-TypeCode (sym (code.rolls-Sequence item bound))
+    ∙ out-roll-TypeCode (c.Sequence item bound)
 
 pub code-array : (item : TypeCode) (len : ℕ) → out-TypeCode (code.Array item len) ≡ c.Array item len
-code-array item len = ap out-TypeCode (sym (code.rolls-Array item len)) ∙ out-roll-TypeCode (c.Array item len)
+code-array item len = ap out-TypeCode (sym (code.rolls-Array item len))
+    ∙ out-roll-TypeCode (c.Array item len)
 
 pub code-alias : (id : List ℕ) (name : List ℕ) (item : TypeCode)
     → out-TypeCode (code.Alias id name item) ≡ c.Alias id name item
@@ -82,16 +91,19 @@ code-alias id name item =
 pub code-except : (id : List ℕ) (name : List ℕ) (members : List Member)
     → out-TypeCode (code.Except id name members) ≡ c.Except id name members
 code-except id name members =
-    ap out-TypeCode (sym (code.rolls-Except id name members)) ∙ out-roll-TypeCode (c.Except id name members)
+    ap out-TypeCode (sym (code.rolls-Except id name members))
+    ∙ out-roll-TypeCode (c.Except id name members)
 
 pub code-longlong : out-TypeCode code.LongLong ≡ c.TypeCode::LongLong
 code-longlong = ap out-TypeCode (sym code.rolls-LongLong) ∙ out-roll-TypeCode c.TypeCode::LongLong
 
 pub code-ulonglong : out-TypeCode code.ULongLong ≡ c.TypeCode::ULongLong
-code-ulonglong = ap out-TypeCode (sym code.rolls-ULongLong) ∙ out-roll-TypeCode c.TypeCode::ULongLong
+code-ulonglong = ap out-TypeCode (sym code.rolls-ULongLong)
+    ∙ out-roll-TypeCode c.TypeCode::ULongLong
 
 pub code-linked : (graph : List Node) → out-TypeCode (code.Linked graph) ≡ c.Linked graph
-code-linked graph = ap out-TypeCode (sym (code.rolls-Linked graph)) ∙ out-roll-TypeCode (c.Linked graph)
+code-linked graph = ap out-TypeCode (sym (code.rolls-Linked graph))
+    ∙ out-roll-TypeCode (c.Linked graph)
 
 pub value-short : (z : ℤ) → out-Value (value.Short z) ≡ c.Value::Short z
 value-short z = ap out-Value (sym (value.rolls-Short z)) ∙ out-roll-Value (c.Value::Short z)
@@ -115,10 +127,12 @@ pub value-octet : (n : ℕ) → out-Value (value.Octet n) ≡ c.Value::Octet n
 value-octet n = ap out-Value (sym (value.rolls-Octet n)) ∙ out-roll-Value (c.Value::Octet n)
 
 pub value-longlong : (z : ℤ) → out-Value (value.LongLong z) ≡ c.Value::LongLong z
-value-longlong z = ap out-Value (sym (value.rolls-LongLong z)) ∙ out-roll-Value (c.Value::LongLong z)
+value-longlong z = ap out-Value (sym (value.rolls-LongLong z))
+    ∙ out-roll-Value (c.Value::LongLong z)
 
 pub value-ulonglong : (n : ℕ) → out-Value (value.ULongLong n) ≡ c.Value::ULongLong n
-value-ulonglong n = ap out-Value (sym (value.rolls-ULongLong n)) ∙ out-roll-Value (c.Value::ULongLong n)
+value-ulonglong n = ap out-Value (sym (value.rolls-ULongLong n))
+    ∙ out-roll-Value (c.Value::ULongLong n)
 
 pub value-str : (t : List ℕ) → out-Value (value.Str t) ≡ c.Value::Str t
 value-str t = ap out-Value (sym (value.rolls-Str t)) ∙ out-roll-Value (c.Value::Str t)
@@ -135,8 +149,10 @@ value-object r = ap out-Value (sym (value.rolls-ObjRef r)) ∙ out-roll-Value (c
 pub value-struct : (vs : List Value) → out-Value (value.Struct vs) ≡ c.Value::Struct vs
 value-struct vs = ap out-Value (sym (value.rolls-Struct vs)) ∙ out-roll-Value (c.Value::Struct vs)
 
-pub value-union : (label : Value) (arm : Option Value) → out-Value (value.Union label arm) ≡ c.Value::Union label arm
-value-union label arm = ap out-Value (sym (value.rolls-Union label arm)) ∙ out-roll-Value (c.Value::Union label arm)
+pub value-union : (label : Value) (arm : Option Value) → out-Value (value.Union label arm)
+    ≡ c.Value::Union label arm
+value-union label arm = ap out-Value (sym (value.rolls-Union label arm))
+    ∙ out-roll-Value (c.Value::Union label arm)
 
 pub value-enum : (n : ℕ) → out-Value (value.Enum n) ≡ c.Value::Enum n
 value-enum n = ap out-Value (sym (value.rolls-Enum n)) ∙ out-roll-Value (c.Value::Enum n)

@@ -8,10 +8,10 @@ use Rattle.td_codes.specs.declared.reference.Ior.{Ior}
 
 abbrev pub profile : Sound ValueFault Profile
 profile =
-    structure (λ p. record { tag = p.0; octets = p.1 }) (λ x. (x.tag, x.octets)) (λ _. refl) (λ _. refl)
-    (ulong & octets)
+    structure (λ p. record { tag = p.0; octets = p.1 }) (λ x. (x.tag, x.octets)) (λ _. refl)
+    (λ _. refl) (ulong & octets)
 
 abbrev pub reference : Sound ValueFault Ior
 reference =
-    structure (λ p. record { id = p.0; profiles = p.1 }) (λ x. (x.id, x.profiles)) (λ _. refl) (λ _. refl)
-    (text & sequence profile)
+    structure (λ p. record { id = p.0; profiles = p.1 }) (λ x. (x.id, x.profiles)) (λ _. refl)
+    (λ _. refl) (text & sequence profile)

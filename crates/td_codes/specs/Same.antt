@@ -55,14 +55,24 @@ abbrev pub kind_shape : CodeKind → Shape
 kind_shape k = record { kind = number_of k; numbers = []; id = []; inner = empty }
 
 abbrev pub str_shape : ℕ → Shape
-str_shape bound = record { kind = number_of kind.Str; numbers = pos bound ∷ []; id = []; inner = empty }
+str_shape bound = record {
+  kind = number_of kind.Str;
+  numbers = pos bound ∷ [];
+  id = [];
+  inner = empty;
+}
 
 abbrev pub object_shape : List ℕ → Shape
 object_shape id = record { kind = number_of kind.ObjRef; numbers = []; id = id; inner = empty }
 
 -- a structure or an exception
 abbrev pub fields_shape : CodeKind → List ℕ → List Entry → Shape
-fields_shape k id members = record { kind = number_of k; numbers = []; id = id; inner = row members }
+fields_shape k id members = record {
+  kind = number_of k;
+  numbers = [];
+  id = id;
+  inner = row members;
+}
 
 abbrev pub union_shape : List ℕ → Shape → ℤ → List Entry → Shape
 union_shape id switch default arms = record {
@@ -73,7 +83,12 @@ union_shape id switch default arms = record {
 }
 
 abbrev pub enum_shape : List ℕ → ℕ → Shape
-enum_shape id count = record { kind = number_of kind.Enum; numbers = pos count ∷ []; id = id; inner = empty }
+enum_shape id count = record {
+  kind = number_of kind.Enum;
+  numbers = pos count ∷ [];
+  id = id;
+  inner = empty;
+}
 
 -- a sequence or an array
 abbrev pub items_shape : CodeKind → Shape → ℕ → Shape
@@ -123,13 +138,16 @@ abbrev pub any_layer : Any-F Shape Label Label Entry Entry → Label
 any_layer a = a.value
 
 abbrev pub shape : TypeCode → Shape
-shape = fold-TypeCode Shape Label Label Entry Entry shape_layer label_of_layer any_layer arm_layer member_layer
+shape = fold-TypeCode Shape Label Label Entry Entry shape_layer label_of_layer any_layer arm_layer
+    member_layer
 
 abbrev pub member_entry : Member → Entry
-member_entry = fold-Member Shape Label Label Entry Entry shape_layer label_of_layer any_layer arm_layer member_layer
+member_entry = fold-Member Shape Label Label Entry Entry shape_layer label_of_layer any_layer
+    arm_layer member_layer
 
 abbrev pub arm_entry : Arm → Entry
-arm_entry = fold-Arm Shape Label Label Entry Entry shape_layer label_of_layer any_layer arm_layer member_layer
+arm_entry = fold-Arm Shape Label Label Entry Entry shape_layer label_of_layer any_layer arm_layer
+    member_layer
 
 -- ---- the comparison
 
@@ -147,11 +165,13 @@ alike empty empty = true
 alike empty (node l k n i x xs) = false
 alike (node l k n i x xs) empty = false
 alike (node l k n i x xs) (node m j o h y ys) =
-    (pointwise same_label l m && (kinds_agree k j && (pointwise int_eq n o && (ids_agree i h && alike x y)))) && alike xs ys
+    (pointwise same_label l m
+    && (kinds_agree k j && (pointwise int_eq n o && (ids_agree i h && alike x y)))) && alike xs ys
 
 abbrev pub like : Shape → Shape → Bool
 like s t =
-    kinds_agree s.kind t.kind && (pointwise int_eq s.numbers t.numbers && (ids_agree s.id t.id && alike s.inner t.inner))
+    kinds_agree s.kind t.kind
+    && (pointwise int_eq s.numbers t.numbers && (ids_agree s.id t.id && alike s.inner t.inner))
 
 abbrev pub entry_like : Entry → Entry → Bool
 entry_like d e = pointwise same_label d.label e.label && like d.shape e.shape
@@ -191,7 +211,8 @@ name_count k n x =
     if nat_eq k (number_of kind.Enum) then suc (first_number n)
     else if nat_eq k (number_of kind.ObjRef) then 1
     else if nat_eq k (number_of kind.Union) then count x
-    else if nat_eq k (number_of kind.Struct) || nat_eq k (number_of kind.Except) then suc (count x) else 0
+    else if nat_eq k (number_of kind.Struct)
+    || nat_eq k (number_of kind.Except) then suc (count x) else 0
 
 -- what counts of one without aliases and of a node, wherever edges lead
 abbrev pub heads_agree : ℕ → List ℕ → Node → Bool
@@ -199,7 +220,8 @@ heads_agree k i p = kinds_agree k p.kind && ids_agree i p.id
 
 abbrev pub node_agrees : ℕ → List ℤ → List ℕ → Shapes → Node → Bool
 node_agrees k n i x p =
-    (heads_agree k i p && nat_eq (name_count k n x) (length p.names)) && pointwise int_eq (node_numbers k n x) p.numbers
+    (heads_agree k i p && nat_eq (name_count k n x) (length p.names))
+    && pointwise int_eq (node_numbers k n x) p.numbers
 
 -- as many, and each the same as the place to which an edge leads
 abbrev pub alike_along : List Node → Shapes → List ℕ → Bool
@@ -207,7 +229,8 @@ alike_along g empty [] = true
 alike_along g empty (e ∷ es) = false
 alike_along g (node l k n i x xs) [] = false
 alike_along g (node l k n i x xs) (e ∷ es) =
-    (node_agrees k n i x (node_at g (bare g e)) && alike_along g x (node_at g (bare g e)).edges) && alike_along g xs es
+    (node_agrees k n i x (node_at g (bare g e)) && alike_along g x (node_at g (bare g e)).edges)
+    && alike_along g xs es
 
 abbrev pub alike_node : List Node → Shape → Node → Bool
 alike_node g s p = node_agrees s.kind s.numbers s.id s.inner p && alike_along g s.inner p.edges

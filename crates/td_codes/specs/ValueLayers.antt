@@ -43,7 +43,8 @@ is_default None i = false
 
 -- whether the arm at index i, of this label, is chosen by it
 abbrev pub is_labelled : Option ℕ → Value → ℕ → Value → Bool
-is_labelled default label i of_arm = not (is_default default i) && same_label (label_of of_arm) (label_of label)
+is_labelled default label i of_arm = not (is_default default i)
+    && same_label (label_of of_arm) (label_of label)
 
 abbrev pub default_arm : {R : Type 0} → Option ℕ → List R → Option R
 default_arm (Some d) arms = slice_get arms d
@@ -125,19 +126,20 @@ pub record Parts (T R M : Type 0) : Type 1 where
   pub arm_label : R → Value
 
 -- where an any, and a TypeCode, that stand inside are of one level more
-module _ {T R M : Type 0} (parts : Parts T R M) (any : Sound ValueFault Any) (code : Sound ValueFault TypeCode)
-    (inner : T → Sound ValueFault Value) where
+module _ {T R M : Type 0} (parts : Parts T R M) (any : Sound ValueFault Any)
+    (code : Sound ValueFault TypeCode) (inner : T → Sound ValueFault Value) where
   abbrev pub each : List M → Sound ValueFault (List Value)
   each [] = constant []
-  each (m ∷ ms) = variant (λ p. p.0 ∷ p.1) uncons (λ _. refl) (inner (parts.member_code m) & each ms)
+  each (m ∷ ms) = variant (λ p. p.0 ∷ p.1) uncons (λ _. refl)
+      (inner (parts.member_code m) & each ms)
 
   -- the unions with this label, whose branch was chosen
   abbrev pub branch : Value → Option R → Arm_of ValueFault Value Value discriminator
   branch label None = bare_arm (value.Union label None)
   branch label (Some chosen) =
       arm label (λ v. value.Union label (Some v)) (λ v. arm_in (out-Value v))
-      (λ v. ap arm_in (value-union label (Some v))) (λ v. sym (ap label_in (value-union label (Some v))))
-      (inner (parts.arm_code chosen))
+      (λ v. ap arm_in (value-union label (Some v)))
+      (λ v. sym (ap label_in (value-union label (Some v)))) (inner (parts.arm_code chosen))
 
   pub branch-label : (label : Value) (o : Option R) → (branch label o).tag ≡ label
   branch-label label None = ap label_in (value-union label None)
@@ -146,7 +148,8 @@ module _ {T R M : Type 0} (parts : Parts T R M) (any : Sound ValueFault Any) (co
   -- a union before it is known how it is written
   abbrev pub spelled_union : ℕ → T → Option ℕ → List R → Sound ValueFault Value
   spelled_union n switch default arms =
-      union (parts.labels n switch) discriminator (λ label. branch label (branch_labelled parts.arm_label default label arms))
+      union (parts.labels n switch) discriminator
+      (λ label. branch label (branch_labelled parts.arm_label default label arms))
       (λ label. branch-label label (branch_labelled parts.arm_label default label arms))
 
   abbrev pub branch_piece : Option R → Option Value → Piece
@@ -166,18 +169,20 @@ module _ {T R M : Type 0} (parts : Parts T R M) (any : Sound ValueFault Any) (co
   branch-is label (Some chosen) v ok = (Some ok.0, ok.1)
 
   branch-written : (label : Value) (o : Option R) (arm : Option Value) (order : Order) (place : ℕ)
-      → (branch label o).format.writes (value.Union label arm) order place ≡ branch_piece o arm order place
+      → (branch label o).format.writes (value.Union label arm) order place
+      ≡ branch_piece o arm order place
   branch-written label None arm order place = refl
   branch-written label (Some chosen) None order place = rw (value-union label None) refl
   branch-written label (Some chosen) (Some v) order place = rw (value-union label (Some v)) refl
 
-  pub union-written : (n : ℕ) (switch : T) (default : Option ℕ) (arms : List R) (v : Value) (order : Order)
-      (place : ℕ)
+  pub union-written : (n : ℕ) (switch : T) (default : Option ℕ) (arms : List R) (v : Value)
+      (order : Order) (place : ℕ)
       → (spelled_union n switch default arms).format.admits v
       → (spelled_union n switch default arms).format.writes v order place
       ≡ union_piece default arms (out-Value v) order place
   union-written n switch default arms v order place ok =
-      let is = branch-is (discriminator v) (branch_labelled parts.arm_label default (discriminator v) arms) v ok.1 in
+      let is = branch-is (discriminator v)
+      (branch_labelled parts.arm_label default (discriminator v) arms) v ok.1 in
       subst (λ (u : Value). (spelled_union n switch default arms).format.writes u order place
       ≡ union_piece default arms (out-Value u) order place)
       is.1
@@ -189,13 +194,13 @@ module _ {T R M : Type 0} (parts : Parts T R M) (any : Sound ValueFault Any) (co
 
   abbrev pub union_value : ℕ → T → Option ℕ → List R → Sound ValueFault Value
   union_value n switch default arms =
-      other_writing (λ v. union_piece default arms (out-Value v)) (spelled_union n switch default arms)
-      (union-written n switch default arms)
+      other_writing (λ v. union_piece default arms (out-Value v))
+      (spelled_union n switch default arms) (union-written n switch default arms)
 
   abbrev pub struct_value : List M → Sound ValueFault Value
   struct_value members =
-      variant (λ vs. value.Struct vs) (λ v. struct_in (out-Value v)) (λ vs. ap struct_in (value-struct vs))
-      (each members)
+      variant (λ vs. value.Struct vs) (λ v. struct_in (out-Value v))
+      (λ vs. ap struct_in (value-struct vs)) (each members)
 
   -- items behind their count, and without it; a value that holds none is written as nothing
   abbrev pub items_piece : T → List Value → Piece
@@ -206,8 +211,8 @@ module _ {T R M : Type 0} (parts : Parts T R M) (any : Sound ValueFault Any) (co
 
   abbrev pub spelled_sequence : T → ℕ → Sound ValueFault Value
   spelled_sequence item bound =
-      variant (λ vs. value.Items vs) (λ v. items_in (out-Value v)) (λ vs. ap items_in (value-items vs))
-      (sequence_with (count_within bound) (inner item))
+      variant (λ vs. value.Items vs) (λ v. items_in (out-Value v))
+      (λ vs. ap items_in (value-items vs)) (sequence_with (count_within bound) (inner item))
 
   pub sequence-written : (item : T) (bound : ℕ) (v : Value) (order : Order) (place : ℕ)
       → (spelled_sequence item bound).format.admits v
@@ -221,13 +226,13 @@ module _ {T R M : Type 0} (parts : Parts T R M) (any : Sound ValueFault Any) (co
 
   abbrev pub sequence_value : T → ℕ → Sound ValueFault Value
   sequence_value item bound =
-      other_writing (λ v. none_or (sequence_piece item) (items_in (out-Value v))) (spelled_sequence item bound)
-      (sequence-written item bound)
+      other_writing (λ v. none_or (sequence_piece item) (items_in (out-Value v)))
+      (spelled_sequence item bound) (sequence-written item bound)
 
   abbrev pub spelled_array : T → ℕ → Sound ValueFault Value
   spelled_array item len =
-      variant (λ vs. value.Items vs) (λ v. items_in (out-Value v)) (λ vs. ap items_in (value-items vs))
-      (array (inner item) len)
+      variant (λ vs. value.Items vs) (λ v. items_in (out-Value v))
+      (λ vs. ap items_in (value-items vs)) (array (inner item) len)
 
   pub array-written : (item : T) (len : ℕ) (v : Value) (order : Order) (place : ℕ)
       → (spelled_array item len).format.admits v
@@ -238,14 +243,15 @@ module _ {T R M : Type 0} (parts : Parts T R M) (any : Sound ValueFault Any) (co
       ≡ none_or (items_piece item) (items_in (out-Value u)) order place)
       ok.1
       (let vs = ok.0 in
-      rw (value-items vs) (ap (λ (n : ℕ). (array_format (inner item).format n).writes vs order place)
+      rw (value-items vs) (ap (λ (n : ℕ).
+      (array_format (inner item).format n).writes vs order place)
       (array-size (inner item).format len vs ok.2)
       ∙ times-row (inner item).format vs order place))
 
   abbrev pub array_value : T → ℕ → Sound ValueFault Value
   array_value item len =
-      other_writing (λ v. none_or (items_piece item) (items_in (out-Value v))) (spelled_array item len)
-      (array-written item len)
+      other_writing (λ v. none_or (items_piece item) (items_in (out-Value v)))
+      (spelled_array item len) (array-written item len)
 
   abbrev pub layer : ℕ → TypeCode-F T Value Any R M → Sound ValueFault Value
   layer n c.Null = constant value.Empty
@@ -259,15 +265,19 @@ module _ {T R M : Type 0} (parts : Parts T R M) (any : Sound ValueFault Any) (co
   layer n c.TypeCode::Octet = octet_value
   layer n c.TypeCode::LongLong = longlong_value
   layer n c.TypeCode::ULongLong = ulonglong_value
-  layer n c.AnyCode = variant (λ a. value.AnyValue a) (λ v. any_in (out-Value v)) (λ a. ap any_in (value-any a)) any
+  layer n c.AnyCode = variant (λ a. value.AnyValue a) (λ v. any_in (out-Value v))
+      (λ a. ap any_in (value-any a)) any
   layer n c.TypeCode::Code =
       variant (λ t. value.Code t) (λ v. code_in (out-Value v)) (λ t. ap code_in (value-code t)) code
   layer n (c.TypeCode::Str bound) =
-      variant (λ t. value.Str t) (λ v. text_in (out-Value v)) (λ t. ap text_in (value-str t)) (bounded_text bound)
+      variant (λ t. value.Str t) (λ v. text_in (out-Value v)) (λ t. ap text_in (value-str t))
+      (bounded_text bound)
   layer n (c.TypeCode::ObjRef id name) =
-      variant (λ r. value.ObjRef r) (λ v. reference_in (out-Value v)) (λ r. ap reference_in (value-object r)) reference
+      variant (λ r. value.ObjRef r) (λ v. reference_in (out-Value v))
+      (λ r. ap reference_in (value-object r)) reference
   layer n (c.TypeCode::Struct id name members) = struct_value members
-  layer n (c.TypeCode::Union id name switch default arms) = union_value n switch (index_of default) arms
+  layer n (c.TypeCode::Union id name switch default arms) = union_value n switch (index_of default)
+      arms
   layer n (c.TypeCode::Enum id name names) = one_of (length names)
   layer n (c.Sequence item bound) = sequence_value item bound
   layer n (c.Array item len) = array_value item len

@@ -75,19 +75,22 @@ module _ (any : Sound ValueFault Any) (code : Sound ValueFault TypeCode)
   layer = over.layer code_parts any code inner
 
 -- a value under a TypeCode of at most so many levels
-unfoldable pub values : Sound ValueFault Any → Sound ValueFault TypeCode → ℕ → TypeCode → Sound ValueFault Value
+unfoldable pub values : Sound ValueFault Any → Sound ValueFault TypeCode → ℕ → TypeCode
+    → Sound ValueFault Value
 values any code zero t = failure no_value
 values any code (suc n) t = layer any code (values any code n) n (out-TypeCode t)
 
-abbrev pub any_of : Sound ValueFault TypeCode → (TypeCode → Sound ValueFault Value) → Sound ValueFault Any
+abbrev pub any_of : Sound ValueFault TypeCode → (TypeCode → Sound ValueFault Value)
+    → Sound ValueFault Any
 any_of code value =
-    structure (λ p. record { code = p.0; value = p.1 }) (λ a. (a.code, a.value)) (λ _. refl) (λ _. refl)
-    (pair_on code value)
+    structure (λ p. record { code = p.0; value = p.1 }) (λ a. (a.code, a.value)) (λ _. refl)
+    (λ _. refl) (pair_on code value)
 
 -- an any of at most so many levels
 unfoldable pub anys : ℕ → Sound ValueFault Any
 anys zero = any_of (codes zero Outer) (λ t. failure no_value)
-anys (suc levels) = any_of (codes (suc levels) Outer) (values (anys levels) (codes levels Outer) (suc levels))
+anys (suc levels) = any_of (codes (suc levels) Outer)
+    (values (anys levels) (codes levels Outer) (suc levels))
 
 -- an any as it stands in a body, at level 1 of 16
 abbrev pub any_value : Sound ValueFault Any

@@ -52,7 +52,8 @@ kind_of_layer (c.Linked graph) = kind.Null
 
 -- a default index and a count
 abbrev pub head_piece : ℤ → ℕ → Piece
-head_piece default count = (number 4).writes (cast_unsigned w32 default) then (number 4).writes count
+head_piece default count = (number 4).writes (cast_unsigned w32 default)
+    then (number 4).writes count
 
 -- a kind by its number
 abbrev pub kind_piece : CodeKind → Piece
@@ -74,7 +75,8 @@ code_layer c.TypeCode::Char = kind_piece kind.Char
 code_layer c.TypeCode::Octet = kind_piece kind.Octet
 code_layer c.AnyCode = kind_piece kind.AnyCode
 code_layer c.TypeCode::Code = kind_piece kind.Code
-code_layer (c.TypeCode::ObjRef id name) = kind_piece kind.ObjRef then encapsulation_piece (header_piece id name)
+code_layer (c.TypeCode::ObjRef id name) = kind_piece kind.ObjRef then encapsulation_piece
+    (header_piece id name)
 code_layer (c.TypeCode::Struct id name members) =
     kind_piece kind.Struct then encapsulation_piece
     (header_piece id name then (number 4).writes (length members) then row members)
@@ -87,8 +89,10 @@ code_layer (c.TypeCode::Enum id name names) =
 code_layer (c.TypeCode::Str bound) = kind_piece kind.Str then (number 4).writes bound
 code_layer (c.Sequence item bound) =
     kind_piece kind.Sequence then encapsulation_piece (item then (number 4).writes bound)
-code_layer (c.Array item len) = kind_piece kind.Array then encapsulation_piece (item then (number 4).writes len)
-code_layer (c.Alias id name item) = kind_piece kind.Alias then encapsulation_piece (header_piece id name then item)
+code_layer (c.Array item len) = kind_piece kind.Array then encapsulation_piece
+    (item then (number 4).writes len)
+code_layer (c.Alias id name item) = kind_piece kind.Alias then encapsulation_piece
+    (header_piece id name then item)
 code_layer (c.Except id name members) =
     kind_piece kind.Except then encapsulation_piece
     (header_piece id name then (number 4).writes (length members) then row members)
@@ -103,38 +107,43 @@ abbrev pub member_layer : Member-F Piece Label Piece Piece Piece → Piece
 member_layer m = text.writes m.name then m.code
 
 abbrev pub code_piece : TypeCode → Piece
-code_piece = fold-TypeCode Piece Label Piece Piece Piece code_layer label_of_layer (λ a. none) arm_layer member_layer
+code_piece = fold-TypeCode Piece Label Piece Piece Piece code_layer label_of_layer (λ a. none)
+    arm_layer member_layer
 
 abbrev pub arm_piece : Arm → Piece
-arm_piece = fold-Arm Piece Label Piece Piece Piece code_layer label_of_layer (λ a. none) arm_layer member_layer
+arm_piece = fold-Arm Piece Label Piece Piece Piece code_layer label_of_layer (λ a. none)
+    arm_layer member_layer
 
 abbrev pub member_piece : Member → Piece
-member_piece = fold-Member Piece Label Piece Piece Piece code_layer label_of_layer (λ a. none) arm_layer member_layer
+member_piece = fold-Member Piece Label Piece Piece Piece code_layer label_of_layer (λ a. none)
+    arm_layer member_layer
 
 -- the label of a value, as the fold above comes by it
 abbrev pub folded_label : Value → Label
-folded_label = fold-Value Piece Label Piece Piece Piece code_layer label_of_layer (λ a. none) arm_layer member_layer
+folded_label = fold-Value Piece Label Piece Piece Piece code_layer label_of_layer (λ a. none)
+    arm_layer member_layer
 
 -- one layer with what is written for each part of it
 abbrev pub layer_pieces : Layer → TypeCode-F Piece Label Piece Piece Piece
 layer_pieces =
     map-TypeCode TypeCode Value Any Arm Member Piece Label Piece Piece Piece code_piece folded_label
-    (fold-Any Piece Label Piece Piece Piece code_layer label_of_layer (λ a. none) arm_layer member_layer) arm_piece
-    member_piece
+    (fold-Any Piece Label Piece Piece Piece code_layer label_of_layer (λ a. none)
+    arm_layer member_layer) arm_piece member_piece
 
 pub code_piece-layer : (t : TypeCode) → code_piece t ≡ code_layer (layer_pieces (out-TypeCode t))
 code_piece-layer t =
-    fold_out-TypeCode Piece Label Piece Piece Piece code_layer label_of_layer (λ a. none) arm_layer member_layer t
+    fold_out-TypeCode Piece Label Piece Piece Piece code_layer label_of_layer (λ a. none)
+    arm_layer member_layer t
 
 pub member_piece-is : (m : Member) → member_piece m ≡ text.writes m.name then code_piece m.code
 member_piece-is m =
-    fold-roll-Member Piece Label Piece Piece Piece code_layer label_of_layer (λ a. none) arm_layer member_layer
-    (record { name = m.name; code = m.code })
+    fold-roll-Member Piece Label Piece Piece Piece code_layer label_of_layer (λ a. none)
+    arm_layer member_layer (record { name = m.name; code = m.code })
 
 layer_label : (l : Held) → label_of_layer
     (map-Value TypeCode Value Any Arm Member Piece Label Piece Piece Piece code_piece folded_label
-    (fold-Any Piece Label Piece Piece Piece code_layer label_of_layer (λ a. none) arm_layer member_layer) arm_piece
-    member_piece l)
+    (fold-Any Piece Label Piece Piece Piece code_layer label_of_layer (λ a. none)
+    arm_layer member_layer) arm_piece member_piece l)
     ≡ label_of_layer l
 layer_label c.Empty = refl
 layer_label (c.Value::Short z) = refl
@@ -157,17 +166,20 @@ layer_label (c.Items vs) = refl
 
 folded_label-is : (v : Value) → folded_label v ≡ label_of v
 folded_label-is v =
-    fold_out-Value Piece Label Piece Piece Piece code_layer label_of_layer (λ a. none) arm_layer member_layer v
+    fold_out-Value Piece Label Piece Piece Piece code_layer label_of_layer (λ a. none)
+    arm_layer member_layer v
     ∙ layer_label (out-Value v)
 
 pub arm_piece-is : (a : Arm)
     → arm_piece a ≡ label_piece (label_of a.label) then text.writes a.name then code_piece a.code
 arm_piece-is a =
-    fold-roll-Arm Piece Label Piece Piece Piece code_layer label_of_layer (λ a. none) arm_layer member_layer
-    (record { label = a.label; name = a.name; code = a.code })
-    ∙ ap (λ (l : Label). label_piece l then text.writes a.name then code_piece a.code) (folded_label-is a.label)
+    fold-roll-Arm Piece Label Piece Piece Piece code_layer label_of_layer (λ a. none)
+    arm_layer member_layer (record { label = a.label; name = a.name; code = a.code })
+    ∙ ap (λ (l : Label). label_piece l then text.writes a.name then code_piece a.code)
+    (folded_label-is a.label)
 
 -- these bytes were appended, where the call did not fail; else some may have been
-pub record Writes {E : Type 0} (piece : Piece) (old new : Draft) (result : Result (Unit {0}) E) : Type 0 where
+pub record Writes {E : Type 0} (piece : Piece) (old new : Draft)
+    (result : Result (Unit {0}) E) : Type 0 where
   pub done : OnOk result (new.bytes ≡ old.bytes ++ piece old.order (length old.bytes))
   pub order : new.order ≡ old.order

@@ -196,7 +196,8 @@ pub fn under(mode: Mode) -> Mode
 /// The next kind, which may stand there; whether it is one level too deep tells the fault of an
 /// indirection.
 fn kind_in(r: &mut Reader, mode: Mode, deep: bool) -> Result<CodeKind, ValueFault>
-    ensures { Gives is_memory r.new result ((kind_in (indirection_fault deep) mode).format.reads r.old) }
+    ensures { Gives is_memory r.new result
+        ((kind_in (indirection_fault deep) mode).format.reads r.old) }
 {
     let place = r.aligned();
     let number = r.u32()?;

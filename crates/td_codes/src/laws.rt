@@ -14,7 +14,8 @@ ghost use Rattle.td_codes.specs.WritingCodes.{code_piece};
 /// body and inside a TypeCode; what is written does not depend on the level.
 pub fn codes_are_spelled()
     ensures lawful { (levels : ℕ) (mode : Mode) → Lawful (codes levels mode).format }
-    ensures refuses { (levels : ℕ) (mode : Mode) → Refuses (codes levels mode).faults (codes levels mode).format.reads }
+    ensures refuses { (levels : ℕ) (mode : Mode)
+        → Refuses (codes levels mode).faults (codes levels mode).format.reads }
     ensures written { (levels : ℕ) (mode : Mode) → (codes levels mode).format.writes ≡ code_piece }
 {}
 

@@ -65,7 +65,8 @@ fn parameters_of(
     mode: Mode,
     kind: CodeKind,
 ) -> Result<TypeCode, ValueFault>
-    ensures { Gives is_memory r.new result ((parameters levels (codes levels) mode kind).format.reads r.old) }
+    ensures { Gives is_memory r.new result
+        ((parameters levels (codes levels) mode kind).format.reads r.old) }
 {
     match kind {
         CodeKind::Null => Ok(TypeCode::Null),
@@ -95,7 +96,8 @@ fn enclosed_of(
     mode: Mode,
     kind: CodeKind,
 ) -> Result<TypeCode, ValueFault>
-    ensures { Gives is_memory r.new result ((enclosed levels (codes levels) mode kind).format.reads r.old) }
+    ensures { Gives is_memory r.new result
+        ((enclosed levels (codes levels) mode kind).format.reads r.old) }
 {
     match kind {
         CodeKind::ObjRef => object_of(alloc, r),
@@ -179,7 +181,8 @@ fn struct_of(alloc: Global, r: &mut Reader, levels: u32) -> Result<TypeCode, Val
 /// One member at least.
 #[cycle(reading)]
 fn fields_of(alloc: Global, r: &mut Reader, levels: u32) -> Result<List<Member>, ValueFault>
-    ensures { Gives is_memory r.new result ((nonempty_sequence (member (codes levels Inner))).format.reads r.old) }
+    ensures { Gives is_memory r.new result
+        ((nonempty_sequence (member (codes levels Inner))).format.reads r.old) }
 {
     let place = r.aligned();
     let members = members_at(alloc, r, levels)?;
@@ -204,7 +207,8 @@ fn except_of(alloc: Global, r: &mut Reader, levels: u32) -> Result<TypeCode, Val
 
 #[cycle(reading)]
 fn sequence_of(alloc: Global, r: &mut Reader, levels: u32) -> Result<TypeCode, ValueFault>
-    ensures { Gives is_memory r.new result ((sequence_code (codes levels Inner)).format.reads r.old) }
+    ensures { Gives is_memory r.new result
+        ((sequence_code (codes levels Inner)).format.reads r.old) }
 {
     let item = boxed_at(alloc, r, levels, Mode::Inner)?;
     let bound = r.u32()?;
@@ -269,7 +273,8 @@ pub fn boxed_at(
 /// A sequence of members.
 #[cycle(reading)]
 fn members_at(alloc: Global, r: &mut Reader, levels: u32) -> Result<List<Member>, ValueFault>
-    ensures { Gives is_memory r.new result ((sequence (member (codes levels Inner))).format.reads r.old) }
+    ensures { Gives is_memory r.new result
+        ((sequence (member (codes levels Inner))).format.reads r.old) }
 {
     let count = r.u32()?;
     members_of(alloc, r, levels, count)
@@ -282,7 +287,8 @@ fn members_of(
     levels: u32,
     count: u32,
 ) -> Result<List<Member>, ValueFault>
-    ensures { Gives is_memory r.new result ((array (member (codes levels Inner)) count).format.reads r.old) }
+    ensures { Gives is_memory r.new result
+        ((array (member (codes levels Inner)) count).format.reads r.old) }
 {
     let mut members = List::new(alloc);
     for _ in 0..count {
@@ -362,7 +368,8 @@ fn choices_of(
     switch: &TypeCode,
 ) -> Result<(i32, List<Arm>), ValueFault>
     ensures read { Gives is_memory r.new result
-        ((counted_arms (arm_of (labels levels switch.now) (codes levels Inner))).format.reads r.old) }
+        ((counted_arms (arm_of (labels levels switch.now) (codes levels Inner))).format.reads
+        r.old) }
     ensures fits { IfOk result (λ choices. FitsSigned w32 choices.0) }
 {
     let head = head_of(r)?;
@@ -379,7 +386,8 @@ fn arms_of(
     count: u32,
 ) -> Result<List<Arm>, ValueFault>
     ensures { Gives is_memory r.new result
-        ((array (arm_of (labels levels switch.now) (codes levels Inner)) count).format.reads r.old) }
+        ((array (arm_of (labels levels switch.now) (codes levels Inner)) count).format.reads
+        r.old) }
 {
     let mut arms = List::new(alloc);
     for _ in 0..count {

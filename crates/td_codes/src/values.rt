@@ -136,9 +136,8 @@ fn inner_code_at(alloc: Global, r: &mut Reader, levels: u32) -> Result<Value, Va
 /// A value that is an object reference.
 fn reference_at(alloc: Global, r: &mut Reader) -> Result<Value, ValueFault>
     ensures { Gives is_memory r.new result
-        ((variant (λ i. value.ObjRef i) (λ v. reference_in (out-Value v)) (λ i. ap reference_in (value-object i))
-        reference).format.reads
-        r.old) }
+        ((variant (λ i. value.ObjRef i) (λ v. reference_in (out-Value v))
+        (λ i. ap reference_in (value-object i)) reference).format.reads r.old) }
 {
     let ior = Ior::read(alloc, r)?;
     Ok(Value::ObjRef(ior))
@@ -182,9 +181,8 @@ fn struct_at(
     requires few { levels ≤ 16 }
     requires shallow { depth ≤ 16 }
     ensures { Gives is_memory r.new result
-        ((struct_value (anys levels) (codes levels Outer) (values (anys levels) (codes levels Outer) depth)
-        members.now).format.reads
-        r.old) }
+        ((struct_value (anys levels) (codes levels Outer)
+        (values (anys levels) (codes levels Outer) depth) members.now).format.reads r.old) }
 {
     let values = each_at(alloc, r, levels, depth, members)?;
     Ok(Value::Struct(values))
@@ -203,9 +201,9 @@ fn union_at(
     requires few { levels ≤ 16 }
     requires shallow { depth ≤ 16 }
     ensures { Gives is_memory r.new result
-        ((union_value (anys levels) (codes levels Outer) (values (anys levels) (codes levels Outer) depth) depth
-        switch.now default arms.now).format.reads
-        r.old) }
+        ((union_value (anys levels) (codes levels Outer)
+        (values (anys levels) (codes levels Outer) depth)
+        depth switch.now default arms.now).format.reads r.old) }
 {
     let label = boxed_label_at(alloc, r, depth, switch)?;
     branch_at(alloc, r, levels, depth, label, default, arms)
@@ -254,9 +252,8 @@ fn sequence_at(
     requires few { levels ≤ 16 }
     requires shallow { depth ≤ 16 }
     ensures { Gives is_memory r.new result
-        ((sequence_value (anys levels) (codes levels Outer) (values (anys levels) (codes levels Outer) depth) item.now
-        bound).format.reads
-        r.old) }
+        ((sequence_value (anys levels) (codes levels Outer)
+        (values (anys levels) (codes levels Outer) depth) item.now bound).format.reads r.old) }
 {
     let count = count_within(r, bound)?;
     let items = items_at(alloc, r, levels, depth, item, count)?;
@@ -275,9 +272,8 @@ fn array_at(
     requires few { levels ≤ 16 }
     requires shallow { depth ≤ 16 }
     ensures { Gives is_memory r.new result
-        ((array_value (anys levels) (codes levels Outer) (values (anys levels) (codes levels Outer) depth) item.now
-        len).format.reads
-        r.old) }
+        ((array_value (anys levels) (codes levels Outer)
+        (values (anys levels) (codes levels Outer) depth) item.now len).format.reads r.old) }
 {
     let items = items_at(alloc, r, levels, depth, item, len)?;
     Ok(Value::Items(items))
@@ -297,9 +293,9 @@ fn branch_at(
     requires few { levels ≤ 16 }
     requires shallow { depth ≤ 16 }
     ensures { Gives is_memory r.new result
-        ((branch (anys levels) (codes levels Outer) (values (anys levels) (codes levels Outer) depth) label
-        (branch_of default label arms.now)).format.reads
-        r.old) }
+        ((branch (anys levels) (codes levels Outer)
+        (values (anys levels) (codes levels Outer) depth) label
+        (branch_of default label arms.now)).format.reads r.old) }
 {
     match branch_of(label.get(), default, arms) {
         None => Ok(Value::Union { label, arm: None }),
@@ -397,7 +393,8 @@ fn items_at(
     requires few { levels ≤ 16 }
     requires shallow { depth ≤ 16 }
     ensures { Gives is_memory r.new result
-        ((array (values (anys levels) (codes levels Outer) depth item.now) count).format.reads r.old) }
+        ((array (values (anys levels) (codes levels Outer) depth item.now) count).format.reads
+        r.old) }
 {
     let mut values = List::new(alloc);
     for _ in 0..count {

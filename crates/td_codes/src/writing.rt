@@ -89,8 +89,8 @@ fn write_encapsulation(w: &mut Writer, kind: CodeKind, inner: &Writer) -> Result
 
 /// An object reference's TypeCode, or nothing.
 fn write_object(alloc: Global, w: &mut Writer, id: &Text, name: &Text) -> Result<(), Memory>
-    ensures { Appends (kind_piece kind.ObjRef then encapsulation_piece (header_piece id.now name.now)) w.old w.new
-        result }
+    ensures { Appends (kind_piece kind.ObjRef then encapsulation_piece
+        (header_piece id.now name.now)) w.old w.new result }
 {
     let mut inner = Writer::inside(alloc, w.order())?;
     write_texts(&mut inner, id, name)?;
@@ -106,8 +106,8 @@ fn write_items(
     item: &TypeCode,
     size: u32,
 ) -> Result<(), Memory>
-    ensures { Appends (kind_piece kind then encapsulation_piece (code_piece item.now then (number 4).writes size)) w.old
-        w.new result }
+    ensures { Appends (kind_piece kind then encapsulation_piece
+        (code_piece item.now then (number 4).writes size)) w.old w.new result }
 {
     let mut inner = Writer::inside(alloc, w.order())?;
     write_item_and_size(alloc, &mut inner, item, size)?;
@@ -141,7 +141,8 @@ fn write_enumeration(
     names: &[Text],
 ) -> Result<(), Memory>
     ensures { Appends (kind_piece kind.Enum
-        then encapsulation_piece (header_piece id.now name.now then (number 4).writes (length names.now)
+        then encapsulation_piece
+        (header_piece id.now name.now then (number 4).writes (length names.now)
         then row (map text.writes names.now)))
         w.old w.new result }
 {
@@ -223,7 +224,8 @@ fn write_fields(
     members: &[Member],
 ) -> Result<(), Memory>
     ensures { Appends (kind_piece kind
-        then encapsulation_piece (header_piece id.now name.now then (number 4).writes (length members.now)
+        then encapsulation_piece
+        (header_piece id.now name.now then (number 4).writes (length members.now)
         then row (map member_piece members.now)))
         w.old w.new result }
 {
@@ -286,7 +288,8 @@ fn write_front(
 /// A union's parameters behind its discriminator.
 #[cycle(writing)]
 fn write_back(alloc: Global, w: &mut Writer, default: &i32, arms: &[Arm]) -> Result<(), Memory>
-    ensures { Writes (head_piece default.now (length arms.now) then row (map arm_piece arms.now)) w.old w.new result }
+    ensures { Writes (head_piece default.now (length arms.now) then row (map arm_piece arms.now))
+        w.old w.new result }
 {
     write_head(w, default, arms.len())?;
     write_arms(alloc, w, arms)

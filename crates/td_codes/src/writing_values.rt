@@ -49,8 +49,8 @@ fn put_value(
 ) -> Result<(), Memory>
     requires few { levels ≤ 16 }
     requires shallow { depth ≤ 16 }
-    ensures { Puts ((values (anys levels) (codes levels Outer) depth code.now).format.writes value.now) w.old w.new
-        result }
+    ensures { Puts ((values (anys levels) (codes levels Outer) depth code.now).format.writes
+        value.now) w.old w.new result }
 {
     if depth == 0 {
         return Ok(());
@@ -92,7 +92,8 @@ fn put_value(
 #[cycle(putting)]
 fn put_any_in(alloc: Global, w: &mut Writer, levels: u32, value: &Value) -> Result<(), Memory>
     requires few { levels ≤ 16 }
-    ensures { Puts (none_or (anys levels).format.writes (any_in (out-Value value.now))) w.old w.new result }
+    ensures { Puts (none_or (anys levels).format.writes (any_in (out-Value value.now)))
+        w.old w.new result }
 {
     match value {
         Value::AnyValue(any) => put_any(alloc, w, levels, any.get()),
@@ -122,7 +123,8 @@ fn put_text_in(w: &mut Writer, value: &Value) -> Result<(), Memory>
 
 /// The reference that the value is.
 fn put_reference_in(alloc: Global, w: &mut Writer, value: &Value) -> Result<(), Memory>
-    ensures { Puts (none_or reference.format.writes (reference_in (out-Value value.now))) w.old w.new result }
+    ensures { Puts (none_or reference.format.writes (reference_in (out-Value value.now)))
+        w.old w.new result }
 {
     match value {
         Value::ObjRef(reference) => reference.write(alloc, w),
@@ -142,9 +144,8 @@ fn put_struct(
 ) -> Result<(), Memory>
     requires few { levels ≤ 16 }
     requires shallow { depth ≤ 16 }
-    ensures { Puts ((struct_value (anys levels) (codes levels Outer) (values (anys levels) (codes levels Outer) depth)
-        members.now).format.writes
-        value.now)
+    ensures { Puts ((struct_value (anys levels) (codes levels Outer)
+        (values (anys levels) (codes levels Outer) depth) members.now).format.writes value.now)
         w.old w.new result }
 {
     match value {
@@ -165,9 +166,8 @@ fn put_fields(
 ) -> Result<(), Memory>
     requires few { levels ≤ 16 }
     requires shallow { depth ≤ 16 }
-    ensures { Puts ((each (anys levels) (codes levels Outer) (values (anys levels) (codes levels Outer) depth)
-        members.now).format.writes
-        held.now)
+    ensures { Puts ((each (anys levels) (codes levels Outer)
+        (values (anys levels) (codes levels Outer) depth) members.now).format.writes held.now)
         w.old w.new result }
 {
     let count = members.len().min(held.len());
@@ -190,8 +190,8 @@ fn put_union(
 ) -> Result<(), Memory>
     requires few { levels ≤ 16 }
     requires shallow { depth ≤ 16 }
-    ensures { Puts (union_piece (anys levels) (codes levels Outer) (values (anys levels) (codes levels Outer) depth)
-        default arms.now (out-Value value.now))
+    ensures { Puts (union_piece (anys levels) (codes levels Outer)
+        (values (anys levels) (codes levels Outer) depth) default arms.now (out-Value value.now))
         w.old w.new result }
 {
     match value {
@@ -222,8 +222,8 @@ fn put_branch(
 ) -> Result<(), Memory>
     requires few { levels ≤ 16 }
     requires shallow { depth ≤ 16 }
-    ensures { Puts (branch_piece (anys levels) (codes levels Outer) (values (anys levels) (codes levels Outer) depth)
-        (option_copied chosen.entry) value.now)
+    ensures { Puts (branch_piece (anys levels) (codes levels Outer)
+        (values (anys levels) (codes levels Outer) depth) (option_copied chosen.entry) value.now)
         w.old w.new result }
 {
     match (chosen, value) {
@@ -267,9 +267,8 @@ fn put_count_and_items(
 ) -> Result<(), Memory>
     requires few { levels ≤ 16 }
     requires shallow { depth ≤ 16 }
-    ensures { Puts (sequence_piece (anys levels) (codes levels Outer) (values (anys levels) (codes levels Outer) depth)
-        item.now items.now)
-        w.old w.new result }
+    ensures { Puts (sequence_piece (anys levels) (codes levels Outer)
+        (values (anys levels) (codes levels Outer) depth) item.now items.now) w.old w.new result }
 {
     write_count(w, items.len())?;
     put_items(alloc, w, levels, depth, item, items)
@@ -310,9 +309,8 @@ fn put_items(
 ) -> Result<(), Memory>
     requires few { levels ≤ 16 }
     requires shallow { depth ≤ 16 }
-    ensures { Puts (items_piece (anys levels) (codes levels Outer) (values (anys levels) (codes levels Outer) depth)
-        item.now items.now)
-        w.old w.new result }
+    ensures { Puts (items_piece (anys levels) (codes levels Outer)
+        (values (anys levels) (codes levels Outer) depth) item.now items.now) w.old w.new result }
 {
     for value in items {
         put_value(alloc, w, levels, depth, item, value)?;

@@ -35,9 +35,11 @@ IsUnread before after = (after.left ≡ before.left) × (after.reads ≡ before.
 
 -- the sink is given this text whole, or its front where its count of faults rises
 abbrev pub PrintsText : (text : List ℕ) → Ended → SinkSeen → SinkSeen → Type 0
-PrintsText text Printed before after = Appends before.written after.written text × (before.faults ≤ after.faults)
+PrintsText text Printed before after = Appends before.written after.written text
+    × (before.faults ≤ after.faults)
 PrintsText text PrintFault before after =
-    Tells text before.written after.written before.faults after.faults × Rose before.faults after.faults
+    Tells text before.written after.written before.faults after.faults
+    × Rose before.faults after.faults
 PrintsText text Usage before after = ⊥
 PrintsText text Missing before after = ⊥
 PrintsText text TooLong before after = ⊥
@@ -47,8 +49,10 @@ PrintsText text (Served end) before after = ⊥
 
 -- so it is with a text that is said, or nothing is printed for want of memory
 abbrev pub Prints : (Says : List ℕ → Type 0) → Ended → SinkSeen → SinkSeen → Type 0
-Prints Says Printed before after = (text : List ℕ) × Says text × PrintsText text Printed before after
-Prints Says PrintFault before after = (text : List ℕ) × Says text × PrintsText text PrintFault before after
+Prints Says Printed before after = (text : List ℕ) × Says text
+    × PrintsText text Printed before after
+Prints Says PrintFault before after = (text : List ℕ) × Says text
+    × PrintsText text PrintFault before after
 Prints Says Memory before after = after ≡ before
 Prints Says Usage before after = ⊥
 Prints Says Missing before after = ⊥
@@ -59,7 +63,8 @@ Prints Says (Served end) before after = ⊥
 -- ---- a text that is said of what a file opens
 
 -- with the text of a file, which is refused where it opens nothing or is too long
-abbrev pub PrintsOf : (Says : Opening → List ℕ → Type 0) → (text : List ℕ) → Ended → SinkSeen → SinkSeen → Type 0
+abbrev pub PrintsOf : (Says : Opening → List ℕ → Type 0) → (text : List ℕ) → Ended → SinkSeen
+    → SinkSeen → Type 0
 PrintsOf Says text Printed before after =
     (o : Opening) × (opening_of text ≡ Ok o) × Prints (Says o) Printed before after
 PrintsOf Says text PrintFault before after =
@@ -73,8 +78,8 @@ PrintsOf Says text Missing before after = ⊥
 PrintsOf Says text (Served end) before after = ⊥
 
 -- with the name of a file
-abbrev pub PrintsFile : (Says : Opening → List ℕ → Type 0) → Shelves → (name : List ℕ) → Ended → SinkSeen → SinkSeen
-    → Type 0
+abbrev pub PrintsFile : (Says : Opening → List ℕ → Type 0) → Shelves → (name : List ℕ) → Ended
+    → SinkSeen → SinkSeen → Type 0
 PrintsFile Says texts name Printed before after =
     (text : List ℕ) × HasText texts.told name texts.before texts.after (Ok text)
     × PrintsOf Says text Printed before after

@@ -28,11 +28,13 @@ use Rattle.td_command.specs.Status.{status_of}
 -- Where a session begins: at the traders that a file opens, with no iterator kept and no peer called, and with the
 -- words that come after the seeding.
 abbrev pub beginning : Opening → Seeded → Scene
-beginning o seeded = scene (map solo_view o.traders) ([], 1) (peers_seen [] 0) (seeded (seeding_of o))
+beginning o seeded = scene (map solo_view o.traders) ([], 1) (peers_seen [] 0)
+    (seeded (seeding_of o))
 
 -- A session over the traders that a file opens, which no other session changes. It leaves traders of which each place
 -- and each mark is its own.
-pub record ServesOpening (o : Opening) (seeded : Seeded) (end : End) (before after : Outside) : Type 0 where
+pub record ServesOpening (o : Opening) (seeded : Seeded) (end : End)
+    (before after : Outside) : Type 0 where
   pub later : Scene
   pub journal : List Entry
   pub serves : Serves nothing unchanged o.home (beginning o seeded) later journal end before after
@@ -53,7 +55,8 @@ ServesOpened o seeded PrintFault before after = ⊥
 -- with the text of a file, which is octets, a session is served, or the file is refused
 abbrev pub ServesText : List ℕ → Seeded → Ended → Outside → Outside → Type 0
 ServesText text seeded (Served end) before after =
-    (o : Opening) × (opening_of text ≡ Ok o) × AreOctets text × ServesOpening o seeded end before after
+    (o : Opening) × (opening_of text ≡ Ok o) × AreOctets text
+    × ServesOpening o seeded end before after
 ServesText text seeded (Refused number cause) before after =
     (opening_of text ≡ Err (refusal number cause)) × (after ≡ before)
 ServesText text seeded Memory before after = after ≡ before
@@ -92,14 +95,14 @@ Obeys None texts seeded ended before after = (ended ≡ Usage) × IsUnasked text
 Obeys (Some (Pipe name)) texts seeded ended before after =
     ServesFile texts name seeded ended before after × (texts.before ≤ texts.after)
 Obeys (Some (Check name)) texts seeded ended before after =
-    PrintsFile Checks texts name ended (sink_of before) (sink_of after) × (texts.before ≤ texts.after)
-    × IsUnread before after
+    PrintsFile Checks texts name ended (sink_of before) (sink_of after)
+    × (texts.before ≤ texts.after) × IsUnread before after
 Obeys (Some (Make count)) texts seeded ended before after =
     Prints (λ text. text ≡ generated count) ended (sink_of before) (sink_of after) × IsUnasked texts
     × IsUnread before after
 Obeys (Some (Drill count)) texts seeded ended before after =
-    PrintsOf (DrillsWith seeded) (generated count) ended (sink_of before) (sink_of after) × IsUnasked texts
-    × IsUnread before after
+    PrintsOf (DrillsWith seeded) (generated count) ended (sink_of before) (sink_of after)
+    × IsUnasked texts × IsUnread before after
 
 -- a run of the program with these words
 pub record Runs (words : List (List ℕ)) (texts : Shelves) (seeded : Seeded) (before after : Outside)

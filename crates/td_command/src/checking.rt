@@ -20,8 +20,8 @@ pub(crate) fn check_file<F: Texts, K: Sink>(
     files: &mut F,
     sink: &mut K,
 ) -> Ended
-    ensures prints { PrintsFile Checks (shelves (F.told files.old) (F.faults files.old) (F.faults files.new)) name.now
-        result (sink_seen (K.written sink.old) (K.faults sink.old))
+    ensures prints { PrintsFile Checks (shelves (F.told files.old) (F.faults files.old)
+        (F.faults files.new)) name.now result (sink_seen (K.written sink.old) (K.faults sink.old))
         (sink_seen (K.written sink.new) (K.faults sink.new)) }
     ensures later { F.faults files.old ≤ F.faults files.new }
 {
@@ -49,7 +49,8 @@ fn check_text<K: Sink>(alloc: Global, text: &[u8], sink: &mut K) -> Ended
 /// Prints what is opened.
 fn check_opened<K: Sink>(alloc: Global, opened: Opened, sink: &mut K) -> Ended
     requires { IsAddress opened.home }
-    ensures { Prints (Checks (seen opened)) result (sink_seen (K.written sink.old) (K.faults sink.old))
+    ensures { Prints (Checks (seen opened)) result
+        (sink_seen (K.written sink.old) (K.faults sink.old))
         (sink_seen (K.written sink.new) (K.faults sink.new)) }
 {
     match check_lines(alloc, &opened) {

@@ -48,14 +48,18 @@ pub fn run<F: Texts, S: Source, K: Sink, E: Sink, L: Wire, W: Words>(
     words: &mut W,
 ) -> u8
     ensures runs { Runs (map string_bytes args.now)
-        (shelves (F.told files.old) (F.faults files.old) (F.faults files.new)) (W.word_after words.old)
+        (shelves (F.told files.old) (F.faults files.old) (F.faults files.new))
+        (W.word_after words.old)
         (outside (S.left source.old) (S.faults source.old) (K.written sink.old) (K.faults sink.old))
         (outside (S.left source.new) (S.faults source.new) (K.written sink.new) (K.faults sink.new))
-        (E.written faults.old) (E.written faults.new) (E.faults faults.old) (E.faults faults.new) result }
+        (E.written faults.old) (E.written faults.new) (E.faults faults.old)
+        (E.faults faults.new) result }
     ensures complete { Completes (map string_bytes args.now)
-        (shelves (F.told files.old) (F.faults files.old) (F.faults files.new)) (W.word_after words.old)
+        (shelves (F.told files.old) (F.faults files.old) (F.faults files.new))
+        (W.word_after words.old)
         (outside (S.left source.old) (S.faults source.old) (K.written sink.old) (K.faults sink.old))
-        (outside (S.left source.new) (S.faults source.new) (K.written sink.new) (K.faults sink.new)) result }
+        (outside (S.left source.new) (S.faults source.new) (K.written sink.new) (K.faults sink.new))
+        result }
     ensures uncalled { is_pipe (command_of (map string_bytes args.now)) ≡ false
         → (L.told wire.new ≡ L.told wire.old) × (L.faults wire.new ≡ L.faults wire.old) }
 {
@@ -76,9 +80,11 @@ fn obey<F: Texts, S: Source, K: Sink, L: Wire, W: Words>(
     words: &mut W,
 ) -> Ended
     ensures obeys { Obeys (command_of (map string_bytes args.now))
-        (shelves (F.told files.old) (F.faults files.old) (F.faults files.new)) (W.word_after words.old) result
-        (outside (S.left source.old) (S.faults source.old) (K.written sink.old) (K.faults sink.old))
-        (outside (S.left source.new) (S.faults source.new) (K.written sink.new) (K.faults sink.new)) }
+        (shelves (F.told files.old) (F.faults files.old) (F.faults files.new))
+        (W.word_after words.old) result (outside (S.left source.old) (S.faults source.old)
+        (K.written sink.old) (K.faults sink.old))
+        (outside (S.left source.new) (S.faults source.new) (K.written sink.new)
+        (K.faults sink.new)) }
     ensures uncalled { is_pipe (command_of (map string_bytes args.now)) ≡ false
         → (L.told wire.new ≡ L.told wire.old) × (L.faults wire.new ≡ L.faults wire.old) }
 {
@@ -114,9 +120,11 @@ fn obey_verb<F: Texts, S: Source, K: Sink, L: Wire, W: Words>(
     words: &mut W,
 ) -> Ended
     ensures obeys { Obeys (command_by verb operand.now)
-        (shelves (F.told files.old) (F.faults files.old) (F.faults files.new)) (W.word_after words.old) result
-        (outside (S.left source.old) (S.faults source.old) (K.written sink.old) (K.faults sink.old))
-        (outside (S.left source.new) (S.faults source.new) (K.written sink.new) (K.faults sink.new)) }
+        (shelves (F.told files.old) (F.faults files.old) (F.faults files.new))
+        (W.word_after words.old) result (outside (S.left source.old) (S.faults source.old)
+        (K.written sink.old) (K.faults sink.old))
+        (outside (S.left source.new) (S.faults source.new) (K.written sink.new)
+        (K.faults sink.new)) }
     ensures uncalled { is_pipe (command_by verb operand.now) ≡ false
         → (L.told wire.new ≡ L.told wire.old) × (L.faults wire.new ≡ L.faults wire.old) }
 {

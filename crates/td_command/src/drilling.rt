@@ -26,7 +26,8 @@ pub(crate) fn drill_ring<K: Sink, W: Words>(
     requires least { 1 ≤ count }
     requires most { count ≤ 64 }
     ensures { PrintsOf (DrillsWith (W.word_after words.old)) (generated count) result
-        (sink_seen (K.written sink.old) (K.faults sink.old)) (sink_seen (K.written sink.new) (K.faults sink.new)) }
+        (sink_seen (K.written sink.old) (K.faults sink.old))
+        (sink_seen (K.written sink.new) (K.faults sink.new)) }
 {
     match make_file(alloc, count) {
         Ok(text) => drill_text(alloc, text.as_slice(), sink, words),
@@ -37,7 +38,8 @@ pub(crate) fn drill_ring<K: Sink, W: Words>(
 /// Drills the traders of this text of a file.
 fn drill_text<K: Sink, W: Words>(alloc: Global, text: &[u8], sink: &mut K, words: &mut W) -> Ended
     ensures { PrintsOf (DrillsWith (W.word_after words.old)) text.now result
-        (sink_seen (K.written sink.old) (K.faults sink.old)) (sink_seen (K.written sink.new) (K.faults sink.new)) }
+        (sink_seen (K.written sink.old) (K.faults sink.old))
+        (sink_seen (K.written sink.new) (K.faults sink.new)) }
 {
     if text.len() > LONGEST_TEXT {
         return Ended::TooLong;
@@ -58,7 +60,8 @@ fn drill_opened<K: Sink, W: Words>(
 ) -> Ended
     requires { length opened.seed ≡ 32 }
     ensures { Prints (DrillsWith (W.word_after words.old) (seen opened)) result
-        (sink_seen (K.written sink.old) (K.faults sink.old)) (sink_seen (K.written sink.new) (K.faults sink.new)) }
+        (sink_seen (K.written sink.old) (K.faults sink.old))
+        (sink_seen (K.written sink.new) (K.faults sink.new)) }
 {
     match drill(alloc, opened, words) {
         Ok(line) => print(sink, line.as_slice()),

@@ -34,12 +34,15 @@ pub fn run_program<F: Texts, S: Source, K: Sink, E: Sink, L: Wire, W: Words>(
     words: &mut W,
 ) -> ExitCode
     ensures runs { Runs (map string_bytes args.now)
-        (shelves (F.told files.old) (F.faults files.old) (F.faults files.new)) (W.word_after words.old)
+        (shelves (F.told files.old) (F.faults files.old) (F.faults files.new))
+        (W.word_after words.old)
         (outside (S.left source.old) (S.faults source.old) (K.written sink.old) (K.faults sink.old))
         (outside (S.left source.new) (S.faults source.new) (K.written sink.new) (K.faults sink.new))
-        (E.written faults.old) (E.written faults.new) (E.faults faults.old) (E.faults faults.new) (exit_status result) }
+        (E.written faults.old) (E.written faults.new) (E.faults faults.old) (E.faults faults.new)
+        (exit_status result) }
     ensures complete { Completes (map string_bytes args.now)
-        (shelves (F.told files.old) (F.faults files.old) (F.faults files.new)) (W.word_after words.old)
+        (shelves (F.told files.old) (F.faults files.old) (F.faults files.new))
+        (W.word_after words.old)
         (outside (S.left source.old) (S.faults source.old) (K.written sink.old) (K.faults sink.old))
         (outside (S.left source.new) (S.faults source.new) (K.written sink.new) (K.faults sink.new))
         (exit_status result) }
@@ -51,8 +54,8 @@ pub fn run_program<F: Texts, S: Source, K: Sink, E: Sink, L: Wire, W: Words>(
 
 /// What the program does whose arguments can't be had: the line and the status for it.
 pub fn refuse_arguments<E: Sink>(faults: &mut E, ended: Ended) -> ExitCode
-    ensures reported { Tells (line_of ended) (E.written faults.old) (E.written faults.new) (E.faults faults.old)
-        (E.faults faults.new) }
+    ensures reported { Tells (line_of ended) (E.written faults.old) (E.written faults.new)
+        (E.faults faults.old) (E.faults faults.new) }
     ensures status { exit_status result ≡ status_of ended }
 {
     report(faults, ended);

@@ -25,7 +25,8 @@ pub(crate) fn print<K: Sink>(sink: &mut K, text: &[u8]) -> Ended
 pub(crate) fn print_file<K: Sink>(alloc: Global, count: u32, sink: &mut K) -> Ended
     requires least { 1 ≤ count }
     requires most { count ≤ 64 }
-    ensures { Prints (λ text. text ≡ generated count) result (sink_seen (K.written sink.old) (K.faults sink.old))
+    ensures { Prints (λ text. text ≡ generated count) result
+        (sink_seen (K.written sink.old) (K.faults sink.old))
         (sink_seen (K.written sink.new) (K.faults sink.new)) }
 {
     match make_file(alloc, count) {

@@ -13,8 +13,8 @@ use td_tell::write_all;
 
 /// Writes the line for a command that ended so. Where the sink fails, the rest of the line is lost.
 pub fn report<E: Sink>(faults: &mut E, ended: Ended)
-    ensures { Tells (line_of ended) (E.written faults.old) (E.written faults.new) (E.faults faults.old)
-        (E.faults faults.new) }
+    ensures { Tells (line_of ended) (E.written faults.old) (E.written faults.new)
+        (E.faults faults.old) (E.faults faults.new) }
 {
     let _ = match ended {
         Ended::Usage => write_all(faults, b"usage\n"),
@@ -55,8 +55,8 @@ pub fn write_numbered<E: Sink>(
     number: u32,
     after: &[u8],
 ) -> Result<(), Failed>
-    ensures { Tells (numbered before.now number after.now) (E.written sink.old) (E.written sink.new) (E.faults sink.old)
-        (E.faults sink.new) }
+    ensures { Tells (numbered before.now number after.now) (E.written sink.old) (E.written sink.new)
+        (E.faults sink.old) (E.faults sink.new) }
 {
     let mut buffer = Buffer::new();
     write_all(sink, before)?;

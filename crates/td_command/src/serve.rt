@@ -25,10 +25,11 @@ pub fn serve_file<F: Texts, S: Source, K: Sink, L: Wire, W: Words>(
     wire: &mut L,
     words: &mut W,
 ) -> Ended
-    ensures serves { ServesFile (shelves (F.told files.old) (F.faults files.old) (F.faults files.new)) name.now
-        (W.word_after words.old) result
+    ensures serves { ServesFile (shelves (F.told files.old) (F.faults files.old)
+        (F.faults files.new)) name.now (W.word_after words.old) result
         (outside (S.left source.old) (S.faults source.old) (K.written sink.old) (K.faults sink.old))
-        (outside (S.left source.new) (S.faults source.new) (K.written sink.new) (K.faults sink.new)) }
+        (outside (S.left source.new) (S.faults source.new) (K.written sink.new)
+        (K.faults sink.new)) }
     ensures later { F.faults files.old ≤ F.faults files.new }
 {
     match files.text(alloc, name) {
@@ -51,7 +52,8 @@ fn serve_text<S: Source, K: Sink, L: Wire, W: Words>(
     requires { length text.now ≤ 67108864 }
     ensures { ServesText text.now (W.word_after words.old) result
         (outside (S.left source.old) (S.faults source.old) (K.written sink.old) (K.faults sink.old))
-        (outside (S.left source.new) (S.faults source.new) (K.written sink.new) (K.faults sink.new)) }
+        (outside (S.left source.new) (S.faults source.new) (K.written sink.new)
+        (K.faults sink.new)) }
 {
     match read_file(alloc, text) {
         Ok(opened) => serve_opened(alloc, opened, source, sink, wire, words),
@@ -74,7 +76,8 @@ fn serve_opened<S: Source, K: Sink, L: Wire, W: Words>(
     requires seed { length opened.seed ≡ 32 }
     ensures { ServesOpened (seen opened) (W.word_after words.old) result
         (outside (S.left source.old) (S.faults source.old) (K.written sink.old) (K.faults sink.old))
-        (outside (S.left source.new) (S.faults source.new) (K.written sink.new) (K.faults sink.new)) }
+        (outside (S.left source.new) (S.faults source.new) (K.written sink.new)
+        (K.faults sink.new)) }
 {
     let Opened {
         home,

@@ -11,5 +11,6 @@ use Rattle.td_command.specs.Runs.{Seeded, ServesOpening}
 -- What came to each trader's history are the session's accepted changes, each at its point, and nothing else.
 abbrev pub HistoriesGrowByOwn : Type 0
 HistoriesGrowByOwn =
-    (o : Opening) (seeded : Seeded) (end : End) (before after : Outside) (s : ServesOpening o seeded end before after)
-    (k : ℕ) → GrowsByOwn (map solo_view o.traders) s.later.world k (noted_of s.serves.turns)
+    (o : Opening) (seeded : Seeded) (end : End) (before after : Outside)
+    (s : ServesOpening o seeded end before after) (k : ℕ)
+    → GrowsByOwn (map solo_view o.traders) s.later.world k (noted_of s.serves.turns)

@@ -12,7 +12,8 @@ use Rattle.td_turns_laws.specs.Replies.{SpellsReplies}
 -- of an opening of any kind whose traders can be written
 abbrev pub RunsSpellReplies : Type 0
 RunsSpellReplies =
-    (o : Opening) (seeded : Seeded) (end : End) (before after : Outside) (s : ServesOpening o seeded end before after)
+    (o : Opening) (seeded : Seeded) (end : End) (before after : Outside)
+    (s : ServesOpening o seeded end before after)
     → AllByRecursion IsWritableTrader o.traders → SpellsReplies s.serves.turns
 
 -- of the opening of a text, whatever the text is

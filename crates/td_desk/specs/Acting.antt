@@ -38,7 +38,8 @@ found_by false None = Err Absent
 found_by false (Some e) = Ok e
 
 -- what it is answered with
-abbrev pub result_of : {X : Type 0} → (Entry Item → X) → Result (Entry Item) DeskFault → Result X DeskFault
+abbrev pub result_of : {X : Type 0} → (Entry Item → X) → Result (Entry Item) DeskFault
+    → Result X DeskFault
 result_of f (Ok e) = Ok (f e)
 result_of f (Err fault) = Err fault
 
@@ -69,7 +70,8 @@ module _ (h : List Event) where
   module _ (trader : List ℕ) (number : ℕ) where
     -- the iterator of this trader and number
     abbrev pub finds : Result (Entry Item) DeskFault
-    finds = found_by (is_full (standing h).calls) (find (is_called trader number) (standing h).entries)
+    finds = found_by (is_full (standing h).calls)
+        (find (is_called trader number) (standing h).entries)
 
     -- how many are left, and whether they are offers
     pub record Counts (r : Result (ℕ × Bool) DeskFault) (k : List Event) : Type 0 where
@@ -126,7 +128,8 @@ Acts h (act.Left trader number) (reply.Destroyed r) k = ⊥
 Acts h (act.Next trader number n begun) (reply.Drawn r) k = ⊥
 Acts h (act.Next trader number n begun) (reply.Added r) k = ⊥
 Acts h (act.Next trader number n begun) (reply.Left r) k = ⊥
-Acts h (act.Next trader number n begun) (reply.Next back r) k = Gives h trader number n begun.writer back k r
+Acts h (act.Next trader number n begun)
+    (reply.Next back r) k = Gives h trader number n begun.writer back k r
 Acts h (act.Next trader number n begun) (reply.Destroyed r) k = ⊥
 Acts h (act.Destroy trader number) (reply.Drawn r) k = ⊥
 Acts h (act.Destroy trader number) (reply.Added r) k = ⊥

@@ -55,20 +55,23 @@ noted_once false e h k is = subst (Once h) (sym is) (record {
 module _ (h : List Event) (trader : List ℕ) (number n : ℕ) (w back : Draft) (k : List Event) where
   given_once : (x : Result (Entry Item) DeskFault) (r : Result Bool DeskFault)
       → GivesBy h trader number n w back k x r → Once h k
-  given_once (Ok e) (Ok more) g = noted_once false (event.Next trader number n w.order) h k g.history
+  given_once (Ok e) (Ok more) g = noted_once false (event.Next trader number n w.order)
+      h k g.history
   given_once (Ok e) (Err f) g = kept_once h k g.history
   given_once (Err fault) (Ok more) g = absurd g
   given_once (Err fault) (Err f) g =
       noted_once (is_full (standing h).calls) (event.Next trader number n w.order) h k g.history
 
 once : (h : List Event) (a : Act) (r : Reply) (k : List Event) → Acts h a r k → Once h k
-once h act.Draw (reply.Drawn r) k p = noted_once (is_full (standing h).draws) event.Draw h k p.history
+once h act.Draw (reply.Drawn r) k p = noted_once (is_full (standing h).draws)
+    event.Draw h k p.history
 once h act.Draw (reply.Added r) k p = absurd p
 once h act.Draw (reply.Left r) k p = absurd p
 once h act.Draw (reply.Next back r) k p = absurd p
 once h act.Draw (reply.Destroyed r) k p = absurd p
 once h (act.Add e) (reply.Drawn r) k p = absurd p
-once h (act.Add e) (reply.Added r) k p = noted_once (is_full (standing h).adds) (event.Add e) h k p.history
+once h (act.Add e) (reply.Added r) k p = noted_once (is_full (standing h).adds)
+    (event.Add e) h k p.history
 once h (act.Add e) (reply.Left r) k p = absurd p
 once h (act.Add e) (reply.Next back r) k p = absurd p
 once h (act.Add e) (reply.Destroyed r) k p = absurd p
@@ -94,8 +97,10 @@ once h (act.Destroy trader number) (reply.Destroyed r) k p =
 pub acts_go_on : (h : List Event) (a : Act) (r : Reply) (k : List Event) → Acts h a r k → GoesOn h k
 acts_go_on h a r k p = (once h a r k p).goes_on
 
-pub acts_within : (h : List Event) (a : Act) (r : Reply) (k : List Event) → Acts h a r k → length k ≤ length h + 1
+pub acts_within : (h : List Event) (a : Act) (r : Reply) (k : List Event) → Acts h a r k
+    → length k ≤ length h + 1
 acts_within h a r k p = (once h a r k p).most
 
-pub makes_none : (h : List Event) (a : Act) (r : Reply) (k : List Event) → Acts h a r k → MarksOnce no_marks no_marks
+pub makes_none : (h : List Event) (a : Act) (r : Reply) (k : List Event) → Acts h a r k
+    → MarksOnce no_marks no_marks
 makes_none h a r k p = inl refl

@@ -22,13 +22,14 @@ five_left = record {
 
 -- one connection keeps it, and the other asks for three; the first asks for three, and the other destroys it
 abbrev pub in_turns : List Event
-in_turns = Draw ∷ Add five_left ∷ Next (codes "A") 1 3 Big ∷ Next (codes "A") 1 3 Little ∷ Destroy (codes "A") 1 ∷ []
+in_turns = Draw ∷ Add five_left ∷ Next (codes "A") 1 3 Big ∷ Next (codes "A") 1 3 Little
+    ∷ Destroy (codes "A") 1 ∷ []
 
 pub record WorkedTurns : Type 0 where
   -- what each call gives
   pub gives : given (codes "A") 1 nothing in_turns ≡
-      [] ∷ [] ∷ (AnId (codes "3") ∷ AnId (codes "4") ∷ AnId (codes "5") ∷ []) ∷ (AnId (codes "6") ∷ AnId (codes "7") ∷ [])
-      ∷ [] ∷ []
+      [] ∷ [] ∷ (AnId (codes "3") ∷ AnId (codes "4") ∷ AnId (codes "5") ∷ [])
+      ∷ (AnId (codes "6") ∷ AnId (codes "7") ∷ []) ∷ [] ∷ []
   -- from which places of the list
   pub first_places : places_at in_turns five_left 2 ≡ 0 ∷ 1 ∷ 2 ∷ []
   pub then_places : places_at in_turns five_left 3 ≡ 3 ∷ 4 ∷ []

@@ -12,7 +12,8 @@ in_order_here : (h : List Event) (own : List ℕ) → IsProp (IsInOrder h own)
 in_order_here h own p q = λ i. record {
   within = Π_prop (λ (place : ℕ). →_prop le_prop) p.within q.within i;
   drawn =
-      Π_prop (λ (place : ℕ). Π_prop (λ (e : Entry Item). →_prop (→_prop (→_prop ⊥_prop)))) p.drawn q.drawn i;
+      Π_prop (λ (place : ℕ). Π_prop (λ (e : Entry Item). →_prop (→_prop (→_prop ⊥_prop))))
+      p.drawn q.drawn i;
   once =
       Π_prop (λ (x : ℕ). Π_prop (λ (y : ℕ). Π_prop (λ (e : Entry Item). Π_prop (λ (f : Entry Item).
       →_prop (→_prop (→_prop (→_prop (→_prop (Coded-set coded_ℕ x y))))))))) p.once q.once i;

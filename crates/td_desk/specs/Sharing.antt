@@ -28,7 +28,8 @@ module _ (h : List Event) (own : List ℕ) (number : ℕ) where
 
   -- no iterator was put on the desk under it at one of these places
   abbrev pub IsUnused : Type 0
-  IsUnused = (place : ℕ) (e : Entry Item) → In place own → slice_get h place ≡ Some (Add e) → e.number ≢ number
+  IsUnused = (place : ℕ) (e : Entry Item) → In place own → slice_get h place ≡ Some (Add e)
+      → e.number ≢ number
 
 -- the number was drawn through this pass, and nothing put on the desk under it
 abbrev pub MayAdd : View (List Event) → ℕ → Type 0

@@ -26,7 +26,8 @@ module _ (trader : List ℕ) (number : ℕ) where
   -- the first that is called so has this left
   abbrev pub changed : (Item → Item) → List (Entry Item) → List (Entry Item)
   changed f [] = []
-  changed f (e ∷ es) = if is_called trader number e then record e { item = f e.item } ∷ es else e ∷ changed f es
+  changed f (e ∷ es) = if is_called trader number e then record e { item = f e.item } ∷ es else e
+      ∷ changed f es
 
   -- all but the first that is called so
   abbrev pub without : List (Entry Item) → List (Entry Item)
@@ -46,7 +47,10 @@ after s (Next trader number n order) = record s {
   entries = changed trader number (left_behind n order) s.entries;
   calls = s.calls + 1;
 }
-after s (Destroy trader number) = record s { entries = without trader number s.entries; calls = s.calls + 1 }
+after s (Destroy trader number) = record s {
+  entries = without trader number s.entries;
+  calls = s.calls + 1;
+}
 
 -- what stands there after these calls
 abbrev pub standing : List Event → Standing
@@ -58,7 +62,8 @@ abbrev pub most : ℕ
 most = 2 ^ 40
 
 -- it keeps what stands there after these calls
-pub record IsReplayed (h : List Event) (entries : List (Entry Item)) (draws adds calls : ℕ) : Type 0 where
+pub record IsReplayed (h : List Event) (entries : List (Entry Item))
+    (draws adds calls : ℕ) : Type 0 where
   pub stands : standing h ≡ record { entries = entries; draws = draws; adds = adds; calls = calls }
   pub few : length entries ≤ 4096
   pub few_draws : draws ≤ most

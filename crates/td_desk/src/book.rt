@@ -62,7 +62,8 @@ impl Model for DeskBook {
     ghost view = { λ d. entries_of d.past };
 
     ghost invariant = { λ d.
-        IsReplayed (entries_of d.past) d.entries.items d.draws d.adds d.calls × (4096 ≤ deque_capacity d.entries) };
+        IsReplayed (entries_of d.past) d.entries.items d.draws d.adds d.calls
+        × (4096 ≤ deque_capacity d.entries) };
 }
 
 impl DeskBook {

@@ -16,7 +16,8 @@ ghost use Rattle.td_iter.specs.declared.item.Item.{Item};
 /// the front of its list, and what is left of it, while it is there, is the rest.
 pub fn given_is_front()
     ensures { (before acts : List Done) (e : Entry Item) → PutOthers e.trader e.number before
-        → PutOthers e.trader e.number acts → (rest : List Thing) × IsFront (before ++ Add e ∷ acts) e rest }
+        → PutOthers e.trader e.number acts → (rest : List Thing)
+        × IsFront (before ++ Add e ∷ acts) e rest }
 {}
 
 /// Nothing is done: no item of an iterator's list is given by two calls of the history. So of two passes that have no
@@ -30,7 +31,8 @@ pub fn no_item_is_given_twice()
     ensures items { (before acts : List Done) (e : Entry Item) → PutOthers e.trader e.number before
         → PutOthers e.trader e.number acts → (place : ℕ) →
         map (slice_get (things_of e.item)) (places_at (before ++ Add e ∷ acts) e place)
-        ≡ map Some (slice_index_or (given e.trader e.number nothing (before ++ Add e ∷ acts)) place []) }
+        ≡ map Some (slice_index_or (given e.trader e.number nothing (before ++ Add e ∷ acts))
+        place []) }
 {}
 
 /// Nothing is done: no number is drawn twice.
@@ -49,8 +51,9 @@ pub fn passes_stay_in_order()
 /// the other has used. So each iterator that passes put there has a number of its own.
 pub fn numbers_are_used_once()
     ensures { (h : List Done) (own others : List ℕ) → IsInOrder h own → IsInOrder h others →
-        ((p : ℕ) → In p own → In p others → ⊥) → (p q : ℕ) (e f : Entry Item) → In p own → In q others →
-        slice_get h p ≡ Some (Add e) → slice_get h q ≡ Some (Add f) → e.number ≢ f.number }
+        ((p : ℕ) → In p own → In p others → ⊥) → (p q : ℕ) (e f : Entry Item) → In p own
+        → In q others → slice_get h p ≡ Some (Add e) → slice_get h q ≡ Some (Add f)
+        → e.number ≢ f.number }
 {}
 
 /// Nothing is done: a worked history of two connections that ask for the rest of one answer.

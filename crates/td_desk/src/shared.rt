@@ -57,7 +57,8 @@ impl SharedDesk {
         ensures split_off { IfOk result (λ p. knowledge p ≡ split_off (knowledge pass.old)) }
         ensures order { IfOk result (λ p. InOrder (knowledge p)) }
         ensures stays { StaysInOrder (knowledge pass.old) (knowledge pass.new) }
-        ensures err { OnErr result (SameCell pass.new pass.old × (knowledge pass.new ≡ knowledge pass.old)) }
+        ensures err { OnErr result (SameCell pass.new pass.old
+            × (knowledge pass.new ≡ knowledge pass.old)) }
     {
         self.cell.split(pass)
     }
@@ -70,8 +71,8 @@ impl SharedDesk {
         requires split_off { IsSplitOff pass.old told }
         ensures own { SameCell pass.new pass.old }
         ensures opening { IsOpening pass.new }
-        ensures learned { Learns GoesOn length (λ _. no_marks) (meeting (knowledge pass.old) (knowledge told))
-            (knowledge pass.new) }
+        ensures learned { Learns GoesOn length (λ _. no_marks)
+            (meeting (knowledge pass.old) (knowledge told)) (knowledge pass.new) }
     {
         self.cell.meet(pass, told)
     }
@@ -84,7 +85,8 @@ impl SharedDesk {
     pub fn draw<R: Wait>(&self, rt: &R, pass: &mut DeskPass) -> Result<u64, DeskFault>
         requires { Belongs pass.old self.now.cell }
         ensures own { SameCell pass.new pass.old }
-        ensures turned { Turns (knowledge pass.old) act.Draw (reply.Drawn result) (knowledge pass.new) }
+        ensures turned { Turns (knowledge pass.old) act.Draw (reply.Drawn result)
+            (knowledge pass.new) }
         ensures once { (knowledge pass.new).turns ≡ (knowledge pass.old).turns + 1 }
         ensures same { SameNumbers (knowledge pass.old) (knowledge pass.new) }
         ensures order { StaysInOrder (knowledge pass.old) (knowledge pass.new) }
@@ -112,7 +114,8 @@ impl SharedDesk {
         requires own { Belongs pass.old self.now.cell }
         requires drawn { MayAdd (knowledge pass.old) entry.number }
         ensures own { SameCell pass.new pass.old }
-        ensures turned { Turns (knowledge pass.old) (act.Add entry) (reply.Added result) (knowledge pass.new) }
+        ensures turned { Turns (knowledge pass.old) (act.Add entry) (reply.Added result)
+            (knowledge pass.new) }
         ensures once { (knowledge pass.new).turns ≡ (knowledge pass.old).turns + 1 }
         ensures same { SameNumbers (knowledge pass.old) (knowledge pass.new) }
         ensures order { StaysInOrder (knowledge pass.old) (knowledge pass.new) }
@@ -140,7 +143,8 @@ impl SharedDesk {
     ) -> Result<(u32, bool), DeskFault>
         requires { Belongs pass.old self.now.cell }
         ensures own { SameCell pass.new pass.old }
-        ensures turned { Turns (knowledge pass.old) (act.Left trader number) (reply.Left result) (knowledge pass.new) }
+        ensures turned { Turns (knowledge pass.old) (act.Left trader number) (reply.Left result)
+            (knowledge pass.new) }
         ensures once { (knowledge pass.new).turns ≡ (knowledge pass.old).turns + 1 }
         ensures same { SameNumbers (knowledge pass.old) (knowledge pass.new) }
         ensures order { StaysInOrder (knowledge pass.old) (knowledge pass.new) }
@@ -173,8 +177,8 @@ impl SharedDesk {
     ) -> (Writer, Result<bool, DeskFault>)
         requires { Belongs pass.old self.now.cell }
         ensures own { SameCell pass.new pass.old }
-        ensures turned { Turns (knowledge pass.old) (act.Next trader number n begun) (reply.Next result.0 result.1)
-            (knowledge pass.new) }
+        ensures turned { Turns (knowledge pass.old) (act.Next trader number n begun)
+            (reply.Next result.0 result.1) (knowledge pass.new) }
         ensures once { (knowledge pass.new).turns ≡ (knowledge pass.old).turns + 1 }
         ensures same { SameNumbers (knowledge pass.old) (knowledge pass.new) }
         ensures order { StaysInOrder (knowledge pass.old) (knowledge pass.new) }
@@ -208,8 +212,8 @@ impl SharedDesk {
     ) -> Result<Entry<Item>, DeskFault>
         requires { Belongs pass.old self.now.cell }
         ensures own { SameCell pass.new pass.old }
-        ensures turned { Turns (knowledge pass.old) (act.Destroy trader number) (reply.Destroyed result)
-            (knowledge pass.new) }
+        ensures turned { Turns (knowledge pass.old) (act.Destroy trader number)
+            (reply.Destroyed result) (knowledge pass.new) }
         ensures once { (knowledge pass.new).turns ≡ (knowledge pass.old).turns + 1 }
         ensures same { SameNumbers (knowledge pass.old) (knowledge pass.new) }
         ensures order { StaysInOrder (knowledge pass.old) (knowledge pass.new) }

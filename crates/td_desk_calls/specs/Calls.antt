@@ -103,9 +103,11 @@ inquiry_outcome (Refused exception minor) left offers = System exception minor 1
 -- the batch for n of what is left
 abbrev pub batch_outcome : (n : ℕ) → Order → Item → Outcome
 batch_outcome n order (Offers left) =
-    Done (reply.Batch (is_some (drop (count_of n order (Offers left)) left)) (take (count_of n order (Offers left)) left))
+    Done (reply.Batch (is_some (drop (count_of n order (Offers left)) left))
+    (take (count_of n order (Offers left)) left))
 batch_outcome n order (Ids left) =
-    Done (reply.IdBatch (is_some (drop (count_of n order (Ids left)) left)) (take (count_of n order (Ids left)) left))
+    Done (reply.IdBatch (is_some (drop (count_of n order (Ids left)) left))
+    (take (count_of n order (Ids left)) left))
 
 -- of the iterator that has this left
 abbrev pub outcome_of : Asked → Order → Item → Outcome

@@ -17,9 +17,11 @@ pub record WorkedCalls : Type 0 where
   pub left : outcome_by (Inquire MaxLeft) Big (Some five_left) ≡ Done (reply.Number 5)
   pub next : outcome_by (NextN 3) Big (Some five_left)
       ≡ Done (reply.IdBatch true (codes "3" ∷ codes "4" ∷ codes "5" ∷ []))
-  pub is_one : outcome_by (Inquire (IsA (codes "IDL:omg.org/CosTrading/OfferIdIterator:1.0"))) Big (Some five_left)
+  pub is_one : outcome_by (Inquire (IsA (codes "IDL:omg.org/CosTrading/OfferIdIterator:1.0"))) Big
+      (Some five_left)
       ≡ Done (reply.Truth true)
-  pub is_other : outcome_by (Inquire (IsA (codes "IDL:omg.org/CosTrading/OfferIterator:1.0"))) Big (Some five_left)
+  pub is_other : outcome_by (Inquire (IsA (codes "IDL:omg.org/CosTrading/OfferIterator:1.0"))) Big
+      (Some five_left)
       ≡ Done (reply.Truth false)
   pub not_gone : outcome_by (Inquire NonExistent) Big (Some five_left) ≡ Done (reply.Truth false)
   pub taken_off : outcome_by Destroy Big (Some five_left) ≡ Done reply.Nothing

@@ -23,13 +23,15 @@ use Rattle.td_desk_calls.specs.declared.judging.Asked.{Asked}
 -- ---- turns on the desk, of a pass that has seen v before and w behind it
 
 -- the call was made behind this history, and is the next of it
-pub record IsCalled (v : View (List Event)) (e : Event) (before : List Event) (w : View (List Event)) : Type 0 where
+pub record IsCalled (v : View (List Event)) (e : Event) (before : List Event)
+    (w : View (List Event)) : Type 0 where
   pub later : BothBefore GoesOn v before
   pub may_call : is_full (standing before).calls ≡ false
   pub is : w ≡ after_turn length (λ h. no_marks) v before (before ++ e ∷ [])
 
 -- a call was tried behind this history, which has stayed
-pub record IsTried (v : View (List Event)) (before : List Event) (w : View (List Event)) : Type 0 where
+pub record IsTried (v : View (List Event)) (before : List Event)
+    (w : View (List Event)) : Type 0 where
   pub later : BothBefore GoesOn v before
   pub is : w ≡ after_turn length (λ h. no_marks) v before before
 
@@ -48,7 +50,8 @@ pub record IsFullThen (v w : View (List Event)) : Type 0 where
 module _ (to : ReplyTo) (trader : List ℕ) (number : ℕ) (v : View (List Event)) where
   -- The Request made its call at this place of the history, and the reply has its outcome there: none where none is
   -- expected.
-  pub record Answers (asked : Asked) (bytes : List ℕ) (place : ℕ) (w : View (List Event)) : Type 0 where
+  pub record Answers (asked : Asked) (bytes : List ℕ) (place : ℕ)
+      (w : View (List Event)) : Type 0 where
     pub before : List Event
     pub place_is : place ≡ length before
     pub called : IsCalled v (event_of asked trader number to.order) before w
@@ -75,7 +78,8 @@ module _ (to : ReplyTo) (trader : List ℕ) (number : ℕ) (v : View (List Event
   LocatesIterator bytes Full w = IsFullThen v w
 
 -- what is left and noted where the desk did nothing for a call
-abbrev pub AnswersFault : ReplyTo → View (List Event) → DeskFault → (bytes : List ℕ) → DeskCall → Type 0
+abbrev pub AnswersFault : ReplyTo → View (List Event) → DeskFault → (bytes : List ℕ) → DeskCall
+    → Type 0
 AnswersFault to w fault.Absent bytes (At place) =
     (bytes ≡ reply_for to gone) × ForSome w.seen (λ h. length h ≡ place + 1)
 AnswersFault to w fault.Absent bytes Memory = ⊥
@@ -84,13 +88,15 @@ AnswersFault to w fault.Full bytes c = c ≡ Full
 AnswersFault to w fault.Memory bytes c = (c ≡ Memory) × (bytes ≡ reply_for to no_memory)
 
 -- the LocateReply that is left
-abbrev pub LeavesLocated : ReplyTo → View (List Event) → (live : Bool) → (bytes : List ℕ) → DeskCall → Type 0
+abbrev pub LeavesLocated : ReplyTo → View (List Event) → (live : Bool) → (bytes : List ℕ) → DeskCall
+    → Type 0
 LeavesLocated to w live bytes (At place) =
     (bytes ≡ locate_reply to.order to.minor to.id live) × ForSome w.seen (λ h. length h ≡ place + 1)
 LeavesLocated to w live bytes Memory = ⊥
 LeavesLocated to w live bytes Full = ⊥
 
-abbrev pub LeavesNone : ReplyTo → View (List Event) → DeskFault → (bytes : List ℕ) → DeskCall → Type 0
+abbrev pub LeavesNone : ReplyTo → View (List Event) → DeskFault → (bytes : List ℕ) → DeskCall
+    → Type 0
 LeavesNone to w fault.Absent bytes c = LeavesLocated to w false bytes c
 LeavesNone to w fault.Full bytes c = c ≡ Full
 LeavesNone to w fault.Memory bytes c = ⊥

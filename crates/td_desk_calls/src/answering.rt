@@ -41,8 +41,9 @@ pub fn answer_request<R: Wait>(
     ensures own { SameCell pass.new pass.old }
     ensures same { SameNumbers (knowledge pass.old) (knowledge pass.new) }
     ensures order { StaysInOrder (knowledge pass.old) (knowledge pass.new) }
-    ensures serves { ServesIterator call.now.to call.now.trader.now call.now.number (knowledge pass.old)
-        (asked_by (call_read (kind.Iterator call.now.number) head.now.operation.now head.now.body))
+    ensures serves { ServesIterator call.now.to call.now.trader.now call.now.number
+        (knowledge pass.old) (asked_by
+        (call_read (kind.Iterator call.now.number) head.now.operation.now head.now.body))
         replies.new result (knowledge pass.new) }
 {
     match judge(alloc, call.number, head.operation, &head.body) {
@@ -78,8 +79,8 @@ fn answer_asked<R: Wait>(
     ensures own { SameCell pass.new pass.old }
     ensures same { SameNumbers (knowledge pass.old) (knowledge pass.new) }
     ensures order { StaysInOrder (knowledge pass.old) (knowledge pass.new) }
-    ensures serves { ServesIterator call.now.to call.now.trader.now call.now.number (knowledge pass.old) asked
-        replies.new result (knowledge pass.new) }
+    ensures serves { ServesIterator call.now.to call.now.trader.now call.now.number
+        (knowledge pass.old) asked replies.new result (knowledge pass.new) }
 {
     match Text::from_slice(alloc, call.trader) {
         Err(_) => {
@@ -113,8 +114,8 @@ fn inquire<R: Wait>(
     ensures own { SameCell pass.new pass.old }
     ensures same { SameNumbers (knowledge pass.old) (knowledge pass.new) }
     ensures order { StaysInOrder (knowledge pass.old) (knowledge pass.new) }
-    ensures serves { ServesIterator call.now.to call.now.trader.now call.now.number (knowledge pass.old)
-        (asked.Inquire inquiry) replies.new result (knowledge pass.new) }
+    ensures serves { ServesIterator call.now.to call.now.trader.now call.now.number
+        (knowledge pass.old) (asked.Inquire inquiry) replies.new result (knowledge pass.new) }
 {
     match desk.max_left(rt, pass, trader, call.number) {
         Ok(found) => {
@@ -147,8 +148,8 @@ fn take_off<R: Wait>(
     ensures own { SameCell pass.new pass.old }
     ensures same { SameNumbers (knowledge pass.old) (knowledge pass.new) }
     ensures order { StaysInOrder (knowledge pass.old) (knowledge pass.new) }
-    ensures serves { ServesIterator call.now.to call.now.trader.now call.now.number (knowledge pass.old) asked.Destroy
-        replies.new result (knowledge pass.new) }
+    ensures serves { ServesIterator call.now.to call.now.trader.now call.now.number
+        (knowledge pass.old) asked.Destroy replies.new result (knowledge pass.new) }
 {
     match desk.destroy(rt, pass, trader, call.number) {
         Ok(taken) => {
@@ -179,8 +180,8 @@ fn give_next<R: Wait>(
     ensures own { SameCell pass.new pass.old }
     ensures same { SameNumbers (knowledge pass.old) (knowledge pass.new) }
     ensures order { StaysInOrder (knowledge pass.old) (knowledge pass.new) }
-    ensures serves { ServesIterator call.now.to call.now.trader.now call.now.number (knowledge pass.old) (asked.NextN n)
-        replies.new result (knowledge pass.new) }
+    ensures serves { ServesIterator call.now.to call.now.trader.now call.now.number
+        (knowledge pass.old) (asked.NextN n) replies.new result (knowledge pass.new) }
 {
     match replies.begin(alloc, call.to) {
         Err(_) => {
@@ -222,8 +223,8 @@ fn give_begun<R: Wait>(
     ensures own { SameCell pass.new pass.old }
     ensures same { SameNumbers (knowledge pass.old) (knowledge pass.new) }
     ensures order { StaysInOrder (knowledge pass.old) (knowledge pass.new) }
-    ensures serves { ServesIterator call.now.to call.now.trader.now call.now.number (knowledge pass.old) (asked.NextN n)
-        replies.new result (knowledge pass.new) }
+    ensures serves { ServesIterator call.now.to call.now.trader.now call.now.number
+        (knowledge pass.old) (asked.NextN n) replies.new result (knowledge pass.new) }
 {
     let (back, given) = desk.next_n(rt, pass, trader, call.number, n, begun);
     match given {
@@ -247,7 +248,8 @@ fn answer_fault(
     fault: DeskFault,
 ) -> DeskCall
     requires version { IsWritable to }
-    requires absent { (fault ≡ DeskFault.Absent) → ForSome (knowledge pass.now).seen (λ h. 0 < length h) }
+    requires absent { (fault ≡ DeskFault.Absent)
+        → ForSome (knowledge pass.now).seen (λ h. 0 < length h) }
     ensures { AnswersFault to (knowledge pass.now) fault replies.new result }
 {
     match fault {

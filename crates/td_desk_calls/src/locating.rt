@@ -33,8 +33,9 @@ pub fn locate<R: Wait>(
     ensures own { SameCell pass.new pass.old }
     ensures same { SameNumbers (knowledge pass.old) (knowledge pass.new) }
     ensures order { StaysInOrder (knowledge pass.old) (knowledge pass.new) }
-    ensures locates { IfOk result (λ c. LocatesIterator call.now.to call.now.trader.now call.now.number
-        (knowledge pass.old) replies.new c (knowledge pass.new)) }
+    ensures locates { IfOk result
+        (λ c. LocatesIterator call.now.to call.now.trader.now call.now.number (knowledge pass.old)
+        replies.new c (knowledge pass.new)) }
     ensures err { OnErr result (knowledge pass.new ≡ knowledge pass.old) }
 {
     match Text::from_slice(alloc, call.trader) {
@@ -58,8 +59,8 @@ fn locate_named<R: Wait>(
     ensures own { SameCell pass.new pass.old }
     ensures same { SameNumbers (knowledge pass.old) (knowledge pass.new) }
     ensures order { StaysInOrder (knowledge pass.old) (knowledge pass.new) }
-    ensures locates { LocatesIterator call.now.to call.now.trader.now call.now.number (knowledge pass.old) replies.new
-        result (knowledge pass.new) }
+    ensures locates { LocatesIterator call.now.to call.now.trader.now call.now.number
+        (knowledge pass.old) replies.new result (knowledge pass.new) }
 {
     match desk.max_left(rt, pass, trader, call.number) {
         Ok(_found) => leave_located(pass, replies, call, true),
@@ -90,7 +91,8 @@ fn leave_none(
     fault: DeskFault,
 ) -> DeskCall
     requires version { IsWritable call.now.to }
-    requires absent { (fault ≡ DeskFault.Absent) → ForSome (knowledge pass.now).seen (λ h. 0 < length h) }
+    requires absent { (fault ≡ DeskFault.Absent)
+        → ForSome (knowledge pass.now).seen (λ h. 0 < length h) }
     requires takes_no_memory { (fault ≡ DeskFault.Memory) → ⊥ }
     ensures { LeavesNone call.now.to (knowledge pass.now) fault replies.new result }
 {

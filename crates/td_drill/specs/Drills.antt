@@ -27,24 +27,26 @@ drill_query = record {
 }
 
 -- one walk from trader k on comes to this
-pub record Comes (home : Address) (q : Query) (s : Course (List View)) (k : ℕ) (t : Tally) (u : Course (List View))
-    : Type 0 where
+pub record Comes (home : Address) (q : Query) (s : Course (List View)) (k : ℕ) (t : Tally)
+    (u : Course (List View)) : Type 0 where
   pub items : List TraceItem
   pub visit : Visit
   pub walk : Walks nothing unchanged home s k q items visit u
   pub tally : t ≡ tally_of items visit
 
 -- The query was asked of the first so many traders, one after the other, and this is what the walks come to in all.
-pub data Drilled (home : Address) (q : Query) (s : Course (List View)) : (count : ℕ) → Tally → Course (List View)
-    → Type 0 where
+pub data Drilled (home : Address) (q : Query) (s : Course (List View)) : (count : ℕ) → Tally
+    → Course (List View) → Type 0 where
   none : Drilled home q s zero no_walk s
-  more : (k : ℕ) (t one : Tally) (m u : Course (List View)) → Drilled home q s k t m → Comes home q m k one u
-      → Drilled home q s (suc k) (together t one) u
+  more : (k : ℕ) (t one : Tally) (m u : Course (List View)) → Drilled home q s k t m
+      → Comes home q m k one u → Drilled home q s (suc k) (together t one) u
 
 -- each trader was asked
-pub record AsksAll (words : ℕ → ℕ) (home : Address) (traders : List PlainTrader) (t : Tally) : Type 0 where
+pub record AsksAll (words : ℕ → ℕ) (home : Address) (traders : List PlainTrader)
+    (t : Tally) : Type 0 where
   pub later : Course (List View)
-  pub drilled : Drilled home drill_query (course (map solo_view traders) words []) (length traders) t later
+  pub drilled : Drilled home drill_query (course (map solo_view traders) words [])
+      (length traders) t later
 
 -- how many offers these traders have in all
 abbrev pub offers_in : List PlainTrader → ℕ
@@ -52,7 +54,8 @@ offers_in [] = 0
 offers_in (t ∷ ts) = length (store_of t).offers + offers_in ts
 
 -- This is the line of a drill of these traders, from these random words on.
-pub record Drills (words : ℕ → ℕ) (home : Address) (traders : List PlainTrader) (line : List ℕ) : Type 0 where
+pub record Drills (words : ℕ → ℕ) (home : Address) (traders : List PlainTrader)
+    (line : List ℕ) : Type 0 where
   pub tally : Tally
   pub asks : AsksAll words home traders tally
   pub told : line ≡ drill_line (length traders) (offers_in traders) tally

@@ -25,8 +25,10 @@ tally queries searched repeats returned =
     record { queries = queries; searched = searched; repeats = repeats; returned = returned }
 
 pub record WorkedDrills : Type 0 where
-  pub walk : (a b : Offer) → tally_of ring (visit.Answered (record { offers = a ∷ b ∷ []; limits = [] }) 100)
+  pub walk : (a b : Offer)
+      → tally_of ring (visit.Answered (record { offers = a ∷ b ∷ []; limits = [] }) 100)
       ≡ tally 1 2 3 2
   pub twice : together (tally 1 2 3 11) (tally 1 2 3 11) ≡ tally 2 4 6 22
   pub first : together no_walk (tally 1 2 3 11) ≡ tally 1 2 3 11
-  pub line : drill_line 2 20 (tally 2 4 6 22) ≡ codes "traders 2 offers 20 queries 2 searched 4 repeats 6 returned 22\n"
+  pub line : drill_line 2 20 (tally 2 4 6 22)
+      ≡ codes "traders 2 offers 20 queries 2 searched 4 repeats 6 returned 22\n"

@@ -9,7 +9,8 @@ group_part traders offers = counted (codes "traders ") traders ++ counted (codes
 abbrev pub walks_part : Tally → List ℕ
 walks_part t =
     counted (codes " queries ") t.queries ++ counted (codes " searched ") t.searched
-    ++ counted (codes " repeats ") t.repeats ++ counted (codes " returned ") t.returned ++ codes "\n"
+    ++ counted (codes " repeats ") t.repeats ++ counted (codes " returned ") t.returned
+    ++ codes "\n"
 
 abbrev pub drill_line : (traders offers : ℕ) → Tally → List ℕ
 drill_line traders offers t = group_part traders offers ++ walks_part t

@@ -51,7 +51,8 @@ fn ask<W: Words>(
     ensures comes { IfOk result (λ t. Comes home.now q.now
         (course (map solo_view solo.old.traders.items) (W.word words.old) peers.old.calls) trader t
         (course (map solo_view solo.new.traders.items) (W.word words.new) peers.new.calls)) }
-    ensures many { length (map solo_view solo.new.traders.items) ≡ length (map solo_view solo.old.traders.items) }
+    ensures many { length (map solo_view solo.new.traders.items)
+        ≡ length (map solo_view solo.old.traders.items) }
 {
     let mut trace = Trace {
         items: List::new(alloc),

@@ -68,7 +68,8 @@ fn drill_group<W: Words>(
 /// `Memory` for want of memory, or where a number has no place in 64 bits.
 pub fn drill<W: Words>(alloc: Global, opened: Opened, words: &mut W) -> Result<Octets, Memory>
     requires { length opened.seed ≡ 32 }
-    ensures { IfOk result (λ line. Drills (W.word_after words.old (record { key = opened.seed; stream = 0 }))
+    ensures { IfOk result (λ line.
+        Drills (W.word_after words.old (record { key = opened.seed; stream = 0 }))
         opened.home opened.solo.traders.items line) }
 {
     let Opened {

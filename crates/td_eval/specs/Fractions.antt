@@ -8,14 +8,16 @@ use Rattle.td_eval.specs.declared.simple.Simple.TheVariants.{Number}
 
 abbrev pub in_range : ℤ → ℤ → Bool
 in_range n d =
-    int_lt (negsuc (2 ^ 63 - 1)) n && (int_lt n (pos (2 ^ 63)) && (int_lt (pos 0) d && int_lt d (pos (2 ^ 63))))
+    int_lt (negsuc (2 ^ 63 - 1)) n
+    && (int_lt n (pos (2 ^ 63)) && (int_lt (pos 0) d && int_lt d (pos (2 ^ 63))))
 
 unfoldable pub fraction : ℤ → ℤ → Option Simple
 fraction n d = if in_range n d then Some (Number n d) else None
 
 -- both signs are turned where the denominator is negative
 unfoldable pub with_denominator_turned : ℤ → ℤ → Option Simple
-with_denominator_turned n d = if int_lt d (pos 0) then fraction (neg_ℤ n) (neg_ℤ d) else fraction n d
+with_denominator_turned n d = if int_lt d (pos 0) then fraction (neg_ℤ n)
+    (neg_ℤ d) else fraction n d
 
 -- a/b + c/d, a/b - c/d, a/b * c/d, and a/b divided by c/d, which has no value where c is 0: 0 is no denominator
 abbrev pub sum : Simple → Simple → Option Simple

@@ -49,7 +49,8 @@ is_textual kind = nat_eq kind 9 || nat_eq kind 18
 -- what values of a kind are; boolean has kind 8
 unfoldable pub sort_of : ℕ → Option Sort
 sort_of kind =
-    if is_numeric kind then Some Numbers else if is_textual kind then Some Texts else if nat_eq kind 8 then Some Truths
+    if is_numeric kind then Some Numbers else if is_textual kind then Some Texts else if nat_eq kind
+    8 then Some Truths
     else None
 
 -- ---- values

@@ -40,7 +40,8 @@ preference_names p = []
 
 -- a name behind others, where it isn't among them
 abbrev pub with_name : Names → List ℕ → Names
-with_name names name = if list_any (λ other. bytes_eq other name) names then names else names ++ name ∷ []
+with_name names name = if list_any (λ other. bytes_eq other name) names then names else names
+    ++ name ∷ []
 
 -- each of the further names that isn't there yet, behind those that are
 unfoldable pub with_names : Names → Names → Names

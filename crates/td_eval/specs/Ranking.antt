@@ -63,7 +63,8 @@ pub record IsArranged (p : Preference) (offers arranged : List Offer) : Type 0 w
 -- and at the word's remainder by the place's number, counted from 1, are exchanged
 abbrev pub shuffle_of : (ℕ → ℕ) → ℕ → ℕ → List Offer → List Offer
 shuffle_of word k zero offers = offers
-shuffle_of word k (suc i) offers = shuffle_of word (k + 1) i (swap offers (suc i) (word k % (suc i + 1)))
+shuffle_of word k (suc i) offers = shuffle_of word (k + 1) i
+    (swap offers (suc i) (word k % (suc i + 1)))
 
 -- how many words a preference draws
 abbrev pub draw_count : Preference → ℕ → ℕ
@@ -74,5 +75,6 @@ draw_count p count = 0
 abbrev pub IsRanked : Preference → (ℕ → ℕ) → List Offer → List Offer → Type 0
 IsRanked preference.Empty word offers ranked = ranked ≡ offers
 IsRanked preference.First word offers ranked = ranked ≡ offers
-IsRanked preference.Random word offers ranked = ranked ≡ shuffle_of word 0 (length offers - 1) offers
+IsRanked preference.Random word offers ranked = ranked
+    ≡ shuffle_of word 0 (length offers - 1) offers
 IsRanked p word offers ranked = IsArranged p offers ranked

@@ -77,7 +77,8 @@ fn has_nul(text: &[u8]) -> bool
 
 /// Puts a value's literal behind the bytes, and answers whether it has one.
 fn put_literal(alloc: Global, out: &mut Vec<u8>, value: Operand) -> Result<bool, Memory>
-    ensures { IfOk result (λ put. Puts (literal (view value.entry)) out.old.items out.new.items put) }
+    ensures { IfOk result (λ put.
+        Puts (literal (view value.entry)) out.old.items out.new.items put) }
 {
     match value {
         Operand::Number(numerator, denominator) => {
@@ -120,7 +121,8 @@ fn put_part(
     constraint: &[u8],
     map: &[Property],
 ) -> Result<bool, Memory>
-    ensures { IfOk result (λ put. Puts (part_text constraint.now map.now part.now) out.old.items out.new.items put) }
+    ensures { IfOk result (λ put. Puts (part_text constraint.now map.now part.now)
+        out.old.items out.new.items put) }
 {
     match part {
         Part::Byte(byte) => {

@@ -23,7 +23,8 @@ ghost use Rattle.td_eval.specs.Values.{matching, simple_value};
 /// An expression's value rests on the properties alone whose names it mentions.
 #[tactic(auto, using(crate::proofs::Agreeing::reads))]
 pub fn values_rest_on_the_names()
-    ensures { (m n : List Property) (e : Expr) → Agree m n (names_in e) → simple_value m e ≡ simple_value n e }
+    ensures { (m n : List Property) (e : Expr) → Agree m n (names_in e) → simple_value m e
+        ≡ simple_value n e }
 {}
 
 /// Whether a constraint matches doesn't change by properties that stand behind the others under names that it
@@ -39,14 +40,15 @@ pub fn further_properties_change_nothing()
 pub fn names_are_asked_once()
     ensures once { (c : Constraint) (p : Preference) → IsDistinct bytes_eq (names_asked c p) }
     ensures mentioned { (c : Constraint) (p : Preference) (name : List ℕ) →
-        is_mentioned name (names_asked c p) ≡ is_mentioned name (constraint_names c ++ preference_names p) }
+        is_mentioned name (names_asked c p)
+        ≡ is_mentioned name (constraint_names c ++ preference_names p) }
 {}
 
 /// No offer is lost or made by a ranking.
 #[tactic(auto, using(crate::proofs::Arranged::same_offers))]
 pub fn rankings_keep_the_offers()
-    ensures { (p : Preference) (word : ℕ → ℕ) (offers ranked : List Offer) → IsRanked p word offers ranked
-        → IsPermutation offers ranked }
+    ensures { (p : Preference) (word : ℕ → ℕ) (offers ranked : List Offer)
+        → IsRanked p word offers ranked → IsPermutation offers ranked }
 {}
 
 /// An expansion has at most 65,536 bytes.
@@ -59,10 +61,12 @@ pub fn expansions_are_short()
 /// The literal of a text is read as that text.
 #[tactic(auto, using(crate::proofs::Literals::literal_is_read))]
 pub fn literals_are_read()
-    ensures { (t : List ℕ) → length (text_literal t) ≤ 4096 → constraint_of (text_literal t) ≡ Ok (Is (Str t)) }
+    ensures { (t : List ℕ) → length (text_literal t) ≤ 4096 → constraint_of (text_literal t)
+        ≡ Ok (Is (Str t)) }
 {}
 
 /// No two arrangements of the same offers are in order and leave ties as they stood.
 pub fn arrangements_are_one()
-    ensures { (p : Preference) (offers xs ys : List Offer) → IsArranged p offers xs → IsArranged p offers ys → xs ≡ ys }
+    ensures { (p : Preference) (offers xs ys : List Offer) → IsArranged p offers xs
+        → IsArranged p offers ys → xs ≡ ys }
 {}

@@ -99,7 +99,8 @@ fn sort_of(kind: u32) -> Option<Sort>
 
 /// A kind with a value, where there is one.
 fn with_kind(kind: u32, operand: Option<Operand>) -> Option<(u32, Operand)>
-    ensures { option_map (λ p. (p.0, view p.1)) result ≡ with_kind kind (option_map view operand.entry) }
+    ensures { option_map (λ p. (p.0, view p.1)) result
+        ≡ with_kind kind (option_map view operand.entry) }
 {
     match operand {
         None => None,
@@ -188,7 +189,8 @@ fn contains(item: Operand, kind: u32, items: &[Value]) -> Option<bool>
 /// Whether a value is an item of a sequence whose items are of a kind.
 #[tactic(auto, unfolding(crate::specs::Kinds::list_under))]
 fn is_among(item: Operand, kind: u32, items: &Value) -> Option<Operand<'static>>
-    ensures { option_map view result ≡ option_and_then (membership (view item.entry)) (list_under kind items.now) }
+    ensures { option_map view result ≡ option_and_then (membership (view item.entry))
+        (list_under kind items.now) }
 {
     match (sort_of(kind), items) {
         (Some(sort), Value::Items(items)) => match contains(item, kind, items.as_slice()) {
@@ -211,7 +213,8 @@ fn truth_if(wanted: bool, truth: bool) -> Option<Operand<'static>>
 
 #[tactic(auto, unfolding(crate::specs::Kinds::content_of), using(crate::proofs::Operating::member_of_one))]
 fn membership(item: Operand, any: &Any) -> Option<Operand<'static>>
-    ensures { option_map view result ≡ option_and_then (membership (view item.entry)) (content_of any.now) }
+    ensures { option_map view result ≡ option_and_then (membership (view item.entry))
+        (content_of any.now) }
 {
     match item_kind(&any.code) {
         None => None,
@@ -222,7 +225,8 @@ fn membership(item: Operand, any: &Any) -> Option<Operand<'static>>
 /// Whether a value is an item of the property of a name.
 #[tactic(auto, unfolding(crate::specs::Properties::content_named))]
 pub(crate) fn within(item: Operand, map: &[Property], name: &[u8]) -> Option<Operand<'static>>
-    ensures { option_map view result ≡ within (Some (view item.entry)) (content_named map.now name.now) }
+    ensures { option_map view result
+        ≡ within (Some (view item.entry)) (content_named map.now name.now) }
 {
     match property(map, name) {
         None => None,

@@ -36,7 +36,8 @@ fn number_of(e: &Expr, map: &[Property]) -> Option<Key>
 }
 
 fn positive(numerator: i64, denominator: i64) -> Option<Key>
-    ensures { option_map pair result ≡ (if int_lt (pos 0) denominator then Some (numerator, denominator) else None) }
+    ensures { option_map pair result
+        ≡ (if int_lt (pos 0) denominator then Some (numerator, denominator) else None) }
 {
     if 0 < denominator {
         Some(Key {
@@ -105,7 +106,8 @@ fn number_order(left: i128, right: i128) -> Ordering
 
 /// How two ranks are ordered: what has none comes last.
 fn rank_order(descending: bool, first: Option<Key>, second: Option<Key>) -> Ordering
-    ensures { is_lt result ≡ comes_first descending (option_map pair first) (option_map pair second) }
+    ensures { is_lt result ≡ comes_first descending (option_map pair first)
+        (option_map pair second) }
 {
     match (first, second) {
         (Some(x), Some(y)) => order_of(descending, x, y),
@@ -136,7 +138,8 @@ fn sort(preference: &Preference, offers: &mut Vec<Offer>) -> Result<(), Memory>
 
 /// Exchanges offers by the words that are drawn, from the last place down.
 fn shuffle<W: Words>(offers: &mut Vec<Offer>, words: &mut W)
-    ensures exchanged { offers.new.items ≡ shuffle_of (W.word words.old) 0 (vec_len offers.old - 1) offers.old.items }
+    ensures exchanged { offers.new.items
+        ≡ shuffle_of (W.word words.old) 0 (vec_len offers.old - 1) offers.old.items }
     ensures drawn { (k : ℕ) → W.word words.new k ≡ W.word words.old (k + (vec_len offers.old - 1)) }
     ensures seeding { W.last_seeding words.new ≡ W.last_seeding words.old }
     ensures same { W.same words.old words.new }
@@ -161,9 +164,11 @@ pub fn rank<W: Words>(
     offers: List<Offer>,
     words: &mut W,
 ) -> Result<List<Offer>, Memory>
-    ensures ranked { IfOk result (λ ranked. IsRanked preference.now (W.word words.old) offers ranked) }
+    ensures ranked { IfOk result
+        (λ ranked. IsRanked preference.now (W.word words.old) offers ranked) }
     ensures drawn { OnOk result
-        ((k : ℕ) → W.word words.new k ≡ W.word words.old (k + draw_count preference.now (length offers))) }
+        ((k : ℕ) → W.word words.new k
+        ≡ W.word words.old (k + draw_count preference.now (length offers))) }
     ensures kept { OnErr result ((k : ℕ) → W.word words.new k ≡ W.word words.old k) }
     ensures seeding { W.last_seeding words.new ≡ W.last_seeding words.old }
     ensures same { W.same words.old words.new }

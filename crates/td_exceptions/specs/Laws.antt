@@ -10,7 +10,8 @@ use Rattle.td_exceptions.specs.Exceptions.{row_of, user_id, exception_piece}
 -- (CORBA, chapter "The Interface Repository", "OMG IDL Format")
 abbrev pub IdIsOfScopeAndName : Type 0
 IdIsOfScopeAndName = (e : UserException)
-    → user_id e ≡ codes "IDL:omg.org/" ++ (row_of e).scope ++ codes "/" ++ (row_of e).name ++ codes ":1.0"
+    → user_id e ≡ codes "IDL:omg.org/" ++ (row_of e).scope ++ codes "/" ++ (row_of e).name
+    ++ codes ":1.0"
 
 -- the id is a string
 abbrev pub IdHasNoNul : Type 0
@@ -23,10 +24,13 @@ IdTellsMembers = (e f : UserException) → user_id e ≡ user_id f
 
 -- the members can be written
 abbrev pub IsWritable : UserException → Order → ℕ → Type 0
-IsWritable e order place = (row_of e).members.format.admits e × (length (exception_piece e order place) < 2 ^ 32)
+IsWritable e order place = (row_of e).members.format.admits e
+    × (length (exception_piece e order place) < 2 ^ 32)
 
 -- no two exceptions are written alike, nor is one written as what another begins with
 abbrev pub WrittenApart : Type 0
 WrittenApart =
-    (e f : UserException) (order : Order) (place : ℕ) (more others : List ℕ) → IsWritable e order place
-    → IsWritable f order place → exception_piece e order place ++ more ≡ exception_piece f order place ++ others → e ≡ f
+    (e f : UserException) (order : Order) (place : ℕ) (more others : List ℕ)
+    → IsWritable e order place
+    → IsWritable f order place → exception_piece e order place ++ more
+    ≡ exception_piece f order place ++ others → e ≡ f

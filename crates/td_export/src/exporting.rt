@@ -25,7 +25,8 @@ use td_value::{Ior, Property};
 
 /// Refuses a nil reference.
 fn check_reference(alloc: Global, reference: &Ior) -> Result<(), Fault>
-    ensures { Judges (raise_if (is_nil reference.now) (user.InvalidObjectRef reference.now)) result }
+    ensures { Judges (raise_if (is_nil reference.now) (user.InvalidObjectRef reference.now))
+        result }
 {
     if is_nil(reference) {
         return Err(raised(UserException::InvalidObjectRef {
@@ -153,12 +154,14 @@ fn add_export(
     service_type: &Shared<Text>,
     properties: &Shared<List<Property>>,
 ) -> Result<ChangeReply, Fault>
-    requires given { AllByRecursion (λ (o : Kept). (0 < o.number) × (o.number ≤ store.old.last_offer))
-        store.old.offers }
+    requires given { AllByRecursion (λ (o : Kept). (0 < o.number)
+        × (o.number ≤ store.old.last_offer)) store.old.offers }
     ensures { MatchResult result
-        (λ told. export store.old reference.now service_type.now properties.now ≡ Ok (told, store.new))
-        (λ f. Accepts (change.Export reference.now service_type.now properties.now)
-        (export store.old reference.now service_type.now properties.now) store.old store.new (Err f)) }
+        (λ told. export store.old reference.now service_type.now properties.now
+        ≡ Ok (told, store.new)) (λ f.
+        Accepts (change.Export reference.now service_type.now properties.now)
+        (export store.old reference.now service_type.now properties.now) store.old store.new
+        (Err f)) }
 {
     check_export(alloc, store, reference, service_type, properties)?;
     let offer = new_offer(alloc, store, reference, service_type, properties)?;
@@ -179,10 +182,10 @@ pub fn export(
     properties: Shared<List<Property>>,
 ) -> Result<Accepted, Fault>
     // The numbers of the offers were given.
-    requires given { AllByRecursion (λ (o : Kept). (0 < o.number) × (o.number ≤ store.old.last_offer))
-        store.old.offers }
-    ensures { Accepts (change.Export reference service_type properties) (export store.old reference service_type
-        properties) store.old store.new result }
+    requires given { AllByRecursion (λ (o : Kept). (0 < o.number)
+        × (o.number ≤ store.old.last_offer)) store.old.offers }
+    ensures { Accepts (change.Export reference service_type properties)
+        (export store.old reference service_type properties) store.old store.new result }
 {
     let reply = add_export(alloc, store, &reference, &service_type, &properties)?;
     Ok(entry_of(

@@ -71,7 +71,8 @@ fn check_supported(supported: bool) -> Result<(), Fault>
 
 /// Refuses a target that has no IIOP profile.
 fn check_target(alloc: Global, target: &Ior) -> Result<(), Fault>
-    ensures { Judges (raise_if (not (is_some (iiop_of target.now))) (user.InvalidLookupRef target.now)) result }
+    ensures { Judges (raise_if (not (is_some (iiop_of target.now)))
+        (user.InvalidLookupRef target.now)) result }
 {
     if !has_profile(alloc, target) {
         return Err(invalid_lookup(alloc, target)?);
@@ -81,7 +82,8 @@ fn check_target(alloc: Global, target: &Ior) -> Result<(), Fault>
 
 /// Refuses a text that is no recipe.
 fn check_recipe(alloc: Global, recipe: &Text) -> Result<(), Fault>
-    ensures { Judges (raise_if (not (is_recipe recipe.now)) (user.IllegalRecipe recipe.now)) result }
+    ensures { Judges (raise_if (not (is_recipe recipe.now)) (user.IllegalRecipe recipe.now))
+        result }
 {
     if !is_recipe(alloc, recipe.as_slice())? {
         return Err(raised(UserException::IllegalRecipe {
@@ -121,8 +123,8 @@ pub fn check_export_proxy(
     properties: &List<Property>,
     part: &ProxyPart,
 ) -> Result<(), Fault>
-    ensures { Judges (proxy_front_cause store.now target.now type_name.now properties.now part.now.recipe
-        part.now.policies) result }
+    ensures { Judges (proxy_front_cause store.now target.now type_name.now properties.now
+        part.now.recipe part.now.policies) result }
 {
     check_supported(store.attributes.supports_proxy_offers)?;
     check_open(alloc, &store.types, type_name)?;
@@ -168,15 +170,15 @@ fn add_proxy(
     properties: &Shared<List<Property>>,
     part: &ProxyPart,
 ) -> Result<ChangeReply, Fault>
-    requires given { AllByRecursion (λ (o : Kept). (0 < o.number) × (o.number ≤ store.old.last_offer))
-        store.old.offers }
+    requires given { AllByRecursion (λ (o : Kept). (0 < o.number)
+        × (o.number ≤ store.old.last_offer)) store.old.offers }
     ensures { MatchResult result
-        (λ told. export_proxy store.old target.now service_type.now properties.now part.now.if_match_all part.now.recipe
-        part.now.policies ≡ Ok (told, store.new))
-        (λ f. Accepts (change.ExportProxy target.now service_type.now properties.now part.now.if_match_all
-        part.now.recipe part.now.policies)
-        (export_proxy store.old target.now service_type.now properties.now part.now.if_match_all part.now.recipe
-        part.now.policies) store.old store.new (Err f)) }
+        (λ told. export_proxy store.old target.now service_type.now properties.now
+        part.now.if_match_all part.now.recipe part.now.policies ≡ Ok (told, store.new))
+        (λ f. Accepts (change.ExportProxy target.now service_type.now properties.now
+        part.now.if_match_all part.now.recipe part.now.policies)
+        (export_proxy store.old target.now service_type.now properties.now part.now.if_match_all
+        part.now.recipe part.now.policies) store.old store.new (Err f)) }
 {
     check_export_proxy(alloc, store, target, service_type, properties, part)?;
     let offer = new_proxy(alloc, store, target, service_type, properties, part)?;
@@ -200,11 +202,11 @@ pub fn export_proxy(
     policies: List<Policy>,
 ) -> Result<Accepted, Fault>
     // The numbers of the offers were given.
-    requires given { AllByRecursion (λ (o : Kept). (0 < o.number) × (o.number ≤ store.old.last_offer))
-        store.old.offers }
-    ensures { Accepts (change.ExportProxy target service_type properties if_match_all recipe policies)
-        (export_proxy store.old target service_type properties if_match_all recipe policies) store.old store.new
-        result }
+    requires given { AllByRecursion (λ (o : Kept). (0 < o.number)
+        × (o.number ≤ store.old.last_offer)) store.old.offers }
+    ensures { Accepts (change.ExportProxy target service_type properties if_match_all recipe
+        policies) (export_proxy store.old target service_type properties if_match_all recipe
+        policies) store.old store.new result }
 {
     let part = ProxyPart {
         if_match_all,

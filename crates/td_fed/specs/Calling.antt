@@ -20,17 +20,23 @@ use Rattle.td_walk.specs.declared.trace.TraceItem.TheVariants as item
 
 -- A trader outside replied, with offers of at most 6 MiB each, or the call failed; a dynamic property has a value, the call failed, or its evaluator has no
 -- IIOP profile and isn't called. A call that wanted memory comes to no answer.
-pub data Peered (calls : List Exchange) : Next → StepAnswer → TraceItem → List Exchange → Type 0 where
+pub data Peered (calls : List Exchange) : Next → StepAnswer → TraceItem → List Exchange
+    → Type 0 where
   replied : (target : Ior) (q : Query) (a : SubAnswer) → HasSmallOffers a
       → Peered calls (Forward target q) (answer.Offers a) (item.Outside a)
       (calls ++ record { call = Querying target q; gave = Replied a } ∷ [])
   unreplied : (target : Ior) (q : Query) (f : PeerFault) → is_memory f ≡ false
       → Peered calls (Forward target q) answer.Failed (item.Failed f)
       (calls ++ record { call = Querying target q; gave = Missed f } ∷ [])
-  valued : (e : Ior) (name : List ℕ) (returned : TypeCode) (extra value : Any) (p : Iiop) → iiop_of e ≡ Some p
-      → Peered calls (Evaluate e name returned extra) (answer.Evaluated value) (item.Evaluated value)
-      (calls ++ record { call = Evaluating e name returned extra; gave = Valued value } ∷ [])
-  unvalued : (e : Ior) (name : List ℕ) (returned : TypeCode) (extra : Any) (p : Iiop) (f : PeerFault)
+  valued : (e : Ior) (name : List ℕ) (returned : TypeCode) (extra value : Any) (p : Iiop)
+      → iiop_of e ≡ Some p
+      → Peered calls (Evaluate e name returned extra) (answer.Evaluated value)
+      (item.Evaluated value) (calls ++ record {
+        call = Evaluating e name returned extra;
+        gave = Valued value;
+      } ∷ [])
+  unvalued : (e : Ior) (name : List ℕ) (returned : TypeCode) (extra : Any) (p : Iiop)
+      (f : PeerFault)
       → iiop_of e ≡ Some p → is_memory f ≡ false
       → Peered calls (Evaluate e name returned extra) answer.Failed (item.Failed f)
       (calls ++ record { call = Evaluating e name returned extra; gave = Missed f } ∷ [])
@@ -38,14 +44,15 @@ pub data Peered (calls : List Exchange) : Next → StepAnswer → TraceItem → 
       → Peered calls (Evaluate e name returned extra) answer.Failed item.Unreachable calls
 
 -- and the item came behind the others
-pub record IsPeered (calls : List Exchange) (question : Next) (r : StepAnswer) (before after : List TraceItem)
-    (now : List Exchange) : Type 0 where
+pub record IsPeered (calls : List Exchange) (question : Next) (r : StepAnswer)
+    (before after : List TraceItem) (now : List Exchange) : Type 0 where
   pub head : TraceItem
   pub notes : after ≡ before ++ head ∷ []
   pub peered : Peered calls question r head now
 
 -- how far a question came that wanted memory: nothing was done, or it came to this, and its answer was lost
-pub data IsPeeredSoFar (calls : List Exchange) (question : Next) (before : List TraceItem) : (after : List TraceItem)
+pub data IsPeeredSoFar (calls : List Exchange) (question : Next)
+    (before : List TraceItem) : (after : List TraceItem)
     → (now : List Exchange) → Type 0 where
   not_called : IsPeeredSoFar calls question before before calls
   called : (r : StepAnswer) {after : List TraceItem} {now : List Exchange}

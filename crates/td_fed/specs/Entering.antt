@@ -50,32 +50,37 @@ entry_of (begin.Search l) = entry.Open (opened l)
 entry_of (begin.Path l) = entry.Open (opened l)
 
 -- a visit began, with this item
-pub data Enters {World : Type 0} (Begins : World → (trader : ℕ) → Query → Start → World → Type 0) (w : World)
-    (trader : ℕ) (q : Query) : Entry → TraceItem → World → Type 0 where
+pub data Enters {World : Type 0} (Begins : World → (trader : ℕ) → Query → Start → World → Type 0)
+    (w : World) (trader : ℕ) (q : Query) : Entry → TraceItem → World → Type 0 where
   refused : {point : ℕ} {o : Outcome} {u : World} → Begins w trader q (Refused point o) u
       → Enters Begins w trader q (entry.Ended (visit.Refused o)) (item.Refused trader point) u
   repeated : {point mark : ℕ} {u : World} → Begins w trader q (Repeat point mark) u
-      → Enters Begins w trader q (entry.Ended (visit.Answered nothing 0)) (item.Repeat trader point mark) u
+      → Enters Begins w trader q (entry.Ended (visit.Answered nothing 0))
+      (item.Repeat trader point mark) u
   opens : {start : Start} {l : Local} {head : TraceItem} {u : World} → Begins w trader q start u
       → Opens trader l start head → Enters Begins w trader q (entry.Open (opened l)) head u
 
 -- and the item came behind the others
-pub record IsEntered {World : Type 0} (Begins : World → (trader : ℕ) → Query → Start → World → Type 0) (w : World)
-    (trader : ℕ) (q : Query) (e : Entry) (before after : List TraceItem) (u : World) : Type 0 where
+pub record IsEntered {World : Type 0}
+    (Begins : World → (trader : ℕ) → Query → Start → World → Type 0) (w : World) (trader : ℕ)
+    (q : Query) (e : Entry) (before after : List TraceItem) (u : World) : Type 0 where
   pub head : TraceItem
   pub notes : after ≡ before ++ head ∷ []
   pub enters : Enters Begins w trader q e head u
 
 -- How far a visit came to begin that wanted memory: nothing was done, but by others, and nothing noted; or it began.
-pub data EntersSoFar {World : Type 0} (Begins : World → (trader : ℕ) → Query → Start → World → Type 0)
-    (Watches : World → (trader : ℕ) → World → Type 0) (w : World) (trader : ℕ) (q : Query) : List TraceItem → World
+pub data EntersSoFar {World : Type 0}
+    (Begins : World → (trader : ℕ) → Query → Start → World → Type 0)
+    (Watches : World → (trader : ℕ) → World → Type 0) (w : World) (trader : ℕ)
+    (q : Query) : List TraceItem → World
     → Type 0 where
   not_entered : EntersSoFar Begins Watches w trader q [] w
   only_watched : {u : World} → Watches w trader u → EntersSoFar Begins Watches w trader q [] u
   entered : {e : Entry} {head : TraceItem} {u : World} → Enters Begins w trader q e head u
       → EntersSoFar Begins Watches w trader q (head ∷ []) u
 
-pub record IsEnteredSoFar {World : Type 0} (Begins : World → (trader : ℕ) → Query → Start → World → Type 0)
+pub record IsEnteredSoFar {World : Type 0}
+    (Begins : World → (trader : ℕ) → Query → Start → World → Type 0)
     (Watches : World → (trader : ℕ) → World → Type 0) (w : World) (trader : ℕ) (q : Query)
     (before after : List TraceItem) (u : World) : Type 0 where
   pub items : List TraceItem
@@ -84,13 +89,15 @@ pub record IsEnteredSoFar {World : Type 0} (Begins : World → (trader : ℕ) �
 
 -- a question was answered, or a visit began that answers it
 pub data Asks {World : Type 0} (Begins : World → (trader : ℕ) → Query → Start → World → Type 0)
-    (inside : World → (target : Ior) → Option ℕ) (s : Course World) (question : Next) : Asking → List TraceItem
-    → Course World → Type 0 where
-  answered : {t : List TraceItem} {r : StepAnswer} {u : Course World} → Step Begins inside s question t r u
-      → Asks Begins inside s question (asking.Answered r) t u
-  begun : {target : Ior} {q : Query} {k : ℕ} {start : Start} {l : Local} {head : TraceItem} {w : World}
+    (inside : World → (target : Ior) → Option ℕ) (s : Course World) (question : Next) : Asking
+    → List TraceItem → Course World → Type 0 where
+  answered : {t : List TraceItem} {r : StepAnswer} {u : Course World}
+      → Step Begins inside s question t r u → Asks Begins inside s question (asking.Answered r) t u
+  begun : {target : Ior} {q : Query} {k : ℕ} {start : Start} {l : Local} {head : TraceItem}
+      {w : World}
       → question ≡ Forward target q → inside s.world target ≡ Some k → Begins s.world k q start w
-      → Opens k l start head → Asks Begins inside s question (asking.Open (opened l)) (head ∷ []) (with_world s w)
+      → Opens k l start head → Asks Begins inside s question (asking.Open (opened l)) (head ∷ [])
+      (with_world s w)
 
 pub record IsAsked {World : Type 0} (Begins : World → (trader : ℕ) → Query → Start → World → Type 0)
     (inside : World → (target : Ior) → Option ℕ) (s : Course World) (question : Next) (a : Asking)
@@ -102,18 +109,20 @@ pub record IsAsked {World : Type 0} (Begins : World → (trader : ℕ) → Query
 -- How far a question came that wanted memory: nothing was done; or it was answered; or the walk from a trader of the
 -- group has begun that answers it.
 pub data AsksSoFar {World : Type 0} (Begins : World → (trader : ℕ) → Query → Start → World → Type 0)
-    (Watches : World → (trader : ℕ) → World → Type 0) (inside : World → (target : Ior) → Option ℕ) (s : Course World)
-    (question : Next) : List TraceItem → Course World → Type 0 where
+    (Watches : World → (trader : ℕ) → World → Type 0) (inside : World → (target : Ior) → Option ℕ)
+    (s : Course World) (question : Next) : List TraceItem → Course World → Type 0 where
   not_asked : AsksSoFar Begins Watches inside s question [] s
-  had_answer : {t : List TraceItem} {r : StepAnswer} {u : Course World} → Step Begins inside s question t r u
-      → AsksSoFar Begins Watches inside s question t u
+  had_answer : {t : List TraceItem} {r : StepAnswer} {u : Course World}
+      → Step Begins inside s question t r u → AsksSoFar Begins Watches inside s question t u
   had_begun : {target : Ior} {q : Query} {k : ℕ} {t : List TraceItem} {u : Course World}
-      → question ≡ Forward target q → inside s.world target ≡ Some k → WalkBegins Begins Watches inside s k q t u
-      → AsksSoFar Begins Watches inside s question t u
+      → question ≡ Forward target q → inside s.world target ≡ Some k
+      → WalkBegins Begins Watches inside s k q t u → AsksSoFar Begins Watches inside s question t u
 
-pub record IsAskedSoFar {World : Type 0} (Begins : World → (trader : ℕ) → Query → Start → World → Type 0)
-    (Watches : World → (trader : ℕ) → World → Type 0) (inside : World → (target : Ior) → Option ℕ) (s : Course World)
-    (question : Next) (before after : List TraceItem) (u : Course World) : Type 0 where
+pub record IsAskedSoFar {World : Type 0}
+    (Begins : World → (trader : ℕ) → Query → Start → World → Type 0)
+    (Watches : World → (trader : ℕ) → World → Type 0) (inside : World → (target : Ior) → Option ℕ)
+    (s : Course World) (question : Next) (before after : List TraceItem)
+    (u : Course World) : Type 0 where
   pub items : List TraceItem
   pub notes : after ≡ before ++ items
   pub asks : AsksSoFar Begins Watches inside s question items u
@@ -121,7 +130,8 @@ pub record IsAskedSoFar {World : Type 0} (Begins : World → (trader : ℕ) → 
 -- ---- the end of a visit
 
 -- the open visit has no question left, and comes to this
-pub record IsEnd {World : Type 0} (s : Course World) (f : Frame) (v : Visit) (u : Course World) : Type 0 where
+pub record IsEnd {World : Type 0} (s : Course World) (f : Frame) (v : Visit)
+    (u : Course World) : Type 0 where
   pub answer : SubAnswer
   pub is : v ≡ visit.Answered answer f.local.attributes.max_list
   pub ends : Ends s f.local f.answers answer u
@@ -129,6 +139,7 @@ pub record IsEnd {World : Type 0} (s : Course World) (f : Frame) (v : Visit) (u 
 -- ---- faults of peers
 
 -- the fault is noted and there is no answer; or memory was wanted, and nothing is noted
-abbrev pub NotesFault : PeerFault → (before after : List TraceItem) → Result StepAnswer Wanting → Type 0
+abbrev pub NotesFault : PeerFault → (before after : List TraceItem) → Result StepAnswer Wanting
+    → Type 0
 NotesFault fault.Memory before after r = (r ≡ Err (record {})) × (after ≡ before)
 NotesFault f before after r = (r ≡ Ok answer.Failed) × (after ≡ before ++ item.Failed f ∷ [])

@@ -34,7 +34,8 @@ most_names = 64
 -- the name of a trader, as it is resolved: 1 to 64 names of links
 abbrev pub is_path : List (List ℕ) → Bool
 is_path [] = false
-is_path (name ∷ names) = nat_le (length (name ∷ names)) most_names && list_all word_name (name ∷ names)
+is_path (name ∷ names) = nat_le (length (name ∷ names)) most_names
+    && list_all word_name (name ∷ names)
 
 -- ---- a link
 
@@ -44,8 +45,8 @@ register_of_link None = None
 register_of_link (Some l) = Some l.register
 
 -- A name is looked up at a trader. What is told is the register of the link that has the name there then, if one has.
-pub record LooksUp (others : List Accepted → Type 0) (later : Marks → Marks → Type 0) (w : List View) (k : ℕ)
-    (name : List ℕ) (register : Option Ior) (u : List View) : Type 0 where
+pub record LooksUp (others : List Accepted → Type 0) (later : Marks → Marks → Type 0)
+    (w : List View) (k : ℕ) (name : List ℕ) (register : Option Ior) (u : List View) : Type 0 where
   pub seen : View
   pub meanwhile : Meanwhile others later w k seen
   pub told : register ≡ register_of_link (link_of (store_seen seen).links name)
@@ -55,7 +56,8 @@ pub record LooksUp (others : List Accepted → Type 0) (later : Marks → Marks 
 
 -- It is asked for the names that are left. The reference that it gives is the result, or memory is refused then; and
 -- where it gives none the name is unknown.
-pub data IsAskedFor (point : ℕ) (whole rest : List (List ℕ)) (register : Ior) (calls : List Exchange) : NameAnswer
+pub data IsAskedFor (point : ℕ) (whole rest : List (List ℕ)) (register : Ior)
+    (calls : List Exchange) : NameAnswer
     → List Exchange → Type 0 where
   given : (r : Ior) → IsAskedFor point whole rest register calls
       (record { point = point; asked = Some (Ok r); outcome = Done (reply.Reference r) })
@@ -71,40 +73,56 @@ pub data IsAskedFor (point : ℕ) (whole rest : List (List ℕ)) (register : Ior
 
 -- From trader k on. The point of an answer is that at which its first name was looked up.
 pub data Follows (others : List Accepted → Type 0) (later : Marks → Marks → Type 0) (home : Address)
-    (whole : List (List ℕ)) (calls : List Exchange) : List View → ℕ → List (List ℕ) → NameAnswer → List View
-    → List Exchange → Type 0 where
+    (whole : List (List ℕ)) (calls : List Exchange) : List View → ℕ → List (List ℕ) → NameAnswer
+    → List View → List Exchange → Type 0 where
   -- no link has the name
   unknown : {w : List View} {k : ℕ} {name : List ℕ} {rest : List (List ℕ)} {u : List View}
       → LooksUp others later w k name None u
       → Follows others later home whole calls w k (name ∷ rest)
-      (record { point = length (history_at u k); asked = None; outcome = User (UnknownTraderName whole) }) u calls
+      (record {
+        point = length (history_at u k);
+        asked = None;
+        outcome = User (UnknownTraderName whole);
+      }) u calls
   -- the last name gives its link's register
   named : {w : List View} {k : ℕ} {name : List ℕ} {u : List View} (register : Ior)
       → LooksUp others later w k name (Some register) u
       → Follows others later home whole calls w k (name ∷ [])
-      (record { point = length (history_at u k); asked = None; outcome = Done (reply.Reference register) }) u calls
+      (record {
+        point = length (history_at u k);
+        asked = None;
+        outcome = Done (reply.Reference register);
+      }) u calls
   -- a register of the group looks the others up in the same way
-  inside : {w : List View} {k : ℕ} {name : List ℕ} {rest : List (List ℕ)} {u : List View} {a : NameAnswer}
+  inside : {w : List View} {k : ℕ} {name : List ℕ} {rest : List (List ℕ)} {u : List View}
+      {a : NameAnswer}
       {v : List View} {now : List Exchange} (register : Ior) (n : ℕ)
       → LooksUp others later w k name (Some register) u → register_inside home u register ≡ Some n
       → Follows others later home whole calls u n rest a v now
       → Follows others later home whole calls w k (name ∷ rest)
       (record { point = length (history_at u k); asked = a.asked; outcome = a.outcome }) v now
   -- any other register is asked for them
-  outside : {w : List View} {k : ℕ} {name next : List ℕ} {rest : List (List ℕ)} {u : List View} {a : NameAnswer}
+  outside : {w : List View} {k : ℕ} {name next : List ℕ} {rest : List (List ℕ)} {u : List View}
+      {a : NameAnswer}
       {now : List Exchange} (register : Ior)
       → LooksUp others later w k name (Some register) u → register_inside home u register ≡ None
       → IsAskedFor (length (history_at u k)) whole (next ∷ rest) register calls a now
       → Follows others later home whole calls w k (name ∷ next ∷ rest) a u now
 
 -- What a name comes to at trader k, and the calls of peers that were made.
-pub data Resolves (others : List Accepted → Type 0) (later : Marks → Marks → Type 0) (home : Address) (w : List View)
-    (calls : List Exchange) (k : ℕ) (name : List (List ℕ)) : NameAnswer → List View → List Exchange → Type 0 where
+pub data Resolves (others : List Accepted → Type 0) (later : Marks → Marks → Type 0)
+    (home : Address) (w : List View) (calls : List Exchange) (k : ℕ)
+    (name : List (List ℕ)) : NameAnswer → List View → List Exchange → Type 0 where
   illegal : is_path name ≡ false
       → Resolves others later home w calls k name
-      (record { point = length (history_at w k); asked = None; outcome = User (IllegalTraderName name) }) w calls
+      (record {
+        point = length (history_at w k);
+        asked = None;
+        outcome = User (IllegalTraderName name);
+      }) w calls
   followed : {a : NameAnswer} {u : List View} {now : List Exchange} → is_path name ≡ true
-      → Follows others later home name calls w k name a u now → Resolves others later home w calls k name a u now
+      → Follows others later home name calls w k name a u now
+      → Resolves others later home w calls k name a u now
 
 -- ---- one name at a time
 
@@ -118,8 +136,9 @@ told_register (Done told) = link_register told
 told_register other = None
 
 -- a link was found whose register is one of the group, at which the others are looked up
-pub record LeadsInside (others : List Accepted → Type 0) (later : Marks → Marks → Type 0) (home : Address)
-    (w : List View) (k : ℕ) (name : List ℕ) (point n : ℕ) (u : List View) : Type 0 where
+pub record LeadsInside (others : List Accepted → Type 0) (later : Marks → Marks → Type 0)
+    (home : Address) (w : List View) (k : ℕ) (name : List ℕ) (point n : ℕ)
+    (u : List View) : Type 0 where
   pub register : Ior
   pub looks : LooksUp others later w k name (Some register) u
   pub is_inside : register_inside home u register ≡ Some n
@@ -127,8 +146,8 @@ pub record LeadsInside (others : List Accepted → Type 0) (later : Marks → Ma
 
 -- where a name leads, with those that are left: to an answer, or to a register of the group
 abbrev pub Leads : (others : List Accepted → Type 0) → (later : Marks → Marks → Type 0) → Address
-    → (whole : List (List ℕ)) → (calls : List Exchange) → List View → ℕ → (name : List ℕ) → (rest : List (List ℕ))
-    → Lead → List View → (now : List Exchange) → Type 0
+    → (whole : List (List ℕ)) → (calls : List Exchange) → List View → ℕ → (name : List ℕ)
+    → (rest : List (List ℕ)) → Lead → List View → (now : List Exchange) → Type 0
 Leads others later home whole calls w k name rest (lead.Ended a) u now =
     Follows others later home whole calls w k (name ∷ rest) a u now
 Leads others later home whole calls w k name rest (lead.Inside point n) u now =
@@ -142,13 +161,19 @@ with_outcome point r o = record { point = point; asked = Some (Ok r); outcome = 
 -- a reference, which is the result where there is memory for it
 abbrev pub IsGiven : (point : ℕ) → Ior → NameAnswer → Type 0
 IsGiven point r a =
-    (a ≡ with_outcome point r (Done (reply.Reference r))) ⊎ (a ≡ with_outcome point r (system NoMemory))
+    (a ≡ with_outcome point r (Done (reply.Reference r)))
+    ⊎ (a ≡ with_outcome point r (system NoMemory))
 
 abbrev pub unfound : (point : ℕ) → PeerFault → (whole : List (List ℕ)) → NameAnswer
-unfound point f whole = record { point = point; asked = Some (Err f); outcome = User (UnknownTraderName whole) }
+unfound point f whole = record {
+  point = point;
+  asked = Some (Err f);
+  outcome = User (UnknownTraderName whole);
+}
 
 -- none, or it wanted memory
-abbrev pub IsUngiven : (point : ℕ) → PeerFault → (whole : List (List ℕ)) → Result NameAnswer Wanting → Type 0
+abbrev pub IsUngiven : (point : ℕ) → PeerFault → (whole : List (List ℕ)) → Result NameAnswer Wanting
+    → Type 0
 IsUngiven point f whole (Ok a) = (is_memory f ≡ false) × (a ≡ unfound point f whole)
 IsUngiven point f whole (Err e) = is_memory f ≡ true
 

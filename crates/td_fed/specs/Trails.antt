@@ -64,12 +64,13 @@ points_of k items = flat_map (point_of k) items
 -- Between these two moments the items came behind the old ones. They show each mark that was made at each trader, in
 -- order, and what each call of a peer gave. The points at one trader never fall, from how many of its changes were seen
 -- before to how many are seen behind it.
-pub record IsShown (w : List View) (calls : List Exchange) (before after : List TraceItem) (u : List View)
-    (now : List Exchange) : Type 0 where
+pub record IsShown (w : List View) (calls : List Exchange) (before after : List TraceItem)
+    (u : List View) (now : List Exchange) : Type 0 where
   pub items : List TraceItem
   pub notes : after ≡ before ++ items
   pub marks : (k : ℕ) → own_marks_at u k ≡ own_marks_at w k ++ marks_of k items
-  pub points : (k : ℕ) → Rises (length (history_at w k)) (points_of k items) (length (history_at u k))
+  pub points : (k : ℕ) → Rises (length (history_at w k)) (points_of k items)
+      (length (history_at u k))
   pub made : List Exchange
   pub calls_are : now ≡ calls ++ made
   pub asked : Asked items made
@@ -78,11 +79,13 @@ pub record IsShown (w : List View) (calls : List Exchange) (before after : List 
 
 -- Between these two moments queries began at traders of the group, and others acted. Through this value nothing was
 -- changed.
-pub data Goes (others : List Accepted → Type 0) (later : Marks → Marks → Type 0) : List View → List View → Type 0 where
+pub data Goes (others : List Accepted → Type 0) (later : Marks → Marks → Type 0) : List View
+    → List View → Type 0 where
   stays : {w : List View} → Goes others later w w
-  began : {w u v : List View} (k : ℕ) (q : Query) (b : Begin) → Begun others later w k q b u → Goes others later u v
+  began : {w u v : List View} (k : ℕ) (q : Query) (b : Begin) → Begun others later w k q b u
+      → Goes others later u v → Goes others later w v
+  watched : {w u v : List View} (k : ℕ) → Watches others later w k u → Goes others later u v
       → Goes others later w v
-  watched : {w u v : List View} (k : ℕ) → Watches others later w k u → Goes others later u v → Goes others later w v
 
 -- of the random words to come the first so many were drawn
 pub record DrawsOn (before after : ℕ → ℕ) : Type 0 where

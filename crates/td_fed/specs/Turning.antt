@@ -30,62 +30,73 @@ pub record Takes (stack : List Frame) (r : StepAnswer) (after : List Frame) : Ty
   pub top : Frame
   pub is : stack ≡ waiting ++ top ∷ []
   pub room : length top.answers < 2 ^ 64
-  pub after_is : after ≡ waiting ++ record { local = top.local; answers = top.answers ++ r ∷ [] } ∷ []
+  pub after_is : after ≡ waiting ++ record { local = top.local; answers = top.answers ++ r ∷ [] }
+      ∷ []
 
 -- ---- one turn
 
 -- The innermost visit's question is answered; or it waits for a visit that begins; or it has ended, and the visit that
 -- waited for it takes what it gives.
 pub data GoesOn {World : Type 0} (Begins : World → (trader : ℕ) → Query → Start → World → Type 0)
-    (inside : World → (target : Ior) → Option ℕ) (s : Course World) (stack : List Frame) : List Frame
+    (inside : World → (target : Ior) → Option ℕ) (s : Course World)
+    (stack : List Frame) : List Frame
     → List TraceItem → Course World → Type 0 where
-  answered : {after : List Frame} {t : List TraceItem} {u : Course World} (question : Next) (r : StepAnswer)
+  answered : {after : List Frame} {t : List TraceItem} {u : Course World} (question : Next)
+      (r : StepAnswer)
       → Asks stack question → Step Begins inside s question t r u → Takes stack r after
       → GoesOn Begins inside s stack after t u
-  begun : (target : Ior) (q : Query) (k : ℕ) (start : Start) (l : Local) (head : TraceItem) (w : World)
+  begun : (target : Ior) (q : Query) (k : ℕ) (start : Start) (l : Local) (head : TraceItem)
+      (w : World)
       → Asks stack (Forward target q) → inside s.world target ≡ Some k → Begins s.world k q start w
       → Opens k l start head → l.attributes.max_hop_count < 2 ^ 32
       → GoesOn Begins inside s stack (stack ++ opened l ∷ []) (head ∷ []) (with_world s w)
   ended : {after : List Frame} {u : Course World} (waiting : List Frame) (top : Frame) (v : Visit)
-      → stack ≡ waiting ++ top ∷ [] → IsEnd s top v u → Takes waiting (answer.Offers (answer_in v)) after
+      → stack ≡ waiting ++ top ∷ [] → IsEnd s top v u
+      → Takes waiting (answer.Offers (answer_in v)) after
       → GoesOn Begins inside s stack after (item.Leave ∷ []) u
 
 -- the one visit that nothing waited for has ended
-pub record IsLast {World : Type 0} (s : Course World) (stack : List Frame) (v : Visit) (t : List TraceItem)
-    (u : Course World) : Type 0 where
+pub record IsLast {World : Type 0} (s : Course World) (stack : List Frame) (v : Visit)
+    (t : List TraceItem) (u : Course World) : Type 0 where
   pub top : Frame
   pub is : stack ≡ top ∷ []
   pub items_are : t ≡ item.Leave ∷ []
   pub end : IsEnd s top v u
 
 abbrev pub TurnsTo : {World : Type 0} → (World → (trader : ℕ) → Query → Start → World → Type 0)
-    → (World → (target : Ior) → Option ℕ) → Course World → (stack : List Frame) → Option Visit → (after : List Frame)
-    → List TraceItem → Course World → Type 0
+    → (World → (target : Ior) → Option ℕ) → Course World → (stack : List Frame) → Option Visit
+    → (after : List Frame) → List TraceItem → Course World → Type 0
 TurnsTo Begins inside s stack (Some v) after t u = IsLast s stack v t u
 TurnsTo Begins inside s stack None after t u = GoesOn Begins inside s stack after t u
 
 -- what a turn makes of the open visits, and what the walk comes to, if it has ended
 pub record IsTurn {World : Type 0} (Begins : World → (trader : ℕ) → Query → Start → World → Type 0)
-    (inside : World → (target : Ior) → Option ℕ) (s : Course World) (stack : List Frame) (v : Option Visit)
-    (after : List Frame) (before now : List TraceItem) (u : Course World) : Type 0 where
+    (inside : World → (target : Ior) → Option ℕ) (s : Course World) (stack : List Frame)
+    (v : Option Visit) (after : List Frame) (before now : List TraceItem)
+    (u : Course World) : Type 0 where
   pub items : List TraceItem
   pub notes : now ≡ before ++ items
   pub turns : TurnsTo Begins inside s stack v after items u
 
 -- How far a turn came that wanted memory: nothing was done; or the innermost visit's question came so far; or that
 -- visit has ended.
-pub data TurnsSoFar {World : Type 0} (Begins : World → (trader : ℕ) → Query → Start → World → Type 0)
-    (Watches : World → (trader : ℕ) → World → Type 0) (inside : World → (target : Ior) → Option ℕ) (s : Course World)
-    (stack : List Frame) : List TraceItem → Course World → Type 0 where
+pub data TurnsSoFar {World : Type 0}
+    (Begins : World → (trader : ℕ) → Query → Start → World → Type 0)
+    (Watches : World → (trader : ℕ) → World → Type 0) (inside : World → (target : Ior) → Option ℕ)
+    (s : Course World) (stack : List Frame) : List TraceItem → Course World → Type 0 where
   not_turned : TurnsSoFar Begins Watches inside s stack [] s
   was_asked : {t : List TraceItem} {u : Course World} (question : Next) → Asks stack question
-      → AsksSoFar Begins Watches inside s question t u → TurnsSoFar Begins Watches inside s stack t u
-  had_ended : {u : Course World} (waiting : List Frame) (top : Frame) (v : Visit) → stack ≡ waiting ++ top ∷ []
+      → AsksSoFar Begins Watches inside s question t u
+      → TurnsSoFar Begins Watches inside s stack t u
+  had_ended : {u : Course World} (waiting : List Frame) (top : Frame) (v : Visit)
+      → stack ≡ waiting ++ top ∷ []
       → IsEnd s top v u → TurnsSoFar Begins Watches inside s stack (item.Leave ∷ []) u
 
-pub record IsTurnSoFar {World : Type 0} (Begins : World → (trader : ℕ) → Query → Start → World → Type 0)
-    (Watches : World → (trader : ℕ) → World → Type 0) (inside : World → (target : Ior) → Option ℕ) (s : Course World)
-    (stack : List Frame) (before now : List TraceItem) (u : Course World) : Type 0 where
+pub record IsTurnSoFar {World : Type 0}
+    (Begins : World → (trader : ℕ) → Query → Start → World → Type 0)
+    (Watches : World → (trader : ℕ) → World → Type 0) (inside : World → (target : Ior) → Option ℕ)
+    (s : Course World) (stack : List Frame) (before now : List TraceItem)
+    (u : Course World) : Type 0 where
   pub items : List TraceItem
   pub notes : now ≡ before ++ items
   pub turns : TurnsSoFar Begins Watches inside s stack items u
@@ -98,8 +109,8 @@ Returns v waiting (Some w) after = (waiting ≡ []) × (w ≡ v)
 Returns v waiting None after = Takes waiting (answer.Offers (answer_in v)) after
 
 -- the innermost visit has ended
-pub record Closes {World : Type 0} (s : Course World) (stack : List Frame) (v : Option Visit) (after : List Frame)
-    (u : Course World) : Type 0 where
+pub record Closes {World : Type 0} (s : Course World) (stack : List Frame) (v : Option Visit)
+    (after : List Frame) (u : Course World) : Type 0 where
   pub waiting : List Frame
   pub top : Frame
   pub visit : Visit
@@ -108,8 +119,9 @@ pub record Closes {World : Type 0} (s : Course World) (stack : List Frame) (v : 
   pub returns : Returns visit waiting v after
 
 -- How far the end of the innermost visit came that wanted memory: nothing was done, or it has ended.
-pub data ClosesSoFar {World : Type 0} (s : Course World) (stack : List Frame) (before : List TraceItem)
-    : (now : List TraceItem) → Course World → Type 0 where
+pub data ClosesSoFar {World : Type 0} (s : Course World) (stack : List Frame)
+    (before : List TraceItem) : (now : List TraceItem) → Course World → Type 0 where
   not_closed : ClosesSoFar s stack before before s
-  had_closed : {u : Course World} (waiting : List Frame) (top : Frame) (v : Visit) → stack ≡ waiting ++ top ∷ []
+  had_closed : {u : Course World} (waiting : List Frame) (top : Frame) (v : Visit)
+      → stack ≡ waiting ++ top ∷ []
       → IsEnd s top v u → ClosesSoFar s stack before (before ++ item.Leave ∷ []) u

@@ -22,8 +22,8 @@ start_of point (begin.Search l) = Search l
 start_of point (begin.Path l) = Path l
 
 -- How a query begins at a trader of the group: as the trader's rules say, at what is seen then.
-pub record Begins (others : List Accepted → Type 0) (later : Marks → Marks → Type 0) (w : List View) (trader : ℕ)
-    (q : Query) (start : Start) (u : List View) : Type 0 where
+pub record Begins (others : List Accepted → Type 0) (later : Marks → Marks → Type 0) (w : List View)
+    (trader : ℕ) (q : Query) (start : Start) (u : List View) : Type 0 where
   pub begin : Begin
   pub begun : Begun others later w trader q begin u
   pub is : start ≡ start_of (length (history_at u trader)) begin
@@ -33,27 +33,31 @@ abbrev pub course : List View → (words : ℕ → ℕ) → List Exchange → Co
 course w words calls = record { world = w; words = words; calls = calls }
 
 -- a walk through the group
-abbrev pub Walks : (others : List Accepted → Type 0) → (later : Marks → Marks → Type 0) → (home : Address)
-    → Course (List View) → (trader : ℕ) → Query → List TraceItem → Visit → Course (List View) → Type 0
+abbrev pub Walks : (others : List Accepted → Type 0) → (later : Marks → Marks → Type 0)
+    → (home : Address)
+    → Course (List View) → (trader : ℕ) → Query → List TraceItem → Visit → Course (List View)
+    → Type 0
 Walks others later home = Walk (Begins others later) (inside_group home)
 
 -- The items that came are a walk, and this is what it comes to.
-pub record Visited (others : List Accepted → Type 0) (later : Marks → Marks → Type 0) (home : Address)
-    (s : Course (List View)) (trader : ℕ) (q : Query) (before after : List TraceItem) (v : Visit)
-    (u : Course (List View)) : Type 0 where
+pub record Visited (others : List Accepted → Type 0) (later : Marks → Marks → Type 0)
+    (home : Address) (s : Course (List View)) (trader : ℕ) (q : Query)
+    (before after : List TraceItem) (v : Visit) (u : Course (List View)) : Type 0 where
   pub items : List TraceItem
   pub notes : after ≡ before ++ items
   pub walk : Walks others later home s trader q items v u
 
 -- the beginning of a walk through the group, where memory was wanted
-abbrev pub WalksSoFar : (others : List Accepted → Type 0) → (later : Marks → Marks → Type 0) → (home : Address)
+abbrev pub WalksSoFar : (others : List Accepted → Type 0) → (later : Marks → Marks → Type 0)
+    → (home : Address)
     → Course (List View) → (trader : ℕ) → Query → List TraceItem → Course (List View) → Type 0
-WalksSoFar others later home = WalkBegins (Begins others later) (Watches others later) (inside_group home)
+WalksSoFar others later home = WalkBegins (Begins others later) (Watches others later)
+    (inside_group home)
 
 -- The items that came are the beginning of a walk.
-pub record VisitedSoFar (others : List Accepted → Type 0) (later : Marks → Marks → Type 0) (home : Address)
-    (s : Course (List View)) (trader : ℕ) (q : Query) (before after : List TraceItem)
-    (u : Course (List View)) : Type 0 where
+pub record VisitedSoFar (others : List Accepted → Type 0) (later : Marks → Marks → Type 0)
+    (home : Address) (s : Course (List View)) (trader : ℕ) (q : Query)
+    (before after : List TraceItem) (u : Course (List View)) : Type 0 where
   pub items : List TraceItem
   pub notes : after ≡ before ++ items
   pub walk : WalksSoFar others later home s trader q items u

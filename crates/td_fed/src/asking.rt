@@ -51,14 +51,19 @@ pub(crate) fn ask<T: Traders, P: Peers>(
     requires { question ≡ Done → ⊥ }
     ensures same { T.same traders.old traders.new }
     ensures same_peers { P.same peers.old peers.new }
-    ensures asked { (words : ℕ → ℕ) → IfOk result (λ a. IsAsked (Begins T.others T.later) (inside_group home.now)
-        (course (T.world traders.old) words (P.calls peers.old)) question a notes.old.items notes.new.items
+    ensures asked { (words : ℕ → ℕ)
+        → IfOk result (λ a. IsAsked (Begins T.others T.later) (inside_group home.now)
+        (course (T.world traders.old) words (P.calls peers.old))
+        question a notes.old.items notes.new.items
         (course (T.world traders.new) words (P.calls peers.new))) }
-    ensures so_far { (words : ℕ → ℕ) → OnErr result (IsAskedSoFar (Begins T.others T.later) (Watches T.others T.later)
-        (inside_group home.now) (course (T.world traders.old) words (P.calls peers.old)) question notes.old.items
-        notes.new.items (course (T.world traders.new) words (P.calls peers.new))) }
-    ensures shown { IsShown (T.world traders.old) (P.calls peers.old) notes.old.items notes.new.items
-        (T.world traders.new) (P.calls peers.new) }
+    ensures so_far { (words : ℕ → ℕ)
+        → OnErr result (IsAskedSoFar (Begins T.others T.later) (Watches T.others T.later)
+        (inside_group home.now) (course (T.world traders.old) words (P.calls peers.old))
+        question notes.old.items notes.new.items
+        (course (T.world traders.new) words (P.calls peers.new))) }
+    ensures shown { IsShown (T.world traders.old)
+        (P.calls peers.old) notes.old.items notes.new.items (T.world traders.new)
+        (P.calls peers.new) }
     ensures goes { Goes T.others T.later (T.world traders.old) (T.world traders.new) }
     ensures faults { CountsFaults (P.calls peers.old) (P.calls peers.new) (P.faults peers.old)
         (P.faults peers.new) }
@@ -172,15 +177,19 @@ fn forward<T: Traders, P: Peers>(
 ) -> Result<Asking, Memory>
     ensures same { T.same traders.old traders.new }
     ensures same_peers { P.same peers.old peers.new }
-    ensures asked { (words : ℕ → ℕ) → IfOk result (λ a. IsAsked (Begins T.others T.later) (inside_group home.now)
-        (course (T.world traders.old) words (P.calls peers.old)) (Forward target.now query.now) a notes.old.items
-        notes.new.items (course (T.world traders.new) words (P.calls peers.new))) }
-    ensures so_far { (words : ℕ → ℕ) → OnErr result (IsAskedSoFar (Begins T.others T.later) (Watches T.others T.later)
+    ensures asked { (words : ℕ → ℕ)
+        → IfOk result (λ a. IsAsked (Begins T.others T.later) (inside_group home.now)
+        (course (T.world traders.old) words (P.calls peers.old))
+        (Forward target.now query.now) a notes.old.items notes.new.items
+        (course (T.world traders.new) words (P.calls peers.new))) }
+    ensures so_far { (words : ℕ → ℕ)
+        → OnErr result (IsAskedSoFar (Begins T.others T.later) (Watches T.others T.later)
         (inside_group home.now) (course (T.world traders.old) words (P.calls peers.old))
         (Forward target.now query.now) notes.old.items notes.new.items
         (course (T.world traders.new) words (P.calls peers.new))) }
-    ensures shown { IsShown (T.world traders.old) (P.calls peers.old) notes.old.items notes.new.items
-        (T.world traders.new) (P.calls peers.new) }
+    ensures shown { IsShown (T.world traders.old)
+        (P.calls peers.old) notes.old.items notes.new.items (T.world traders.new)
+        (P.calls peers.new) }
     ensures goes { Goes T.others T.later (T.world traders.old) (T.world traders.new) }
     ensures faults { CountsFaults (P.calls peers.old) (P.calls peers.new) (P.faults peers.old)
         (P.faults peers.new) }
@@ -227,10 +236,12 @@ fn call<P: Peers>(
     query: &Query,
 ) -> Result<StepAnswer, Memory>
     ensures same { P.same peers.old peers.new }
-    ensures peered { IfOk result (λ r. IsPeered (P.calls peers.old) (Forward target.now query.now) r notes.old.items
-        notes.new.items (P.calls peers.new)) }
-    ensures so_far { OnErr result (IsPeeredSoFar (P.calls peers.old) (Forward target.now query.now) notes.old.items
-        notes.new.items (P.calls peers.new)) }
+    ensures peered { IfOk result
+        (λ r. IsPeered (P.calls peers.old)
+        (Forward target.now query.now) r notes.old.items notes.new.items (P.calls peers.new)) }
+    ensures so_far { OnErr result
+        (IsPeeredSoFar (P.calls peers.old)
+        (Forward target.now query.now) notes.old.items notes.new.items (P.calls peers.new)) }
     ensures shown { (w : List View) →
         IsShown w (P.calls peers.old) notes.old.items notes.new.items w (P.calls peers.new) }
     ensures faults { CountsFaults (P.calls peers.old) (P.calls peers.new) (P.faults peers.old)

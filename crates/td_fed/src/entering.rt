@@ -52,11 +52,14 @@ pub(crate) fn enter<T: Traders>(
 ) -> Result<Entry, Memory>
     requires { trader < length (T.world traders.old) }
     ensures same { T.same traders.old traders.new }
-    ensures entered { IfOk result (λ e. IsEntered (Begins T.others T.later) (T.world traders.old) trader q.now e
-        notes.old.items notes.new.items (T.world traders.new)) }
-    ensures so_far { OnErr result (IsEnteredSoFar (Begins T.others T.later) (Watches T.others T.later)
+    ensures entered { IfOk result (λ e. IsEntered (Begins T.others T.later)
+        (T.world traders.old) trader q.now e notes.old.items notes.new.items
+        (T.world traders.new)) }
+    ensures so_far { OnErr result (IsEnteredSoFar (Begins T.others T.later)
+        (Watches T.others T.later)
         (T.world traders.old) trader q.now notes.old.items notes.new.items (T.world traders.new)) }
-    ensures shown { IsShown (T.world traders.old) [] notes.old.items notes.new.items (T.world traders.new) [] }
+    ensures shown { IsShown (T.world traders.old) [] notes.old.items notes.new.items
+        (T.world traders.new) [] }
     ensures goes { Goes T.others T.later (T.world traders.old) (T.world traders.new) }
 {
     notes.reserve(1)?;

@@ -39,7 +39,11 @@ pub(crate) fn next_of_innermost(alloc: Global, stack: &mut Vec<Frame>) -> Result
 /// Hands a visit the answer to its question.
 fn take(visit: &mut Frame, answer: StepAnswer) -> Result<(), Memory>
     ensures ok { OnOk result
-        (visit.new ≡ record { local = visit.old.local; answers = visit.old.answers ++ answer ∷ [] }) }
+        (visit.new ≡ record {
+          local = visit.old.local;
+          answers = visit.old.answers ++ answer
+              ∷ [];
+        }) }
     ensures room { length visit.old.answers < 2 ^ 64 }
 {
     // That there are fewer than 2^64 answers bounds how many questions a visit can ask.
@@ -88,8 +92,8 @@ pub(crate) fn end_innermost<W: Words>(
         Closes (course w (W.word words.old) calls) stack.old.items v stack.new.items
         (course w (W.word words.new) calls)) }
     ensures so_far { (w : List View) (calls : List Exchange) → OnErr result
-        (ClosesSoFar (course w (W.word words.old) calls) stack.old.items notes.old.items notes.new.items
-        (course w (W.word words.new) calls)) }
+        (ClosesSoFar (course w (W.word words.old) calls)
+        stack.old.items notes.old.items notes.new.items (course w (W.word words.new) calls)) }
     ensures noted { OnOk result (notes.new.items ≡ notes.old.items ++ item.Leave ∷ []) }
     ensures shown { (w : List View) (calls : List Exchange) →
         IsShown w calls notes.old.items notes.new.items w calls }

@@ -65,14 +65,15 @@ pub fn resolve<T: Traders, P: Peers>(
     requires { trader < length (T.world traders.old) }
     ensures same { T.same traders.old traders.new }
     ensures same_peers { P.same peers.old peers.new }
-    ensures resolves { IfOk result (λ a. Resolves T.others T.later home.now (T.world traders.old) (P.calls peers.old)
-        trader name.now a (T.world traders.new) (P.calls peers.new)) }
+    ensures resolves { IfOk result (λ a. Resolves T.others T.later home.now (T.world traders.old)
+        (P.calls peers.old) trader name.now a (T.world traders.new) (P.calls peers.new)) }
     ensures unasked { OnErr result (P.calls peers.new ≡ P.calls peers.old) }
     ensures quiet { IsQuiet (T.world traders.old) (T.world traders.new) }
     ensures goes { Goes T.others T.later (T.world traders.old) (T.world traders.new) }
     ensures faults { CountsFaults (P.calls peers.old) (P.calls peers.new) (P.faults peers.old)
         (P.faults peers.new) }
-    ensures failed { IfOk result (λ a. RoseIfUngiven a.asked (P.faults peers.old) (P.faults peers.new)) }
+    ensures failed { IfOk result (λ a. RoseIfUngiven a.asked (P.faults peers.old)
+        (P.faults peers.new)) }
 {
     if !is_path(name.as_slice()) {
         return illegal(alloc, traders.point(trader), name);
@@ -146,7 +147,8 @@ fn follow<T: Traders, P: Peers>(
     requires words { list_all word_name names.now ≡ true }
     ensures same { T.same traders.old traders.new }
     ensures same_peers { P.same peers.old peers.new }
-    ensures follows { IfOk result (λ a. Follows T.others T.later home.now whole.now (P.calls peers.old)
+    ensures follows { IfOk result
+        (λ a. Follows T.others T.later home.now whole.now (P.calls peers.old)
         (T.world traders.old) trader names.now a (T.world traders.new) (P.calls peers.new)) }
     ensures unasked { OnErr result (P.calls peers.new ≡ P.calls peers.old) }
     ensures quiet { IsQuiet (T.world traders.old) (T.world traders.new) }
@@ -186,7 +188,8 @@ fn lead_from<T: Traders, P: Peers>(
     ensures same { T.same traders.old traders.new }
     ensures same_peers { P.same peers.old peers.new }
     ensures leads { IfOk result (λ r. Leads T.others T.later home.now whole.now (P.calls peers.old)
-        (T.world traders.old) trader name.now rest.now r (T.world traders.new) (P.calls peers.new)) }
+        (T.world traders.old) trader name.now rest.now r (T.world traders.new)
+        (P.calls peers.new)) }
     ensures unasked { OnErr result (P.calls peers.new ≡ P.calls peers.old) }
     ensures quiet { IsQuiet (T.world traders.old) (T.world traders.new) }
     ensures goes { Goes T.others T.later (T.world traders.old) (T.world traders.new) }
@@ -220,8 +223,8 @@ fn lead_over<T: Traders, P: Peers>(
     ensures leads { (w : Row View) (k : ℕ) (name : Row ℕ) →
         LooksUp T.others T.later w k name (Some register) (T.world traders.now) →
         point ≡ length (history_at (T.world traders.now) k) →
-        IfOk result (λ r. Leads T.others T.later home.now whole.now (P.calls peers.old) w k name rest.now r
-        (T.world traders.now) (P.calls peers.new)) }
+        IfOk result (λ r. Leads T.others T.later home.now whole.now (P.calls peers.old)
+        w k name rest.now r (T.world traders.now) (P.calls peers.new)) }
     ensures unasked { OnErr result (P.calls peers.new ≡ P.calls peers.old) }
     ensures faults { CountsFaults (P.calls peers.old) (P.calls peers.new) (P.faults peers.old)
         (P.faults peers.new) }
@@ -252,7 +255,8 @@ fn look_up<T: Traders>(
     requires within { trader < length (T.world traders.old) }
     requires word { word_name name.now ≡ true }
     ensures same { T.same traders.old traders.new }
-    ensures looks { IfOk result (λ r. LooksUp T.others T.later (T.world traders.old) trader name.now r
+    ensures looks { IfOk result
+        (λ r. LooksUp T.others T.later (T.world traders.old) trader name.now r
         (T.world traders.new)) }
     ensures quiet { IsQuiet (T.world traders.old) (T.world traders.new) }
     ensures goes { Goes T.others T.later (T.world traders.old) (T.world traders.new) }
@@ -300,7 +304,8 @@ fn ask_register<P: Peers>(
     whole: &List<Text>,
 ) -> Result<NameAnswer, Memory>
     ensures same { P.same peers.old peers.new }
-    ensures asks { IfOk result (λ a. IsAskedFor point whole.now rest.now register.now (P.calls peers.old) a
+    ensures asks { IfOk result
+        (λ a. IsAskedFor point whole.now rest.now register.now (P.calls peers.old) a
         (P.calls peers.new)) }
     ensures unasked { OnErr result (P.calls peers.new ≡ P.calls peers.old) }
     ensures faults { CountsFaults (P.calls peers.old) (P.calls peers.new) (P.faults peers.old)

@@ -50,13 +50,16 @@ pub fn visit<T: Traders, P: Peers, W: Words>(
     ensures same_peers { P.same peers.old peers.new }
     ensures same_words { W.same words.old words.new }
     ensures visited { IfOk result (λ v. Visited T.others T.later home.now
-        (course (T.world traders.old) (W.word words.old) (P.calls peers.old)) trader q.now trace.old.items
-        trace.new.items v (course (T.world traders.new) (W.word words.new) (P.calls peers.new))) }
+        (course (T.world traders.old) (W.word words.old) (P.calls peers.old))
+        trader q.now trace.old.items trace.new.items v
+        (course (T.world traders.new) (W.word words.new) (P.calls peers.new))) }
     ensures so_far { OnErr result (VisitedSoFar T.others T.later home.now
-        (course (T.world traders.old) (W.word words.old) (P.calls peers.old)) trader q.now trace.old.items
-        trace.new.items (course (T.world traders.new) (W.word words.new) (P.calls peers.new))) }
-    ensures shown { IsShown (T.world traders.old) (P.calls peers.old) trace.old.items trace.new.items
-        (T.world traders.new) (P.calls peers.new) }
+        (course (T.world traders.old) (W.word words.old) (P.calls peers.old))
+        trader q.now trace.old.items trace.new.items
+        (course (T.world traders.new) (W.word words.new) (P.calls peers.new))) }
+    ensures shown { IsShown (T.world traders.old)
+        (P.calls peers.old) trace.old.items trace.new.items (T.world traders.new)
+        (P.calls peers.new) }
     ensures goes { Goes T.others T.later (T.world traders.old) (T.world traders.new) }
     ensures draws { DrawsOn (W.word words.old) (W.word words.new) }
     ensures faults { CountsFaults (P.calls peers.old) (P.calls peers.new) (P.faults peers.old)
@@ -86,13 +89,16 @@ fn walk<T: Traders, P: Peers, W: Words>(
     ensures same_peers { P.same peers.old peers.new }
     ensures same_words { W.same words.old words.new }
     ensures visited { IfOk result (λ v. Visited T.others T.later home.now
-        (course (T.world traders.old) (W.word words.old) (P.calls peers.old)) trader q.now notes.old.items
-        notes.new.items v (course (T.world traders.new) (W.word words.new) (P.calls peers.new))) }
+        (course (T.world traders.old) (W.word words.old) (P.calls peers.old))
+        trader q.now notes.old.items notes.new.items v
+        (course (T.world traders.new) (W.word words.new) (P.calls peers.new))) }
     ensures so_far { OnErr result (VisitedSoFar T.others T.later home.now
-        (course (T.world traders.old) (W.word words.old) (P.calls peers.old)) trader q.now notes.old.items
-        notes.new.items (course (T.world traders.new) (W.word words.new) (P.calls peers.new))) }
-    ensures shown { IsShown (T.world traders.old) (P.calls peers.old) notes.old.items notes.new.items
-        (T.world traders.new) (P.calls peers.new) }
+        (course (T.world traders.old) (W.word words.old) (P.calls peers.old))
+        trader q.now notes.old.items notes.new.items
+        (course (T.world traders.new) (W.word words.new) (P.calls peers.new))) }
+    ensures shown { IsShown (T.world traders.old)
+        (P.calls peers.old) notes.old.items notes.new.items (T.world traders.new)
+        (P.calls peers.new) }
     ensures goes { Goes T.others T.later (T.world traders.old) (T.world traders.new) }
     ensures draws { DrawsOn (W.word words.old) (W.word words.new) }
     ensures faults { CountsFaults (P.calls peers.old) (P.calls peers.new) (P.faults peers.old)
@@ -120,15 +126,20 @@ fn walk_on<T: Traders, P: Peers, W: Words>(
     ensures same_peers { P.same peers.old peers.new }
     ensures same_words { W.same words.old words.new }
     ensures visited { (w : List View) (k : ℕ) (q : Asked) (before : List Item) →
-        IsEntered (Begins T.others T.later) w k q (entry.Open first) before notes.old.items (T.world traders.old) →
-        IfOk result (λ v. Visited T.others T.later home.now (course w (W.word words.old) (P.calls peers.old)) k q
-        before notes.new.items v (course (T.world traders.new) (W.word words.new) (P.calls peers.new))) }
+        IsEntered (Begins T.others T.later) w k q (entry.Open first) before notes.old.items
+        (T.world traders.old) → IfOk result
+        (λ v. Visited T.others T.later home.now (course w (W.word words.old) (P.calls peers.old))
+        k q before notes.new.items v (course (T.world traders.new) (W.word words.new)
+        (P.calls peers.new))) }
     ensures so_far { (w : List View) (k : ℕ) (q : Asked) (before : List Item) →
-        IsEntered (Begins T.others T.later) w k q (entry.Open first) before notes.old.items (T.world traders.old) →
-        OnErr result (VisitedSoFar T.others T.later home.now (course w (W.word words.old) (P.calls peers.old)) k q
-        before notes.new.items (course (T.world traders.new) (W.word words.new) (P.calls peers.new))) }
-    ensures shown { IsShown (T.world traders.old) (P.calls peers.old) notes.old.items notes.new.items
-        (T.world traders.new) (P.calls peers.new) }
+        IsEntered (Begins T.others T.later) w k q (entry.Open first) before notes.old.items
+        (T.world traders.old) → OnErr result
+        (VisitedSoFar T.others T.later home.now (course w (W.word words.old) (P.calls peers.old))
+        k q before notes.new.items (course (T.world traders.new) (W.word words.new)
+        (P.calls peers.new))) }
+    ensures shown { IsShown (T.world traders.old)
+        (P.calls peers.old) notes.old.items notes.new.items (T.world traders.new)
+        (P.calls peers.new) }
     ensures goes { Goes T.others T.later (T.world traders.old) (T.world traders.new) }
     ensures draws { DrawsOn (W.word words.old) (W.word words.new) }
     ensures faults { CountsFaults (P.calls peers.old) (P.calls peers.new) (P.faults peers.old)
@@ -160,13 +171,16 @@ fn turn<T: Traders, P: Peers, W: Words>(
     ensures same_peers { P.same peers.old peers.new }
     ensures same_words { W.same words.old words.new }
     ensures turns { IfOk result (λ v. IsTurn (Begins T.others T.later) (inside_group home.now)
-        (course (T.world traders.old) (W.word words.old) (P.calls peers.old)) stack.old.items v stack.new.items
-        notes.old.items notes.new.items (course (T.world traders.new) (W.word words.new) (P.calls peers.new))) }
+        (course (T.world traders.old) (W.word words.old) (P.calls peers.old))
+        stack.old.items v stack.new.items notes.old.items notes.new.items
+        (course (T.world traders.new) (W.word words.new) (P.calls peers.new))) }
     ensures so_far { OnErr result (IsTurnSoFar (Begins T.others T.later) (Watches T.others T.later)
-        (inside_group home.now) (course (T.world traders.old) (W.word words.old) (P.calls peers.old)) stack.old.items
-        notes.old.items notes.new.items (course (T.world traders.new) (W.word words.new) (P.calls peers.new))) }
-    ensures shown { IsShown (T.world traders.old) (P.calls peers.old) notes.old.items notes.new.items
-        (T.world traders.new) (P.calls peers.new) }
+        (inside_group home.now) (course (T.world traders.old) (W.word words.old)
+        (P.calls peers.old)) stack.old.items notes.old.items notes.new.items
+        (course (T.world traders.new) (W.word words.new) (P.calls peers.new))) }
+    ensures shown { IsShown (T.world traders.old)
+        (P.calls peers.old) notes.old.items notes.new.items (T.world traders.new)
+        (P.calls peers.new) }
     ensures goes { Goes T.others T.later (T.world traders.old) (T.world traders.new) }
     ensures draws { DrawsOn (W.word words.old) (W.word words.new) }
     ensures faults { CountsFaults (P.calls peers.old) (P.calls peers.new) (P.faults peers.old)
@@ -195,14 +209,19 @@ fn ask_innermost<T: Traders, P: Peers>(
     requires asks { Asks stack.old.items question }
     ensures same { T.same traders.old traders.new }
     ensures same_peers { P.same peers.old peers.new }
-    ensures turns { (words : ℕ → ℕ) → OnOk result (IsTurn (Begins T.others T.later) (inside_group home.now)
-        (course (T.world traders.old) words (P.calls peers.old)) stack.old.items None stack.new.items
-        notes.old.items notes.new.items (course (T.world traders.new) words (P.calls peers.new))) }
-    ensures so_far { (words : ℕ → ℕ) → OnErr result (IsTurnSoFar (Begins T.others T.later) (Watches T.others T.later)
-        (inside_group home.now) (course (T.world traders.old) words (P.calls peers.old)) stack.old.items
-        notes.old.items notes.new.items (course (T.world traders.new) words (P.calls peers.new))) }
-    ensures shown { IsShown (T.world traders.old) (P.calls peers.old) notes.old.items notes.new.items
-        (T.world traders.new) (P.calls peers.new) }
+    ensures turns { (words : ℕ → ℕ)
+        → OnOk result (IsTurn (Begins T.others T.later) (inside_group home.now)
+        (course (T.world traders.old) words (P.calls peers.old))
+        stack.old.items None stack.new.items notes.old.items notes.new.items
+        (course (T.world traders.new) words (P.calls peers.new))) }
+    ensures so_far { (words : ℕ → ℕ)
+        → OnErr result (IsTurnSoFar (Begins T.others T.later) (Watches T.others T.later)
+        (inside_group home.now) (course (T.world traders.old) words (P.calls peers.old))
+        stack.old.items notes.old.items notes.new.items
+        (course (T.world traders.new) words (P.calls peers.new))) }
+    ensures shown { IsShown (T.world traders.old)
+        (P.calls peers.old) notes.old.items notes.new.items (T.world traders.new)
+        (P.calls peers.new) }
     ensures goes { Goes T.others T.later (T.world traders.old) (T.world traders.new) }
     ensures faults { CountsFaults (P.calls peers.old) (P.calls peers.new) (P.faults peers.old)
         (P.faults peers.new) }

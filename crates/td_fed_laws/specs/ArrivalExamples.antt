@@ -30,7 +30,8 @@ abbrev pub with_marks : View → Marks → View
 with_marks v m = record v { marks = m }
 
 -- so many queries have gone outside; the trader had these marks when it was last seen, and has these now
-abbrev pub comes : View → Query → TraceItem → (before : List TraceItem) → (gone : ℕ) → (last now : Marks) → Arrival
+abbrev pub comes : View → Query → TraceItem → (before : List TraceItem) → (gone : ℕ)
+    → (last now : Marks) → Arrival
 comes v q i before gone last now = record {
   item = i;
   before = before;
@@ -56,7 +57,8 @@ ring = item.Search 0 0 1 ∷ item.Search 1 0 1 ∷ item.Repeat 0 0 1 ∷ item.Le
 abbrev pub in_ring : View → Query → List Arrival
 in_ring v q =
     first_two v q
-    (comes v q (item.Repeat 0 0 1) (item.Search 0 0 1 ∷ item.Search 1 0 1 ∷ []) 0 marked_q marked_qa ∷ [])
+    (comes v q (item.Repeat 0 0 1) (item.Search 0 0 1 ∷ item.Search 1 0 1 ∷ []) 0 marked_q marked_qa
+    ∷ [])
 
 -- Others have marked two: it is forgotten, and 0 is searched again.
 abbrev pub forgotten : List TraceItem
@@ -72,7 +74,8 @@ forgotten =
 abbrev pub in_forgotten : View → Query → List Arrival
 in_forgotten v q =
     first_two v q
-    (comes v q (item.Search 0 0 4) (item.Search 0 0 1 ∷ item.Search 1 0 1 ∷ []) 0 marked_q marked_qab ∷ [])
+    (comes v q (item.Search 0 0 4) (item.Search 0 0 1 ∷ item.Search 1 0 1 ∷ [])
+    0 marked_q marked_qab ∷ [])
 
 -- Another has marked it at 1 before the query comes there, which is so a repeat.
 abbrev pub foreign : List TraceItem

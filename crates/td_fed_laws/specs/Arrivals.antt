@@ -46,9 +46,10 @@ pub record Arrival : Type 0 where
 abbrev pub identifier_of : Arrival → List ℕ
 identifier_of a = (searched_under (store_seen a.seen) a.seen.marks a.query).identifier
 
-abbrev pub arrival : {others : List Accepted → Type 0} → {later : Marks → Marks → Type 0} → (before : List TraceItem)
-    → (gone : ℕ) → TraceItem → {w : List View} → {trader : ℕ} → {q : Query} → {start : Start} → {u : List View}
-    → Begins others later w trader q start u → Arrival
+abbrev pub arrival : {others : List Accepted → Type 0} → {later : Marks → Marks → Type 0}
+    → (before : List TraceItem)
+    → (gone : ℕ) → TraceItem → {w : List View} → {trader : ℕ} → {q : Query} → {start : Start}
+    → {u : List View} → Begins others later w trader q start u → Arrival
 arrival before gone i {q = q} b = record {
   item = i;
   before = before;
@@ -73,10 +74,12 @@ module _ {others : List Accepted → Type 0} {later : Marks → Marks → Type 0
         arrival before (sent s.calls) head b ∷ arrivals_in (before ++ head ∷ []) steps
 
     pub arrivals_in : (before : List TraceItem) → {s : Course (List View)} → {l : Local}
-        → {answers : List StepAnswer} → {t : List TraceItem} → {all : List StepAnswer} → {u : Course (List View)}
+        → {answers : List StepAnswer} → {t : List TraceItem} → {all : List StepAnswer}
+        → {u : Course (List View)}
         → Steps (Begins others later) inside s l answers t all u → List Arrival
     arrivals_in before (done none_left) = []
-    arrivals_in before (asked {t = t} step steps) = arrivals_by before step ++ arrivals_in (before ++ t) steps
+    arrivals_in before (asked {t = t} step steps) = arrivals_by before step
+        ++ arrivals_in (before ++ t) steps
 
     pub arrivals_by : (before : List TraceItem) → {s : Course (List View)} → {question : Next}
         → {t : List TraceItem} → {r : StepAnswer} → {u : Course (List View)}

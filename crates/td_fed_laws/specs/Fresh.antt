@@ -28,4 +28,5 @@ pub data GoesUnder (w : List View) (q : Query) (t : List TraceItem) : List ℕ �
 
 -- No trader of the group remembers it before the walk.
 abbrev pub IsFresh : List View → Query → List TraceItem → Type 0
-IsFresh w q t = (id : List ℕ) → GoesUnder w q t id → (trader number : ℕ) → Remembers w trader id number → ⊥
+IsFresh w q t = (id : List ℕ) → GoesUnder w q t id → (trader number : ℕ)
+    → Remembers w trader id number → ⊥

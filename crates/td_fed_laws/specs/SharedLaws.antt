@@ -33,10 +33,11 @@ IsRemembered arrived =
 
 -- No trader remembers the identifier before the walk, and while no query has gone outside others mark nothing under
 -- it: what a trader is seen to remember of it, it was last seen to remember.
-pub record IsFreshUnder (w : List View) (gone : ℕ) (arrived : List Arrival) (identifier : List ℕ) : Type 0 where
+pub record IsFreshUnder (w : List View) (gone : ℕ) (arrived : List Arrival)
+    (identifier : List ℕ) : Type 0 where
   pub forgotten : (trader number : ℕ) → Remembers w trader identifier number → ⊥
-  pub unmarked : (a : Arrival) (number : ℕ) → In a arrived → a.sent ≡ gone → Holds a.seen.marks identifier number
-      → Holds a.last.marks identifier number
+  pub unmarked : (a : Arrival) (number : ℕ) → In a arrived → a.sent ≡ gone
+      → Holds a.seen.marks identifier number → Holds a.last.marks identifier number
 
 -- Fresh: only the walk's own sub-queries carry an identifier under which it visits. One that has gone outside may come
 -- back to the group, and is another's there.
@@ -55,40 +56,43 @@ module _ (others : List Accepted → Type 0) (later : Marks → Marks → Type 0
   -- where it is remembered, no trader is searched twice
   abbrev pub RememberedWalksSearchOnce : Type 0
   RememberedWalksSearchOnce =
-      (home : Address) (s u : Course (List View)) (trader : ℕ) (q : Query) (t : List TraceItem) (v : Visit)
-      (walk : Walks others later home s trader q t v u) → IsRemembered (arrivals [] walk) → SearchesOnce t
+      (home : Address) (s u : Course (List View)) (trader : ℕ) (q : Query) (t : List TraceItem)
+      (v : Visit) (walk : Walks others later home s trader q t v u)
+      → IsRemembered (arrivals [] walk) → SearchesOnce t
 
   -- where it is fresh, and no query goes outside, a repeat names the mark of an earlier search of its trader
   abbrev pub FreshWalksNameSearches : Type 0
   FreshWalksNameSearches =
-      (home : Address) (s u : Course (List View)) (trader : ℕ) (q : Query) (t : List TraceItem) (v : Visit)
-      (walk : Walks others later home s trader q t v u) → IsFresh s (arrivals [] walk) → sent u.calls ≡ sent s.calls
-      → NamesSearches t
+      (home : Address) (s u : Course (List View)) (trader : ℕ) (q : Query) (t : List TraceItem)
+      (v : Visit) (walk : Walks others later home s trader q t v u) → IsFresh s (arrivals [] walk)
+      → sent u.calls ≡ sent s.calls → NamesSearches t
 
   -- and under both, a visit is a repeat exactly where its trader was searched before
   abbrev pub FreshWalksRepeatExactly : Type 0
   FreshWalksRepeatExactly =
-      (home : Address) (s u : Course (List View)) (trader : ℕ) (q : Query) (t : List TraceItem) (v : Visit)
-      (walk : Walks others later home s trader q t v u) → IsFresh s (arrivals [] walk) → sent u.calls ≡ sent s.calls
-      → IsRemembered (arrivals [] walk) → RepeatsExactly t
+      (home : Address) (s u : Course (List View)) (trader : ℕ) (q : Query) (t : List TraceItem)
+      (v : Visit) (walk : Walks others later home s trader q t v u) → IsFresh s (arrivals [] walk)
+      → sent u.calls ≡ sent s.calls → IsRemembered (arrivals [] walk) → RepeatsExactly t
 
   -- a walk whose query states an identifier visits under it
   abbrev pub WalksAreNamed : Type 0
   WalksAreNamed =
-      (home : Address) (s u : Course (List View)) (trader : ℕ) (q : Query) (t : List TraceItem) (v : Visit)
-      (identifier : List ℕ) (walk : Walks others later home s trader q t v u)
-      → (parts_of q).stated.request_id ≡ Some identifier → (a : Arrival) (k : ℕ) → Visits (arrivals [] walk) a k
-      → identifier_of a ≡ identifier
+      (home : Address) (s u : Course (List View)) (trader : ℕ) (q : Query) (t : List TraceItem)
+      (v : Visit) (identifier : List ℕ) (walk : Walks others later home s trader q t v u)
+      → (parts_of q).stated.request_id ≡ Some identifier → (a : Arrival) (k : ℕ)
+      → Visits (arrivals [] walk) a k → identifier_of a ≡ identifier
 
   -- whether stated or made: a walk visits under one identifier
   abbrev pub WalksAreUnderOne : Type 0
   WalksAreUnderOne =
-      (home : Address) (s u : Course (List View)) (trader : ℕ) (q : Query) (t : List TraceItem) (v : Visit)
-      (walk : Walks others later home s trader q t v u) → (a b : Arrival) (j k : ℕ) → Visits (arrivals [] walk) a j
+      (home : Address) (s u : Course (List View)) (trader : ℕ) (q : Query) (t : List TraceItem)
+      (v : Visit) (walk : Walks others later home s trader q t v u) → (a b : Arrival) (j k : ℕ)
+      → Visits (arrivals [] walk) a j
       → Visits (arrivals [] walk) b k → identifier_of a ≡ identifier_of b
 
 -- in a group on which no others act, each walk is remembered
 abbrev pub WalksAloneAreRemembered : Type 0
 WalksAloneAreRemembered =
-    (home : Address) (s u : Course (List View)) (trader : ℕ) (q : Query) (t : List TraceItem) (v : Visit)
-    (walk : Walks nothing unchanged home s trader q t v u) → HaveRoom s.world → IsRemembered (arrivals [] walk)
+    (home : Address) (s u : Course (List View)) (trader : ℕ) (q : Query) (t : List TraceItem)
+    (v : Visit) (walk : Walks nothing unchanged home s trader q t v u) → HaveRoom s.world
+    → IsRemembered (arrivals [] walk)

@@ -25,14 +25,14 @@ use Rattle.td_walk_laws.specs.Walks.{Course}
 -- no trader is searched that was searched before
 abbrev pub SearchesOnce : List TraceItem → Type 0
 SearchesOnce t =
-    (before rest : List TraceItem) (trader point mark : ℕ) → t ≡ before ++ item.Search trader point mark ∷ rest
-    → IsSearched before trader → ⊥
+    (before rest : List TraceItem) (trader point mark : ℕ)
+    → t ≡ before ++ item.Search trader point mark ∷ rest → IsSearched before trader → ⊥
 
 -- a repeat names the mark of an earlier search of its trader
 abbrev pub NamesSearches : List TraceItem → Type 0
 NamesSearches t =
-    (before rest : List TraceItem) (trader point mark : ℕ) → t ≡ before ++ item.Repeat trader point mark ∷ rest
-    → HasSearch before trader mark
+    (before rest : List TraceItem) (trader point mark : ℕ)
+    → t ≡ before ++ item.Repeat trader point mark ∷ rest → HasSearch before trader mark
 
 -- a visit that has neither a refusal nor a path is a repeat exactly where its trader was searched before
 abbrev pub RepeatsExactly : List TraceItem → Type 0
@@ -43,8 +43,8 @@ RepeatsExactly t =
 -- each search lies at most so many hops below the first
 abbrev pub LiesWithin : (hops : ℕ) → List TraceItem → Type 0
 LiesWithin hops t =
-    (before rest : List TraceItem) (trader point mark : ℕ) → t ≡ before ++ item.Search trader point mark ∷ rest
-    → hops_behind before ≤ hops
+    (before rest : List TraceItem) (trader point mark : ℕ)
+    → t ≡ before ++ item.Search trader point mark ∷ rest → hops_behind before ≤ hops
 
 -- ---- on a walk
 
@@ -55,7 +55,8 @@ IsUnmarked w = (trader : ℕ) (v : View) → slice_get w trader ≡ Some v → v
 -- of each walk whose identifier is fresh
 abbrev pub FreshWalks : (List TraceItem → Type 0) → Type 0
 FreshWalks P =
-    (home : Address) (s u : Course (List View)) (trader : ℕ) (q : Query) (t : List TraceItem) (v : Visit)
+    (home : Address) (s u : Course (List View)) (trader : ℕ) (q : Query) (t : List TraceItem)
+    (v : Visit)
     → Walks nothing unchanged home s trader q t v u → IsFresh s.world q t → P t
 
 -- the store of the first trader that is searched, at the point of this search
@@ -70,17 +71,22 @@ pub record IsSearchedFirst (u : List View) (t : List TraceItem) (store : Store) 
 
 -- Whatever others do meanwhile: each search lies at most as many hops below the first as this one goes by, at its
 -- point.
-abbrev pub WalksStayWithinTheirHops : (others : List Accepted → Type 0) → (later : Marks → Marks → Type 0) → Type 0
+abbrev pub WalksStayWithinTheirHops : (others : List Accepted → Type 0)
+    → (later : Marks → Marks → Type 0) → Type 0
 WalksStayWithinTheirHops others later =
-    (home : Address) (s u : Course (List View)) (trader : ℕ) (q : Query) (t : List TraceItem) (v : Visit)
-    (first : Store) → Walks others later home s trader q t v u → IsSearchedFirst u.world t first
+    (home : Address) (s u : Course (List View)) (trader : ℕ) (q : Query) (t : List TraceItem)
+    (v : Visit) (first : Store) → Walks others later home s trader q t v u
+    → IsSearchedFirst u.world t first
     → LiesWithin (effective_of (parts_of q).stated first.attributes).hops t
 
 -- whatever others do meanwhile: each search lies at most as many hops below the first as the query states
-abbrev pub WalksStayWithinStatedHops : (others : List Accepted → Type 0) → (later : Marks → Marks → Type 0) → Type 0
+abbrev pub WalksStayWithinStatedHops : (others : List Accepted → Type 0)
+    → (later : Marks → Marks → Type 0) → Type 0
 WalksStayWithinStatedHops others later =
-    (home : Address) (s u : Course (List View)) (trader : ℕ) (q : Query) (t : List TraceItem) (v : Visit) (hops : ℕ)
-    → Walks others later home s trader q t v u → (parts_of q).stated.hops ≡ Some hops → LiesWithin hops t
+    (home : Address) (s u : Course (List View)) (trader : ℕ) (q : Query) (t : List TraceItem)
+    (v : Visit) (hops : ℕ)
+    → Walks others later home s trader q t v u → (parts_of q).stated.hops ≡ Some hops
+    → LiesWithin hops t
 
 -- how many marks a trader remembers
 abbrev pub ring_in : Option View → ℕ
@@ -98,25 +104,30 @@ FarApart rings t =
     → mark + rings trader < m
 
 -- whatever others mark meanwhile, and whether the query states its identifier or the first trader makes it
-abbrev pub WalksSearchFarApart : (others : List Accepted → Type 0) → (later : Marks → Marks → Type 0) → Type 0
+abbrev pub WalksSearchFarApart : (others : List Accepted → Type 0)
+    → (later : Marks → Marks → Type 0) → Type 0
 WalksSearchFarApart others later =
-    (home : Address) (s u : Course (List View)) (trader : ℕ) (q : Query) (t : List TraceItem) (v : Visit)
+    (home : Address) (s u : Course (List View)) (trader : ℕ) (q : Query) (t : List TraceItem)
+    (v : Visit)
     → Walks others later home s trader q t v u → FarApart (ring_at s.world) t
 
 -- each visit that begins in a walk, and asks, ends in it
 abbrev pub VisitsEnd : (others : List Accepted → Type 0) → (later : Marks → Marks → Type 0) → Type 0
 VisitsEnd others later =
-    (home : Address) (s u : Course (List View)) (trader : ℕ) (q : Query) (t : List TraceItem) (v : Visit)
+    (home : Address) (s u : Course (List View)) (trader : ℕ) (q : Query) (t : List TraceItem)
+    (v : Visit)
     → Walks others later home s trader q t v u → waiting [] t ≡ []
 
 -- Two walks of a query from one course on, whose traces are one, come to one answer and leave one course: a trace shows
 -- all that was given.
 abbrev pub WalksAreDetermined : Type 0
 WalksAreDetermined =
-    (home : Address) (s u x : Course (List View)) (trader : ℕ) (q : Query) (t : List TraceItem) (v z : Visit)
+    (home : Address) (s u x : Course (List View)) (trader : ℕ) (q : Query) (t : List TraceItem)
+    (v z : Visit)
     → Walks nothing unchanged home s trader q t v u → Walks nothing unchanged home s trader q t z x
     → (v ≡ z) × (u ≡ x)
 
 -- in a group of traders as they are opened every identifier is fresh
 abbrev pub UnmarkedGroupsAreFresh : Type 0
-UnmarkedGroupsAreFresh = (w : List View) (q : Query) (t : List TraceItem) → IsUnmarked w → IsFresh w q t
+UnmarkedGroupsAreFresh = (w : List View) (q : Query) (t : List TraceItem) → IsUnmarked w
+    → IsFresh w q t

@@ -34,7 +34,8 @@ unless_refused None o = Ok o
 unless_refused (Some refused) o = Err refused
 
 -- at this address
-abbrev pub opening_at : Address → List ℕ → List TraderScript → Option Refused → Result Opening Refused
+abbrev pub opening_at : Address → List ℕ → List TraderScript → Option Refused
+    → Result Opening Refused
 opening_at home seed told refused =
     all_traders home told >>= λ traders.
     unless_refused (later_refusal refused (missing_in told told)) (opening home seed traders)

@@ -24,17 +24,20 @@ changes_in history = map (λ (e : Accepted). e.change) history
 -- each change is accepted with its reply at the store behind those before it; none is counted
 abbrev pub AreAccepted : Store → List Accepted → Type 0
 AreAccepted s [] = Unit {0}
-AreAccepted s (e ∷ es) = ((apply s e.change).outcome ≡ Done e.reply) × AreAccepted (apply s e.change).store es
+AreAccepted s (e ∷ es) = ((apply s e.change).outcome ≡ Done e.reply)
+    × AreAccepted (apply s e.change).store es
 
 -- the store is the one behind a history of these entries' changes
-pub record IsBehind (home : Address) (s : Store) (entries : List Numbered) (after : Store) : Type 0 where
+pub record IsBehind (home : Address) (s : Store) (entries : List Numbered)
+    (after : Store) : Type 0 where
   pub history : List Accepted
   pub changes : changes_in history ≡ changes_of home entries
   pub accepted : AreAccepted s history
   pub store : after_all s history ≡ after
 
 -- The entries before it are accepted, and its own operation refuses this one.
-pub record IsFirstRefused (home : Address) (s : Store) (entries : List Numbered) (refused : Refused) : Type 0 where
+pub record IsFirstRefused (home : Address) (s : Store) (entries : List Numbered)
+    (refused : Refused) : Type 0 where
   pub before : List Numbered
   pub one : Numbered
   pub later : List Numbered
@@ -48,13 +51,13 @@ pub record IsFirstRefused (home : Address) (s : Store) (entries : List Numbered)
 
 abbrev pub StoresAreBehind : Type 0
 StoresAreBehind =
-    (home : Address) (s : Store) (entries : List Numbered) (after : Store) → store_after home s entries ≡ Ok after
-    → IsBehind home s entries after
+    (home : Address) (s : Store) (entries : List Numbered) (after : Store)
+    → store_after home s entries ≡ Ok after → IsBehind home s entries after
 
 abbrev pub AcceptedEntriesAreDone : Type 0
 AcceptedEntriesAreDone =
-    (home : Address) (s : Store) (entries : List Numbered) (after : Store) → IsBehind home s entries after
-    → store_after home s entries ≡ Ok after
+    (home : Address) (s : Store) (entries : List Numbered) (after : Store)
+    → IsBehind home s entries after → store_after home s entries ≡ Ok after
 
 abbrev pub FirstRefusedIsTold : Type 0
 FirstRefusedIsTold =

@@ -39,14 +39,17 @@ new_store home name interfaces = record {
 }
 
 -- A trader of the file is linked by its Lookup, with its own Register.
-abbrev pub link_to : Address → (name trader : List ℕ) → (def_pass_on limiting : FollowOption) → Change
+abbrev pub link_to : Address → (name trader : List ℕ) → (def_pass_on limiting : FollowOption)
+    → Change
 link_to home name trader def_pass_on limiting =
-    AddLink name (lookup_reference home trader) def_pass_on limiting (Some (register_reference home trader))
+    AddLink name (lookup_reference home trader) def_pass_on limiting
+    (Some (register_reference home trader))
 
 -- the change that an entry asks for
 abbrev pub change_of : Address → Entry → Change
 change_of home (entry.Change c) = c
-change_of home (entry.Link name trader def_pass_on limiting) = link_to home name trader def_pass_on limiting
+change_of home (entry.Link name trader def_pass_on limiting) = link_to home name trader def_pass_on
+    limiting
 
 -- the store behind the entry of line n, where the operation doesn't refuse it
 abbrev pub entered : ℕ → Applied → Result Store Refused
@@ -99,7 +102,8 @@ is_missing all (entry.Link name trader def_pass_on limiting) = not (is_known tra
 -- the first line of these entries that links to a missing trader
 abbrev pub missing_among : (all : List TraderScript) → List Numbered → Option ℕ
 missing_among all [] = None
-missing_among all (one ∷ others) = if is_missing all one.entry then Some one.line else missing_among all others
+missing_among all (one ∷ others) = if is_missing all one.entry then Some one.line else missing_among
+    all others
 
 abbrev pub or_later : Option ℕ → Option ℕ → Option ℕ
 or_later (Some n) later = Some n

@@ -16,7 +16,8 @@ use td_walk::Address;
 
 fn attributes(alloc: Global, home: &Address, name: &Text) -> Result<Attributes, Memory>
     requires { IsAddress home.now }
-    ensures { IfOk result (λ a. a ≡ default_attributes name.now (trader_references home.now name.now)) }
+    ensures { IfOk result (λ a. a
+        ≡ default_attributes name.now (trader_references home.now name.now)) }
 {
     let own = trader_references(alloc, home, name)?;
     default_attributes(alloc, name, own)
@@ -29,7 +30,8 @@ fn links_and_attributes(
 ) -> Result<(Links, Attributes), Memory>
     requires { IsAddress home.now }
     ensures links { IfOk result (λ p. p.0 ≡ []) }
-    ensures attributes { IfOk result (λ p. p.1 ≡ default_attributes name.now (trader_references home.now name.now)) }
+    ensures attributes { IfOk result (λ p. p.1
+        ≡ default_attributes name.now (trader_references home.now name.now)) }
 {
     let links = Links::new(alloc);
     match attributes(alloc, home, name) {
@@ -49,7 +51,8 @@ fn offers_and_others(
     requires { IsAddress home.now }
     ensures offers { IfOk result (λ p. p.0 ≡ []) }
     ensures links { IfOk result (λ p. p.1.0 ≡ []) }
-    ensures attributes { IfOk result (λ p. p.1.1 ≡ default_attributes name.now (trader_references home.now name.now)) }
+    ensures attributes { IfOk result (λ p. p.1.1
+        ≡ default_attributes name.now (trader_references home.now name.now)) }
 {
     let offers = Offers::new(alloc)?;
     match links_and_attributes(alloc, home, name) {

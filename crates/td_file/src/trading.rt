@@ -39,7 +39,8 @@ fn store_of(
     entries: List<Numbered>,
 ) -> Result<Store, FileFault>
     requires { IsAddress home.now }
-    ensures gives { Gives (store_after home.now (new_store home.now name.now interfaces) entries) result }
+    ensures gives { Gives (store_after home.now (new_store home.now name.now interfaces) entries)
+        result }
     ensures limited { IfOk result HasLimitedOffers }
 {
     let mut store = new_store(alloc, home, name, interfaces)?;

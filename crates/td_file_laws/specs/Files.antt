@@ -7,8 +7,10 @@ use Rattle.td_trader_laws.specs.Reaching.{AreReached}
 use Rattle.td_trader_laws.specs.WritableTraders.{IsWritableTrader}
 
 abbrev pub FilesOpenReachedTraders : Type 0
-FilesOpenReachedTraders = (text : List ℕ) (o : Opening) → opening_of text ≡ Ok o → AreReached o.traders
+FilesOpenReachedTraders = (text : List ℕ) (o : Opening) → opening_of text ≡ Ok o
+    → AreReached o.traders
 
 abbrev pub FilesOpenWritableTraders : Type 0
 FilesOpenWritableTraders =
-    (text : List ℕ) (o : Opening) → AreOctets text → opening_of text ≡ Ok o → AllByRecursion IsWritableTrader o.traders
+    (text : List ℕ) (o : Opening) → AreOctets text → opening_of text ≡ Ok o
+    → AllByRecursion IsWritableTrader o.traders

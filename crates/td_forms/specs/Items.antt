@@ -19,8 +19,8 @@ item_name item.Str = codes "string"
 
 abbrev pub items : List ItemType
 items =
-    item.Short ∷ item.Long ∷ item.UShort ∷ item.ULong ∷ item.LongLong ∷ item.ULongLong ∷ item.Octet ∷ item.Char
-    ∷ item.Boolean ∷ item.Str ∷ []
+    item.Short ∷ item.Long ∷ item.UShort ∷ item.ULong ∷ item.LongLong ∷ item.ULongLong ∷ item.Octet
+    ∷ item.Char ∷ item.Boolean ∷ item.Str ∷ []
 
 abbrev pub item_code : ItemType → TypeCode
 item_code item.Short = code.Short

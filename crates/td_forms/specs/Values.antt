@@ -69,7 +69,8 @@ is_comma b = nat_eq b 44
 -- a value for each of these texts
 abbrev pub all_values : ItemType → List (List ℕ) → Option (List Value)
 all_values item [] = Some []
-all_values item (text ∷ texts) = item_value item text >>= λ v. all_values item texts >>= λ vs. Some (v ∷ vs)
+all_values item (text ∷ texts) = item_value item text >>= λ v. all_values item texts >>= λ vs.
+    Some (v ∷ vs)
 
 -- what stands between commas; an empty text has no items
 abbrev pub texts_of : List ℕ → List (List ℕ)

@@ -56,7 +56,8 @@ fn put_items(
     item: ItemType,
     text: &[u8],
 ) -> Result<Option<List<Value>>, Memory>
-    ensures { IfOk result (λ found. found ≡ joined items (all_values item (slice_split is_comma text.now))) }
+    ensures { IfOk result (λ found. found
+        ≡ joined items (all_values item (slice_split is_comma text.now))) }
 {
     let mut rest = text;
     'parts: loop {

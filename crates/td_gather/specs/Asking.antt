@@ -42,7 +42,8 @@ iterated (Some p) count given = drained most_batches second_id count given
 iterated None count given = unclear
 
 abbrev pub left_over : (iterator : Ior) → (count : ℕ) → (given : List ℕ) → Ended (List Offer)
-left_over iterator count given = if is_nil iterator then gave [] else iterated (iiop_of iterator) count given
+left_over iterator count given = if is_nil iterator then gave [] else iterated (iiop_of iterator)
+    count given
 
 -- with the limits of the query's reply
 abbrev pub with_limits : (limits : List (List ℕ)) → Ended (List Offer) → Ended SubAnswer
@@ -52,9 +53,11 @@ with_limits limits unclear = unclear
 with_limits limits cut = cut
 
 -- what was found, and what the iterator gives behind it
-abbrev pub found_ends : List Offer → (iterator : Ior) → (limits : List (List ℕ)) → (left : List ℕ) → Ended SubAnswer
+abbrev pub found_ends : List Offer → (iterator : Ior) → (limits : List (List ℕ)) → (left : List ℕ)
+    → Ended SubAnswer
 found_ends offers iterator limits left =
-    if may_join 0 offers then with_limits limits (behind offers (left_over iterator (length offers) left)) else unclear
+    if may_join 0 offers then with_limits limits
+    (behind offers (left_over iterator (length offers) left)) else unclear
 
 -- a result of query, by what is left behind its reply
 abbrev pub reply_ends : Reply → (left : List ℕ) → Ended SubAnswer
@@ -87,10 +90,12 @@ iterator_requests None count given = []
 
 -- a nil iterator isn't asked
 abbrev pub left_requests : (iterator : Ior) → (count : ℕ) → (given : List ℕ) → List ℕ
-left_requests iterator count given = if is_nil iterator then [] else iterator_requests (iiop_of iterator) count given
+left_requests iterator count given = if is_nil iterator then [] else iterator_requests
+    (iiop_of iterator) count given
 
 abbrev pub found_requests : List Offer → (iterator : Ior) → (left : List ℕ) → List ℕ
-found_requests offers iterator left = if may_join 0 offers then left_requests iterator (length offers) left else []
+found_requests offers iterator left = if may_join 0 offers then left_requests iterator
+    (length offers) left else []
 
 abbrev pub reply_requests : Reply → (left : List ℕ) → List ℕ
 reply_requests (Found offers iterator limits) left = found_requests offers iterator left
@@ -115,7 +120,8 @@ asked_requests profile c given =
 
 -- the offers are what the bytes come to that the new connection gives; all requests were written over it, and no
 -- more. It has ended since.
-pub record Gathers (c : Call) (p : Iiop) (t : Traffic) (after : Option Traffic) (a : SubAnswer) : Type 0 where
+pub record Gathers (c : Call) (p : Iiop) (t : Traffic) (after : Option Traffic)
+    (a : SubAnswer) : Type 0 where
   pub is : asked c (next_given t) ≡ gave a
   pub rest : List ℕ
   pub wire : after ≡ Some (ended (with_left rest (wrote (asked_requests p c (next_given t))
@@ -127,11 +133,12 @@ GivesFitOffers (Offers a) = AreFit a.offers
 GivesFitOffers (Refused answer) = ⊤
 
 -- What a query of a trader answers, by what the wire tells and by its count of faults.
-abbrev pub AsksBy : (target : Ior) → Call → (before after : Option Traffic) → (f0 f1 : ℕ) → Result Gathered PeerFault
-    → Type 0
+abbrev pub AsksBy : (target : Ior) → Call → (before after : Option Traffic) → (f0 f1 : ℕ)
+    → Result Gathered PeerFault → Type 0
 AsksBy target c before after f0 f1 (Ok (Offers a)) =
     (p : Iiop) × (iiop_of target ≡ Some p) × IfSome before (λ t. Gathers c p t after a)
-AsksBy target c before after f0 f1 (Ok (Refused answer)) = IfSome before (λ t. asked c (next_given t) ≡ raised answer)
+AsksBy target c before after f0 f1 (Ok (Refused answer)) = IfSome before
+    (λ t. asked c (next_given t) ≡ raised answer)
 AsksBy target c before after f0 f1 (Err fault.Wire) =
     Rose f0 f1 ⊎ IfSome before (λ t. asked c (next_given t) ≡ cut)
 AsksBy target c before after f0 f1 (Err fault.Grammar) =
@@ -139,8 +146,8 @@ AsksBy target c before after f0 f1 (Err fault.Grammar) =
 AsksBy target c before after f0 f1 (Err fault.Exception) = ⊥
 AsksBy target c before after f0 f1 (Err fault.Memory) = ⊤
 
-abbrev pub Asks : (target : Ior) → Query → (before after : Option Traffic) → (f0 f1 : ℕ) → Result Gathered PeerFault
-    → Type 0
+abbrev pub Asks : (target : Ior) → Query → (before after : Option Traffic) → (f0 f1 : ℕ)
+    → Result Gathered PeerFault → Type 0
 Asks target q before after f0 f1 r = AsksBy target (Querying q) before after f0 f1 r
 
 -- ---- on the way to it: over a connection that stands, by what is held of it and what it has left
@@ -159,30 +166,39 @@ LeavesOver iterator held before f0 f1 old new (Err fault.Grammar) =
 LeavesOver iterator held before f0 f1 old new (Err fault.Exception) = ⊥
 LeavesOver iterator held before f0 f1 old new (Err fault.Memory) = ⊤
 
-abbrev pub EndsSo : (ending : (left : List ℕ) → Ended SubAnswer) → (held : List ℕ) → (before : Option Traffic)
-    → (f0 f1 : ℕ) → Result Gathered PeerFault → Type 0
-EndsSo ending held before f0 f1 (Ok (Offers a)) = IfSome before (λ t. ending (held ++ left_of t) ≡ gave a)
+abbrev pub EndsSo : (ending : (left : List ℕ) → Ended SubAnswer) → (held : List ℕ)
+    → (before : Option Traffic) → (f0 f1 : ℕ) → Result Gathered PeerFault → Type 0
+EndsSo ending held before f0 f1 (Ok (Offers a)) = IfSome before (λ t. ending (held ++ left_of t)
+    ≡ gave a)
 EndsSo ending held before f0 f1 (Ok (Refused answer)) =
     IfSome before (λ t. ending (held ++ left_of t) ≡ raised answer)
 EndsSo ending held before f0 f1 (Err fault.Wire) =
     Rose f0 f1 ⊎ IfSome before (λ t. ending (held ++ left_of t) ≡ cut)
-EndsSo ending held before f0 f1 (Err fault.Grammar) = IfSome before (λ t. ending (held ++ left_of t) ≡ unclear)
+EndsSo ending held before f0 f1 (Err fault.Grammar) = IfSome before (λ t. ending (held ++ left_of t)
+    ≡ unclear)
 EndsSo ending held before f0 f1 (Err fault.Exception) = ⊥
 EndsSo ending held before f0 f1 (Err fault.Memory) = ⊤
 
 -- over a connection of which nothing came yet
-abbrev pub AsksThrough : Call → (before : Option Traffic) → (f0 f1 : ℕ) → Result Gathered PeerFault → Type 0
+abbrev pub AsksThrough : Call → (before : Option Traffic) → (f0 f1 : ℕ) → Result Gathered PeerFault
+    → Type 0
 AsksThrough c before f0 f1 (Ok (Offers a)) = IfSome before (λ t. asked c (left_of t) ≡ gave a)
-AsksThrough c before f0 f1 (Ok (Refused answer)) = IfSome before (λ t. asked c (left_of t) ≡ raised answer)
-AsksThrough c before f0 f1 (Err fault.Wire) = Rose f0 f1 ⊎ IfSome before (λ t. asked c (left_of t) ≡ cut)
+AsksThrough c before f0 f1 (Ok (Refused answer)) = IfSome before (λ t. asked c (left_of t)
+    ≡ raised answer)
+AsksThrough c before f0 f1 (Err fault.Wire) = Rose f0 f1
+    ⊎ IfSome before (λ t. asked c (left_of t) ≡ cut)
 AsksThrough c before f0 f1 (Err fault.Grammar) = IfSome before (λ t. asked c (left_of t) ≡ unclear)
 AsksThrough c before f0 f1 (Err fault.Exception) = ⊥
 AsksThrough c before f0 f1 (Err fault.Memory) = ⊤
 
-abbrev pub AsksAt : Iiop → Call → (before after : Option Traffic) → (f0 f1 : ℕ) → Result Gathered PeerFault → Type 0
+abbrev pub AsksAt : Iiop → Call → (before after : Option Traffic) → (f0 f1 : ℕ)
+    → Result Gathered PeerFault → Type 0
 AsksAt p c before after f0 f1 (Ok (Offers a)) = IfSome before (λ t. Gathers c p t after a)
-AsksAt p c before after f0 f1 (Ok (Refused answer)) = IfSome before (λ t. asked c (next_given t) ≡ raised answer)
-AsksAt p c before after f0 f1 (Err fault.Wire) = Rose f0 f1 ⊎ IfSome before (λ t. asked c (next_given t) ≡ cut)
-AsksAt p c before after f0 f1 (Err fault.Grammar) = IfSome before (λ t. asked c (next_given t) ≡ unclear)
+AsksAt p c before after f0 f1 (Ok (Refused answer)) = IfSome before (λ t. asked c (next_given t)
+    ≡ raised answer)
+AsksAt p c before after f0 f1 (Err fault.Wire) = Rose f0 f1
+    ⊎ IfSome before (λ t. asked c (next_given t) ≡ cut)
+AsksAt p c before after f0 f1 (Err fault.Grammar) = IfSome before (λ t. asked c (next_given t)
+    ≡ unclear)
 AsksAt p c before after f0 f1 (Err fault.Exception) = ⊥
 AsksAt p c before after f0 f1 (Err fault.Memory) = ⊤

@@ -100,18 +100,21 @@ after_destroy short = cut
 
 -- what comes behind a batch: with FALSE the iterator is destroyed, and with TRUE the next batch follows, unless this
 -- one is empty
-abbrev pub behind_batch : (more : Bool) → List Offer → (last next : Ended (List Offer)) → Ended (List Offer)
+abbrev pub behind_batch : (more : Bool) → List Offer → (last next : Ended (List Offer))
+    → Ended (List Offer)
 behind_batch false offers last next = last
 behind_batch true [] last next = unclear
 behind_batch true (o ∷ offers) last next = next
 
 -- a batch behind so many offers, by what follows it
-abbrev pub batch_ends : (count : ℕ) → (more : Bool) → List Offer → (last next : Ended (List Offer)) → Ended (List Offer)
+abbrev pub batch_ends : (count : ℕ) → (more : Bool) → List Offer → (last next : Ended (List Offer))
+    → Ended (List Offer)
 batch_ends count more offers last next =
     if may_join count offers then behind offers (behind_batch more offers last next) else unclear
 
 -- an answer to next_n
-abbrev pub answer_ends : (count : ℕ) → Answered → (last next : Ended (List Offer)) → Ended (List Offer)
+abbrev pub answer_ends : (count : ℕ) → Answered → (last next : Ended (List Offer))
+    → Ended (List Offer)
 answer_ends count (Done (Batch more offers)) last next = batch_ends count more offers last next
 answer_ends count (Done other) last next = unclear
 answer_ends count (User id) last next = raised (User id)
@@ -122,10 +125,11 @@ abbrev pub batch_length : Answered → ℕ
 batch_length (Done (Batch more offers)) = length offers
 batch_length other = 0
 
-abbrev pub after_batch : (next : (count : ℕ) → (given : List ℕ) → Ended (List Offer)) → (id count : ℕ)
-    → (given : List ℕ) → Comes Answered → Ended (List Offer)
+abbrev pub after_batch : (next : (count : ℕ) → (given : List ℕ) → Ended (List Offer))
+    → (id count : ℕ) → (given : List ℕ) → Comes Answered → Ended (List Offer)
 after_batch next id count given (told answer size) =
-    answer_ends count answer (after_destroy (replied (outcome_told destroy) (id + 1) (drop size given)))
+    answer_ends count answer
+    (after_destroy (replied (outcome_told destroy) (id + 1) (drop size given)))
     (next (count + batch_length answer) (drop size given))
 after_batch next id count given strange = unclear
 after_batch next id count given short = cut
@@ -134,7 +138,8 @@ after_batch next id count given short = cut
 unfoldable pub drained : (batches : ℕ) → (id count : ℕ) → (given : List ℕ) → Ended (List Offer)
 drained zero id count given = unclear
 drained (suc batches) id count given =
-    after_batch (drained batches (id + 1)) id count given (replied (outcome_told next_batch) id given)
+    after_batch (drained batches (id + 1)) id count given
+    (replied (outcome_told next_batch) id given)
 
 -- ---- what is written for them
 
@@ -151,8 +156,8 @@ goes_on count (Done other) = false
 goes_on count (User id) = false
 goes_on count (System id minor completion) = false
 
-abbrev pub batches_behind : (next : (count : ℕ) → (given : List ℕ) → ℕ) → (count : ℕ) → (given : List ℕ)
-    → Comes Answered → ℕ
+abbrev pub batches_behind : (next : (count : ℕ) → (given : List ℕ) → ℕ) → (count : ℕ)
+    → (given : List ℕ) → Comes Answered → ℕ
 batches_behind next count given (told answer size) =
     if goes_on count answer then next (count + batch_length answer) (drop size given) else 0
 batches_behind next count given strange = 0
@@ -163,12 +168,15 @@ batches_behind next count given short = 0
 unfoldable pub batches_asked : (batches : ℕ) → (id count : ℕ) → (given : List ℕ) → ℕ
 batches_asked zero id count given = 0
 batches_asked (suc batches) id count given =
-    suc (batches_behind (batches_asked batches (id + 1)) count given (replied (outcome_told next_batch) id given))
+    suc (batches_behind (batches_asked batches (id + 1)) count given
+    (replied (outcome_told next_batch) id given))
 
 abbrev pub batch_requests : (profile : Iiop) → (id batches : ℕ) → List ℕ
 batch_requests profile id zero = []
-batch_requests profile id (suc batches) = request_of id profile next_batch ++ batch_requests profile (id + 1) batches
+batch_requests profile id (suc batches) = request_of id profile next_batch
+    ++ batch_requests profile (id + 1) batches
 
 -- so many batches are asked for, and then the iterator is destroyed
 abbrev pub drain_requests : (profile : Iiop) → (id batches : ℕ) → List ℕ
-drain_requests profile id batches = batch_requests profile id batches ++ request_of (id + batches) profile destroy
+drain_requests profile id batches = batch_requests profile id batches
+    ++ request_of (id + batches) profile destroy

@@ -25,20 +25,24 @@ module _ (trader : Iiop) (c : Call) (given : List ℕ) (size : ℕ) where
 
   abbrev pub WorkedException : (id : List ℕ) → Type 0
   WorkedException id =
-      replied (outcome_told c) first_id given ≡ told (User id) size → asked_requests trader c given ≡ request_of 1 trader c
+      replied (outcome_told c) first_id given ≡ told (User id) size → asked_requests trader c given
+      ≡ request_of 1 trader c
 
 -- ---- one whose iterator gives an offer with TRUE, and then none with FALSE
 
-pub record GivesBatches (c : Call) (given : List ℕ) (p : Iiop) (iterator : Ior) (o : Offer) : Type 0 where
+pub record GivesBatches (c : Call) (given : List ℕ) (p : Iiop) (iterator : Ior)
+    (o : Offer) : Type 0 where
   pub reply : ℕ
   pub found : replied (outcome_told c) 1 given ≡ told (Done (Found [] iterator [])) reply
   pub some : is_nil iterator ≡ false
   pub profile : iiop_of iterator ≡ Some p
   pub batch : ℕ
-  pub first : replied (outcome_told next_batch) 2 (drop reply given) ≡ told (Done (Batch true (o ∷ []))) batch
+  pub first : replied (outcome_told next_batch) 2 (drop reply given)
+      ≡ told (Done (Batch true (o ∷ []))) batch
   pub small : may_join 0 (o ∷ []) ≡ true
   pub end : ℕ
-  pub last : replied (outcome_told next_batch) 3 (drop batch (drop reply given)) ≡ told (Done (Batch false [])) end
+  pub last : replied (outcome_told next_batch) 3 (drop batch (drop reply given))
+      ≡ told (Done (Batch false [])) end
 
 abbrev pub WorkedBatches : (trader : Iiop) → Call → (given : List ℕ) → Iiop → Ior → Offer → Type 0
 WorkedBatches trader c given p iterator o =

@@ -28,10 +28,12 @@ pub record Grew (old new offers : List Offer) : Type 0 where
 
 abbrev pub Joins : (more : Bool) → (offers old new : List Offer) → Result Turn PeerFault → Type 0
 Joins more offers old new (Ok More) =
-    ((last next : Ended (List Offer)) → batch_ends (length old) more offers last next ≡ behind offers next)
+    ((last next : Ended (List Offer)) → batch_ends (length old) more offers last next
+    ≡ behind offers next)
     × (has_next more offers && may_join (length old) offers ≡ true) × Grew old new offers
 Joins more offers old new (Ok Last) =
-    ((last next : Ended (List Offer)) → batch_ends (length old) more offers last next ≡ behind offers last)
+    ((last next : Ended (List Offer)) → batch_ends (length old) more offers last next
+    ≡ behind offers last)
     × (has_next more offers && may_join (length old) offers ≡ false) × (new ≡ old ++ offers)
 Joins more offers old new (Ok (Refused answer)) = ⊥
 Joins more offers old new (Err fault.Grammar) =
@@ -44,10 +46,12 @@ abbrev pub Takes : Answered → (old new : List Offer) → Result Turn PeerFault
 Takes answer old new (Ok More) =
     (offers : List Offer) × Grew old new offers × (batch_length answer ≡ length offers)
     × (goes_on (length old) answer ≡ true)
-    × ((last next : Ended (List Offer)) → answer_ends (length old) answer last next ≡ behind offers next)
+    × ((last next : Ended (List Offer)) → answer_ends (length old) answer last next
+    ≡ behind offers next)
 Takes answer old new (Ok Last) =
     (offers : List Offer) × (new ≡ old ++ offers) × (goes_on (length old) answer ≡ false)
-    × ((last next : Ended (List Offer)) → answer_ends (length old) answer last next ≡ behind offers last)
+    × ((last next : Ended (List Offer)) → answer_ends (length old) answer last next
+    ≡ behind offers last)
 Takes answer old new (Ok (Refused other)) =
     (last next : Ended (List Offer)) → answer_ends (length old) answer last next ≡ raised other
 Takes answer old new (Err fault.Grammar) =
@@ -63,8 +67,8 @@ abbrev pub bytes_limit : ℕ → ℕ
 bytes_limit id = id * 2 ^ 27
 
 -- what a batch makes of a draining, whatever the most batches are
-pub record GoesOn (profile : Iiop) (id : ℕ) (held held_after : List ℕ) (t : Traffic) (after : Option Traffic)
-    (old new offers : List Offer) : Type 0 where
+pub record GoesOn (profile : Iiop) (id : ℕ) (held held_after : List ℕ) (t : Traffic)
+    (after : Option Traffic) (old new offers : List Offer) : Type 0 where
   pub rest : List ℕ
   pub wire : after ≡ Some (with_left rest (wrote (request_of id profile next_batch) t))
   pub left : left_of (with_left rest (wrote (request_of id profile next_batch) t)) ≡ rest
@@ -73,8 +77,8 @@ pub record GoesOn (profile : Iiop) (id : ℕ) (held held_after : List ℕ) (t : 
   pub asks : (batches : ℕ) → batches_asked (suc batches) id (length old) (held ++ left_of t)
       ≡ suc (batches_asked batches (id + 1) (length new) (held_after ++ rest))
 
-pub record Finishes (profile : Iiop) (id : ℕ) (held held_after : List ℕ) (t : Traffic) (after : Option Traffic)
-    (old offers : List Offer) : Type 0 where
+pub record Finishes (profile : Iiop) (id : ℕ) (held held_after : List ℕ) (t : Traffic)
+    (after : Option Traffic) (old offers : List Offer) : Type 0 where
   pub rest : List ℕ
   pub wire : after ≡ Some (with_left rest (wrote (request_of id profile next_batch) t))
   pub left : left_of (with_left rest (wrote (request_of id profile next_batch) t)) ≡ rest
@@ -82,7 +86,8 @@ pub record Finishes (profile : Iiop) (id : ℕ) (held held_after : List ℕ) (t 
       ≡ behind offers (after_destroy (replied (outcome_told destroy) (id + 1) (held_after ++ rest)))
   pub asks : (batches : ℕ) → batches_asked (suc batches) id (length old) (held ++ left_of t) ≡ 1
 
-abbrev pub Turns : (profile : Iiop) → (id : ℕ) → (held held_after : List ℕ) → (before after : Option Traffic)
+abbrev pub Turns : (profile : Iiop) → (id : ℕ) → (held held_after : List ℕ)
+    → (before after : Option Traffic)
     → (f0 f1 : ℕ) → (old new : List Offer) → Result Turn PeerFault → Type 0
 Turns profile id held held_after before after f0 f1 old new (Ok More) =
     (offers : List Offer) × Grew old new offers
@@ -91,12 +96,15 @@ Turns profile id held held_after before after f0 f1 old new (Ok Last) =
     (offers : List Offer) × (new ≡ old ++ offers)
     × IfSome before (λ t. Finishes profile id held held_after t after old offers)
 Turns profile id held held_after before after f0 f1 old new (Ok (Refused answer)) =
-    IfSome before (λ t. (batches : ℕ) → drained (suc batches) id (length old) (held ++ left_of t) ≡ raised answer)
+    IfSome before (λ t. (batches : ℕ) → drained (suc batches) id (length old) (held ++ left_of t)
+    ≡ raised answer)
 Turns profile id held held_after before after f0 f1 old new (Err fault.Wire) =
     Rose f0 f1
-    ⊎ IfSome before (λ t. (batches : ℕ) → drained (suc batches) id (length old) (held ++ left_of t) ≡ cut)
+    ⊎ IfSome before (λ t. (batches : ℕ) → drained (suc batches) id (length old) (held ++ left_of t)
+    ≡ cut)
 Turns profile id held held_after before after f0 f1 old new (Err fault.Grammar) =
-    IfSome before (λ t. (batches : ℕ) → drained (suc batches) id (length old) (held ++ left_of t) ≡ unclear)
+    IfSome before (λ t. (batches : ℕ) → drained (suc batches) id (length old) (held ++ left_of t)
+    ≡ unclear)
 Turns profile id held held_after before after f0 f1 old new (Err fault.Exception) = ⊥
 Turns profile id held held_after before after f0 f1 old new (Err fault.Memory) = ⊤
 
@@ -110,18 +118,22 @@ Destroyed ending (Err fault.Exception) = ⊥
 Destroyed ending (Err fault.Memory) = ⊥
 
 -- the reply to destroy
-abbrev pub Destroys : (profile : Iiop) → (id : ℕ) → (held : List ℕ) → (before after : Option Traffic) → (f0 f1 : ℕ)
-    → Result (Option Answered) PeerFault → Type 0
+abbrev pub Destroys : (profile : Iiop) → (id : ℕ) → (held : List ℕ)
+    → (before after : Option Traffic) → (f0 f1 : ℕ) → Result (Option Answered) PeerFault → Type 0
 Destroys profile id held before after f0 f1 (Ok None) =
-    IfSome before (λ t. (rest : List ℕ) × (after ≡ Some (with_left rest (wrote (request_of id profile destroy) t)))
+    IfSome before (λ t. (rest : List ℕ)
+    × (after ≡ Some (with_left rest (wrote (request_of id profile destroy) t)))
     × (after_destroy (replied (outcome_told destroy) id (held ++ left_of t)) ≡ gave []))
 Destroys profile id held before after f0 f1 (Ok (Some answer)) =
-    IfSome before (λ t. after_destroy (replied (outcome_told destroy) id (held ++ left_of t)) ≡ raised answer)
+    IfSome before (λ t. after_destroy (replied (outcome_told destroy) id (held ++ left_of t))
+    ≡ raised answer)
 Destroys profile id held before after f0 f1 (Err fault.Wire) =
     Rose f0 f1
-    ⊎ IfSome before (λ t. after_destroy (replied (outcome_told destroy) id (held ++ left_of t)) ≡ cut)
+    ⊎ IfSome before (λ t. after_destroy (replied (outcome_told destroy) id (held ++ left_of t))
+    ≡ cut)
 Destroys profile id held before after f0 f1 (Err fault.Grammar) =
-    IfSome before (λ t. after_destroy (replied (outcome_told destroy) id (held ++ left_of t)) ≡ unclear)
+    IfSome before (λ t. after_destroy (replied (outcome_told destroy) id (held ++ left_of t))
+    ≡ unclear)
 Destroys profile id held before after f0 f1 (Err fault.Exception) = ⊥
 Destroys profile id held before after f0 f1 (Err fault.Memory) = ⊤
 

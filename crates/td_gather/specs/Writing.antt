@@ -33,7 +33,8 @@ Writes all requests t after = (f : WritesFront requests t after) × (IsTrue all 
 -- the same of the requests that the bytes call for that are held and left, where the wire tells
 abbrev pub WritesBy : (all : Bool) → (requests : (left : List ℕ) → List ℕ) → (held : List ℕ)
     → (before after : Option Traffic) → Type 0
-WritesBy all requests held before after = IfSome before (λ t. Writes all (requests (held ++ left_of t)) t after)
+WritesBy all requests held before after = IfSome before
+    (λ t. Writes all (requests (held ++ left_of t)) t after)
 
 -- whether an iterator gave all that it had, and was destroyed
 abbrev pub drains_all : Result (Option Answered) PeerFault → Bool
@@ -54,13 +55,15 @@ pub data AskLeavesAt (p : Iiop) (c : Call) (before after : Option Traffic) : Typ
   unopened : Unopened before after → AskLeavesAt p c before after
   -- one was made, which has ended, and a front of the query's requests was written over it
   over : (last : Option Traffic)
-      → IfSome before (λ t. WritesFront (asked_requests p c (next_given t)) (opened p.host p.port t) last)
+      → IfSome before (λ t. WritesFront (asked_requests p c (next_given t))
+      (opened p.host p.port t) last)
       → after ≡ option_map ended last → AskLeavesAt p c before after
 
 pub data AskLeavesBy (target : Ior) (c : Call) (before after : Option Traffic) : Type 0 where
   -- so it is with a trader that has no IIOP profile
   untouched : after ≡ before → AskLeavesBy target c before after
-  reached : (p : Iiop) → iiop_of target ≡ Some p → AskLeavesAt p c before after → AskLeavesBy target c before after
+  reached : (p : Iiop) → iiop_of target ≡ Some p → AskLeavesAt p c before after
+      → AskLeavesBy target c before after
 
 abbrev pub AskLeaves : (target : Ior) → Query → (before after : Option Traffic) → Type 0
 AskLeaves target q before after = AskLeavesBy target (Querying q) before after

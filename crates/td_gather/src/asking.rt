@@ -44,8 +44,8 @@ pub fn ask_over<L: Wire>(
     q: &Query,
 ) -> Result<Gathered, PeerFault>
     ensures same { L.same wire.old wire.new }
-    ensures asks { Asks target.now q.now (L.told wire.old) (L.told wire.new) (L.faults wire.old) (L.faults wire.new)
-        result }
+    ensures asks { Asks target.now q.now (L.told wire.old) (L.told wire.new) (L.faults wire.old)
+        (L.faults wire.new) result }
     ensures leaves { AskLeaves target.now q.now (L.told wire.old) (L.told wire.new) }
     ensures disconnected { StaysDisconnected (L.told wire.old) (L.told wire.new) }
     ensures later { L.faults wire.old ≤ L.faults wire.new }
@@ -70,8 +70,8 @@ fn ask_call<L: Wire>(
     call: &Call,
 ) -> Result<Gathered, PeerFault>
     ensures same { L.same wire.old wire.new }
-    ensures asks { AsksBy target.now call.now (L.told wire.old) (L.told wire.new) (L.faults wire.old)
-        (L.faults wire.new) result }
+    ensures asks { AsksBy target.now call.now (L.told wire.old) (L.told wire.new)
+        (L.faults wire.old) (L.faults wire.new) result }
     ensures leaves { AskLeavesBy target.now call.now (L.told wire.old) (L.told wire.new) }
     ensures disconnected { StaysDisconnected (L.told wire.old) (L.told wire.new) }
     ensures later { L.faults wire.old ≤ L.faults wire.new }
@@ -91,8 +91,8 @@ fn ask_at<L: Wire>(
     call: &Call,
 ) -> Result<Gathered, PeerFault>
     ensures same { L.same wire.old wire.new }
-    ensures asks { AsksAt profile.now call.now (L.told wire.old) (L.told wire.new) (L.faults wire.old)
-        (L.faults wire.new) result }
+    ensures asks { AsksAt profile.now call.now (L.told wire.old) (L.told wire.new)
+        (L.faults wire.old) (L.faults wire.new) result }
     ensures leaves { AskLeavesAt profile.now call.now (L.told wire.old) (L.told wire.new) }
     ensures disconnected { StaysDisconnected (L.told wire.old) (L.told wire.new) }
     ensures later { L.faults wire.old ≤ L.faults wire.new }
@@ -130,9 +130,10 @@ fn ask_through<L: Wire>(
 ) -> Result<Gathered, PeerFault>
     requires { framer.old ≡ fresh_stream }
     ensures same { L.same wire.old wire.new }
-    ensures asks { AsksThrough call.now (L.told wire.old) (L.faults wire.old) (L.faults wire.new) result }
-    ensures writes { WritesBy (gives_all result) (λ left. asked_requests profile.now call.now left) [] (L.told wire.old)
-        (L.told wire.new) }
+    ensures asks { AsksThrough call.now (L.told wire.old) (L.faults wire.old)
+        (L.faults wire.new) result }
+    ensures writes { WritesBy (gives_all result) (λ left. asked_requests profile.now call.now left)
+        [] (L.told wire.old) (L.told wire.new) }
     ensures later { L.faults wire.old ≤ L.faults wire.new }
     ensures fit { IfOk result (λ g. GivesFitOffers g) }
 {
@@ -165,10 +166,10 @@ fn gather<L: Wire>(
     requires room { framer.old.start + length framer.old.rest ≤ bytes_limit second_id }
     requires writable { HasWritable reply }
     ensures same { L.same wire.old wire.new }
-    ensures ends { EndsSo (reply_ends reply) framer.old.rest (L.told wire.old) (L.faults wire.old) (L.faults wire.new)
-        result }
-    ensures writes { WritesBy (gives_all result) (λ left. reply_requests reply left) framer.old.rest (L.told wire.old)
-        (L.told wire.new) }
+    ensures ends { EndsSo (reply_ends reply) framer.old.rest (L.told wire.old) (L.faults wire.old)
+        (L.faults wire.new) result }
+    ensures writes { WritesBy (gives_all result) (λ left. reply_requests reply left) framer.old.rest
+        (L.told wire.old) (L.told wire.new) }
     ensures later { L.faults wire.old ≤ L.faults wire.new }
     ensures fit { IfOk result (λ g. GivesFitOffers g) }
 {
@@ -200,8 +201,8 @@ fn gather_found<L: Wire>(
     ensures same { L.same wire.old wire.new }
     ensures ends { EndsSo (found_ends offers iterator.now limits) framer.old.rest (L.told wire.old)
         (L.faults wire.old) (L.faults wire.new) result }
-    ensures writes { WritesBy (gives_all result) (λ left. found_requests offers iterator.now left) framer.old.rest
-        (L.told wire.old) (L.told wire.new) }
+    ensures writes { WritesBy (gives_all result) (λ left. found_requests offers iterator.now left)
+        framer.old.rest (L.told wire.old) (L.told wire.new) }
     ensures later { L.faults wire.old ≤ L.faults wire.new }
     ensures fit { IfOk result (λ g. GivesFitOffers g) }
 {
@@ -228,8 +229,8 @@ fn gather_more<L: Wire>(
     ensures same { L.same wire.old wire.new }
     ensures ends { EndsSo (found_ends offers iterator.now limits) framer.old.rest (L.told wire.old)
         (L.faults wire.old) (L.faults wire.new) result }
-    ensures writes { WritesBy (gives_all result) (λ left. found_requests offers iterator.now left) framer.old.rest
-        (L.told wire.old) (L.told wire.new) }
+    ensures writes { WritesBy (gives_all result) (λ left. found_requests offers iterator.now left)
+        framer.old.rest (L.told wire.old) (L.told wire.new) }
     ensures later { L.faults wire.old ≤ L.faults wire.new }
     ensures fit { IfOk result (λ g. GivesFitOffers g) }
 {
@@ -257,10 +258,11 @@ fn drain_reference<L: Wire>(
     requires few { length gathered.old.items ≤ most_offers }
     requires fit { AreFit gathered.old.items }
     ensures same { L.same wire.old wire.new }
-    ensures leaves { LeavesOver iterator.now framer.old.rest (L.told wire.old) (L.faults wire.old) (L.faults wire.new)
-        gathered.old.items gathered.new.items result }
-    ensures writes { WritesBy (drains_all result) (λ left. left_requests iterator.now (length gathered.old.items) left)
-        framer.old.rest (L.told wire.old) (L.told wire.new) }
+    ensures leaves { LeavesOver iterator.now framer.old.rest (L.told wire.old) (L.faults wire.old)
+        (L.faults wire.new) gathered.old.items gathered.new.items result }
+    ensures writes { WritesBy (drains_all result)
+        (λ left. left_requests iterator.now (length gathered.old.items) left) framer.old.rest
+        (L.told wire.old) (L.told wire.new) }
     ensures later { L.faults wire.old ≤ L.faults wire.new }
     ensures fit { OnOk result (AreFit gathered.new.items) }
 {

@@ -162,10 +162,12 @@ fn call_iterator<L: Wire>(
     requires limit { framer.old.limit ≡ reply_limit }
     requires room { framer.old.start + length framer.old.rest + 2 ^ 27 < 2 ^ 64 }
     ensures same { L.same wire.old wire.new }
-    ensures exchanges { Exchanges (outcome_told (Iter call)) id (request_of id profile.now (Iter call)) framer.old.rest
-        framer.new.rest (L.told wire.old) (L.told wire.new) (L.faults wire.old) (L.faults wire.new) result }
+    ensures exchanges { Exchanges (outcome_told (Iter call)) id
+        (request_of id profile.now (Iter call)) framer.old.rest framer.new.rest (L.told wire.old)
+        (L.told wire.new) (L.faults wire.old) (L.faults wire.new) result }
     ensures writable { IfOk result (λ a. TellsWritable a) }
-    ensures moves { Moves (request_of id profile.now (Iter call)) (L.told wire.old) (L.told wire.new) }
+    ensures moves { Moves (request_of id profile.now (Iter call)) (L.told wire.old)
+        (L.told wire.new) }
     ensures later { L.faults wire.old ≤ L.faults wire.new }
     ensures grows { framer.new.start + length framer.new.rest
         ≤ framer.old.start + length framer.old.rest + 2 ^ 27 }
@@ -195,9 +197,11 @@ fn take_batch<L: Wire>(
     requires few { id ≤ most_batches + 1 }
     requires fit { AreFit gathered.old.items }
     ensures same { L.same wire.old wire.new }
-    ensures turns { Turns profile.now id framer.old.rest framer.new.rest (L.told wire.old) (L.told wire.new)
-        (L.faults wire.old) (L.faults wire.new) gathered.old.items gathered.new.items result }
-    ensures moves { Moves (request_of id profile.now next_batch) (L.told wire.old) (L.told wire.new) }
+    ensures turns { Turns profile.now id framer.old.rest framer.new.rest (L.told wire.old)
+        (L.told wire.new) (L.faults wire.old)
+        (L.faults wire.new) gathered.old.items gathered.new.items result }
+    ensures moves { Moves (request_of id profile.now next_batch) (L.told wire.old)
+        (L.told wire.new) }
     ensures later { L.faults wire.old ≤ L.faults wire.new }
     ensures grows { framer.new.start + length framer.new.rest ≤ bytes_limit (id + 1) }
     ensures kept { framer.new.limit ≡ framer.old.limit }
@@ -226,9 +230,10 @@ fn destroy<L: Wire>(
     requires room { framer.old.start + length framer.old.rest ≤ bytes_limit id }
     requires few { id ≤ most_batches + 2 }
     ensures same { L.same wire.old wire.new }
-    ensures destroys { Destroys profile.now id framer.old.rest (L.told wire.old) (L.told wire.new) (L.faults wire.old)
-        (L.faults wire.new) result }
-    ensures moves { Moves (request_of id profile.now destroy_call) (L.told wire.old) (L.told wire.new) }
+    ensures destroys { Destroys profile.now id framer.old.rest (L.told wire.old) (L.told wire.new)
+        (L.faults wire.old) (L.faults wire.new) result }
+    ensures moves { Moves (request_of id profile.now destroy_call) (L.told wire.old)
+        (L.told wire.new) }
     ensures later { L.faults wire.old ≤ L.faults wire.new }
 {
     match call_iterator(alloc, wire, framer, id, profile, IterCall::Destroy) {
@@ -284,11 +289,11 @@ pub(crate) fn drain<L: Wire>(
     requires few { length gathered.old.items ≤ most_offers }
     requires fit { AreFit gathered.old.items }
     ensures same { L.same wire.old wire.new }
-    ensures drains { Drains second_id most_batches framer.old.rest (L.told wire.old) (L.faults wire.old)
-        (L.faults wire.new) gathered.old.items gathered.new.items result }
+    ensures drains { Drains second_id most_batches framer.old.rest (L.told wire.old)
+        (L.faults wire.old) (L.faults wire.new) gathered.old.items gathered.new.items result }
     ensures writes { WritesBy (drains_all result) (λ left. drain_requests profile.now second_id
-        (batches_asked most_batches second_id (length gathered.old.items) left)) framer.old.rest (L.told wire.old)
-        (L.told wire.new) }
+        (batches_asked most_batches second_id (length gathered.old.items) left)) framer.old.rest
+        (L.told wire.old) (L.told wire.new) }
     ensures later { L.faults wire.old ≤ L.faults wire.new }
     ensures fit { OnOk result (AreFit gathered.new.items) }
 {

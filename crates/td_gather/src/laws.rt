@@ -9,9 +9,11 @@ ghost use Rattle.td_value.specs.declared.structures.Offer.{Offer};
 
 /// The requests of a query, by the replies that its connection gives.
 pub fn worked_requests()
-    ensures nil { (trader : Iiop) (c : Call) (given : List ℕ) (size : ℕ) → WorkedNil trader c given size }
+    ensures nil { (trader : Iiop) (c : Call) (given : List ℕ) (size : ℕ)
+        → WorkedNil trader c given size }
     ensures exception { (trader : Iiop) (c : Call) (given : List ℕ) (size : ℕ) (id : List ℕ)
         → WorkedException trader c given size id }
-    ensures batches { (trader : Iiop) (c : Call) (given : List ℕ) (p : Iiop) (iterator : Ior) (o : Offer)
+    ensures batches { (trader : Iiop) (c : Call) (given : List ℕ) (p : Iiop) (iterator : Ior)
+        (o : Offer)
         → WorkedBatches trader c given p iterator o }
 {}

@@ -29,7 +29,8 @@ Fronts limit s [] rest = s ≡ rest
 Fronts limit s (m ∷ ms) rest = Front limit s m × Fronts limit (drop (length m) s) ms rest
 
 -- s is these messages and this rest
-pub record Cut (limit : ℕ) (s : List ℕ) (messages : List (List ℕ)) (rest : List ℕ) (ending : Ending) : Type 0 where
+pub record Cut (limit : ℕ) (s : List ℕ) (messages : List (List ℕ)) (rest : List ℕ)
+    (ending : Ending) : Type 0 where
   pub fronts : Fronts limit s messages rest
   pub ends : EndsSo limit ending rest
 

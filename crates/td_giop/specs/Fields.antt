@@ -29,13 +29,28 @@ octet = record {
 }
 
 abbrev pub boolean : Sound CdrFault Bool
-boolean = record { format = format.boolean; lawful = boolean-lawful; faults = BooleanFault; refuses = boolean-refuses }
+boolean = record {
+  format = format.boolean;
+  lawful = boolean-lawful;
+  faults = BooleanFault;
+  refuses = boolean-refuses;
+}
 
 abbrev pub octets : Sound CdrFault (List ℕ)
-octets = record { format = format.octets; lawful = octets-lawful; faults = OctetsFault; refuses = octets-refuses }
+octets = record {
+  format = format.octets;
+  lawful = octets-lawful;
+  faults = OctetsFault;
+  refuses = octets-refuses;
+}
 
 abbrev pub text : Sound CdrFault (List ℕ)
-text = record { format = format.text; lawful = text-lawful; faults = StringFault; refuses = string-refuses }
+text = record {
+  format = format.text;
+  lawful = text-lawful;
+  faults = StringFault;
+  refuses = string-refuses;
+}
 
 abbrev pub same_fault : CdrFault → CdrFault
 same_fault fault = fault

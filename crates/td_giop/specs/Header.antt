@@ -43,7 +43,8 @@ abbrev pub HasType : List ℕ → ℕ → Type 0
 HasType bytes kind = (slice_index bytes TYPE_PLACE ≡ kind) × (kind ≤ MESSAGE_ERROR)
 
 -- bytes begin with a good header of a whole message of this version, order and type, which is followed by size bytes
-pub record GoodHeader (limit : ℕ) (bytes : List ℕ) (minor : ℕ) (order : Order) (kind size : ℕ) : Type 0 where
+pub record GoodHeader (limit : ℕ) (bytes : List ℕ) (minor : ℕ) (order : Order)
+    (kind size : ℕ) : Type 0 where
   pub whole : HEADER_SIZE ≤ length bytes
   pub magic : HasMagic bytes
   pub version : HasVersion bytes
@@ -58,14 +59,18 @@ pub record GoodHeader (limit : ℕ) (bytes : List ℕ) (minor : ℕ) (order : Or
 
 abbrev pub has_magic : List ℕ → Bool
 has_magic bytes =
-    nat_eq (slice_index bytes 0) (slice_index MAGIC 0) && (nat_eq (slice_index bytes 1) (slice_index MAGIC 1)
-    && (nat_eq (slice_index bytes 2) (slice_index MAGIC 2) && nat_eq (slice_index bytes 3) (slice_index MAGIC 3)))
+    nat_eq (slice_index bytes 0) (slice_index MAGIC 0)
+    && (nat_eq (slice_index bytes 1) (slice_index MAGIC 1)
+    && (nat_eq (slice_index bytes 2) (slice_index MAGIC 2)
+    && nat_eq (slice_index bytes 3) (slice_index MAGIC 3)))
 
 abbrev pub has_version : List ℕ → Bool
-has_version bytes = nat_eq (slice_index bytes MAJOR_PLACE) MAJOR && nat_le (slice_index bytes MINOR_PLACE) NEWEST_MINOR
+has_version bytes = nat_eq (slice_index bytes MAJOR_PLACE) MAJOR
+    && nat_le (slice_index bytes MINOR_PLACE) NEWEST_MINOR
 
 abbrev pub is_fragmented : List ℕ → Bool
-is_fragmented bytes = nat_lt 0 (slice_index bytes MINOR_PLACE) && nat_le 2 (slice_index bytes ORDER_PLACE % 4)
+is_fragmented bytes = nat_lt 0 (slice_index bytes MINOR_PLACE)
+    && nat_le 2 (slice_index bytes ORDER_PLACE % 4)
 
 abbrev pub order_told : ℕ → Order
 order_told octet = if nat_eq (octet % 2) 0 then Big else Little
@@ -82,7 +87,8 @@ header_at limit bytes =
     else if not (has_version bytes) then Err BadVersion
     else if is_fragmented bytes then Err Fragmented
     else if nat_lt MESSAGE_ERROR (slice_index bytes TYPE_PLACE) then Err BadType
-    else if nat_lt limit (size_told (order_told (slice_index bytes ORDER_PLACE)) bytes) then Err TooLarge
+    else if nat_lt limit (size_told (order_told (slice_index bytes ORDER_PLACE)) bytes)
+    then Err TooLarge
     else Ok (Some (record {
       kind = slice_index bytes TYPE_PLACE;
       order = order_told (slice_index bytes ORDER_PLACE);
@@ -96,9 +102,11 @@ FirstFault BadMagic limit bytes = HasMagic bytes → ⊥
 FirstFault BadVersion limit bytes = HasMagic bytes × (HasVersion bytes → ⊥)
 FirstFault Fragmented limit bytes = HasMagic bytes × HasVersion bytes × IsFragmented bytes
 FirstFault BadType limit bytes =
-    HasMagic bytes × HasVersion bytes × (IsFragmented bytes → ⊥) × (MESSAGE_ERROR < slice_index bytes TYPE_PLACE)
+    HasMagic bytes × HasVersion bytes × (IsFragmented bytes → ⊥)
+    × (MESSAGE_ERROR < slice_index bytes TYPE_PLACE)
 FirstFault TooLarge limit bytes =
-    HasMagic bytes × HasVersion bytes × (IsFragmented bytes → ⊥) × (slice_index bytes TYPE_PLACE ≤ MESSAGE_ERROR)
+    HasMagic bytes × HasVersion bytes × (IsFragmented bytes → ⊥)
+    × (slice_index bytes TYPE_PLACE ≤ MESSAGE_ERROR)
     × ((order : Order) → TellsOrder (slice_index bytes ORDER_PLACE) order
     → limit < number order 4 (drop SIZE_PLACE bytes))
 

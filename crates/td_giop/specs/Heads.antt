@@ -41,28 +41,37 @@ principal = placeholder [] octets tt
 
 -- any three octets, which are passed over; zeros are written
 abbrev pub reserved_octets : Sound CdrFault (Unit {0})
-reserved_octets = placeholder (0, (0, 0)) (octet & octet & octet) (omega arith, (omega arith, omega arith))
+reserved_octets = placeholder (0, (0, 0)) (octet & octet & octet)
+    (omega arith, (omega arith, omega arith))
 
 -- version 1.0 has none
 abbrev pub reserved : (minor : ℕ) → Sound CdrFault (Unit {0})
 reserved zero = constant tt
 reserved (suc newer) = reserved_octets
 
-abbrev pub request_of : Unit {0} × (ℕ × (Bool × (Unit {0} × (List ℕ × (List ℕ × Unit {0}))))) → Request
-request_of p = record { id = p.1.0; answered = p.1.1.0; key = p.1.1.1.1.0; operation = p.1.1.1.1.1.0 }
+abbrev pub request_of : Unit {0} × (ℕ × (Bool × (Unit {0} × (List ℕ × (List ℕ × Unit {0})))))
+    → Request
+request_of p = record {
+  id = p.1.0;
+  answered = p.1.1.0;
+  key = p.1.1.1.1.0;
+  operation = p.1.1.1.1.1.0;
+}
 
 -- contexts, request id, response expected, reserved octets, object key, operation, principal
 abbrev pub request : (minor : ℕ) → Sound CdrFault Request
 request minor =
-    structure request_of (λ x. (tt, (x.id, (x.answered, (tt, (x.key, (x.operation, tt))))))) (λ _. refl) (λ _. refl)
-    (contexts & ulong & boolean & reserved minor & octets & text & principal)
+    structure request_of (λ x. (tt, (x.id, (x.answered, (tt, (x.key, (x.operation, tt)))))))
+    (λ _. refl) (λ _. refl) (contexts & ulong & boolean & reserved minor & octets & text &
+    principal)
 
 abbrev pub reply_of : Unit {0} × (ℕ × ℕ) → Reply
 reply_of p = record { id = p.1.0; status = p.1.1 }
 
 -- contexts, request id, reply status
 abbrev pub reply : Sound CdrFault Reply
-reply = structure reply_of (λ x. (tt, (x.id, x.status))) (λ _. refl) (λ _. refl) (contexts & ulong & ulong)
+reply = structure reply_of (λ x. (tt, (x.id, x.status))) (λ _. refl) (λ _. refl)
+    (contexts & ulong & ulong)
 
 -- request id, object key
 abbrev pub locate_request : Sound CdrFault (ℕ × List ℕ)
@@ -85,7 +94,12 @@ pub record IsReadable (bytes : List ℕ) : Type 0 where
 
 -- behind the header's octets; alignment counts from the message's first
 abbrev pub behind_header : Order → List ℕ → At
-behind_header order bytes = record { rest = drop HEADER_SIZE bytes; place = HEADER_SIZE; origin = 0; order = order }
+behind_header order bytes = record {
+  rest = drop HEADER_SIZE bytes;
+  place = HEADER_SIZE;
+  origin = 0;
+  order = order;
+}
 
 -- a reading whose value is dropped
 abbrev pub passed : {F Y : Type 0} → Read F Y → Read F (Unit {0})

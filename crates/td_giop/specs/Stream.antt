@@ -39,5 +39,6 @@ pub record IsInside (s : Stream) : Type 0 where
 
 -- The message is nothing or the whole message in front of the stream, and there is room for any that may follow it.
 pub record IsFront (limit : ℕ) (message : Vec ℕ) (ring : List ℕ) : Type 0 where
-  pub front : (length message.items ≡ 0) ⊎ (first_at limit (message.items ++ ring) ≡ Ok (Some (length message.items)))
+  pub front : (length message.items ≡ 0)
+      ⊎ (first_at limit (message.items ++ ring) ≡ Ok (Some (length message.items)))
   pub room : length ring ≤ vec_capacity message

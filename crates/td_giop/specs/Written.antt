@@ -21,7 +21,8 @@ message minor kind head order = header_written order minor kind ++ head order HE
 -- Request: no contexts, request id, response expected, object key, operation, no principal
 unfoldable pub request_start : Order → (minor : ℕ) → ℕ → Bool → List ℕ → List ℕ → List ℕ
 request_start order minor id answered key operation =
-    let head : Request = record { id = id; answered = answered; key = key; operation = operation } in
+    let head : Request = record { id = id; answered = answered; key = key; operation = operation }
+    in
     message minor REQUEST ((request minor).format.writes head) order
 
 -- Reply: no contexts, request id, reply status
@@ -31,11 +32,13 @@ reply_start order minor id status =
 
 -- LocateRequest: request id, object key
 unfoldable pub locate_written : Order → (minor : ℕ) → ℕ → List ℕ → List ℕ
-locate_written order minor id key = message minor LOCATE_REQUEST (locate_request.format.writes (id, key)) order
+locate_written order minor id key = message minor LOCATE_REQUEST
+    (locate_request.format.writes (id, key)) order
 
 -- LocateReply: request id, locate status
 unfoldable pub locate_reply_written : Order → (minor : ℕ) → ℕ → ℕ → List ℕ
-locate_reply_written order minor id status = message minor LOCATE_REPLY (locate_reply.format.writes (id, status)) order
+locate_reply_written order minor id status = message minor LOCATE_REPLY
+    (locate_reply.format.writes (id, status)) order
 
 -- ---- how long they are
 
@@ -45,19 +48,22 @@ octets_end place len = place + (gap 4 place + 4 + len)
 
 -- how long the start of a Request is with a key and an operation of these lengths
 abbrev pub request_size : ℕ → ℕ → ℕ
-request_size key operation = octets_end (octets_end (octets_end (HEADER_SIZE + 9) key) (operation + 1)) 0
+request_size key operation = octets_end (octets_end (octets_end (HEADER_SIZE + 9) key)
+    (operation + 1)) 0
 
 -- ---- a sealed message
 
 -- the same bytes with the size of what follows the header in its field
 abbrev pub sealed : Order → List ℕ → List ℕ
-sealed order bytes = take SIZE_PLACE bytes ++ bytes_of order 4 (length bytes - HEADER_SIZE) ++ drop HEADER_SIZE bytes
+sealed order bytes = take SIZE_PLACE bytes ++ bytes_of order 4 (length bytes - HEADER_SIZE)
+    ++ drop HEADER_SIZE bytes
 
 -- where a reader stands once it has read a start
 abbrev pub at_body : Order → List ℕ → List ℕ → At
 at_body order start body = record { rest = body; place = length start; origin = 0; order = order }
 
 -- once it is sealed, it is a whole good message, if a size field can tell its size and the limit allows it
-pub record IsSealed (limit : ℕ) (minor : ℕ) (order : Order) (kind : ℕ) (bytes : List ℕ) : Type 0 where
+pub record IsSealed (limit : ℕ) (minor : ℕ) (order : Order) (kind : ℕ)
+    (bytes : List ℕ) : Type 0 where
   pub good : length bytes < 2 ^ 32 → length bytes ≤ limit + HEADER_SIZE
       → GoodHeader limit (sealed order bytes) minor order kind (length bytes - HEADER_SIZE)

@@ -35,7 +35,11 @@ impl Model for Framer {
 
     ghost Value = { Stream };
 
-    ghost view = { λ f. record { start = f.start; rest = f.message.items ++ f.ring.items; limit = f.limit } };
+    ghost view = { λ f. record {
+      start = f.start;
+      rest = f.message.items ++ f.ring.items;
+      limit = f.limit;
+    } };
 
     ghost invariant = { λ f. (f.start + length (f.message.items ++ f.ring.items) < 2 ^ 64)
         × IsFront f.limit f.message f.ring.items };
@@ -67,7 +71,8 @@ impl Framer {
     /// `Memory` for want of memory alone; the framer is then unchanged.
     pub fn feed(&mut self, piece: &[u8]) -> Result<(), Memory>
         requires { self.old.start + (length self.old.rest + length piece.now) < 2 ^ 64 }
-        ensures ok { OnOk result (self.new ≡ record self.old { rest = self.old.rest ++ piece.now }) }
+        ensures ok { OnOk result (self.new
+            ≡ record self.old { rest = self.old.rest ++ piece.now }) }
         ensures err { OnErr result (self.new ≡ self.old) }
     {
         let wanted = self.ring.len() + piece.len();
@@ -85,8 +90,8 @@ impl Framer {
     pub fn next_message(&mut self) -> Result<Option<Raw<'_>>, FrameFault>
         ensures* stays { sem 𝓛 (Stays self.entry) }
         ensures found { MatchResult result
-            (λ o. MatchOption o (first_at self.old.limit self.old.rest ≡ Ok None) (λ m. IsRaw self.old m))
-            (λ e. first_at self.old.limit self.old.rest ≡ Err e) }
+            (λ o. MatchOption o (first_at self.old.limit self.old.rest ≡ Ok None)
+            (λ m. IsRaw self.old m)) (λ e. first_at self.old.limit self.old.rest ≡ Err e) }
     {
         if !settle(&mut self.ring, &mut self.message, self.limit)? {
             return Ok(None);
@@ -103,7 +108,8 @@ impl Framer {
     /// Takes the first whole message away. Where none is whole, nothing changes. So many bytes have
     /// been fed as before.
     pub fn drop_message(&mut self)
-        ensures end { self.new.start + length self.new.rest ≡ self.old.start + length self.old.rest }
+        ensures end { self.new.start + length self.new.rest
+            ≡ self.old.start + length self.old.rest }
         ensures dropped { self.new ≡ dropped self.old (first_at self.old.limit self.old.rest) }
     {
         let front = self.message.len();
@@ -164,7 +170,8 @@ fn settle(
     ensures front { IsFront limit message.new ring.new.items }
     ensures found { MatchResult result
         (λ b. MatchBool b (first_at limit (message.old.items ++ ring.old.items)
-        ≡ Ok (Some (length message.new.items))) (first_at limit (message.old.items ++ ring.old.items) ≡ Ok None))
+        ≡ Ok (Some (length message.new.items)))
+        (first_at limit (message.old.items ++ ring.old.items) ≡ Ok None))
         (λ e. first_at limit (message.old.items ++ ring.old.items) ≡ Err e) }
 {
     if !message.is_empty() {

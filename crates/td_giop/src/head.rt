@@ -47,7 +47,15 @@ pub fn read_request<'a>(m: &Raw<'a>) -> Result<RequestHead<'a>, CdrFault>
     requires { IsReadable m.now.bytes.now }
     ensures { MatchResult result
         (λ h. request_at m.now.minor (behind_header m.now.order m.now.bytes.now)
-        ≡ Ok (record { id = h.id; answered = h.answered; key = h.key.now; operation = h.operation.now }, h.body))
+        ≡ Ok (
+          record {
+            id = h.id;
+            answered = h.answered;
+            key = h.key.now;
+            operation = h.operation.now;
+          },
+          h.body,
+        ))
         (λ e. request_at m.now.minor (behind_header m.now.order m.now.bytes.now) ≡ Err e) }
 {
     let mut body = behind_header(m);
@@ -165,7 +173,8 @@ fn pass_contexts(r: &mut Reader) -> Result<(), CdrFault>
 
 /// Passes over so many contexts.
 fn pass_row(r: &mut Reader, count: u32) -> Result<(), CdrFault>
-    ensures { Shows (λ u. u) r.new result (passed ((array_format context.format count).reads r.old)) }
+    ensures { Shows (λ u. u) r.new result
+        (passed ((array_format context.format count).reads r.old)) }
 {
     for turn in 0..count {
         let _id = r.u32()?;

@@ -31,8 +31,10 @@ ghost use Rattle.td_giop.specs.Written.{locate_reply_written, sealed, at_body, I
 /// type and size.
 pub fn header_is_judged()
     ensures good { (limit : ℕ) (bytes : List ℕ) (h : Header)
-        → (header_at limit bytes ≡ Ok (Some h)) ↔ GoodHeader limit bytes h.minor h.order h.kind h.size }
-    ensures cut { (limit : ℕ) (bytes : List ℕ) → (header_at limit bytes ≡ Ok None) ↔ (length bytes < HEADER_SIZE) }
+        → (header_at limit bytes ≡ Ok (Some h))
+        ↔ GoodHeader limit bytes h.minor h.order h.kind h.size }
+    ensures cut { (limit : ℕ) (bytes : List ℕ) → (header_at limit bytes ≡ Ok None)
+        ↔ (length bytes < HEADER_SIZE) }
     ensures refused { (limit : ℕ) (bytes : List ℕ) (f : FrameFault)
         → (header_at limit bytes ≡ Err f) ↔ IsFault f limit bytes }
 {}
@@ -42,7 +44,8 @@ pub fn header_is_judged()
 /// message, of the order and type that its own header tells.
 pub fn front_is_message()
     ensures front { (limit : ℕ) (s m : List ℕ) → Front limit s m → IsMessage limit m }
-    ensures message { (limit : ℕ) (m rest : List ℕ) → IsMessage limit m → Front limit (m ++ rest) m }
+    ensures message { (limit : ℕ) (m rest : List ℕ) → IsMessage limit m
+        → Front limit (m ++ rest) m }
     ensures raw { (s : Stream) (m : Raw) → IsRaw s m → Front s.limit s.rest m.bytes.now
         × GoodHeader s.limit m.bytes.now m.minor m.order m.kind (length m.bytes.now - HEADER_SIZE) }
 {}
@@ -50,20 +53,22 @@ pub fn front_is_message()
 /// Every stream is messages and a rest, and the messages followed by the rest are the stream. No second
 /// pair fits.
 pub fn one_cut()
-    ensures one { (limit : ℕ) (s : List ℕ) (ms ns : List (List ℕ)) (rest other : List ℕ) (e f : Ending)
+    ensures one { (limit : ℕ) (s : List ℕ) (ms ns : List (List ℕ)) (rest other : List ℕ)
+        (e f : Ending)
         → Cut limit s ms rest e → Cut limit s ns other f → SameCut ms ns rest other e f }
     ensures some_cut { (limit : ℕ) (s : List ℕ) → HasCut limit s }
-    ensures joined { (limit : ℕ) (s : List ℕ) (ms : List (List ℕ)) (rest : List ℕ) → Fronts limit s ms rest
-        → concat ms ++ rest ≡ s }
+    ensures joined { (limit : ℕ) (s : List ℕ) (ms : List (List ℕ)) (rest : List ℕ)
+        → Fronts limit s ms rest → concat ms ++ rest ≡ s }
 {}
 
 /// Messages in front of a stream stay there when more of it comes, which goes into the rest. A message
 /// in front of the rest is one more of them. Where the rest ends so, they are the stream's cut.
 pub fn fronts_go_on()
     ensures none { (limit : ℕ) (s : List ℕ) → Fronts limit s [] s }
-    ensures fed { (limit : ℕ) (s p : List ℕ) (ms : List (List ℕ)) (rest : List ℕ) → Fronts limit s ms rest
-        → Fronts limit (s ++ p) ms (rest ++ p) }
-    ensures more { (limit : ℕ) (s : List ℕ) (ms : List (List ℕ)) (rest m : List ℕ) → Fronts limit s ms rest
+    ensures fed { (limit : ℕ) (s p : List ℕ) (ms : List (List ℕ)) (rest : List ℕ)
+        → Fronts limit s ms rest → Fronts limit (s ++ p) ms (rest ++ p) }
+    ensures more { (limit : ℕ) (s : List ℕ) (ms : List (List ℕ)) (rest m : List ℕ)
+        → Fronts limit s ms rest
         → Front limit rest m → Fronts limit s (ms ++ m ∷ []) (drop (length m) rest) }
     ensures cut { (limit : ℕ) (s : List ℕ) (ms : List (List ℕ)) (rest : List ℕ) (e : Ending)
         → Fronts limit s ms rest → EndsSo limit e rest → Cut limit s ms rest e }
@@ -83,7 +88,8 @@ pub fn heads_are_read()
 
 /// No reading of a head wants memory.
 pub fn heads_take_no_memory()
-    ensures request { (minor : ℕ) (a : At) → a.origin ≤ a.place → request_at minor a ≡ Err Memory → ⊥ }
+    ensures request { (minor : ℕ) (a : At) → a.origin ≤ a.place → request_at minor a ≡ Err Memory
+        → ⊥ }
     ensures reply { (a : At) → a.origin ≤ a.place → reply_at a ≡ Err Memory → ⊥ }
     ensures locate { (a : At) → a.origin ≤ a.place → locate_at a ≡ Err Memory → ⊥ }
     ensures locate_reply { (a : At) → a.origin ≤ a.place → locate_reply_at a ≡ Err Memory → ⊥ }
@@ -92,35 +98,48 @@ pub fn heads_take_no_memory()
 
 /// What was written and sealed is read back, and the reader then stands at the body.
 pub fn written_is_read()
-    ensures request { (order : Order) (minor id : ℕ) (answered : Bool) (key operation body : List ℕ) → id < 2 ^ 32
-        → length key < 2 ^ 32 → length operation + 1 < 2 ^ 32 → HasNoNul operation
+    ensures request { (order : Order) (minor id : ℕ) (answered : Bool) (key operation body : List ℕ)
+        → id < 2 ^ 32 → length key < 2 ^ 32 → length operation + 1 < 2 ^ 32 → HasNoNul operation
         → request_at minor
-        (behind_header order (sealed order (request_start order minor id answered key operation ++ body)))
-        ≡ Ok (
+        (behind_header order (sealed order (request_start order minor id answered key operation
+        ++ body))) ≡ Ok (
           record { id = id; answered = answered; key = key; operation = operation },
           at_body order (request_start order minor id answered key operation) body,
         ) }
-    ensures reply { (order : Order) (minor id status : ℕ) (body : List ℕ) → id < 2 ^ 32 → status < 2 ^ 32
+    ensures reply { (order : Order) (minor id status : ℕ) (body : List ℕ) → id < 2 ^ 32
+        → status < 2 ^ 32
         → reply_at (behind_header order (sealed order (reply_start order minor id status ++ body)))
-        ≡ Ok (record { id = id; status = status }, at_body order (reply_start order minor id status) body) }
-    ensures locate { (order : Order) (minor id : ℕ) (key : List ℕ) → id < 2 ^ 32 → length key < 2 ^ 32
-        → locate_at (behind_header order (sealed order (locate_written order minor id key))) ≡ Ok (id, key) }
+        ≡ Ok (
+          record { id = id; status = status },
+          at_body order (reply_start order minor id status)
+              body,
+        ) }
+    ensures locate { (order : Order) (minor id : ℕ) (key : List ℕ) → id < 2 ^ 32
+        → length key < 2 ^ 32
+        → locate_at (behind_header order (sealed order (locate_written order minor id key)))
+        ≡ Ok (id, key) }
     ensures locate_reply { (order : Order) (minor id status : ℕ) → id < 2 ^ 32 → status < 2 ^ 32
-        → locate_reply_at (behind_header order (sealed order (locate_reply_written order minor id status)))
+        → locate_reply_at (behind_header order
+        (sealed order (locate_reply_written order minor id status)))
         ≡ Ok (id, status) }
 {}
 
 /// What was written and sealed is a whole good message of its type.
 pub fn sealed_is_whole()
-    ensures request { (order : Order) (minor id : ℕ) (answered : Bool) (key operation body : List ℕ) (limit : ℕ)
+    ensures request { (order : Order) (minor id : ℕ) (answered : Bool) (key operation body : List ℕ)
+        (limit : ℕ)
         → minor ≤ NEWEST_MINOR
-        → IsSealed limit minor order REQUEST (request_start order minor id answered key operation ++ body) }
+        → IsSealed limit minor order REQUEST (request_start order minor id answered key operation
+        ++ body) }
     ensures reply { (order : Order) (minor id status : ℕ) (body : List ℕ) (limit : ℕ)
-        → minor ≤ NEWEST_MINOR → IsSealed limit minor order REPLY (reply_start order minor id status ++ body) }
+        → minor ≤ NEWEST_MINOR → IsSealed limit minor order REPLY (reply_start order minor id status
+        ++ body) }
     ensures locate { (order : Order) (minor id : ℕ) (key : List ℕ) (limit : ℕ)
-        → minor ≤ NEWEST_MINOR → IsSealed limit minor order LOCATE_REQUEST (locate_written order minor id key) }
+        → minor ≤ NEWEST_MINOR → IsSealed limit minor order LOCATE_REQUEST
+        (locate_written order minor id key) }
     ensures locate_reply { (order : Order) (minor id status : ℕ) (limit : ℕ)
-        → minor ≤ NEWEST_MINOR → IsSealed limit minor order LOCATE_REPLY (locate_reply_written order minor id status) }
+        → minor ≤ NEWEST_MINOR → IsSealed limit minor order LOCATE_REPLY
+        (locate_reply_written order minor id status) }
     ensures plain { (order : Order) (kind : ℕ) (limit : ℕ) → kind ≤ MESSAGE_ERROR
         → IsSealed limit 0 order kind (header_written order 0 kind) }
 {}

@@ -43,7 +43,8 @@ pub fn start_request(
 ) -> Result<(), Memory>
     requires empty { w.old.bytes ≡ [] }
     requires minor { minor ≤ NEWEST_MINOR }
-    ensures { Adds (request_start w.old.order minor id answered key.now operation.now) w.old w.new result }
+    ensures { Adds (request_start w.old.order minor id answered key.now operation.now)
+        w.old w.new result }
 {
     let most = u32::MAX as usize - w.len();
     if key.len() > most || operation.len() > most {
@@ -149,7 +150,8 @@ pub fn write_plain(w: &mut Writer, kind: u8) -> Result<(), Memory>
 
 /// The reserved octets of a Request of this minor version.
 fn put_reserved(w: &mut Writer, minor: u8) -> Result<(), Memory>
-    ensures { Adds ((reserved minor).format.writes tt w.old.order (length w.old.bytes)) w.old w.new result }
+    ensures { Adds ((reserved minor).format.writes tt w.old.order (length w.old.bytes))
+        w.old w.new result }
 {
     if minor == 0 {
         return Ok(());

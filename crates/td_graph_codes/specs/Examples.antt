@@ -17,9 +17,10 @@ use Rattle.td_graph_codes.specs.GraphNodes.{node_of}
 -- up to the indirection
 abbrev pub n_front : List ℕ
 n_front =
-    0 ∷ 0 ∷ 0 ∷ 15 ∷ 0 ∷ 0 ∷ 0 ∷ 68 ∷ 0 ∷ 0 ∷ 0 ∷ 0 ∷ 0 ∷ 0 ∷ 0 ∷ 10 ∷ 73 ∷ 68 ∷ 76 ∷ 58 ∷ 78 ∷ 58 ∷ 49 ∷ 46 ∷ 48 ∷ 0 ∷ 0 ∷ 0
-    ∷ 0 ∷ 0 ∷ 0 ∷ 2 ∷ 78 ∷ 0 ∷ 0 ∷ 0 ∷ 0 ∷ 0 ∷ 0 ∷ 1 ∷ 0 ∷ 0 ∷ 0 ∷ 5 ∷ 110 ∷ 101 ∷ 120 ∷ 116 ∷ 0 ∷ 0 ∷ 0 ∷ 0
-    ∷ 0 ∷ 0 ∷ 0 ∷ 19 ∷ 0 ∷ 0 ∷ 0 ∷ 16 ∷ 0 ∷ 0 ∷ 0 ∷ 0 ∷ []
+    0 ∷ 0 ∷ 0 ∷ 15 ∷ 0 ∷ 0 ∷ 0 ∷ 68 ∷ 0 ∷ 0 ∷ 0 ∷ 0 ∷ 0 ∷ 0 ∷ 0 ∷ 10 ∷ 73 ∷ 68 ∷ 76 ∷ 58 ∷ 78 ∷ 58
+    ∷ 49 ∷ 46 ∷ 48 ∷ 0 ∷ 0 ∷ 0
+    ∷ 0 ∷ 0 ∷ 0 ∷ 2 ∷ 78 ∷ 0 ∷ 0 ∷ 0 ∷ 0 ∷ 0 ∷ 0 ∷ 1 ∷ 0 ∷ 0 ∷ 0 ∷ 5 ∷ 110 ∷ 101 ∷ 120 ∷ 116 ∷ 0 ∷ 0
+    ∷ 0 ∷ 0 ∷ 0 ∷ 0 ∷ 0 ∷ 19 ∷ 0 ∷ 0 ∷ 0 ∷ 16 ∷ 0 ∷ 0 ∷ 0 ∷ 0 ∷ []
 
 -- with a long of this last octet
 abbrev pub n_bytes : ℕ → List ℕ
@@ -38,8 +39,10 @@ abbrev pub stands : ℕ → List ℕ → At
 stands place rest = record { rest = rest; place = place; origin = 0; order = Big }
 
 pub record WorkedGraph : Type 0 where
-  pub read : (edges 16 Outer None).format.reads empty (stands 0 (n_bytes 188)) ≡ Ok ((0, n_state), stands 76 [])
+  pub read : (edges 16 Outer None).format.reads empty (stands 0 (n_bytes 188))
+      ≡ Ok ((0, n_state), stands 76 [])
   pub written : (edges 16 Outer None).format.writes (nodes n_state) empty 0 Big 0 ≡ n_bytes 188
   pub shown : map node_of (nodes n_state) ≡ rolled
   -- a long that leads to no kind
-  pub astray : (edges 16 Outer None).format.reads empty (stands 0 (n_bytes 192)) ≡ Err (fault.Indirection 64)
+  pub astray : (edges 16 Outer None).format.reads empty (stands 0 (n_bytes 192))
+      ≡ Err (fault.Indirection 64)

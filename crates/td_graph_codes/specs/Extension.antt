@@ -45,19 +45,20 @@ Extended R (Ok x) (Err e) = IsDepth e
 Extended R (Err e) (Ok v) = IsIndirection e × (v.0.1.linked ≡ true)
 Extended R (Err e) (Err d) = FaultsAgree e d
 
-abbrev pub Extends : {X Z : Type 0} → (X → Z → KnownState → Type 0) → KnownState → Reading X → StatefulReading Z
-    → Type 0
+abbrev pub Extends : {X Z : Type 0} → (X → Z → KnownState → Type 0) → KnownState → Reading X
+    → StatefulReading Z → Type 0
 Extends R s p t = (a : At) → Extended R (p a) (t s a)
 
 -- ---- which nodes stand for a TypeCode
 
 -- items and where they lead, from a number on
-module _ {M Z : Type 0} (code_of : M → TypeCode) (item_of : M → ℕ → Z) (L : TypeCode → ℕ → List KnownSlot → Type 0) where
+module _ {M Z : Type 0} (code_of : M → TypeCode) (item_of : M → ℕ → Z)
+    (L : TypeCode → ℕ → List KnownSlot → Type 0) where
   abbrev pub AllLaid : ℕ → List M → List Z → List KnownSlot → Type 0
   AllLaid n [] [] slots = slots ≡ []
   AllLaid n (m ∷ ms) (z ∷ zs) slots =
-      (first rest : List KnownSlot) × (slots ≡ first ++ rest) × (z ≡ item_of m n) × L (code_of m) n first
-      × AllLaid (n + length first) ms zs rest
+      (first rest : List KnownSlot) × (slots ≡ first ++ rest) × (z ≡ item_of m n)
+      × L (code_of m) n first × AllLaid (n + length first) ms zs rest
   AllLaid n ms zs slots = ⊥
 
 abbrev pub member_item : Member → ℕ → MemberNode
@@ -90,33 +91,38 @@ module _ (L : TypeCode → ℕ → List KnownSlot → Type 0) where
   NodeOf c.TypeCode::ULongLong n v more = (v ≡ c.TypeCode::ULongLong) × (more ≡ [])
   NodeOf (c.TypeCode::Str b) n v more = (v ≡ c.TypeCode::Str b) × (more ≡ [])
   NodeOf (c.TypeCode::ObjRef id name) n v more = (v ≡ c.TypeCode::ObjRef id name) × (more ≡ [])
-  NodeOf (c.TypeCode::Enum id name names) n v more = (v ≡ c.TypeCode::Enum id name names) × (more ≡ [])
+  NodeOf (c.TypeCode::Enum id name names) n v more = (v ≡ c.TypeCode::Enum id name names)
+      × (more ≡ [])
   NodeOf (c.Sequence t b) n v more = (v ≡ c.Sequence n b) × L t n more
   NodeOf (c.Array t b) n v more = (v ≡ c.Array n b) × L t n more
   NodeOf (c.Alias id name t) n v more = (v ≡ c.Alias id name n) × L t n more
   NodeOf (c.TypeCode::Struct id name ms) n v more =
       (zs : List MemberNode) × (v ≡ c.TypeCode::Struct id name zs) × MembersLaid n ms zs more
-  NodeOf (c.Except id name ms) n v more = (zs : List MemberNode) × (v ≡ c.Except id name zs) × MembersLaid n ms zs more
+  NodeOf (c.Except id name ms) n v more = (zs : List MemberNode) × (v ≡ c.Except id name zs)
+      × MembersLaid n ms zs more
   NodeOf (c.TypeCode::Union id name t d arms) n v more =
       (zs : List ArmNode) × (first rest : List KnownSlot) × (more ≡ first ++ rest)
-      × (v ≡ c.TypeCode::Union id name n d zs) × L t n first × ArmsLaid (n + length first) arms zs rest
+      × (v ≡ c.TypeCode::Union id name n d zs) × L t n first
+      × ArmsLaid (n + length first) arms zs rest
   NodeOf (c.Linked graph) n v more = ⊥
 
 -- the nodes of a TypeCode in the order of their kinds, of which the first has this number
 unfoldable pub Laid : ℕ → TypeCode → ℕ → List KnownSlot → Type 0
 Laid zero t n slots = ⊥
 Laid (suc levels) t n slots =
-    (p : ℕ) × (k : CodeKind) × (v : Numbers) × (more : List KnownSlot) × (slots ≡ slot p (known k v) ∷ more)
-    × NodeOf (Laid levels) (out-TypeCode t) (n + 1) v more
+    (p : ℕ) × (k : CodeKind) × (v : Numbers) × (more : List KnownSlot)
+    × (slots ≡ slot p (known k v) ∷ more) × NodeOf (Laid levels) (out-TypeCode t) (n + 1) v more
 
 -- the state has grown by a TypeCode's nodes, of which the first was answered
 abbrev pub GrowsBy : ℕ → KnownState → TypeCode → ℕ → KnownState → Type 0
 GrowsBy levels s t j new =
-    (more : List KnownSlot) × (new ≡ with_slots s more) × (j ≡ length s.table) × Laid levels t (length s.table) more
+    (more : List KnownSlot) × (new ≡ with_slots s more) × (j ≡ length s.table)
+    × Laid levels t (length s.table) more
 
 -- ---- the law
 
 abbrev pub CodesAreExtended : Type 0
 CodesAreExtended =
     (levels : ℕ) (mode : Mode) (chain : Option ℕ) (s : KnownState)
-    → Extends (GrowsBy levels s) s (codes levels mode).format.reads (edges levels mode chain).format.reads
+    → Extends (GrowsBy levels s) s (codes levels mode).format.reads
+    (edges levels mode chain).format.reads

@@ -48,7 +48,8 @@ place_number (Some k) = number_of k
 
 abbrev pub place_by_number : ℕ → Option (Option CodeKind)
 place_by_number n =
-    cond (n == indirection_number) (Some None) (option_map (λ k. Some k) (kind_by_number all_kinds n))
+    cond (n == indirection_number) (Some None)
+    (option_map (λ k. Some k) (kind_by_number all_kinds n))
 
 pub place-forth : (k : Option CodeKind) → place_by_number (place_number k) ≡ Some k
 place-forth None = refl
@@ -76,12 +77,15 @@ place-forth (Some kind.LongLong) = refl
 place-forth (Some kind.ULongLong) = refl
 
 kind-back : (o : Option CodeKind) (k : Option CodeKind) (n : ℕ)
-    → ((z : CodeKind) → o ≡ Some z → number_of z ≡ n) → option_map (λ z. Some z) o ≡ Some k → place_number k ≡ n
-kind-back (Some z) k n is e = let same : Some z ≡ k = cc (e) in ap place_number (sym same) ∙ is z refl
+    → ((z : CodeKind) → o ≡ Some z → number_of z ≡ n) → option_map (λ z. Some z) o ≡ Some k
+    → place_number k ≡ n
+kind-back (Some z) k n is e = let same : Some z ≡ k = cc (e) in ap place_number (sym same)
+    ∙ is z refl
 kind-back None k n is e = absurd (let none : ⊥ = cc (e) in none)
 
 place-back-at : (n : ℕ) (k : Option CodeKind) (b : Bool) → (n == indirection_number) ≡ b
-    → cond b (Some None) (option_map (λ z. Some z) (kind_by_number all_kinds n)) ≡ Some k → place_number k ≡ n
+    → cond b (Some None) (option_map (λ z. Some z) (kind_by_number all_kinds n)) ≡ Some k
+    → place_number k ≡ n
 place-back-at n k true is e =
     let same : ◌≡◌ {A = Option CodeKind} None k = cc (e) in
     ap place_number (sym same) ∙ sym (eqb-true n indirection_number is)
@@ -99,12 +103,12 @@ abbrev pub any_place : Mode → Plain ValueFault (Option CodeKind)
 any_place mode = record {
   format = partial_format place_by_number place_number (other_fault mode) ulong.format;
   lawful =
-      partial_format-lawful place_by_number place_number (other_fault mode) ulong.format place-forth place-back
-      ulong.lawful;
+      partial_format-lawful place_by_number place_number (other_fault mode)
+      ulong.format place-forth place-back ulong.lawful;
   faults = PartialFault ulong.format.spells place_by_number (other_fault mode) ulong.faults;
   refuses =
-      partial_format-refuses place_by_number place_number (other_fault mode) ulong.format ulong.faults ulong.lawful
-      ulong.refuses;
+      partial_format-refuses place_by_number place_number (other_fault mode)
+      ulong.format ulong.faults ulong.lawful ulong.refuses;
 }
 
 abbrev pub may_be_there : Mode → Option CodeKind → Bool
@@ -112,7 +116,8 @@ may_be_there mode None = true
 may_be_there mode (Some k) = may_stand mode k
 
 abbrev pub kind_or_indirection : Mode → Plain ValueFault (Option CodeKind)
-kind_or_indirection mode = plain_restriction (may_be_there mode) (λ k a. fault.BadValue (aligned 4 a)) (any_place mode)
+kind_or_indirection mode = plain_restriction (may_be_there mode)
+    (λ k a. fault.BadValue (aligned 4 a)) (any_place mode)
 
 pub kind-sized : (mode : Mode) → IsSized (kind_or_indirection mode)
 kind-sized mode k order place = ulong-sized (place_number k) order place
@@ -163,7 +168,8 @@ alias_in (c.Alias id name item) = Some ((id, name), item)
 alias_in l = None
 
 abbrev pub union_in : Numbers → Option (((List ℕ × List ℕ) × ℕ) × (ℤ × List ArmNode))
-union_in (c.TypeCode::Union id name switch default arms) = Some (((id, name), switch), (default, arms))
+union_in (c.TypeCode::Union id name switch default arms) = Some
+    (((id, name), switch), (default, arms))
 union_in l = None
 
 pub head-sized : IsSized head
@@ -180,7 +186,8 @@ abbrev pub head_of : ℤ × List ArmNode → ℤ × ℕ
 head_of p = (p.0, length p.1)
 
 -- no items at all may not stand there
-abbrev pub nonempty : {X : Type 0} → Sound ValueFault Known (List X) → Sound ValueFault Known (List X)
+abbrev pub nonempty : {X : Type 0} → Sound ValueFault Known (List X)
+    → Sound ValueFault Known (List X)
 nonempty t = restriction (λ ns xs. is_some xs) (λ s xs a. fault.BadValue (aligned 4 a)) t
 
 -- ---- faults
@@ -220,17 +227,22 @@ module _ (inner : Mode → Option ℕ → Sound ValueFault Known ℕ) where
 
   -- as many arms as the head says
   abbrev pub arms_after : Plain ValueFault Value → ℤ × ℕ → Sound ValueFault Known (ℤ × List ArmNode)
-  arms_after label h = variant (λ arms. (h.0, arms)) (λ p. Some p.1) (λ _. refl) (array (arm_node label) h.1)
+  arms_after label h = variant (λ arms. (h.0, arms)) (λ p. Some p.1) (λ _. refl)
+      (array (arm_node label) h.1)
 
-  pub arms-told : (label : Plain ValueFault Value) → IsTold (λ h. arm (arms_after label h)) (λ graph s p. head_of p)
+  pub arms-told : (label : Plain ValueFault Value)
+      → IsTold (λ h. arm (arms_after label h)) (λ graph s p. head_of p)
   arms-told label h graph m s u order place p next b sp agrees alike =
-      ap (λ (n : ℕ). (h.0, n)) (array-count (arm_node label) h.1 s order place sp.0 next b sp.2) ∙ ap head_of sp.1
+      ap (λ (n : ℕ). (h.0, n)) (array-count (arm_node label) h.1 s order place sp.0 next b sp.2)
+      ∙ ap head_of sp.1
 
   abbrev pub counted_arms : Plain ValueFault Value → Sound ValueFault Known (ℤ × List ArmNode)
   counted_arms label =
-      choice head head-sized (λ h. arm (arms_after label h)) (λ graph s p. head_of p) (arms-told label)
+      choice head head-sized (λ h. arm (arms_after label h)) (λ graph s p. head_of p)
+      (arms-told label)
 
-  abbrev pub union_parameters : Sound ValueFault Known (((List ℕ × List ℕ) × ℕ) × (ℤ × List ArmNode))
+  abbrev pub union_parameters : Sound ValueFault Known (((List ℕ × List ℕ) × ℕ)
+      × (ℤ × List ArmNode))
   union_parameters =
       pair_on (lift header & inner Switch None)
       (λ p. on_nodes (λ ns. counted_arms (node_labels (suc (length ns)) ns p.1)))
@@ -242,17 +254,21 @@ module _ (inner : Mode → Option ℕ → Sound ValueFault Known ℕ) where
 
   abbrev pub except_layer : Sound ValueFault Known Numbers
   except_layer =
-      variant (λ p. c.Except p.0.0 p.0.1 p.1) fields_in (λ _. refl) (lift header & sequence_with ulong ulong-sized member_node)
+      variant (λ p. c.Except p.0.0 p.0.1 p.1) fields_in (λ _. refl)
+      (lift header & sequence_with ulong ulong-sized member_node)
 
   abbrev pub union_layer : Sound ValueFault Known Numbers
   union_layer =
-      variant (λ p. c.TypeCode::Union p.0.0.0 p.0.0.1 p.0.1 p.1.0 p.1.1) union_in (λ _. refl) union_parameters
+      variant (λ p. c.TypeCode::Union p.0.0.0 p.0.0.1 p.0.1 p.1.0 p.1.1) union_in (λ _. refl)
+      union_parameters
 
   abbrev pub sequence_layer : Sound ValueFault Known Numbers
-  sequence_layer = variant (λ p. c.Sequence p.0 p.1) item_in (λ _. refl) (inner Inner None & lift ulong)
+  sequence_layer = variant (λ p. c.Sequence p.0 p.1) item_in (λ _. refl)
+      (inner Inner None & lift ulong)
 
   abbrev pub array_layer : Sound ValueFault Known Numbers
-  array_layer = variant (λ p. c.Array p.0 p.1) item_in (λ _. refl) (inner Inner None & lift positive)
+  array_layer = variant (λ p. c.Array p.0 p.1) item_in (λ _. refl)
+      (inner Inner None & lift positive)
 
   -- own: the number of the alias
   abbrev pub alias_layer : Mode → Option ℕ → ℕ → Sound ValueFault Known Numbers
@@ -275,11 +291,14 @@ module _ (inner : Mode → Option ℕ → Sound ValueFault Known ℕ) where
   parameters mode chain kind.Code = lift (constant c.TypeCode::Code)
   parameters mode chain kind.LongLong = lift (constant c.TypeCode::LongLong)
   parameters mode chain kind.ULongLong = lift (constant c.TypeCode::ULongLong)
-  parameters mode chain kind.Str = variant (λ n. c.TypeCode::Str n) bound_in (λ _. refl) (lift ulong)
+  parameters mode chain kind.Str = variant (λ n. c.TypeCode::Str n) bound_in (λ _. refl)
+      (lift ulong)
   parameters mode chain kind.ObjRef =
-      encapsulation fault.Cdr (variant (λ p. c.TypeCode::ObjRef p.0 p.1) object_in (λ _. refl) (lift header))
+      encapsulation fault.Cdr (variant (λ p. c.TypeCode::ObjRef p.0 p.1) object_in (λ _. refl)
+      (lift header))
   parameters mode chain kind.Enum =
-      encapsulation fault.Cdr (variant (λ p. c.TypeCode::Enum p.0.0 p.0.1 p.1) names_in (λ _. refl) (lift enum_parameters))
+      encapsulation fault.Cdr (variant (λ p. c.TypeCode::Enum p.0.0 p.0.1 p.1) names_in (λ _. refl)
+      (lift enum_parameters))
   parameters mode chain kind.Struct = encapsulation fault.Cdr struct_layer
   parameters mode chain kind.Except = encapsulation fault.Cdr except_layer
   parameters mode chain kind.Union = encapsulation fault.Cdr union_layer
@@ -299,9 +318,11 @@ module _ (inner : Mode → Option ℕ → Sound ValueFault Known ℕ) where
 
   pub kind-told : (mode : Mode) (chain : Option ℕ) → IsTold (behind mode chain) told_kind
   kind-told mode chain (Some k) graph m s u order place j next b sp agrees alike =
-      let here : nat_eq j (length u.table) ≡ true = eq-eqb j (length u.table) (sp.3 ∙ alike-length s u alike) in
+      let here : nat_eq j (length u.table) ≡ true = eq-eqb j (length u.table)
+      (sp.3 ∙ alike-length s u alike) in
       let is : nth graph j ≡ Some sp.0 =
-      node-known most_nodes crowded (begun k) (behind_kind mode chain k) graph m s order place j next b sp agrees in
+      node-known most_nodes crowded (begun k)
+      (behind_kind mode chain k) graph m s order place j next b sp agrees in
       rw (here, is) (ap (λ (n : Known). Some n.kind) sp.4.1)
   kind-told mode chain None graph m s u order place j next b sp agrees alike =
       let low =
@@ -315,8 +336,8 @@ module _ (inner : Mode → Option ℕ → Sound ValueFault Known ℕ) where
 -- a TypeCode in which so many levels of others may stand, or an indirection to one that was begun
 abbrev pub edges : ℕ → Mode → Option ℕ → Sound ValueFault Known ℕ
 edges zero mode chain =
-    choice (deep_kind mode) (deep-sized mode) (λ k. arm (lift (failure no_value))) (λ graph s j. kind.Null)
-    (λ k graph m s u order place j next b sp agrees alike. absurd sp.0)
+    choice (deep_kind mode) (deep-sized mode) (λ k. arm (lift (failure no_value)))
+    (λ graph s j. kind.Null) (λ k graph m s u order place j next b sp agrees alike. absurd sp.0)
 edges (suc levels) mode chain =
     choice (kind_or_indirection mode) (kind-sized mode) (behind (edges levels) mode chain) told_kind
     (kind-told (edges levels) mode chain)

@@ -20,7 +20,13 @@ arm_number b = pos (label_number (label_of b.0))
 
 -- of a kind's number
 abbrev pub layer_node : ℕ → Numbers → Node
-layer_node k (c.TypeCode::ObjRef id name) = record { kind = k; id = id; names = name ∷ []; numbers = []; edges = [] }
+layer_node k (c.TypeCode::ObjRef id name) = record {
+  kind = k;
+  id = id;
+  names = name ∷ [];
+  numbers = [];
+  edges = [];
+}
 layer_node k (c.TypeCode::Struct id name members) = record {
   kind = k;
   id = id;
@@ -49,10 +55,34 @@ layer_node k (c.TypeCode::Enum id name names) = record {
   numbers = [];
   edges = [];
 }
-layer_node k (c.TypeCode::Str bound) = record { kind = k; id = []; names = []; numbers = pos bound ∷ []; edges = [] }
-layer_node k (c.Sequence item bound) = record { kind = k; id = []; names = []; numbers = pos bound ∷ []; edges = item ∷ [] }
-layer_node k (c.Array item len) = record { kind = k; id = []; names = []; numbers = pos len ∷ []; edges = item ∷ [] }
-layer_node k (c.Alias id name item) = record { kind = k; id = id; names = name ∷ []; numbers = []; edges = item ∷ [] }
+layer_node k (c.TypeCode::Str bound) = record {
+  kind = k;
+  id = [];
+  names = [];
+  numbers = pos bound ∷ [];
+  edges = [];
+}
+layer_node k (c.Sequence item bound) = record {
+  kind = k;
+  id = [];
+  names = [];
+  numbers = pos bound ∷ [];
+  edges = item ∷ [];
+}
+layer_node k (c.Array item len) = record {
+  kind = k;
+  id = [];
+  names = [];
+  numbers = pos len ∷ [];
+  edges = item ∷ [];
+}
+layer_node k (c.Alias id name item) = record {
+  kind = k;
+  id = id;
+  names = name ∷ [];
+  numbers = [];
+  edges = item ∷ [];
+}
 layer_node k l = blank k
 
 abbrev pub node_with : ℕ → Option Numbers → Node

@@ -65,7 +65,8 @@ is_alias k = false
 abbrev pub bare_number : ℕ → List Known → ℕ → ℕ
 bare_number zero ns j = j
 bare_number (suc n) ns j =
-    if is_alias (kind_known (nth ns j)) then bare_number n ns (item_of (layer_of (nth ns j)) j) else j
+    if is_alias (kind_known (nth ns j)) then bare_number n ns (item_of (layer_of (nth ns j)) j)
+    else j
 
 -- a discriminator may be an indirection to a node whose kind, without aliases, may stand there
 abbrev pub may_lead : Mode → List Known → ℕ → Bool

@@ -19,4 +19,5 @@ GraphsAreRefused =
     → Refuses ((edges levels mode chain).format.faults s) ((edges levels mode chain).format.reads s)
 
 abbrev pub GraphsAreWritten : Type 0
-GraphsAreWritten = (levels : ℕ) (mode : Mode) (chain : Option ℕ) → Transfers (edges levels mode chain).format
+GraphsAreWritten = (levels : ℕ) (mode : Mode) (chain : Option ℕ)
+    → Transfers (edges levels mode chain).format

@@ -30,7 +30,8 @@ module _ {A R : Type 0} {g : Ghosts PlainTrader A R} where
   -- ---- the opening passes of a group
 
   -- the trader was put into the cell, and the cell's opening pass has seen it and has no acts
-  pub record IsFresh (t : PlainTrader) (c : Cell PlainTrader A R) (p : Pass PlainTrader A R g) : Type 0 where
+  pub record IsFresh (t : PlainTrader) (c : Cell PlainTrader A R)
+      (p : Pass PlainTrader A R g) : Type 0 where
     pub belongs : Belongs p c
     pub opening : IsOpening p
     pub opened_is : opened c ≡ t
@@ -86,14 +87,16 @@ module _ {A R : Type 0} {g : Ghosts PlainTrader A R} where
   turns_of ps = map (λ (p : Pass PlainTrader A R g). (knowledge p).turns) ps
 
   -- one turn more was made at trader k, and none at another
-  pub record MakesOneTurn (ps : List (Pass PlainTrader A R g)) (k : ℕ) (qs : List (Pass PlainTrader A R g)) : Type 0
+  pub record MakesOneTurn (ps : List (Pass PlainTrader A R g)) (k : ℕ)
+      (qs : List (Pass PlainTrader A R g)) : Type 0
     where
       pub turns : ℕ
       pub here : slice_get (turns_of ps) k ≡ Some turns
       pub after : turns_of qs ≡ slice_set (turns_of ps) k (turns + 1)
 
   -- that, or none anywhere
-  abbrev pub MakesOneTurnAtMost : (ps : List (Pass PlainTrader A R g)) (k : ℕ) (qs : List (Pass PlainTrader A R g))
+  abbrev pub MakesOneTurnAtMost : (ps : List (Pass PlainTrader A R g)) (k : ℕ)
+      (qs : List (Pass PlainTrader A R g))
       → Type 0
   MakesOneTurnAtMost ps k qs = (turns_of qs ≡ turns_of ps) ⊎ MakesOneTurn ps k qs
 
@@ -102,7 +105,8 @@ module _ {A R : Type 0} {g : Ghosts PlainTrader A R} where
     pub same_cell : SameCell q p
     pub opening : IsOpening q
     pub met : (knowledge q).met ≡ slice_set (knowledge p).met ((knowledge t).number - 1) true
-    pub learned : Learns FollowsWritably size_of marks_of (meeting (knowledge p) (knowledge t)) (knowledge q)
+    pub learned : Learns FollowsWritably size_of marks_of (meeting (knowledge p) (knowledge t))
+        (knowledge q)
 
   -- ---- where memory was wanted
 
@@ -148,21 +152,25 @@ module _ {A R : Type 0} {g : Ghosts PlainTrader A R} where
 
   -- The trader that was taken out of the cell: it has become what it is from what the pass has seen, and each change
   -- since the cell was opened is one of the pass's own.
-  pub record IsClosed (c : Cell PlainTrader A R) (p : Pass PlainTrader A R g) (t : PlainTrader) : Type 0 where
+  pub record IsClosed (c : Cell PlainTrader A R) (p : Pass PlainTrader A R g)
+      (t : PlainTrader) : Type 0 where
     pub met : all_met (knowledge p).met ≡ true
     pub since : FollowsWritably (opened c) t
     pub seen : FollowsWritably (trader_of p) t
     pub places : (k : ℕ) → size_of (opened c) ≤ k → k < size_of t → In k (knowledge p).own
 
   -- what is still to close is closed as all was to be
-  abbrev pub ClosesOn : (cells0 : List (Cell PlainTrader A R)) (passes0 : List (Pass PlainTrader A R g))
-      → List (Cell PlainTrader A R) → List (Pass PlainTrader A R g) → (kept : List PlainTrader) → Type 0
+  abbrev pub ClosesOn : (cells0 : List (Cell PlainTrader A R))
+      (passes0 : List (Pass PlainTrader A R g))
+      → List (Cell PlainTrader A R) → List (Pass PlainTrader A R g) → (kept : List PlainTrader)
+      → Type 0
   ClosesOn cells0 passes0 cells passes kept =
-      (ts : List PlainTrader) → Rows IsClosed cells passes ts → Rows IsClosed cells0 passes0 (ts ++ reverse kept)
+      (ts : List PlainTrader) → Rows IsClosed cells passes ts
+      → Rows IsClosed cells0 passes0 (ts ++ reverse kept)
 
   -- with what is still to open, what stands in cells makes what all makes
-  abbrev pub OpensOn : (all : List PlainTrader) → (left : List PlainTrader) → List (Cell PlainTrader A R)
-      → List (Pass PlainTrader A R g) → Type 0
+  abbrev pub OpensOn : (all : List PlainTrader) → (left : List PlainTrader)
+      → List (Cell PlainTrader A R) → List (Pass PlainTrader A R g) → Type 0
   OpensOn all left cells passes =
-      (cs : List (Cell PlainTrader A R)) (ps : List (Pass PlainTrader A R g)) → Rows IsFresh left cs ps
-      → Rows IsFresh all (cells ++ cs) (passes ++ ps)
+      (cs : List (Cell PlainTrader A R)) (ps : List (Pass PlainTrader A R g))
+      → Rows IsFresh left cs ps → Rows IsFresh all (cells ++ cs) (passes ++ ps)

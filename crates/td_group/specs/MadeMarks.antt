@@ -13,13 +13,13 @@ use Rattle.td_group.specs.Seeing.{trader_of}
 -- no two of them whose identifiers were made have one identifier
 abbrev pub AreMadeApart : List Mark → Type 0
 AreMadeApart ms =
-    (a b : Mark) (k l : ℕ) → In a ms → In b ms → a.made ≡ Some k → b.made ≡ Some l → a.identifier ≡ b.identifier
-    → a ≡ b
+    (a b : Mark) (k l : ℕ) → In a ms → In b ms → a.made ≡ Some k → b.made ≡ Some l
+    → a.identifier ≡ b.identifier → a ≡ b
 
 -- What a turn at trader k makes of the pass's own marks. A new one whose identifier was made has that of the trader's
 -- stem at this point and of the counter's value; and of all its own, no two that were made have one identifier.
-pub record MarksAt {A R : Type 0} {g : Ghosts PlainTrader A R} (ps : List (Pass PlainTrader A R g)) (k : ℕ)
-    (qs : List (Pass PlainTrader A R g)) : Type 0 where
+pub record MarksAt {A R : Type 0} {g : Ghosts PlainTrader A R} (ps : List (Pass PlainTrader A R g))
+    (k : ℕ) (qs : List (Pass PlainTrader A R g)) : Type 0 where
   pub before : Pass PlainTrader A R g
   pub after : Pass PlainTrader A R g
   pub here : slice_get ps k ≡ Some before

@@ -45,5 +45,6 @@ pub record TurnAt (w : List View) (k : ℕ) (a : Act) (r : Reply) (u : List View
   pub seen_is : seen ≡ view_of before seen.own seen.own_marks
   pub after : PlainTrader
   pub acts : Acts before a r after
-  pub world : u ≡ with_view w k (view_of after (grown seen.own (length before.history) (length after.history))
+  pub world : u ≡ with_view w k
+      (view_of after (grown seen.own (length before.history) (length after.history))
       (seen.own_marks ++ number_between before.marks after.marks))

@@ -20,7 +20,8 @@ IsSound t = Legal t.bounds t.opening t.history × HasShortReplies t.opening
 outcome_coded : Coded Outcome
 outcome_coded = outcome.the_row.coded
 
-legal_prop : (b : Bounds) (n : ℕ) (s : Store) (history : List Accepted) → IsProp (LegalFrom b n s history)
+legal_prop : (b : Bounds) (n : ℕ) (s : Store) (history : List Accepted)
+    → IsProp (LegalFrom b n s history)
 unfolding LegalFrom
 legal_prop b n s [] = Unit-prop
 legal_prop b n s (e ∷ es) =
@@ -35,6 +36,7 @@ short_prop s p q = λ i. record {
 sound_prop : (t : PlainTrader) → IsProp (IsSound t)
 sound_prop t = ×_prop (legal_prop t.bounds 0 t.opening t.history) (short_prop t.opening)
 
-pub all_sound_prop : {X : Type 0} (f : X → PlainTrader) (xs : List X) → IsProp (All (λ (x : X). IsSound (f x)) xs)
+pub all_sound_prop : {X : Type 0} (f : X → PlainTrader) (xs : List X)
+    → IsProp (All (λ (x : X). IsSound (f x)) xs)
 all_sound_prop {X} f xs =
     Π_prop (λ (k : ℕ). Π_prop (λ (d : X). →_prop (sound_prop (f (slice_index_or xs k d)))))

@@ -42,7 +42,8 @@ impl Group {
     ///
     /// `Memory` for want of memory alone. The traders are then dropped.
     pub fn open(alloc: Global, solo: Solo) -> Result<(Group, Vec<Pass<Stall>>), Memory>
-        ensures opened { IfOk result (λ r. Rows IsFresh solo.traders.items r.0.cells.items r.1.items) }
+        ensures opened { IfOk result
+            (λ r. Rows IsFresh solo.traders.items r.0.cells.items r.1.items) }
         ensures opening { IfOk result (λ r. AreOpening r.0.cells.items r.1.items) }
     {
         let Solo { traders } = solo;
@@ -64,7 +65,8 @@ impl Group {
     ) -> Result<GroupPass<'a, R>, Memory>
         requires { AreOpening self.now.cells.items passes.old.items }
         ensures opening { AreOpening self.now.cells.items passes.new.items }
-        ensures split { IfOk result (λ g. Rows SplitsOff passes.old.items g.passes.items passes.new.items) }
+        ensures split { IfOk result
+            (λ g. Rows SplitsOff passes.old.items g.passes.items passes.new.items) }
         ensures out { IfOk result (λ g. AllZip IsOut passes.new.items g.passes.items) }
         ensures stays { OutStays passes.old.items passes.new.items }
         ensures err { OnErr result (AllZip IsAsBefore passes.old.items passes.new.items) }
@@ -94,7 +96,8 @@ impl Group {
     /// The group and the passes, unchanged, exactly where a pass that was split off hasn't been taken in.
     pub fn close(self, passes: Vec<Pass<Stall>>) -> Result<Solo, (Group, Vec<Pass<Stall>>)>
         requires { AreOpening self.cells.items passes.items }
-        ensures closed { IfOk result (λ s. Rows IsClosed self.cells.items passes.items s.traders.items) }
+        ensures closed { IfOk result
+            (λ s. Rows IsClosed self.cells.items passes.items s.traders.items) }
         ensures err { IfErr result (λ r. (are_met passes.items ≡ false) × (r ≡ (self, passes))) }
     {
         if !self.is_whole(&passes) {
@@ -115,7 +118,8 @@ impl Group {
     ) -> Result<Vec<Pass<Stall>>, Memory>
         requires { AreOpening self.now.cells.items passes.old.items }
         ensures opening { AreOpening self.now.cells.items passes.new.items }
-        ensures split { IfOk result (λ out. Rows SplitsOff passes.old.items out.items passes.new.items) }
+        ensures split { IfOk result
+            (λ out. Rows SplitsOff passes.old.items out.items passes.new.items) }
         ensures err { OnErr result (AllZip IsAsBefore passes.old.items passes.new.items) }
     {
         let mut out = Vec::with_capacity(alloc, self.cells.len())?;
@@ -137,7 +141,8 @@ impl Group {
         requires opening { AreOpening self.now.cells.items passes.old.items }
         requires room { (vec_len out.old ≡ 0) × (vec_len self.now.cells ≤ vec_capacity out.old) }
         ensures opening { AreOpening self.now.cells.items passes.new.items }
-        ensures split { OnOk result (Rows SplitsOff passes.old.items out.new.items passes.new.items) }
+        ensures split { OnOk result
+            (Rows SplitsOff passes.old.items out.new.items passes.new.items) }
         ensures err { OnErr result (SplitsInPart passes.old.items out.new.items passes.new.items) }
     {
         for k in 0..self.cells.len() {
@@ -185,7 +190,8 @@ fn name_of(alloc: Global, trader: &Trader) -> Result<Text, Memory>
 
 /// The names of traders.
 fn names_of(alloc: Global, traders: &[Trader]) -> Result<Vec<Text>, Memory>
-    ensures names { IfOk result (λ names. names.items ≡ map (λ (t : PlainTrader). t.name) traders.now) }
+    ensures names { IfOk result (λ names. names.items
+        ≡ map (λ (t : PlainTrader). t.name) traders.now) }
     ensures sound { OnOk result (All IsSound traders.now) }
 {
     let mut names = Vec::new(alloc);

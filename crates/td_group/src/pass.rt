@@ -29,7 +29,8 @@ pub struct GroupPass<'a, R: Wait> {
     names: &'a Vec<Text>,
     cells: &'a Vec<Cell<Stall>>,
     passes: Vec<Pass<Stall>>,
-    ghost belongs: { map (λ p. p.seat.table_id) passes.items ≡ map (λ c. c.table.shared.table_id) cells.now.items },
+    ghost belongs: { map (λ p. p.seat.table_id) passes.items
+        ≡ map (λ c. c.table.shared.table_id) cells.now.items },
     ghost named: { map (λ p. (trader_of p).name) passes.items ≡ names.now.items },
     ghost distinct: { IsDistinct bytes_eq names.now.items } by { Prim.hlevel props },
     ghost sound: { All (λ p. IsSound (trader_of p)) passes.items } by { all_sound_prop trader_of passes.items },
@@ -84,9 +85,11 @@ impl<'a, R: Wait> GroupPass<'a, R> {
     fn look_at(&mut self, trader: usize, l: Look) -> Result<(Outcome, u32), Memory>
         requires { trader < length self.old.passes.items }
         ensures same { SamePasses self.old.passes.items self.new.passes.items }
-        ensures ok { IfOk result (λ a. Looks AreAdmitted Later (map seen_by self.old.passes.items) trader l a
+        ensures ok { IfOk result
+            (λ a. Looks AreAdmitted Later (map seen_by self.old.passes.items) trader l a
             (map seen_by self.new.passes.items)) }
-        ensures err { OnErr result (Watches AreAdmitted Later (map seen_by self.old.passes.items) trader
+        ensures err { OnErr result
+            (Watches AreAdmitted Later (map seen_by self.old.passes.items) trader
             (map seen_by self.new.passes.items)) }
         ensures once { MakesOneTurn self.old.passes.items trader self.new.passes.items }
     {
@@ -101,9 +104,11 @@ impl<'a, R: Wait> GroupPass<'a, R> {
     fn begin_at(&mut self, trader: usize, q: Query) -> Result<Begin, Memory>
         requires { trader < length self.old.passes.items }
         ensures same { SamePasses self.old.passes.items self.new.passes.items }
-        ensures ok { IfOk result (λ b. Begun AreAdmitted Later (map seen_by self.old.passes.items) trader q b
+        ensures ok { IfOk result
+            (λ b. Begun AreAdmitted Later (map seen_by self.old.passes.items) trader q b
             (map seen_by self.new.passes.items)) }
-        ensures err { OnErr result (Watches AreAdmitted Later (map seen_by self.old.passes.items) trader
+        ensures err { OnErr result
+            (Watches AreAdmitted Later (map seen_by self.old.passes.items) trader
             (map seen_by self.new.passes.items)) }
         ensures once { MakesOneTurn self.old.passes.items trader self.new.passes.items }
         ensures marks { MarksAt self.old.passes.items trader self.new.passes.items }
@@ -138,9 +143,11 @@ impl<'a, R: Wait> Traders for GroupPass<'a, R> {
         requires trader { trader < length (map seen_by self.old.passes.items) }
         requires admitted { AdmitsChange c }
         ensures same { SamePasses self.old.passes.items self.new.passes.items }
-        ensures ok { IfOk result (λ o. Changes AreAdmitted Later (map seen_by self.old.passes.items) trader c o
+        ensures ok { IfOk result
+            (λ o. Changes AreAdmitted Later (map seen_by self.old.passes.items) trader c o
             (map seen_by self.new.passes.items)) }
-        ensures err { OnErr result (Watches AreAdmitted Later (map seen_by self.old.passes.items) trader
+        ensures err { OnErr result
+            (Watches AreAdmitted Later (map seen_by self.old.passes.items) trader
             (map seen_by self.new.passes.items)) }
         ensures once { MakesOneTurn self.old.passes.items trader self.new.passes.items }
     {
@@ -155,12 +162,16 @@ impl<'a, R: Wait> Traders for GroupPass<'a, R> {
     fn look(&mut self, trader: usize, l: &Look) -> Result<(Outcome, u32), Memory>
         requires { trader < length (map seen_by self.old.passes.items) }
         ensures same { SamePasses self.old.passes.items self.new.passes.items }
-        ensures ok { IfOk result (λ a. Looks AreAdmitted Later (map seen_by self.old.passes.items) trader l.now a
+        ensures ok { IfOk result
+            (λ a. Looks AreAdmitted Later (map seen_by self.old.passes.items) trader l.now a
             (map seen_by self.new.passes.items)) }
-        ensures err { OnErr result (Watches AreAdmitted Later (map seen_by self.old.passes.items) trader
+        ensures err { OnErr result
+            (Watches AreAdmitted Later (map seen_by self.old.passes.items) trader
             (map seen_by self.new.passes.items)) }
-        ensures once { OnOk result (MakesOneTurn self.old.passes.items trader self.new.passes.items) }
-        ensures most { OnErr result (MakesOneTurnAtMost self.old.passes.items trader self.new.passes.items) }
+        ensures once { OnOk result
+            (MakesOneTurn self.old.passes.items trader self.new.passes.items) }
+        ensures most { OnErr result
+            (MakesOneTurnAtMost self.old.passes.items trader self.new.passes.items) }
     {
         match l.copy(self.alloc) {
             Ok(copied) => self.look_at(trader, copied),
@@ -172,13 +183,17 @@ impl<'a, R: Wait> Traders for GroupPass<'a, R> {
     fn begin(&mut self, trader: usize, q: &Query) -> Result<Begin, Memory>
         requires { trader < length (map seen_by self.old.passes.items) }
         ensures same { SamePasses self.old.passes.items self.new.passes.items }
-        ensures ok { IfOk result (λ b. Begun AreAdmitted Later (map seen_by self.old.passes.items) trader q.now b
+        ensures ok { IfOk result
+            (λ b. Begun AreAdmitted Later (map seen_by self.old.passes.items) trader q.now b
             (map seen_by self.new.passes.items)) }
-        ensures err { OnErr result (Watches AreAdmitted Later (map seen_by self.old.passes.items) trader
+        ensures err { OnErr result
+            (Watches AreAdmitted Later (map seen_by self.old.passes.items) trader
             (map seen_by self.new.passes.items)) }
-        ensures once { OnOk result (MakesOneTurn self.old.passes.items trader self.new.passes.items) }
+        ensures once { OnOk result
+            (MakesOneTurn self.old.passes.items trader self.new.passes.items) }
         ensures marks { OnOk result (MarksAt self.old.passes.items trader self.new.passes.items) }
-        ensures most { OnErr result (MakesOneTurnAtMost self.old.passes.items trader self.new.passes.items) }
+        ensures most { OnErr result
+            (MakesOneTurnAtMost self.old.passes.items trader self.new.passes.items) }
     {
         match q.copy(self.alloc) {
             Ok(copied) => self.begin_at(trader, copied),

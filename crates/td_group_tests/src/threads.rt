@@ -32,7 +32,8 @@ fn begin_each<'a, R: Wait>(
 ) -> Result<Vec<GroupPass<'a, R>>, Memory>
     requires { AreOpening group.now.cells.items passes.old.items }
     ensures opening { AreOpening group.now.cells.items passes.new.items }
-    ensures out { IfOk result (λ v. All (λ g. AllZip IsOut passes.new.items g.passes.items) v.items) }
+    ensures out { IfOk result
+        (λ v. All (λ g. AllZip IsOut passes.new.items g.passes.items) v.items) }
 {
     let mut sessions = Vec::with_capacity(alloc, count)?;
     for _ in 0..count {
@@ -75,7 +76,8 @@ fn export_on_threads<'a, R: Threads + Wait + Sync>(
 ) -> Result<Vec<GroupPass<'a, R>>, AllocError>
     ensures len { IfOk result (λ v. vec_len v ≡ vec_len sessions.entry) }
     ensures same { IfOk result (λ v. (i : ℕ) (d : _) → i < vec_len sessions.entry → SamePasses
-        (slice_index_or sessions.entry.items i d).passes.items (slice_index_or v.items i d).passes.items) }
+        (slice_index_or sessions.entry.items i d).passes.items
+        (slice_index_or v.items i d).passes.items) }
 {
     thread::map_vec(
         rt,

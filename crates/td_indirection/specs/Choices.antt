@@ -33,7 +33,8 @@ arm_format t = record {
 }
 
 pub arm-transfers : {F N X : Type 0} (t : Sound F N X) → TransfersBehind (arm_format t.format)
-arm-transfers t graph first m s u order o place before p x next b octets sp agrees alike good far short =
+arm-transfers t graph first m s u order o place before p x next b octets sp agrees alike good far
+    short =
     let on = rising-on first u before p (omega (arith, far)) good in
     let w = t.transfers graph first s u order o place p x next b octets sp agrees alike on short in
     record { spelled = w.spelled; alike = w.alike; good = w.good }
@@ -51,14 +52,16 @@ arm t = record {
 
 -- what is written has at least a byte behind its padding
 abbrev pub IsSized : {F K : Type 0} → Plain F K → Type 0
-IsSized {K = K} tag = (k : K) (order : Order) (place : ℕ) → gap 4 place < length (tag.format.writes k order place)
+IsSized {K = K} tag = (k : K) (order : Order) (place : ℕ)
+    → gap 4 place < length (tag.format.writes k order place)
 
-abbrev pub choice_format : {F N K X : Type 0} → Plain F K → (K → TaggedFormat F N X) → (List N → State N → X → K)
-    → StatefulFormat F N X
+abbrev pub choice_format : {F N K X : Type 0} → Plain F K → (K → TaggedFormat F N X)
+    → (List N → State N → X → K) → StatefulFormat F N X
 choice_format {K = K} tag arm tag_of = record {
   reads = λ s a. tag.format.reads a >>= λ k. (arm k.0).reads a s k.1;
   spells = λ s order place v b.
-      (k : K) × SpellsThen tag.format.spells (λ k. (arm k).spells (ulong_place s place) s) order place (k, v) b;
+      (k : K) × SpellsThen tag.format.spells (λ k. (arm k).spells (ulong_place s place) s)
+      order place (k, v) b;
   faults = λ s a. ThenFault tag.format.spells tag.faults (λ k. (arm k).faults a s) a;
   writes = λ graph s x order place.
       tag.format.writes (tag_of graph s x) order place
@@ -72,9 +75,10 @@ choice_format {K = K} tag arm tag_of = record {
 -- each value tells the tag under which it is spelled
 abbrev pub IsTold : {F N K X : Type 0} → (K → Arm F N X) → (List N → State N → X → K) → Type 0
 IsTold {N = N} {K = K} {X = X} arms tag_of =
-    (k : K) (graph : List N) (m : ℕ) (s u : State N) (order : Order) (place : ℕ) (x : X) (next : State N) (b : List ℕ)
-    → (arms k).format.spells m s order place (x, next) b → Agrees graph next (length s.table) → AreAlike s u
-    → k ≡ tag_of graph u x
+    (k : K) (graph : List N) (m : ℕ) (s u : State N) (order : Order) (place : ℕ) (x : X)
+    (next : State N) (b : List ℕ)
+    → (arms k).format.spells m s order place (x, next) b → Agrees graph next (length s.table)
+    → AreAlike s u → k ≡ tag_of graph u x
 
 module _ {F N K X : Type 0} (tag : Plain F K) (sized : IsSized tag) (arms : K → Arm F N X)
     (tag_of : List N → State N → X → K) (told : IsTold arms tag_of) where
@@ -88,11 +92,18 @@ module _ {F N K X : Type 0} (tag : Plain F K) (sized : IsSized tag) (arms : K �
       let k = bind_ok (tag.format.reads a) (λ k. (arms k.0).format.reads a s k.1) made e in
       let f = tag.lawful.found a k.0.0 k.0.1 h k.1 in
       let g =
-      ((arms k.0.0).joins a s).found k.0.1 v next (moved-on tag.format.spells a k.0.0 k.0.1 h f) k.2 in
+      ((arms k.0.0).joins a s).found k.0.1 v next (moved-on tag.format.spells a k.0.0 k.0.1 h f)
+      k.2 in
       let whole =
-      Found-then tag.format.spells (λ k. (arms k).format.spells (ulong_place s (a.place - a.origin)) s) a k.0.1 next k.0.0 v h
-      f g in
-      record { bytes = whole.bytes; spelled = (k.0.0, whole.spelled); parts = whole.parts; moved = whole.moved }
+      Found-then tag.format.spells
+      (λ k. (arms k).format.spells (ulong_place s (a.place - a.origin)) s)
+      a k.0.1 next k.0.0 v h f g in
+      record {
+        bytes = whole.bytes;
+        spelled = (k.0.0, whole.spelled);
+        parts = whole.parts;
+        moved = whole.moved;
+      }
 
   pub choice-only : (s : State N) (a : At) (v : X × State N) (b rest : List ℕ) → a.origin ≤ a.place
       → either.spells s a.order (a.place - a.origin) v b → a.rest ≡ b ++ rest
@@ -108,8 +119,10 @@ module _ {F N K X : Type 0} (tag : Plain F K) (sized : IsSized tag) (arms : K �
       let here : (arms k).format.spells (ulong_place s (a.place - a.origin)) s a.order
       ((after (length q.front) a).place - a.origin) v q.back
       = rw (moved-place (length q.front) a h) q.then_spelled in
-      let two = ((arms k).joins a s).only (after (length q.front) a) v q.back rest (omega arith) here left in
-      let len : length b ≡ length q.front + length q.back = rw q.parts (length-append q.front q.back) in
+      let two = ((arms k).joins a s).only (after (length q.front) a) v q.back rest (omega arith)
+      here left in
+      let len : length b ≡ length q.front
+      + length q.back = rw q.parts (length-append q.front q.back) in
       rw (one, two, len)
       (ap (λ (x : At). done {F = F} (v, x)) (after-after (length q.front) (length q.back) a))
 
@@ -118,7 +131,8 @@ module _ {F N K X : Type 0} (tag : Plain F K) (sized : IsSized tag) (arms : K �
       (λ x. tag.format.reads x >>= λ k. (arms k.0).format.reads a s k.1)
   chosen-refuses s a =
       chain-refuses tag.format.spells tag.faults (λ k. (arms k).format.faults a s) tag.format.reads
-      (λ k. (arms k).format.reads a s) (joins tag.format tag.lawful) tag.refuses (λ k. (arms k).refuses a s)
+      (λ k. (arms k).format.reads a s) (joins tag.format tag.lawful) tag.refuses
+      (λ k. (arms k).refuses a s)
 
   pub choice-refuses : (s : State N) → Refuses (either.faults s) (either.reads s)
   choice-refuses s = record {
@@ -130,13 +144,13 @@ module _ {F N K X : Type 0} (tag : Plain F K) (sized : IsSized tag) (arms : K �
   choice-transfers graph first s u order o place p x next b octets sp agrees alike good short =
       let k = tag_of graph u x in
       let is : sp.0 ≡ k =
-      told sp.0 graph (ulong_place s place) s u order (place + length sp.1.front) x next sp.1.back sp.1.then_spelled agrees
-      alike in
-      let q : SpellsThen tag.format.spells (λ k. (arms k).format.spells (ulong_place s place) s) order place (k, (x, next)) b =
+      told sp.0 graph (ulong_place s place) s u order (place + length sp.1.front)
+      x next sp.1.back sp.1.then_spelled agrees alike in
+      let q : SpellsThen tag.format.spells (λ k. (arms k).format.spells (ulong_place s place) s)
+      order place (k, (x, next)) b =
       subst
-      (λ (k : K). SpellsThen tag.format.spells (λ k. (arms k).format.spells (ulong_place s place) s) order place (k, (x, next))
-      b)
-      is sp.1 in
+      (λ (k : K). SpellsThen tag.format.spells (λ k. (arms k).format.spells (ulong_place s place) s)
+      order place (k, (x, next)) b) is sp.1 in
       let whole : AreOctets (q.front ++ q.back) = subst AreOctets q.parts octets in
       let front = tag.format.writes k o p in
       let back = (arms k).format.writes (ulong_place u p) graph u x o (p + length front) in
@@ -144,9 +158,9 @@ module _ {F N K X : Type 0} (tag : Plain F K) (sized : IsSized tag) (arms : K �
       let size = sized k o p in
       let reached = good.reached in
       let w =
-      (arms k).transfers graph first (ulong_place s place) s u order o (place + length q.front) p (p + length front) x next
-      q.back (octets-back q.front q.back whole) q.then_spelled agrees alike good (omega (arith, size))
-      (omega (arith, short, len)) in
+      (arms k).transfers graph first (ulong_place s place) s u order o (place + length q.front) p
+      (p + length front) x next q.back (octets-back q.front q.back whole)
+      q.then_spelled agrees alike good (omega (arith, size)) (omega (arith, short, len)) in
       record {
         spelled = (
           k,
@@ -156,18 +170,18 @@ module _ {F N K X : Type 0} (tag : Plain F K) (sized : IsSized tag) (arms : K �
             parts = refl;
             spelled =
                 tag.lawful.written o p k
-                (tag.lawful.admitted order place k q.front (octets-front q.front q.back whole) q.spelled)
-                (omega (arith, short, len, reached));
+                (tag.lawful.admitted order place k q.front (octets-front q.front q.back whole)
+                q.spelled) (omega (arith, short, len, reached));
             then_spelled = w.spelled;
           },
         );
         alike = w.alike;
         good =
-            let far : (p + length front) + length back ≡ p + length (front ++ back) = omega (arith, len) in
+            let far : (p + length front) + length back
+            ≡ p + length (front ++ back) = omega (arith, len) in
             subst
-            (λ (n : ℕ). IsRising first ((arms k).format.leaves (ulong_place u p) graph u x o (p + length front)) n)
-            far
-            w.good;
+            (λ (n : ℕ). IsRising first
+            ((arms k).format.leaves (ulong_place u p) graph u x o (p + length front)) n) far w.good;
       }
 
   abbrev pub choice : Sound F N X
@@ -176,7 +190,8 @@ module _ {F N K X : Type 0} (tag : Plain F K) (sized : IsSized tag) (arms : K �
     joins = λ s. record { found = choice-found s; only = choice-only s };
     refuses = choice-refuses;
     grows = λ s order place x next b sp.
-        (arms sp.0).grows (ulong_place s place) s order (place + length sp.1.front) x next sp.1.back sp.1.then_spelled;
+        (arms sp.0).grows (ulong_place s place) s order (place + length sp.1.front)
+        x next sp.1.back sp.1.then_spelled;
     transfers = choice-transfers;
   }
 
@@ -186,16 +201,19 @@ abbrev pub array : {F N X : Type 0} → Sound F N X → ℕ → Sound F N (List 
 array t zero = lift (constant [])
 array t (suc n) = variant (λ p. p.0 ∷ p.1) uncons (λ x. refl) (t & array t n)
 
-pub array-count : {F N X : Type 0} (t : Sound F N X) (n : ℕ) (s : State N) (order : Order) (place : ℕ) (xs : List X)
-    (next : State N) (b : List ℕ)
+pub array-count : {F N X : Type 0} (t : Sound F N X) (n : ℕ) (s : State N) (order : Order)
+    (place : ℕ) (xs : List X) (next : State N) (b : List ℕ)
     → (array t n).format.spells s order place (xs, next) b → n ≡ length xs
 array-count {X = X} t zero s order place xs next b sp = ap (length {A = X}) sp.0.0
 array-count {X = X} t (suc n) s order place xs next b sp =
     ap suc
-    (array-count t n sp.2.0 order (place + length sp.2.1.front) sp.0.1 next sp.2.1.back sp.2.1.then_spelled)
+    (array-count t n sp.2.0 order (place + length sp.2.1.front)
+    sp.0.1 next sp.2.1.back sp.2.1.then_spelled)
     ∙ ap (length {A = X}) sp.1
 
-abbrev pub sequence_with : {F N X : Type 0} (count : Plain F ℕ) → IsSized count → Sound F N X → Sound F N (List X)
+abbrev pub sequence_with : {F N X : Type 0} (count : Plain F ℕ) → IsSized count → Sound F N X
+    → Sound F N (List X)
 sequence_with count sized t =
     choice count sized (λ n. arm (array t n)) (λ graph s xs. length xs)
-    (λ n graph m s u order place xs next b sp agrees alike. array-count t n s order place xs next b sp)
+    (λ n graph m s u order place xs next b sp agrees alike.
+    array-count t n s order place xs next b sp)

@@ -42,32 +42,38 @@ node_or_fault s bad next None = Err bad
 -- bad: the fault, by where the long stands
 abbrev pub indirection_format : {F N : Type 0} → (At → F) → Plain F ℕ → StatefulFormat F N ℕ
 indirection_format bad long = record {
-  reads = λ s a. long.format.reads a >>= λ n. node_or_fault s (bad a) n.1 (target s (a.place - a.origin) n.0);
+  reads = λ s a. long.format.reads a >>= λ n.
+      node_or_fault s (bad a) n.1 (target s (a.place - a.origin) n.0);
   spells = λ s order place v b.
-      (n : ℕ) × long.format.spells order place n b × (target s place n ≡ Some v.0) × (v.1 ≡ with_link s);
-  faults = λ s a. PartialFault long.format.spells (target s (a.place - a.origin)) (λ n. bad) long.faults a;
+      (n : ℕ) × long.format.spells order place n b × (target s place n ≡ Some v.0)
+      × (v.1 ≡ with_link s);
+  faults = λ s a. PartialFault long.format.spells (target s (a.place - a.origin))
+      (λ n. bad) long.faults a;
   writes = λ graph s j order place. long.format.writes (long_to s place j) order place;
   leaves = λ graph s j order place. with_link s;
 }
 
-target-ok : {F N : Type 0} (s : State N) (bad : F) (next : At) (o : Option ℕ) (v : ℕ × State N) (end : At)
+target-ok : {F N : Type 0} (s : State N) (bad : F) (next : At) (o : Option ℕ) (v : ℕ × State N)
+    (end : At)
     → node_or_fault s bad next o ≡ Ok (v, end) → (o ≡ Some v.0) × (v.1 ≡ with_link s) × (next ≡ end)
 target-ok {F} {N} s bad next (Some j) v end e =
-    let same : ((j, with_link s), next) ≡ (v, end) = ok_is {F = F} ((j, with_link s), next) (v, end) e in (
+    let same : ((j, with_link s), next) ≡ (v, end) = ok_is {F = F} ((j, with_link s), next)
+    (v, end) e in (
       ap (λ (p : (ℕ × State N) × At). Some p.0.0) same,
       sym (ap (λ (p : (ℕ × State N) × At). p.0.1) same),
       ap (λ (p : (ℕ × State N) × At). p.1) same,
     )
 target-ok s bad next None v end e = absurd (let n : ⊥ = cc (e) in n)
 
-target-err : {F N : Type 0} (s : State N) (bad f : F) (next : At) (o : Option ℕ) → node_or_fault s bad next o ≡ Err f
-    → (o ≡ None) × (f ≡ bad)
+target-err : {F N : Type 0} (s : State N) (bad f : F) (next : At) (o : Option ℕ)
+    → node_or_fault s bad next o ≡ Err f → (o ≡ None) × (f ≡ bad)
 target-err s bad f next (Some j) e = absurd (let n : ⊥ = cc (e) in n)
 target-err s bad f next None e = (refl, cc)
 
 -- ---- the node to which a long leads
 
-pub number-below : (k : ℕ) (xs : List ℕ) (d q j : ℕ) → number_from k xs d q ≡ Some j → j < k + length xs
+pub number-below : (k : ℕ) (xs : List ℕ) (d q j : ℕ) → number_from k xs d q ≡ Some j
+    → j < k + length xs
 number-below k [] d q j e = absurd (let n : ⊥ = cc (e) in n)
 number-below k (x ∷ xs) d q j e =
     ⊎_elim
@@ -91,37 +97,48 @@ number-finds k (x ∷ xs) d q (suc j) h e none =
     rw not_here (rest ∙ ap (λ (n : ℕ). Some n) (let s : k + 1 + j ≡ k + suc j = omega arith in s))
 
 -- the long that is written for a node leads to it
-pub long-leads : {N : Type 0} (first : ℕ) (s : State N) (p j : ℕ) → IsRising first s p → j < length s.table
-    → ulong_place s p < first + 2 ^ 32 → target s p (long_to s p j) ≡ Some j
+pub long-leads : {N : Type 0} (first : ℕ) (s : State N) (p j : ℕ) → IsRising first s p
+    → j < length s.table → ulong_place s p < first + 2 ^ 32 → target s p (long_to s p j) ≡ Some j
 long-leads first s p j g h small =
     let low = g.below j h in
     let high = g.above j h in
     let count : length (places s) ≡ length s.table = length-map s.table (λ x. x.place) in
-    let back_again : 2 ^ 32 - (2 ^ 32 - (ulong_place s p - slice_index (places s) j)) ≡ ulong_place s p - slice_index (places s) j =
+    let back_again : 2 ^ 32 - (2 ^ 32 - (ulong_place s p - slice_index (places s) j))
+    ≡ ulong_place s p - slice_index (places s) j =
     omega (arith, small, high) in
     let found :
-    number_from 0 (places s) (ulong_place s p - slice_index (places s) j) (ulong_place s p) ≡ Some (0 + j) =
-    number-finds 0 (places s) (ulong_place s p - slice_index (places s) j) (ulong_place s p) j (omega (arith, h, count))
-    (omega (arith, low))
+    number_from 0 (places s) (ulong_place s p - slice_index (places s) j) (ulong_place s p)
+    ≡ Some (0 + j) =
+    number-finds 0 (places s) (ulong_place s p - slice_index (places s) j)
+    (ulong_place s p) j (omega (arith, h, count)) (omega (arith, low))
     (λ i l e. let r = g.rising i j l h in omega (arith, e, r, low)) in
     rw back_again (found ∙ ap (λ (n : ℕ). Some n) (let z : 0 + j ≡ j = omega arith in z))
 
 -- ---- the laws
 
-with_link-alike : {N : Type 0} (s u next : State N) → next ≡ with_link s → AreAlike s u → AreAlike next (with_link u)
+with_link-alike : {N : Type 0} (s u next : State N) → next ≡ with_link s → AreAlike s u
+    → AreAlike next (with_link u)
 with_link-alike {N} s u next e a =
-    subst (λ (t : State N). AreAlike t (with_link u)) (sym e) (record { nodes = a.nodes; linked = refl })
+    subst (λ (t : State N). AreAlike t (with_link u)) (sym e)
+    (record { nodes = a.nodes; linked = refl })
 
 pub with_link-grows : {N : Type 0} (s : State N) → Grows s (with_link s)
 with_link-grows s = record { more = []; table = sym (append-nil s.table); base = refl }
 
-with_link-rising : {N : Type 0} (first : ℕ) (s : State N) (p : ℕ) → IsRising first s p → IsRising first (with_link s) p
-with_link-rising first s p g = record { rising = g.rising; above = g.above; below = g.below; reached = g.reached }
+with_link-rising : {N : Type 0} (first : ℕ) (s : State N) (p : ℕ) → IsRising first s p
+    → IsRising first (with_link s) p
+with_link-rising first s p g = record {
+  rising = g.rising;
+  above = g.above;
+  below = g.below;
+  reached = g.reached;
+}
 
 -- numbers of four bytes; those below 2 ^ 32 are admitted
 pub record IsLong {F : Type 0} (long : Plain F ℕ) : Type 0 where
   pub admits : (n : ℕ) → n < 2 ^ 32 → long.format.admits n
-  pub size : (n : ℕ) (order : Order) (place : ℕ) → gap 4 place < length (long.format.writes n order place)
+  pub size : (n : ℕ) (order : Order) (place : ℕ)
+      → gap 4 place < length (long.format.writes n order place)
 
 module _ {F N : Type 0} (bad : At → F) (long : Plain F ℕ) (is : IsLong long) where
   abbrev link : StatefulFormat F N ℕ
@@ -132,7 +149,8 @@ module _ {F N : Type 0} (bad : At → F) (long : Plain F ℕ) (is : IsLong long)
     found = λ a v next h e.
         let made : (ℕ × State N) × At = (v, next) in
         let x =
-        bind_ok (long.format.reads a) (λ n. node_or_fault s (bad a) n.1 (target s (a.place - a.origin) n.0)) made e in
+        bind_ok (long.format.reads a)
+        (λ n. node_or_fault s (bad a) n.1 (target s (a.place - a.origin) n.0)) made e in
         let t = target-ok s (bad a) x.0.1 (target s (a.place - a.origin) x.0.0) v next x.2 in
         let f = long.lawful.found a x.0.0 x.0.1 h x.1 in
         record {
@@ -147,18 +165,22 @@ module _ {F N : Type 0} (bad : At → F) (long : Plain F ℕ) (is : IsLong long)
         rw (one, p.2) (ap (λ (w : ℕ × State N). done {F = F} (w, after (length b) a)) same);
   }
 
-  indirection-told : (s : State N) (a : At) (f : F) → a.origin ≤ a.place → link.reads s a ≡ Err f → link.faults s a f
+  indirection-told : (s : State N) (a : At) (f : F) → a.origin ≤ a.place → link.reads s a ≡ Err f
+      → link.faults s a f
   indirection-told s a f h e =
-      elim (bind_err (long.format.reads a) (λ n. node_or_fault s (bad a) n.1 (target s (a.place - a.origin) n.0)) f e) [
+      elim (bind_err (long.format.reads a)
+      (λ n. node_or_fault s (bad a) n.1 (target s (a.place - a.origin) n.0)) f e) [
         | inl d ↦ PartialFault.unread (long.refuses.told a f h d)
         | inr d ↦ let u = target-err s (bad a) f d.0.1 (target s (a.place - a.origin) d.0.0) d.2 in
             PartialFault.unknown d.0.0 d.0.1 (long.lawful.found a d.0.0 d.0.1 h d.1) u.0 u.1
       ]
 
-  indirection-refused : (s : State N) (a : At) (f : F) → a.origin ≤ a.place → link.faults s a f → link.reads s a ≡ Err f
+  indirection-refused : (s : State N) (a : At) (f : F) → a.origin ≤ a.place → link.faults s a f
+      → link.reads s a ≡ Err f
   indirection-refused s a f h (PartialFault.unread d) = rw (long.refuses.only a f h d) refl
   indirection-refused s a f h (PartialFault.unknown n next found unknown fault) =
-      let one = read_again long.format.spells long.format.reads (joins long.format long.lawful) a n next h found in
+      let one = read_again long.format.spells long.format.reads (joins long.format long.lawful)
+      a n next h found in
       rw (one, unknown, fault) refl
 
   pub indirection-refuses : (s : State N) → Refuses (link.faults s) (link.reads s)
@@ -186,7 +208,8 @@ module _ {F N : Type 0} (bad : At → F) (long : Plain F ℕ) (is : IsLong long)
         alike = with_link-alike s u next sp.3 alike;
         good =
             with_link-rising first u (p + length (long.format.writes (long_to u p j) o p))
-            (rising-on first u p (p + length (long.format.writes (long_to u p j) o p)) (omega arith) good);
+            (rising-on first u p (p + length (long.format.writes (long_to u p j) o p))
+            (omega arith) good);
       }
 
   abbrev pub indirection : Sound F N ℕ
@@ -194,6 +217,7 @@ module _ {F N : Type 0} (bad : At → F) (long : Plain F ℕ) (is : IsLong long)
     format = indirection_format bad long;
     joins = indirection-joins;
     refuses = indirection-refuses;
-    grows = λ s order place j next b sp. subst (λ (t : State N). Grows s t) (sym sp.3) (with_link-grows s);
+    grows = λ s order place j next b sp. subst (λ (t : State N). Grows s t) (sym sp.3)
+        (with_link-grows s);
     transfers = indirection-transfers;
   }

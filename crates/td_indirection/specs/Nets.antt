@@ -54,7 +54,8 @@ abbrev pub Edges : Type 0
 Edges = List ℕ
 
 abbrev pub behind_kind : Sound ValueFault Edges ℕ → Bool → Arm ValueFault Edges ℕ
-behind_kind inner true = node most_nodes too_many [] (encapsulation fault.Cdr (sequence_with ulong ulong-sized inner))
+behind_kind inner true = node most_nodes too_many []
+    (encapsulation fault.Cdr (sequence_with ulong ulong-sized inner))
 behind_kind inner false = arm (indirection no_node ulong ulong-long)
 
 -- a node that wasn't spelled yet is spelled
@@ -73,17 +74,20 @@ new-told inner false net m s u order place j next b sp agrees alike =
 -- an edge, by its node's number, where nodes stand in one another to at most so many levels
 abbrev pub edge : ℕ → Sound ValueFault Edges ℕ
 edge zero = lift (failure (λ a. fault.Depth (aligned 4 a)))
-edge (suc levels) = choice kind kind-sized (behind_kind (edge levels)) is_new (new-told (edge levels))
+edge (suc levels) = choice kind kind-sized (behind_kind (edge levels)) is_new
+    (new-told (edge levels))
 
 -- ---- what holds of it
 
 -- What is read is spelled so, and what is spelled so is read whatever follows.
 abbrev pub NetsAreRead : Type 0
-NetsAreRead = (levels : ℕ) (s : State Edges) → Joins ((edge levels).format.spells s) ((edge levels).format.reads s)
+NetsAreRead = (levels : ℕ) (s : State Edges)
+    → Joins ((edge levels).format.spells s) ((edge levels).format.reads s)
 
 -- It is refused exactly where the bytes are at fault.
 abbrev pub NetsAreRefused : Type 0
-NetsAreRefused = (levels : ℕ) (s : State Edges) → Refuses ((edge levels).format.faults s) ((edge levels).format.reads s)
+NetsAreRefused = (levels : ℕ) (s : State Edges)
+    → Refuses ((edge levels).format.faults s) ((edge levels).format.reads s)
 
 -- What has a spelling in one state has that in each state with the same nodes which is written there.
 abbrev pub NetsAreWritten : Type 0
@@ -92,15 +96,16 @@ NetsAreWritten = (levels : ℕ) → Transfers (edge levels).format
 -- The long that is written for a node leads to it.
 abbrev pub LongsLead : Type 0
 LongsLead =
-    (first : ℕ) (s : State Edges) (p j : ℕ) → IsRising first s p → j < length s.table → ulong_place s p < first + 2 ^ 32
-    → target s p (long_to s p j) ≡ Some j
+    (first : ℕ) (s : State Edges) (p j : ℕ) → IsRising first s p → j < length s.table
+    → ulong_place s p < first + 2 ^ 32 → target s p (long_to s p j) ≡ Some j
 
 -- ---- a node with an edge to itself: its kind at 0, an encapsulation from 8 on, the number of edges at 12, the
 -- indirection at 16, whose long at 20 leads 20 bytes back
 
 abbrev pub itself : List ℕ
 itself =
-    0 ∷ 0 ∷ 0 ∷ 1 ∷ 0 ∷ 0 ∷ 0 ∷ 16 ∷ 0 ∷ 0 ∷ 0 ∷ 0 ∷ 0 ∷ 0 ∷ 0 ∷ 1 ∷ 0 ∷ 0 ∷ 0 ∷ 0 ∷ 255 ∷ 255 ∷ 255 ∷ 236 ∷ []
+    0 ∷ 0 ∷ 0 ∷ 1 ∷ 0 ∷ 0 ∷ 0 ∷ 16 ∷ 0 ∷ 0 ∷ 0 ∷ 0 ∷ 0 ∷ 0 ∷ 0 ∷ 1 ∷ 0 ∷ 0 ∷ 0 ∷ 0 ∷ 255 ∷ 255 ∷ 255
+    ∷ 236 ∷ []
 
 abbrev pub behind_itself : State Edges
 behind_itself = record { base = 0; table = slot 0 (0 ∷ []) ∷ []; linked = true }

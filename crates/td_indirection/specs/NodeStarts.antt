@@ -20,12 +20,14 @@ use Rattle.td_indirection.specs.Tables.{nth-seam, nth-put-behind, nodes-length, 
 use Rattle.td_indirection.specs.Tables.{with_node-alike, with_node-grows, with_node-rising, with_blank-alike, with_blank-rising}
 
 -- there are too many nodes, or what is behind the kind is none
-pub data NodeFault {F : Type 0} (most count : ℕ) (full : F) (inner : At → F → Type 0) (a : At) (f : F) : Type 0 where
+pub data NodeFault {F : Type 0} (most count : ℕ) (full : F) (inner : At → F → Type 0) (a : At)
+    (f : F) : Type 0 where
   crowded : most ≤ count → f ≡ full → NodeFault most count full inner a f
   unread : count < most → inner a f → NodeFault most count full inner a f
 
 -- at most so many nodes; blank: what is known of a node while what is behind its kind is read
-abbrev pub node_format : {F N : Type 0} → ℕ → (At → F) → N → StatefulFormat F N N → TaggedFormat F N ℕ
+abbrev pub node_format : {F N : Type 0} → ℕ → (At → F) → N → StatefulFormat F N N
+    → TaggedFormat F N ℕ
 node_format {N = N} most full blank t = record {
   reads = λ tag s a.
       cond (nat_lt (length s.table) most)
@@ -34,12 +36,15 @@ node_format {N = N} most full blank t = record {
       (Err (full tag));
   spells = λ m s order place v b.
       (n : N) × (end : State N) × (length s.table < most) × (v.0 ≡ length s.table)
-      × t.spells (with_blank blank m s) order place (n, end) b × (v.1 ≡ with_node end (length s.table) n);
+      × t.spells (with_blank blank m s) order place (n, end) b
+      × (v.1 ≡ with_node end (length s.table) n);
   faults = λ tag s a f.
-      NodeFault most (length s.table) (full tag) (t.faults (with_blank blank (tag_place s tag) s)) a f;
+      NodeFault most (length s.table) (full tag) (t.faults (with_blank blank (tag_place s tag) s))
+      a f;
   writes = λ m graph s j. none_or (t.writes graph (with_blank blank m s)) (nth graph j);
   leaves = λ m graph s j order place.
-      leaves_or (λ n. with_node (t.leaves graph (with_blank blank m s) n order place) (length s.table) n) s (nth graph j);
+      leaves_or (λ n. with_node (t.leaves graph (with_blank blank m s) n order place)
+      (length s.table) n) s (nth graph j);
 }
 
 room_ok : {F A : Type 0} (b : Bool) (r : Result A F) (d : F) (y : A) → cond b r (Err d) ≡ Ok y
@@ -56,7 +61,8 @@ module _ {F N : Type 0} (most : ℕ) (full : At → F) (blank : N) (t : Sound F 
   abbrev one : TaggedFormat F N ℕ
   one = node_format most full blank t.format
 
-  pub node-joins : (tag : At) (s : State N) → Joins (one.spells (tag_place s tag) s) (one.reads tag s)
+  pub node-joins : (tag : At) (s : State N)
+      → Joins (one.spells (tag_place s tag) s) (one.reads tag s)
   node-joins tag s = record {
     found = λ a v next h e.
         let inner = with_blank blank (tag_place s tag) s in
@@ -64,8 +70,10 @@ module _ {F N : Type 0} (most : ℕ) (full : At → F) (blank : N) (t : Sound F 
         let made : (ℕ × State N) × At = (v, next) in
         let r =
         room_ok (ltb count most)
-        (t.format.reads inner a >>= λ v. Ok ((count, with_node v.0.1 count v.0.0), v.1)) (full tag) made e in
-        let x = bind_ok (t.format.reads inner a) (λ v. Ok ((count, with_node v.0.1 count v.0.0), v.1)) made r.1 in
+        (t.format.reads inner a >>= λ v. Ok ((count, with_node v.0.1 count v.0.0), v.1))
+        (full tag) made e in
+        let x = bind_ok (t.format.reads inner a)
+        (λ v. Ok ((count, with_node v.0.1 count v.0.0), v.1)) made r.1 in
         let same : ((count, with_node x.0.0.1 count x.0.0.0), x.0.1) ≡ made =
         ok_is {F = F} ((count, with_node x.0.0.1 count x.0.0.0), x.0.1) made x.2 in
         let f = (t.joins inner).found a x.0.0 x.0.1 h x.1 in
@@ -81,7 +89,8 @@ module _ {F N : Type 0} (most : ℕ) (full : At → F) (blank : N) (t : Sound F 
         let room : ltb (length s.table) most ≡ true = lt-ltb (length s.table) most p.2 in
         let one = (t.joins inner).only a (p.0, p.1) b rest h p.4 e in
         let same : (length s.table, with_node p.1 (length s.table) p.0) ≡ v =
-        ap (λ (n : ℕ). (n, with_node p.1 (length s.table) p.0)) (sym p.3) ∙ ap (λ (z : State N). (v.0, z)) (sym p.5) in
+        ap (λ (n : ℕ). (n, with_node p.1 (length s.table) p.0)) (sym p.3)
+        ∙ ap (λ (z : State N). (v.0, z)) (sym p.5) in
         rw (room, one) (ap (λ (w : ℕ × State N). done {F = F} (w, after (length b) a)) same);
   }
 
@@ -95,19 +104,20 @@ module _ {F N : Type 0} (most : ℕ) (full : At → F) (blank : N) (t : Sound F 
       (λ v. ((length s.table, with_node v.0.1 (length s.table) v.0.0), v.1))
       (t.refuses (with_blank blank (tag_place s tag) s))
 
-  node-told : (tag : At) (s : State N) (a : At) (f : F) → a.origin ≤ a.place → one.reads tag s a ≡ Err f
-      → one.faults tag s a f
+  node-told : (tag : At) (s : State N) (a : At) (f : F) → a.origin ≤ a.place → one.reads tag s a
+      ≡ Err f → one.faults tag s a f
   node-told tag s a f h e =
       let inner = with_blank blank (tag_place s tag) s in
       let count = length s.table in
       elim (room_err (ltb count most)
-      (t.format.reads inner a >>= λ v. Ok ((count, with_node v.0.1 count v.0.0), v.1)) (full tag) f e) [
+      (t.format.reads inner a >>= λ v. Ok ((count, with_node v.0.1 count v.0.0), v.1))
+      (full tag) f e) [
         | inl r ↦ NodeFault.unread (ltb-true count most r.0) ((behind tag s).told a f h r.1)
         | inr r ↦ NodeFault.crowded (ltb-false count most r.0) r.1
       ]
 
-  node-refused : (tag : At) (s : State N) (a : At) (f : F) → a.origin ≤ a.place → one.faults tag s a f
-      → one.reads tag s a ≡ Err f
+  node-refused : (tag : At) (s : State N) (a : At) (f : F) → a.origin ≤ a.place
+      → one.faults tag s a f → one.reads tag s a ≡ Err f
   node-refused tag s a f h (NodeFault.crowded many is) =
       let none : ltb (length s.table) most ≡ false = le-ltb (length s.table) most many in
       rw (none, is) refl
@@ -118,15 +128,17 @@ module _ {F N : Type 0} (most : ℕ) (full : At → F) (blank : N) (t : Sound F 
   pub node-refuses : (tag : At) (s : State N) → Refuses (one.faults tag s) (one.reads tag s)
   node-refuses tag s = record { told = node-told tag s; only = node-refused tag s }
 
-  pub node-grows : (m : ℕ) (s : State N) (order : Order) (place : ℕ) (j : ℕ) (next : State N) (b : List ℕ)
+  pub node-grows : (m : ℕ) (s : State N) (order : Order) (place : ℕ) (j : ℕ) (next : State N)
+      (b : List ℕ)
       → one.spells m s order place (j, next) b → Grows s next
   node-grows m s order place j next b sp =
       subst (λ (z : State N). Grows s z) (sym sp.5)
-      (with_node-grows s sp.1 m blank sp.0 (t.grows (with_blank blank m s) order place sp.0 sp.1 b sp.4))
+      (with_node-grows s sp.1 m blank sp.0
+      (t.grows (with_blank blank m s) order place sp.0 sp.1 b sp.4))
 
   -- the graph has the node that was spelled
-  pub node-known : (graph : List N) (m : ℕ) (s : State N) (order : Order) (place : ℕ) (j : ℕ) (next : State N)
-      (b : List ℕ) (sp : one.spells m s order place (j, next) b)
+  pub node-known : (graph : List N) (m : ℕ) (s : State N) (order : Order) (place : ℕ) (j : ℕ)
+      (next : State N) (b : List ℕ) (sp : one.spells m s order place (j, next) b)
       → Agrees graph next (length s.table) → nth graph j ≡ Some sp.0
   node-known graph m s order place j next b sp agrees =
       let n = sp.0 in
@@ -150,8 +162,8 @@ module _ {F N : Type 0} (most : ℕ) (full : At → F) (blank : N) (t : Sound F 
       ∙ seam
 
   -- and those that stand in it
-  node-agrees : (graph : List N) (m : ℕ) (s : State N) (order : Order) (place : ℕ) (j : ℕ) (next : State N)
-      (b : List ℕ) (sp : one.spells m s order place (j, next) b)
+  node-agrees : (graph : List N) (m : ℕ) (s : State N) (order : Order) (place : ℕ) (j : ℕ)
+      (next : State N) (b : List ℕ) (sp : one.spells m s order place (j, next) b)
       → Agrees graph next (length s.table) → Agrees graph sp.1 (length (with_blank blank m s).table)
   node-agrees graph m s order place j next b sp agrees = record {
     each = λ i h l.
@@ -172,10 +184,11 @@ module _ {F N : Type 0} (most : ℕ) (full : At → F) (blank : N) (t : Sound F 
       let is = node-known graph m s order place j next b sp agrees in
       let written : one.writes at graph u j o p ≡ t.format.writes graph inner n o p =
       ap (λ (x : Option N). none_or (t.format.writes graph inner) x o p) is in
-      let leaves : one.leaves at graph u j o p ≡ with_node (t.format.leaves graph inner n o p) (length u.table) n =
+      let leaves : one.leaves at graph u j o p ≡ with_node (t.format.leaves graph inner n o p)
+      (length u.table) n =
       ap
-      (λ (x : Option N). leaves_or (λ n. with_node (t.format.leaves graph inner n o p) (length u.table) n) u x)
-      is in
+      (λ (x : Option N). leaves_or (λ n. with_node (t.format.leaves graph inner n o p)
+      (length u.table) n) u x) is in
       λ short.
       let same = alike-length s u alike in
       let w =
@@ -184,21 +197,29 @@ module _ {F N : Type 0} (most : ℕ) (full : At → F) (blank : N) (t : Sound F 
       (with_blank-rising first blank u before p good far)
       (subst (λ (bytes : List ℕ). u.base + p + length bytes < first + 2 ^ 32) written short) in
       let few = sp.2 in
-      let known-in : AreAlike next (with_node (t.format.leaves graph inner n o p) (length u.table) n) =
+      let known-in : AreAlike next (with_node (t.format.leaves graph inner n o p)
+      (length u.table) n) =
       subst (λ (k : ℕ). AreAlike next (with_node (t.format.leaves graph inner n o p) k n)) same
       (subst
-      (λ (z : State N). AreAlike z (with_node (t.format.leaves graph inner n o p) (length s.table) n))
-      (sym sp.5)
+      (λ (z : State N). AreAlike z (with_node (t.format.leaves graph inner n o p)
+      (length s.table) n)) (sym sp.5)
       (with_node-alike sp.1 (t.format.leaves graph inner n o p) (length s.table) n w.alike)) in
       record {
         spelled =
-            rw (leaves, written)
-            (n, t.format.leaves graph inner n o p, omega (arith, few, same), sp.3 ∙ same, w.spelled, refl);
+            rw (leaves, written) (
+              n,
+              t.format.leaves graph inner n o p,
+              omega (arith, few, same),
+              sp.3
+                  ∙ same,
+              w.spelled,
+              refl,
+            );
         alike = rw leaves known-in;
         good =
             rw (leaves, written)
-            (with_node-rising first (t.format.leaves graph inner n o p) (p + length (t.format.writes graph inner n o p))
-            (length u.table) n w.good);
+            (with_node-rising first (t.format.leaves graph inner n o p)
+            (p + length (t.format.writes graph inner n o p)) (length u.table) n w.good);
       }
 
   abbrev pub node : Arm F N ℕ

@@ -28,7 +28,8 @@ lift_format {N = N} {X = X} g = record {
   leaves = λ graph s x order place. s;
 }
 
-pub lift-joins : {F N X : Type 0} (g : Plain F X) (s : State N) → Joins ((lift_format g).spells s) ((lift_format g).reads s)
+pub lift-joins : {F N X : Type 0} (g : Plain F X) (s : State N)
+    → Joins ((lift_format g).spells s) ((lift_format g).reads s)
 lift-joins {F} {N} {X} g s = record {
   found = λ a v next h e.
       let made : (X × State N) × At = (v, next) in
@@ -44,11 +45,15 @@ lift-joins {F} {N} {X} g s = record {
 }
 
 pub lift-transfers : {F N X : Type 0} (g : Plain F X) → Transfers {N = N} (lift_format g)
-lift-transfers {N = N} g graph first s u order o place p x next b octets sp agrees alike good short =
+lift-transfers {N = N} g graph first s u order o place p x next b octets sp agrees alike good
+    short =
     let reached = good.reached in
     record {
-      spelled =
-          (g.lawful.written o p x (g.lawful.admitted order place x b octets sp.0) (omega (arith, short, reached)), refl);
+      spelled = (
+        g.lawful.written o p x (g.lawful.admitted order place x b octets sp.0)
+            (omega (arith, short, reached)),
+        refl,
+      );
       alike = subst (λ (t : State N). AreAlike t u) (sym sp.1) alike;
       good = rising-on first u p (p + length (g.format.writes x o p)) (omega arith) good;
     }
@@ -64,12 +69,15 @@ lift g = record {
 
 -- ---- one after another
 
-abbrev pub pair_format : {F N X Y : Type 0} → StatefulFormat F N X → (X → StatefulFormat F N Y) → StatefulFormat F N (X × Y)
+abbrev pub pair_format : {F N X Y : Type 0} → StatefulFormat F N X → (X → StatefulFormat F N Y)
+    → StatefulFormat F N (X × Y)
 pair_format {N = N} {X = X} {Y = Y} t u = record {
-  reads = λ s a. t.reads s a >>= λ x. (u x.0.0).reads x.0.1 x.1 >>= λ y. Ok (((x.0.0, y.0.0), y.0.1), y.1);
+  reads = λ s a. t.reads s a >>= λ x. (u x.0.0).reads x.0.1 x.1 >>= λ y.
+      Ok (((x.0.0, y.0.0), y.0.1), y.1);
   spells = λ s order place v b.
       (mid : State N)
-      × SpellsThen (t.spells s) (λ (x : X × State N). (u x.0).spells x.1) order place ((v.0.0, mid), (v.0.1, v.1)) b;
+      × SpellsThen (t.spells s) (λ (x : X × State N). (u x.0).spells x.1) order place
+      ((v.0.0, mid), (v.0.1, v.1)) b;
   faults = λ s. ThenFault (t.spells s) (t.faults s) (λ x. (u x.0).faults x.1);
   writes = λ graph s x order place. t.writes graph s x.0 order place
       ++ (u x.0).writes graph (t.leaves graph s x.0 order place) x.1 order
@@ -90,20 +98,28 @@ module _ {F N X Y : Type 0} (t : Sound F N X) (u : X → Sound F N Y) where
       let x =
       bind_ok (t.format.reads s a)
       (λ x. (u x.0.0).format.reads x.0.1 x.1 >>= λ y. Ok (((x.0.0, y.0.0), y.0.1), y.1)) made e in
-      let y = bind_ok ((u x.0.0.0).format.reads x.0.0.1 x.0.1) (λ y. Ok (((x.0.0.0, y.0.0), y.0.1), y.1)) made x.2 in
+      let y = bind_ok ((u x.0.0.0).format.reads x.0.0.1 x.0.1)
+      (λ y. Ok (((x.0.0.0, y.0.0), y.0.1), y.1)) made x.2 in
       let same : (((x.0.0.0, y.0.0.0), y.0.0.1), y.0.1) ≡ made =
       ok_is {F = F} (((x.0.0.0, y.0.0.0), y.0.0.1), y.0.1) made y.2 in
       let f = (t.joins s).found a x.0.0 x.0.1 h x.1 in
       let g =
-      ((u x.0.0.0).joins x.0.0.1).found x.0.1 y.0.0 y.0.1 (moved-on (t.format.spells s) a x.0.0 x.0.1 h f) y.1 in
+      ((u x.0.0.0).joins x.0.0.1).found x.0.1 y.0.0 y.0.1
+      (moved-on (t.format.spells s) a x.0.0 x.0.1 h f) y.1 in
       let whole =
-      Found-then (t.format.spells s) (λ (z : X × State N). (u z.0).format.spells z.1) a x.0.1 y.0.1 x.0.0 y.0.0 h f g
+      Found-then (t.format.spells s) (λ (z : X × State N). (u z.0).format.spells z.1)
+      a x.0.1 y.0.1 x.0.0 y.0.0 h f g
       in
       subst (λ (p : ((X × Y) × State N) × At). Found (both.spells s) a p.0 p.1) same
-      (record { bytes = whole.bytes; spelled = (x.0.0.1, whole.spelled); parts = whole.parts; moved = whole.moved })
+      (record {
+        bytes = whole.bytes;
+        spelled = (x.0.0.1, whole.spelled);
+        parts = whole.parts;
+        moved = whole.moved;
+      })
 
-  pub pair-only : (s : State N) (a : At) (v : (X × Y) × State N) (b rest : List ℕ) → a.origin ≤ a.place
-      → both.spells s a.order (a.place - a.origin) v b → a.rest ≡ b ++ rest
+  pub pair-only : (s : State N) (a : At) (v : (X × Y) × State N) (b rest : List ℕ)
+      → a.origin ≤ a.place → both.spells s a.order (a.place - a.origin) v b → a.rest ≡ b ++ rest
       → both.reads s a ≡ Ok (v, after (length b) a)
   pair-only s a v b rest h p e =
       let mid = p.0 in
@@ -113,22 +129,26 @@ module _ {F N X Y : Type 0} (t : Sound F N X) (u : X → Sound F N Y) where
       let one = (t.joins s).only a (v.0.0, mid) q.front (q.back ++ rest) h q.spelled whole in
       let left : drop (length q.front) a.rest ≡ q.back ++ rest =
       rw whole (drop_at q.front (q.back ++ rest) (length q.front) refl) in
-      let here : (u v.0.0).format.spells mid a.order ((after (length q.front) a).place - a.origin) (v.0.1, v.1) q.back
-      = rw (moved-place (length q.front) a h) q.then_spelled in
+      let here : (u v.0.0).format.spells mid a.order ((after (length q.front) a).place - a.origin)
+      (v.0.1, v.1) q.back = rw (moved-place (length q.front) a h) q.then_spelled in
       let two =
-      ((u v.0.0).joins mid).only (after (length q.front) a) (v.0.1, v.1) q.back rest (omega arith) here left in
-      let len : length b ≡ length q.front + length q.back = rw q.parts (length-append q.front q.back) in
+      ((u v.0.0).joins mid).only (after (length q.front) a) (v.0.1, v.1) q.back rest (omega arith)
+      here left in
+      let len : length b ≡ length q.front
+      + length q.back = rw q.parts (length-append q.front q.back) in
       rw (one, two, len)
       (ap (λ (x : At). done {F = F} (v, x)) (after-after (length q.front) (length q.back) a))
 
   pub pair-refuses : (s : State N) → Refuses (both.faults s) (both.reads s)
   pair-refuses s =
-      chain-refuses (t.format.spells s) (t.format.faults s) (λ x. (u x.0).format.faults x.1) (t.format.reads s)
-      (λ x a. (u x.0).format.reads x.1 a >>= λ y. Ok (((x.0, y.0.0), y.0.1), y.1)) (t.joins s) (t.refuses s)
+      chain-refuses (t.format.spells s) (t.format.faults s) (λ x. (u x.0).format.faults x.1)
+      (t.format.reads s) (λ x a. (u x.0).format.reads x.1 a >>= λ y.
+      Ok (((x.0, y.0.0), y.0.1), y.1)) (t.joins s) (t.refuses s)
       (λ x. mapped-refuses ((u x.0).format.faults x.1) ((u x.0).format.reads x.1)
       (λ y. (((x.0, y.0.0), y.0.1), y.1)) ((u x.0).refuses x.1))
 
-  pub pair-grows : (s : State N) (order : Order) (place : ℕ) (x : X × Y) (next : State N) (b : List ℕ)
+  pub pair-grows : (s : State N) (order : Order) (place : ℕ) (x : X × Y) (next : State N)
+      (b : List ℕ)
       → both.spells s order place (x, next) b → Grows s next
   pair-grows s order place x next b sp =
       let q = sp.1 in
@@ -148,14 +168,16 @@ module _ {F N X Y : Type 0} (t : Sound F N X) (u : X → Sound F N Y) where
       let more = (u x.0).grows mid order (place + length q.front) x.1 next q.back q.then_spelled in
       let longer = grows-length s mid with_slots in
       let one =
-      t.transfers graph first s e order o place p x.0 mid q.front (octets-front q.front q.back whole) q.spelled
-      (agrees-before graph mid next (length s.table) more agrees) alike good (omega (arith, short, len)) in
+      t.transfers graph first s e order o place p x.0 mid q.front
+      (octets-front q.front q.back whole) q.spelled
+      (agrees-before graph mid next (length s.table) more agrees) alike good
+      (omega (arith, short, len)) in
       let base = (t.grows e o p x.0 middle front one.spelled).base in
       let two =
-      (u x.0).transfers graph first mid middle order o (place + length q.front) (p + length front) x.1 next q.back
-      (octets-back q.front q.back whole) q.then_spelled
-      (agrees-from graph next (length s.table) (length mid.table) (omega (arith, longer)) agrees) one.alike one.good
-      (omega (arith, short, len, base)) in
+      (u x.0).transfers graph first mid middle order o (place + length q.front)
+      (p + length front) x.1 next q.back (octets-back q.front q.back whole) q.then_spelled
+      (agrees-from graph next (length s.table) (length mid.table) (omega (arith, longer)) agrees)
+      one.alike one.good (omega (arith, short, len, base)) in
       record {
         spelled = (
           middle,
@@ -169,11 +191,11 @@ module _ {F N X Y : Type 0} (t : Sound F N X) (u : X → Sound F N Y) where
         );
         alike = two.alike;
         good =
-            let far : (p + length front) + length back ≡ p + length (front ++ back) = omega (arith, len) in
+            let far : (p + length front) + length back
+            ≡ p + length (front ++ back) = omega (arith, len) in
             subst
-            (λ (n : ℕ). IsRising first ((u x.0).format.leaves graph middle x.1 o (p + length front)) n)
-            far
-            two.good;
+            (λ (n : ℕ). IsRising first ((u x.0).format.leaves graph middle x.1 o (p + length front))
+            n) far two.good;
       }
 
   abbrev pub pair_on : Sound F N (X × Y)

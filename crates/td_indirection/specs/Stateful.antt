@@ -24,18 +24,22 @@ pub record StatefulFormat (F N X : Type 0) : Type 1 where
   pub leaves : List N → State N → X → Order → ℕ → State N
 
 -- What is written spells the value, with the same nodes behind it.
-pub record IsWritten {F N X : Type 0} (t : StatefulFormat F N X) (graph : List N) (first : ℕ) (next : State N) (x : X)
-    (s : State N) (order : Order) (place : ℕ) : Type 0 where
-  pub spelled : t.spells s order place (x, t.leaves graph s x order place) (t.writes graph s x order place)
+pub record IsWritten {F N X : Type 0} (t : StatefulFormat F N X) (graph : List N) (first : ℕ)
+    (next : State N) (x : X) (s : State N) (order : Order) (place : ℕ) : Type 0 where
+  pub spelled : t.spells s order place (x, t.leaves graph s x order place)
+      (t.writes graph s x order place)
   pub alike : AreAlike next (t.leaves graph s x order place)
-  pub good : IsRising first (t.leaves graph s x order place) (place + length (t.writes graph s x order place))
+  pub good : IsRising first (t.leaves graph s x order place)
+      (place + length (t.writes graph s x order place))
 
 -- What has a spelling in one state has one in each state with the same nodes: what is written there. The graph has
 -- the nodes of the value.
 abbrev pub Transfers : {F N X : Type 0} → StatefulFormat F N X → Type 0
 Transfers {N = N} {X = X} t =
-    (graph : List N) (first : ℕ) (s u : State N) (order o : Order) (place p : ℕ) (x : X) (next : State N) (b : List ℕ)
-    → AreOctets b → t.spells s order place (x, next) b → Agrees graph next (length s.table) → AreAlike s u
+    (graph : List N) (first : ℕ) (s u : State N) (order o : Order) (place p : ℕ) (x : X)
+    (next : State N) (b : List ℕ)
+    → AreOctets b → t.spells s order place (x, next) b → Agrees graph next (length s.table)
+    → AreAlike s u
     → IsRising first u p → u.base + p + length (t.writes graph u x o p) < first + 2 ^ 32
     → IsWritten t graph first next x u o p
 
@@ -64,27 +68,31 @@ pub record TaggedFormat (F N X : Type 0) : Type 1 where
 abbrev pub tag_place : {N : Type 0} → State N → At → ℕ
 tag_place s tag = ulong_place s (tag.place - tag.origin)
 
-pub record IsWrittenBehind {F N X : Type 0} (t : TaggedFormat F N X) (graph : List N) (first : ℕ) (next : State N) (x : X)
-    (s : State N) (tag : ℕ) (order : Order) (place : ℕ) : Type 0 where
-  pub spelled : t.spells tag s order place (x, t.leaves tag graph s x order place) (t.writes tag graph s x order place)
+pub record IsWrittenBehind {F N X : Type 0} (t : TaggedFormat F N X) (graph : List N) (first : ℕ)
+    (next : State N) (x : X) (s : State N) (tag : ℕ) (order : Order) (place : ℕ) : Type 0 where
+  pub spelled : t.spells tag s order place (x, t.leaves tag graph s x order place)
+      (t.writes tag graph s x order place)
   pub alike : AreAlike next (t.leaves tag graph s x order place)
-  pub good : IsRising first (t.leaves tag graph s x order place) (place + length (t.writes tag graph s x order place))
+  pub good : IsRising first (t.leaves tag graph s x order place)
+      (place + length (t.writes tag graph s x order place))
 
 -- the same, where the tag stood at a place from which on nothing else was spelled
 abbrev pub TransfersBehind : {F N X : Type 0} → TaggedFormat F N X → Type 0
 TransfersBehind {N = N} {X = X} t =
-    (graph : List N) (first m : ℕ) (s u : State N) (order o : Order) (place before p : ℕ) (x : X) (next : State N)
-    (b : List ℕ)
-    → AreOctets b → t.spells m s order place (x, next) b → Agrees graph next (length s.table) → AreAlike s u
-    → IsRising first u before → before + gap 4 before < p
+    (graph : List N) (first m : ℕ) (s u : State N) (order o : Order) (place before p : ℕ) (x : X)
+    (next : State N) (b : List ℕ)
+    → AreOctets b → t.spells m s order place (x, next) b → Agrees graph next (length s.table)
+    → AreAlike s u → IsRising first u before → before + gap 4 before < p
     → u.base + p + length (t.writes (ulong_place u before) graph u x o p) < first + 2 ^ 32
     → IsWrittenBehind t graph first next x u (ulong_place u before) o p
 
 -- one of the formats that a tag chooses, with its laws
 pub record Arm (F N X : Type 0) : Type 1 where
   pub format : TaggedFormat F N X
-  pub joins : (tag : At) (s : State N) → Joins (format.spells (tag_place s tag) s) (format.reads tag s)
+  pub joins : (tag : At) (s : State N)
+      → Joins (format.spells (tag_place s tag) s) (format.reads tag s)
   pub refuses : (tag : At) (s : State N) → Refuses (format.faults tag s) (format.reads tag s)
-  pub grows : (m : ℕ) (s : State N) (order : Order) (place : ℕ) (x : X) (next : State N) (b : List ℕ)
+  pub grows : (m : ℕ) (s : State N) (order : Order) (place : ℕ) (x : X) (next : State N)
+      (b : List ℕ)
       → format.spells m s order place (x, next) b → Grows s next
   pub transfers : TransfersBehind format

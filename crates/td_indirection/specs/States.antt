@@ -82,7 +82,8 @@ pub record Agrees {N : Type 0} (graph : List N) (s : State N) (from : ℕ) : Typ
 
 -- the places rise from the first to a place of the present encapsulation
 pub record IsRising {N : Type 0} (first : ℕ) (s : State N) (place : ℕ) : Type 0 where
-  pub rising : (i j : ℕ) → i < j → j < length s.table → slice_index (places s) i < slice_index (places s) j
+  pub rising : (i j : ℕ) → i < j → j < length s.table → slice_index (places s) i
+      < slice_index (places s) j
   pub above : (i : ℕ) → i < length s.table → first ≤ slice_index (places s) i
   pub below : (i : ℕ) → i < length s.table → slice_index (places s) i < s.base + place
   pub reached : first ≤ s.base + place

@@ -14,7 +14,8 @@ nth-left [] ys i h = absurd (omega (arith, h))
 nth-left (x ∷ xs) ys zero h = refl
 nth-left (x ∷ xs) ys (suc i) h = nth-left xs ys i (omega (arith, h))
 
-pub nth-seam : {Y : Type 0} (xs : List Y) (y : Y) (ys : List Y) → nth (xs ++ y ∷ ys) (length xs) ≡ Some y
+pub nth-seam : {Y : Type 0} (xs : List Y) (y : Y) (ys : List Y) → nth (xs ++ y ∷ ys) (length xs)
+    ≡ Some y
 nth-seam [] y ys = refl
 nth-seam (x ∷ xs) y ys = nth-seam xs y ys
 
@@ -26,7 +27,8 @@ stays s = record { more = []; table = sym (append-nil s.table); base = refl }
 pub grows-on : {N : Type 0} (s mid next : State N) → Grows s mid → Grows mid next → Grows s next
 grows-on {N} s mid next g h = record {
   more = g.more ++ h.more;
-  table = h.table ∙ ap (λ (t : List (Slot N)). t ++ h.more) g.table ∙ append_assoc s.table g.more h.more;
+  table = h.table ∙ ap (λ (t : List (Slot N)). t ++ h.more) g.table
+      ∙ append_assoc s.table g.more h.more;
   base = h.base ∙ g.base;
 }
 
@@ -37,9 +39,11 @@ grows-length {N} s next g = ap (length {A = Slot N}) g.table ∙ length-append s
 pub nodes-length : {N : Type 0} (s : State N) → length (nodes s) ≡ length s.table
 nodes-length s = length-map s.table (λ x. x.node)
 
-pub grows-nodes : {N : Type 0} (s next : State N) (g : Grows s next) → nodes next ≡ nodes s ++ map (λ x. x.node) g.more
+pub grows-nodes : {N : Type 0} (s next : State N) (g : Grows s next)
+    → nodes next ≡ nodes s ++ map (λ x. x.node) g.more
 grows-nodes {N} s next g =
-    ap (λ (t : List (Slot N)). map (λ x. x.node) t) g.table ∙ map-append (λ (x : Slot N). x.node) s.table g.more
+    ap (λ (t : List (Slot N)). map (λ x. x.node) t) g.table
+    ∙ map-append (λ (x : Slot N). x.node) s.table g.more
 
 pub agrees-before : {N : Type 0} (graph : List N) (mid next : State N) (from : ℕ) → Grows mid next
     → Agrees graph next from → Agrees graph mid from
@@ -52,14 +56,15 @@ agrees-before graph mid next from g a = record {
       ∙ nth-left (nodes mid) (map (λ x. x.node) g.more) i (omega (arith, l, shorter));
 }
 
-pub agrees-from : {N : Type 0} (graph : List N) (next : State N) (from on : ℕ) → from ≤ on → Agrees graph next from
-    → Agrees graph next on
+pub agrees-from : {N : Type 0} (graph : List N) (next : State N) (from on : ℕ) → from ≤ on
+    → Agrees graph next from → Agrees graph next on
 agrees-from graph next from on h a = record { each = λ i l m. a.each i (omega (arith, h, l)) m }
 
 pub alike-length : {N : Type 0} (s u : State N) → AreAlike s u → length s.table ≡ length u.table
 alike-length {N} s u a = sym (nodes-length s) ∙ ap (length {A = N}) a.nodes ∙ nodes-length u
 
-pub rising-on : {N : Type 0} (first : ℕ) (s : State N) (p q : ℕ) → p ≤ q → IsRising first s p → IsRising first s q
+pub rising-on : {N : Type 0} (first : ℕ) (s : State N) (p q : ℕ) → p ≤ q → IsRising first s p
+    → IsRising first s q
 rising-on first s p q h g = record {
   rising = g.rising;
   above = g.above;
@@ -103,22 +108,26 @@ pub put-seam : {N : Type 0} (xs : List (Slot N)) (y : Slot N) (ys : List (Slot N
 put-seam [] y ys v = refl
 put-seam {N} (x ∷ xs) y ys v = ap (λ (zs : List (Slot N)). x ∷ zs) (put-seam xs y ys v)
 
-pub with_node-alike : {N : Type 0} (s u : State N) (n : ℕ) (v : N) → AreAlike s u → AreAlike (with_node s n v) (with_node u n v)
+pub with_node-alike : {N : Type 0} (s u : State N) (n : ℕ) (v : N) → AreAlike s u
+    → AreAlike (with_node s n v) (with_node u n v)
 with_node-alike {N} s u n v a = record {
   nodes =
-      nodes-put s.table n v ∙ ap (λ (ns : List N). put_node ns n v) a.nodes ∙ sym (nodes-put u.table n v);
+      nodes-put s.table n v ∙ ap (λ (ns : List N). put_node ns n v) a.nodes
+      ∙ sym (nodes-put u.table n v);
   linked = a.linked;
 }
 
 -- a node that was begun is known
-pub with_node-table : {N : Type 0} (s end : State N) (place : ℕ) (blank v : N) (g : Grows (with_blank blank place s) end)
+pub with_node-table : {N : Type 0} (s end : State N) (place : ℕ) (blank v : N)
+    (g : Grows (with_blank blank place s) end)
     → (with_node end (length s.table) v).table ≡ s.table ++ slot place v ∷ g.more
 with_node-table {N} s end place blank v g =
-    ap (λ (t : List (Slot N)). put t (length s.table) v) (g.table ∙ append_assoc s.table (slot place blank ∷ []) g.more)
+    ap (λ (t : List (Slot N)). put t (length s.table) v)
+    (g.table ∙ append_assoc s.table (slot place blank ∷ []) g.more)
     ∙ put-seam s.table (slot place blank) g.more v
 
-pub with_node-grows : {N : Type 0} (s end : State N) (place : ℕ) (blank v : N) → Grows (with_blank blank place s) end
-    → Grows s (with_node end (length s.table) v)
+pub with_node-grows : {N : Type 0} (s end : State N) (place : ℕ) (blank v : N)
+    → Grows (with_blank blank place s) end → Grows s (with_node end (length s.table) v)
 with_node-grows s end place blank v g = record {
   more = slot place v ∷ g.more;
   table = with_node-table s end place blank v g;
@@ -135,24 +144,28 @@ with_blank-alike {N} blank p q s u a = record {
   linked = a.linked;
 }
 
-pub with_blank-rising : {N : Type 0} (first : ℕ) (blank : N) (s : State N) (before p : ℕ) → IsRising first s before
+pub with_blank-rising : {N : Type 0} (first : ℕ) (blank : N) (s : State N) (before p : ℕ)
+    → IsRising first s before
     → before + gap 4 before < p → IsRising first (with_blank blank (ulong_place s before) s) p
 with_blank-rising {N} first blank s before p g far =
     let at = ulong_place s before in
-    let size : length (s.table ++ slot at blank ∷ []) ≡ length s.table + 1 = length_push s.table (slot at blank) in
+    let size : length (s.table ++ slot at blank ∷ [])
+    ≡ length s.table + 1 = length_push s.table (slot at blank) in
     let count : length (places s) ≡ length s.table = length-map s.table (λ x. x.place) in
     let all : places (with_blank blank at s) ≡ places s ++ at ∷ [] =
     map-append (λ (x : Slot N). x.place) s.table (slot at blank ∷ []) in
-    let old : (i : ℕ) → i < length s.table → slice_index (places (with_blank blank at s)) i ≡ slice_index (places s) i =
+    let old : (i : ℕ) → i < length s.table → slice_index (places (with_blank blank at s)) i
+    ≡ slice_index (places s) i =
     λ i h. ap (λ (ps : List ℕ). slice_index ps i) all
     ∙ get_or_append_left (places s) (at ∷ []) 0 i (omega (arith, h, count)) in
     let last : (i : ℕ) → length s.table ≡ i → slice_index (places (with_blank blank at s)) i ≡ at =
-    λ i h. ap (λ (ps : List ℕ). slice_index ps i) all ∙ get_or_push (places s) at 0 i (omega (arith, h, count)) in
+    λ i h. ap (λ (ps : List ℕ). slice_index ps i) all
+    ∙ get_or_push (places s) at 0 i (omega (arith, h, count)) in
     let reached = g.reached in
     record {
       rising = λ i j less h. ⊎_elim
-          (λ (lt : j < length s.table). rw (old i (omega (arith, less, lt)), old j lt) (g.rising i j less lt))
-          (λ (ge : length s.table ≤ j).
+          (λ (lt : j < length s.table). rw (old i (omega (arith, less, lt)), old j lt)
+          (g.rising i j less lt)) (λ (ge : length s.table ≤ j).
           let here : length s.table ≡ j = omega (arith, h, size, ge) in
           let there : i < length s.table = omega (arith, less, here) in
           let low = g.below i there in
@@ -165,10 +178,10 @@ with_blank-rising {N} first blank s before p g far =
           rw (last i here) (omega (arith, reached)))
           (cases_lt i (length s.table));
       below = λ i h. ⊎_elim
-          (λ (lt : i < length s.table). let low = g.below i lt in rw (old i lt) (omega (arith, low, far)))
-          (λ (ge : length s.table ≤ i).
-          let here : length s.table ≡ i = omega (arith, h, size, ge) in rw (last i here) (omega (arith, far)))
-          (cases_lt i (length s.table));
+          (λ (lt : i < length s.table). let low = g.below i lt in rw (old i lt)
+          (omega (arith, low, far))) (λ (ge : length s.table ≤ i).
+          let here : length s.table ≡ i = omega (arith, h, size, ge) in rw (last i here)
+          (omega (arith, far))) (cases_lt i (length s.table));
       reached = omega (arith, reached, far);
     }
 

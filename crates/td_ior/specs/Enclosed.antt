@@ -25,7 +25,8 @@ pub record Encloses {Y : Type 0} (g : Sound ValueFault Y) (octets : List ℕ) (v
   pub spelled : g.format.spells (order_of little) 1 v body
 
 -- behind the value
-abbrev pub behind : {Y : Type 0} (g : Sound ValueFault Y) (octets : List ℕ) (v : Y) → Encloses g octets v → At
+abbrev pub behind : {Y : Type 0} (g : Sound ValueFault Y) (octets : List ℕ) (v : Y)
+    → Encloses g octets v → At
 behind g octets v e =
     record { rest = e.ignored; place = 1 + length e.body; origin = 0; order = order_of e.little }
 
@@ -39,7 +40,8 @@ abbrev pub start_of : List ℕ → Option At
 start_of [] = None
 start_of (octet ∷ body) =
     if nat_lt (length body + 1) (2 ^ 32)
-    then (if nat_eq octet 0 then Some (start false body) else if nat_eq octet 1 then Some (start true body) else None)
+    then (if nat_eq octet 0 then Some (start false body) else if nat_eq octet 1 then Some
+    (start true body) else None)
     else None
 
 abbrev pub value_in : {Y : Type 0} → Read ValueFault Y → Option Y

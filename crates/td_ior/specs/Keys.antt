@@ -63,11 +63,13 @@ abbrev pub iterator_of : List ℕ → Option Kind
 iterator_of word = number_of word >>= λ n. if nat_eq n 0 then None else Some (Iterator n)
 
 abbrev pub kind_of : List ℕ → Option Kind
-kind_of object = if bytes_eq (take 2 object) (codes "I/") then iterator_of (drop 2 object) else one_letter object
+kind_of object = if bytes_eq (take 2 object) (codes "I/") then iterator_of (drop 2 object)
+    else one_letter object
 
 -- what stands before the first slash and what stands after it
 abbrev pub at_slash : List ℕ → Option (List ℕ × List ℕ)
-at_slash octets = position (λ b. nat_eq b 47) octets >>= λ i. Some (take i octets, drop (i + 1) octets)
+at_slash octets = position (λ b. nat_eq b 47) octets >>= λ i.
+    Some (take i octets, drop (i + 1) octets)
 
 abbrev pub named : List ℕ → Kind → Option ObjectKey
 named name kind = if trader_name name then Some (record { trader = name; kind = kind }) else None

@@ -69,7 +69,8 @@ pub record SpellsComponents (a : At) (cs : List Profile) : Type 0 where
 pub data HasComponents (a : At) (minor : ℕ) (cs : List Profile) : Type 0 where
   older : minor ≡ 0 → cs ≡ [] → HasComponents a minor cs
   spelled : minor ≢ 0 → SpellsComponents a cs → HasComponents a minor cs
-  absent : minor ≢ 0 → ((others : List Profile) → ¬ (SpellsComponents a others)) → cs ≡ [] → HasComponents a minor cs
+  absent : minor ≢ 0 → ((others : List Profile) → ¬ (SpellsComponents a others)) → cs ≡ []
+      → HasComponents a minor cs
 
 -- ---- a profile
 
@@ -77,7 +78,8 @@ pub data HasComponents (a : At) (minor : ℕ) (cs : List Profile) : Type 0 where
 pub record IsIiop (profile : Profile) (v : Iiop) : Type 0 where
   pub tag : profile.tag ≡ iiop_tag
   pub body : Encloses front profile.octets (front_of v)
-  pub components : HasComponents (behind front profile.octets (front_of v) body) v.minor v.components
+  pub components : HasComponents (behind front profile.octets (front_of v) body)
+      v.minor v.components
 
 abbrev pub HasNoIiop : List Profile → Type 0
 HasNoIiop [] = Unit {0}
@@ -116,7 +118,8 @@ iiop_told (Err e) = None
 
 abbrev pub iiop_in : Profile → Option Iiop
 iiop_in profile =
-    if nat_eq profile.tag iiop_tag then (start_of profile.octets >>= λ a. iiop_told (front.format.reads a)) else None
+    if nat_eq profile.tag iiop_tag then (start_of profile.octets >>= λ a.
+    iiop_told (front.format.reads a)) else None
 
 abbrev pub or_else : Option Iiop → Option Iiop → Option Iiop
 or_else (Some v) later = Some v
@@ -129,7 +132,8 @@ first_iiop (p ∷ ps) = or_else (iiop_in p) (first_iiop ps)
 -- what borrowed octets say
 abbrev pub lent : Body → Iiop
 lent b =
-    with_components (record { minor = b.minor; host = b.host.now; port = b.port; key = b.key.now }) b.components
+    with_components (record { minor = b.minor; host = b.host.now; port = b.port; key = b.key.now })
+    b.components
 
 abbrev pub iiop_of : Ior → Option Iiop
 iiop_of reference = first_iiop reference.profiles
@@ -145,7 +149,8 @@ ReadsIiop found (Err e) = ⊥
 
 -- version 1.0 has no place for them
 abbrev pub no_components : (minor : ℕ) → Piece
-no_components minor order place = if nat_eq minor 0 then [] else components.format.writes [] order place
+no_components minor order place = if nat_eq minor 0 then [] else components.format.writes [] order
+    place
 
 abbrev pub made_octets : List ℕ → ℕ → List ℕ → (minor : ℕ) → List ℕ
 made_octets host port key minor =
@@ -153,7 +158,13 @@ made_octets host port key minor =
     flag Big ∷ (front.format.writes v then no_components minor) Big 1
 
 abbrev pub made_profile : List ℕ → ℕ → List ℕ → (minor : ℕ) → Profile
-made_profile host port key minor = record { tag = iiop_tag; octets = made_octets host port key minor }
+made_profile host port key minor = record {
+  tag = iiop_tag;
+  octets = made_octets host port key minor;
+}
 
 abbrev pub made_reference : List ℕ → List ℕ → ℕ → List ℕ → (minor : ℕ) → Ior
-made_reference id host port key minor = record { id = id; profiles = made_profile host port key minor ∷ [] }
+made_reference id host port key minor = record {
+  id = id;
+  profiles = made_profile host port key minor ∷ [];
+}

@@ -89,7 +89,8 @@ abbrev pub plain_form : List ℕ → Option Ior
 plain_form text = parts_of text >>= λ p. Some (made_reference p.id p.host p.port p.key 0)
 
 abbrev pub reference_in : List ℕ → Option Ior
-reference_in text = if bytes_eq (take 4 text) (codes "IOR:") then hex_form (drop 4 text) else plain_form text
+reference_in text = if bytes_eq (take 4 text) (codes "IOR:") then hex_form (drop 4 text)
+    else plain_form text
 
 -- the reference, and NotIor exactly where the text is in neither form
 abbrev pub ReadsText : Option Ior → Result Ior IorFault → Type 0

@@ -19,7 +19,8 @@ ghost use Rattle.td_ior.specs.Texts.{IsReferenceText, reference_in, printed};
 /// A key is read as it is written, and only so, and no two keys are written alike.
 pub fn keys_are_read()
     ensures agrees { Agrees SpellsKey key_of }
-    ensures back { (key : ObjectKey) → IsTraderName key.trader → IsKind key.kind → key_of (written_key key) ≡ Some key }
+    ensures back { (key : ObjectKey) → IsTraderName key.trader → IsKind key.kind
+        → key_of (written_key key) ≡ Some key }
     ensures one_key { (key other : ObjectKey) → IsTraderName key.trader → IsTraderName other.trader
         → IsKind key.kind → IsKind other.kind → written_key key ≡ written_key other → key ≡ other }
 {}
@@ -31,9 +32,10 @@ pub fn profiles_are_read()
     ensures one { Agrees IsIiop iiop_in }
     ensures first { Agrees IsFirstIiop first_iiop }
     ensures none { (profiles : List Profile) → first_iiop profiles ≡ None → HasNoIiop profiles }
-    ensures only_none { (profiles : List Profile) → HasNoIiop profiles → first_iiop profiles ≡ None }
-    ensures back { (id host key : List ℕ) (port minor : ℕ) → HasNoNul host → port < 65536 → minor ≤ 1
-        → length (made_octets host port key minor) < 2 ^ 32
+    ensures only_none { (profiles : List Profile) → HasNoIiop profiles → first_iiop profiles
+        ≡ None }
+    ensures back { (id host key : List ℕ) (port minor : ℕ) → HasNoNul host → port < 65536
+        → minor ≤ 1 → length (made_octets host port key minor) < 2 ^ 32
         → iiop_of (made_reference id host port key minor)
         ≡ Some (record { host = host; port = port; key = key; minor = minor; components = [] }) }
 {}

@@ -146,7 +146,8 @@ fn parts_of(text: &[u8]) -> Option<Parts<'_>>
 /// `Memory` for want of memory, or where the encapsulation would come to 2^32 octets.
 pub fn print_text(alloc: Global, reference: &Ior) -> Result<Text, Memory>
     ensures printed { IfOk result (λ t. t ≡ printed reference.now) }
-    ensures back { IfOk result (λ t. references.format.admits reference.now → reference_in t ≡ Some reference.now) }
+    ensures back { IfOk result (λ t. references.format.admits reference.now
+        → reference_in t ≡ Some reference.now) }
 {
     let octets = enclose(alloc, reference)?;
     hex_text(alloc, octets.as_slice())

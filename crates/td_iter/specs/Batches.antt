@@ -25,7 +25,8 @@ module _ {X : Type 0} (head : List X → Bool → Piece) (left : List X) where
 
   -- behind what a draft holds, its message has a size field of at most 16 MiB
   abbrev pub FitsMessage : Draft → ℕ → Type 0
-  FitsMessage draft k = length draft.bytes + length (batch k draft.order (length draft.bytes)) ≤ LARGEST_MESSAGE
+  FitsMessage draft k = length draft.bytes + length (batch k draft.order (length draft.bytes))
+      ≤ LARGEST_MESSAGE
 
   -- the batch for n items has the first k: it is the longest that fits
   abbrev pub IsBatch : Draft → ℕ → ℕ → Type 0
@@ -44,21 +45,25 @@ module _ {X : Type 0} (head : List X → Bool → Piece) (left : List X) where
     pub more_is : more ≡ is_some rest
 
 -- Whether the batch for n items has all that is left: it was written then, and else nothing was.
-abbrev pub PutsWhole : {X : Type 0} → (List X → Bool → Piece) → List X → (n : ℕ) → (old new : Draft) → Bool → Type 0
+abbrev pub PutsWhole : {X : Type 0} → (List X → Bool → Piece) → List X → (n : ℕ) → (old new : Draft)
+    → Bool → Type 0
 PutsWhole head left n old new true = PutsBatch head left n old new (length left)
-PutsWhole head left n old new false = (new.bytes ≡ old.bytes) × (IsBatch head left old n (length left) → ⊥)
+PutsWhole head left n old new false = (new.bytes ≡ old.bytes)
+    × (IsBatch head left old n (length left) → ⊥)
 
 -- the same, where nothing is left behind it
-abbrev pub GivesWhole : {X : Type 0} → (List X → Bool → Piece) → List X → (n : ℕ) → (rest : List X) → (old new : Draft)
-    → Bool → Type 0
+abbrev pub GivesWhole : {X : Type 0} → (List X → Bool → Piece) → List X → (n : ℕ) → (rest : List X)
+    → (old new : Draft) → Bool → Type 0
 GivesWhole head left n rest old new whole =
     PutsWhole head left n old new whole × (rest ≡ (if whole then [] else left))
 
 -- Batches one after the other, each for any number of items and in any reply, and what is left behind the last
 pub data Batches {X : Type 0} : List X → List (List X) → List X → Type 0 where
   ended : {left : List X} → Batches left [] left
-  given : {left rest : List X} {batches : List (List X)} (head : List X → Bool → Piece) (draft : Draft) (n k : ℕ)
-      → IsBatch head left draft n k → Batches (drop k left) batches rest → Batches left (take k left ∷ batches) rest
+  given : {left rest : List X} {batches : List (List X)} (head : List X → Bool → Piece)
+      (draft : Draft) (n k : ℕ)
+      → IsBatch head left draft n k → Batches (drop k left) batches rest
+      → Batches left (take k left ∷ batches) rest
 
 -- one list after another
 abbrev pub concatenated : {X : Type 0} → List (List X) → List X

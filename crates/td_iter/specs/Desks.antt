@@ -22,7 +22,8 @@ module _ {X : Type 0} where
   -- the place of the first that is called so; behind the last where there is none
   abbrev pub place_of : List ℕ → ℕ → List (Entry X) → ℕ
   place_of trader number [] = 0
-  place_of trader number (e ∷ es) = if is_called trader number e then 0 else suc (place_of trader number es)
+  place_of trader number (e ∷ es) = if is_called trader number e then 0
+      else suc (place_of trader number es)
 
   -- what is left of it, where it is live
   abbrev pub item_of : List ℕ → ℕ → LiveOf X → Option X
@@ -40,7 +41,11 @@ module _ {X : Type 0} where
 
   -- all but the first that is called so
   abbrev pub removed : List ℕ → ℕ → LiveOf X → LiveOf X
-  removed trader number d = (take (place_of trader number d.0) d.0 ++ drop (place_of trader number d.0 + 1) d.0, d.1)
+  removed trader number d = (
+    take (place_of trader number d.0) d.0
+        ++ drop (place_of trader number d.0 + 1) d.0,
+    d.1,
+  )
 
   -- all but the oldest
   abbrev pub without_oldest : LiveOf X → LiveOf X
@@ -77,5 +82,6 @@ abbrev pub numbers_given : {X : Type 0} → List (Event X) → LiveOf X → List
 numbers_given [] d = []
 numbers_given (Add trader item ∷ events) d = d.1 ∷ numbers_given events (added trader item d)
 numbers_given (Remove trader number ∷ events) d = numbers_given events (removed trader number d)
-numbers_given (Change trader number item ∷ events) d = numbers_given events (with_item trader number d item)
+numbers_given (Change trader number item ∷ events) d = numbers_given events
+    (with_item trader number d item)
 numbers_given (PopFront ∷ events) d = numbers_given events (without_oldest d)

@@ -24,11 +24,13 @@ given_or_nil iterator false = nil
 
 -- items behind their number, and the reference of an iterator for the rest
 abbrev pub items_found : {X : Type 0} → (X → Piece) → Ior → List X → Bool → Piece
-items_found write iterator = first_piece write (λ more. reference.format.writes (given_or_nil iterator more))
+items_found write iterator = first_piece write
+    (λ more. reference.format.writes (given_or_nil iterator more))
 
 -- the results of query, of list_offers and list_proxies, and of next_n over offers and over ids
 abbrev pub offers_found : Ior → List (List ℕ) → List Offer → Bool → Piece
-offers_found iterator limits offers more = reply_piece (Found offers (given_or_nil iterator more) limits)
+offers_found iterator limits offers more = reply_piece
+    (Found offers (given_or_nil iterator more) limits)
 
 abbrev pub ids_found : Ior → List (List ℕ) → Bool → Piece
 ids_found iterator ids more = reply_piece (Ids ids (given_or_nil iterator more))

@@ -76,7 +76,8 @@ impl<I> Model for Desk<I> {
 
     ghost view = { λ d. (d.entries.items, d.next) };
 
-    ghost invariant = { λ d. (length d.entries.items ≤ 256) × (256 ≤ vec_capacity d.entries) × (d.next ≤ 2 ^ 63) };
+    ghost invariant = { λ d. (length d.entries.items ≤ 256) × (256 ≤ vec_capacity d.entries)
+        × (d.next ≤ 2 ^ 63) };
 }
 
 impl<I: Drop> Desk<I> {
@@ -192,7 +193,8 @@ fn make_room<I: Drop>(entries: &mut Vec<Entry<I>>)
 fn take_out<I: Drop>(entries: &mut Vec<Entry<I>>, place: usize) -> bool
     requires { place ≤ length entries.old.items }
     ensures found { result ≡ nat_lt place (length entries.old.items) }
-    ensures items { entries.new.items ≡ take place entries.old.items ++ drop (place + 1) entries.old.items }
+    ensures items { entries.new.items ≡ take place entries.old.items
+        ++ drop (place + 1) entries.old.items }
     ensures capacity { vec_capacity entries.new ≡ vec_capacity entries.old }
 {
     let found = place < entries.len();

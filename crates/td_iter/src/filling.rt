@@ -41,7 +41,8 @@ pub(crate) fn put_items<T: Spelled>(
     requires few { length w.old.bytes ≤ 64 }
     requires more { tail.more ≤ 2 ^ 16 }
     requires done { tail.done ≤ 2 ^ 16 }
-    ensures fills { IfOk result (λ k. Fills (λ xs. row (map T.format.writes xs)) tail items.now w.old n w.new k) }
+    ensures fills { IfOk result
+        (λ k. Fills (λ xs. row (map T.format.writes xs)) tail items.now w.old n w.new k) }
     ensures kept { OnErr result (take (length w.old.bytes) w.new.bytes ≡ w.old.bytes) }
     ensures order { w.new.order ≡ w.old.order }
 {
@@ -105,7 +106,8 @@ pub(crate) fn put_counted<T: Spelled>(
     requires few { length w.old.bytes ≤ 32 }
     requires more { tail.more ≤ 2 ^ 16 }
     requires done { tail.done ≤ 2 ^ 16 }
-    ensures fills { IfOk result (λ k. Fills (counted T.format.writes) tail items.now w.old n w.new k) }
+    ensures fills { IfOk result
+        (λ k. Fills (counted T.format.writes) tail items.now w.old n w.new k) }
     ensures kept { OnErr result (take (length w.old.bytes) w.new.bytes ≡ w.old.bytes) }
     ensures order { w.new.order ≡ w.old.order }
 {

@@ -47,7 +47,8 @@ pub fn put_found(
     requires start { length w.old.bytes ≡ REPLY_START }
     requires reference { IsSmallReference iterator.now }
     requires limits { AreLimits limits.now }
-    ensures puts { IfOk result (λ k. PutsBatch (offers_found iterator.now limits.now) offers.now n w.old w.new k) }
+    ensures puts { IfOk result
+        (λ k. PutsBatch (offers_found iterator.now limits.now) offers.now n w.old w.new k) }
     ensures err { OnErr result (w.new.bytes ≡ w.old.bytes) }
     ensures order { w.new.order ≡ w.old.order }
 {
@@ -73,7 +74,8 @@ fn append_found(
     requires start { length w.old.bytes ≡ REPLY_START }
     requires reference { IsSmallReference iterator.now }
     requires limits { AreLimits limits.now }
-    ensures puts { IfOk result (λ k. PutsBatch (offers_found iterator.now limits.now) offers.now n w.old w.new k) }
+    ensures puts { IfOk result
+        (λ k. PutsBatch (offers_found iterator.now limits.now) offers.now n w.old w.new k) }
     ensures kept { OnErr result (take (length w.old.bytes) w.new.bytes ≡ w.old.bytes) }
     ensures order { w.new.order ≡ w.old.order }
 {
@@ -131,7 +133,8 @@ fn append_ended(
 ) -> Result<usize, Memory>
     requires start { length w.old.bytes ≡ REPLY_START }
     requires limits { AreLimits limits.now }
-    ensures puts { IfOk result (λ k. PutsBatch (offers_found nil limits.now) offers.now n w.old w.new k) }
+    ensures puts { IfOk result
+        (λ k. PutsBatch (offers_found nil limits.now) offers.now n w.old w.new k) }
     ensures kept { OnErr result (take (length w.old.bytes) w.new.bytes ≡ w.old.bytes) }
     ensures order { w.new.order ≡ w.old.order }
 {
@@ -192,7 +195,8 @@ pub fn put_first<T: Spelled>(
 ) -> Result<usize, Memory>
     requires start { length w.old.bytes ≡ REPLY_START }
     requires reference { IsSmallReference iterator.now }
-    ensures puts { IfOk result (λ k. PutsBatch (items_found T.format.writes iterator.now) items.now n w.old w.new k) }
+    ensures puts { IfOk result
+        (λ k. PutsBatch (items_found T.format.writes iterator.now) items.now n w.old w.new k) }
     ensures err { OnErr result (w.new.bytes ≡ w.old.bytes) }
     ensures order { w.new.order ≡ w.old.order }
 {
@@ -216,7 +220,8 @@ fn append_first<T: Spelled>(
 ) -> Result<usize, Memory>
     requires start { length w.old.bytes ≡ REPLY_START }
     requires reference { IsSmallReference iterator.now }
-    ensures puts { IfOk result (λ k. PutsBatch (items_found T.format.writes iterator.now) items.now n w.old w.new k) }
+    ensures puts { IfOk result
+        (λ k. PutsBatch (items_found T.format.writes iterator.now) items.now n w.old w.new k) }
     ensures kept { OnErr result (take (length w.old.bytes) w.new.bytes ≡ w.old.bytes) }
     ensures order { w.new.order ≡ w.old.order }
 {

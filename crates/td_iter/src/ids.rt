@@ -74,7 +74,8 @@ impl IdIter {
         requires reference { IsSmallReference iterator.now }
         ensures batch { IfOk result (λ more.
             GivesBatch (ids_found iterator.now) self.old n self.new w.old w.new more) }
-        ensures some { OnOk result (0 < n → 0 < length self.old → length self.new < length self.old) }
+        ensures some { OnOk result (0 < n → 0 < length self.old → length self.new
+            < length self.old) }
         ensures err { OnErr result ((self.new ≡ self.old) × (w.new.bytes ≡ w.old.bytes)) }
         ensures order { w.new.order ≡ w.old.order }
     {
@@ -90,8 +91,10 @@ impl IdIter {
     /// `Memory` for want of memory alone; the iterator and what the writer holds are then unchanged.
     pub fn next_n(&mut self, alloc: Global, n: u32, w: &mut Writer) -> Result<bool, Memory>
         requires { length w.old.bytes ≡ REPLY_START }
-        ensures batch { IfOk result (λ more. GivesBatch next_ids self.old n self.new w.old w.new more) }
-        ensures some { OnOk result (0 < n → 0 < length self.old → length self.new < length self.old) }
+        ensures batch { IfOk result
+            (λ more. GivesBatch next_ids self.old n self.new w.old w.new more) }
+        ensures some { OnOk result (0 < n → 0 < length self.old → length self.new
+            < length self.old) }
         ensures err { OnErr result ((self.new ≡ self.old) × (w.new.bytes ≡ w.old.bytes)) }
         ensures order { w.new.order ≡ w.old.order }
     {

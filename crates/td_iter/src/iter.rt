@@ -102,9 +102,11 @@ impl<T: Spelled> Iter<T> {
         requires start { length w.old.bytes ≡ REPLY_START }
         requires reference { IsSmallReference iterator.now }
         ensures batch { IfOk result (λ more.
-            GivesBatch (items_found T.format.writes iterator.now) self.old n self.new w.old w.new more) }
+            GivesBatch (items_found T.format.writes iterator.now)
+            self.old n self.new w.old w.new more) }
         ensures some { OnOk result
-            (AreShort T.format.writes self.old → 0 < n → 0 < length self.old → length self.new < length self.old) }
+            (AreShort T.format.writes self.old → 0 < n → 0 < length self.old → length self.new
+            < length self.old) }
         ensures err { OnErr result ((self.new ≡ self.old) × (w.new.bytes ≡ w.old.bytes)) }
         ensures order { w.new.order ≡ w.old.order }
     {
@@ -131,7 +133,8 @@ impl<T: Spelled> Iter<T> {
         ensures batch { IfOk result (λ more.
             GivesBatch (next_piece truth T.format.writes) self.old n self.new w.old w.new more) }
         ensures some { OnOk result
-            (AreShort T.format.writes self.old → 0 < n → 0 < length self.old → length self.new < length self.old) }
+            (AreShort T.format.writes self.old → 0 < n → 0 < length self.old → length self.new
+            < length self.old) }
         ensures err { OnErr result ((self.new ≡ self.old) × (w.new.bytes ≡ w.old.bytes)) }
         ensures order { w.new.order ≡ w.old.order }
     {

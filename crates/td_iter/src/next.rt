@@ -23,7 +23,8 @@ pub(crate) fn put_next<T: Spelled>(
     truth: Truth,
 ) -> Result<usize, Memory>
     requires { length w.old.bytes ≡ REPLY_START }
-    ensures puts { IfOk result (λ k. PutsBatch (next_piece truth T.format.writes) items.now n w.old w.new k) }
+    ensures puts { IfOk result
+        (λ k. PutsBatch (next_piece truth T.format.writes) items.now n w.old w.new k) }
     ensures err { OnErr result (w.new.bytes ≡ w.old.bytes) }
     ensures order { w.new.order ≡ w.old.order }
 {
@@ -47,7 +48,8 @@ fn append_next<T: Spelled>(
     truth: Truth,
 ) -> Result<usize, Memory>
     requires { length w.old.bytes ≡ REPLY_START }
-    ensures puts { IfOk result (λ k. PutsBatch (next_piece truth T.format.writes) items.now n w.old w.new k) }
+    ensures puts { IfOk result
+        (λ k. PutsBatch (next_piece truth T.format.writes) items.now n w.old w.new k) }
     ensures kept { OnErr result (take (length w.old.bytes) w.new.bytes ≡ w.old.bytes) }
     ensures order { w.new.order ≡ w.old.order }
 {

@@ -83,8 +83,10 @@ impl OfferIter {
         requires reference { IsSmallReference iterator.now }
         requires limits { AreLimits limits.now }
         ensures batch { IfOk result (λ more.
-            GivesBatch (offers_found iterator.now limits.now) self.old n self.new w.old w.new more) }
-        ensures some { OnOk result (0 < n → 0 < length self.old → length self.new < length self.old) }
+            GivesBatch (offers_found iterator.now limits.now)
+            self.old n self.new w.old w.new more) }
+        ensures some { OnOk result (0 < n → 0 < length self.old → length self.new
+            < length self.old) }
         ensures err { OnErr result ((self.new ≡ self.old) × (w.new.bytes ≡ w.old.bytes)) }
         ensures order { w.new.order ≡ w.old.order }
     {
@@ -133,8 +135,10 @@ impl OfferIter {
     /// `Memory` for want of memory alone; the iterator and what the writer holds are then unchanged.
     pub fn next_n(&mut self, alloc: Global, n: u32, w: &mut Writer) -> Result<bool, Memory>
         requires { length w.old.bytes ≡ REPLY_START }
-        ensures batch { IfOk result (λ more. GivesBatch next_offers self.old n self.new w.old w.new more) }
-        ensures some { OnOk result (0 < n → 0 < length self.old → length self.new < length self.old) }
+        ensures batch { IfOk result
+            (λ more. GivesBatch next_offers self.old n self.new w.old w.new more) }
+        ensures some { OnOk result (0 < n → 0 < length self.old → length self.new
+            < length self.old) }
         ensures err { OnErr result ((self.new ≡ self.old) × (w.new.bytes ≡ w.old.bytes)) }
         ensures order { w.new.order ≡ w.old.order }
     {

@@ -24,16 +24,19 @@ Asks (Spot place t rest) r = IsTreeOrFault (Spot place t rest) r
 
 -- the constraint of a text, or its first fault in reading order, by the grammar
 abbrev pub Says : List ℕ → Result Constraint LangFault → Type 0
-Says text r = ((4096 < length text) × (r ≡ Err fault.TooLong)) ⊎ ((length text ≤ 4096) × Asks (tape 0 0 text) r)
+Says text r = ((4096 < length text) × (r ≡ Err fault.TooLong))
+    ⊎ ((length text ≤ 4096) × Asks (tape 0 0 text) r)
 
 -- the same as the reader finds it
 abbrev pub tape_constraint : Tape → Result Constraint LangFault
 tape_constraint (Over place) = Ok constraint.Empty
 tape_constraint (Broken f) = Err f
-tape_constraint (Spot place t rest) = read_tape start (Spot place t rest) >>= λ e. Ok (constraint.Is e)
+tape_constraint (Spot place t rest) = read_tape start (Spot place t rest) >>= λ e.
+    Ok (constraint.Is e)
 
 abbrev pub constraint_of : List ℕ → Result Constraint LangFault
-constraint_of text = if nat_lt 4096 (length text) then Err fault.TooLong else tape_constraint (tape 0 0 text)
+constraint_of text = if nat_lt 4096 (length text) then Err fault.TooLong else tape_constraint
+    (tape 0 0 text)
 
 -- What a call answered has a property, unless memory ran out.
 abbrev pub UnlessMemory : {X : Type 0} → (Result X LangFault → Type 0) → Result X LangFault → Type 0

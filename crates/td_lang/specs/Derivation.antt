@@ -28,47 +28,64 @@ between xs o ys = xs ++ token.Operator o ∷ ys
 
 pub data Derives : Kind → List Token → Expr → Type 0 where
   or_more : (xs ys : List Token) (a b : Expr)
-      → Derives Or xs a → Derives And ys b → Derives Or (between xs op.Or ys) (expr.Binary op.Or a b)
+      → Derives Or xs a → Derives And ys b
+      → Derives Or (between xs op.Or ys) (expr.Binary op.Or a b)
   or_one : (xs : List Token) (a : Expr) → Derives And xs a → Derives Or xs a
   and_more : (xs ys : List Token) (a b : Expr)
-      → Derives And xs a → Derives Compare ys b → Derives And (between xs op.And ys) (expr.Binary op.And a b)
+      → Derives And xs a → Derives Compare ys b
+      → Derives And (between xs op.And ys) (expr.Binary op.And a b)
   and_one : (xs : List Token) (a : Expr) → Derives Compare xs a → Derives And xs a
   equal : (xs ys : List Token) (a b : Expr)
-      → Derives In xs a → Derives In ys b → Derives Compare (between xs op.Eq ys) (expr.Binary op.Eq a b)
+      → Derives In xs a → Derives In ys b
+      → Derives Compare (between xs op.Eq ys) (expr.Binary op.Eq a b)
   unequal : (xs ys : List Token) (a b : Expr)
-      → Derives In xs a → Derives In ys b → Derives Compare (between xs op.Ne ys) (expr.Binary op.Ne a b)
+      → Derives In xs a → Derives In ys b
+      → Derives Compare (between xs op.Ne ys) (expr.Binary op.Ne a b)
   less : (xs ys : List Token) (a b : Expr)
-      → Derives In xs a → Derives In ys b → Derives Compare (between xs op.Lt ys) (expr.Binary op.Lt a b)
+      → Derives In xs a → Derives In ys b
+      → Derives Compare (between xs op.Lt ys) (expr.Binary op.Lt a b)
   less_or_equal : (xs ys : List Token) (a b : Expr)
-      → Derives In xs a → Derives In ys b → Derives Compare (between xs op.Le ys) (expr.Binary op.Le a b)
+      → Derives In xs a → Derives In ys b
+      → Derives Compare (between xs op.Le ys) (expr.Binary op.Le a b)
   greater : (xs ys : List Token) (a b : Expr)
-      → Derives In xs a → Derives In ys b → Derives Compare (between xs op.Gt ys) (expr.Binary op.Gt a b)
+      → Derives In xs a → Derives In ys b
+      → Derives Compare (between xs op.Gt ys) (expr.Binary op.Gt a b)
   greater_or_equal : (xs ys : List Token) (a b : Expr)
-      → Derives In xs a → Derives In ys b → Derives Compare (between xs op.Ge ys) (expr.Binary op.Ge a b)
+      → Derives In xs a → Derives In ys b
+      → Derives Compare (between xs op.Ge ys) (expr.Binary op.Ge a b)
   compare_one : (xs : List Token) (a : Expr) → Derives In xs a → Derives Compare xs a
   in_list : (xs : List Token) (a : Expr) (name : List ℕ)
-      → Derives Twiddle xs a → Derives In (xs ++ token.Within ∷ token.Name name ∷ []) (expr.Within a name)
+      → Derives Twiddle xs a → Derives In (xs ++ token.Within ∷ token.Name name ∷ [])
+      (expr.Within a name)
   in_one : (xs : List Token) (a : Expr) → Derives Twiddle xs a → Derives In xs a
   occurs : (xs ys : List Token) (a b : Expr)
-      → Derives Sum xs a → Derives Sum ys b → Derives Twiddle (between xs op.Twiddle ys) (expr.Binary op.Twiddle a b)
+      → Derives Sum xs a → Derives Sum ys b
+      → Derives Twiddle (between xs op.Twiddle ys) (expr.Binary op.Twiddle a b)
   twiddle_one : (xs : List Token) (a : Expr) → Derives Sum xs a → Derives Twiddle xs a
   plus : (xs ys : List Token) (a b : Expr)
-      → Derives Sum xs a → Derives Term ys b → Derives Sum (between xs op.Add ys) (expr.Binary op.Add a b)
+      → Derives Sum xs a → Derives Term ys b
+      → Derives Sum (between xs op.Add ys) (expr.Binary op.Add a b)
   minus : (xs ys : List Token) (a b : Expr)
-      → Derives Sum xs a → Derives Term ys b → Derives Sum (between xs op.Sub ys) (expr.Binary op.Sub a b)
+      → Derives Sum xs a → Derives Term ys b
+      → Derives Sum (between xs op.Sub ys) (expr.Binary op.Sub a b)
   sum_one : (xs : List Token) (a : Expr) → Derives Term xs a → Derives Sum xs a
   times : (xs ys : List Token) (a b : Expr)
-      → Derives Term xs a → Derives NotFactor ys b → Derives Term (between xs op.Mul ys) (expr.Binary op.Mul a b)
+      → Derives Term xs a → Derives NotFactor ys b
+      → Derives Term (between xs op.Mul ys) (expr.Binary op.Mul a b)
   divided : (xs ys : List Token) (a b : Expr)
-      → Derives Term xs a → Derives NotFactor ys b → Derives Term (between xs op.Div ys) (expr.Binary op.Div a b)
+      → Derives Term xs a → Derives NotFactor ys b
+      → Derives Term (between xs op.Div ys) (expr.Binary op.Div a b)
   term_one : (xs : List Token) (a : Expr) → Derives NotFactor xs a → Derives Term xs a
-  denied : (xs : List Token) (a : Expr) → Derives Factor xs a → Derives NotFactor (token.Not ∷ xs) (expr.Not a)
+  denied : (xs : List Token) (a : Expr) → Derives Factor xs a
+      → Derives NotFactor (token.Not ∷ xs) (expr.Not a)
   not_factor_one : (xs : List Token) (a : Expr) → Derives Factor xs a → Derives NotFactor xs a
-  enclosed : (xs : List Token) (a : Expr) → Derives Or xs a → Derives Factor (token.Open ∷ (xs ++ token.Close ∷ [])) a
+  enclosed : (xs : List Token) (a : Expr) → Derives Or xs a
+      → Derives Factor (token.Open ∷ (xs ++ token.Close ∷ [])) a
   exists : (name : List ℕ) → Derives Factor (token.Exist ∷ token.Name name ∷ []) (expr.Exist name)
   named : (name : List ℕ) → Derives Factor (token.Name name ∷ []) (expr.Name name)
   counted : (n : ℕ) → Derives Factor (token.Number n ∷ []) (expr.Number (pos n))
-  opposed : (n : ℕ) → Derives Factor (token.Operator op.Sub ∷ token.Number n ∷ []) (expr.Number (neg_ℤ (pos n)))
+  opposed : (n : ℕ) → Derives Factor (token.Operator op.Sub ∷ token.Number n ∷ [])
+      (expr.Number (neg_ℤ (pos n)))
   quoted : (t : List ℕ) → Derives Factor (token.Quoted t ∷ []) (expr.Str t)
   truth : (b : Bool) → Derives Factor (token.Truth b ∷ []) (expr.Truth b)
 

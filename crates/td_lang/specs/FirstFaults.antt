@@ -45,7 +45,8 @@ abbrev pub First : List Token → Tape → LangFault → Type 0
 First ts (Over place) f = Viable ts × ((e : Expr) → Sentence ts e → ⊥) × (f ≡ fault.Syntax place)
 First ts (Broken g) f = Viable ts × (f ≡ g)
 First ts (Spot place t rest) f =
-    (Viable ts × (Viable (ts ++ t ∷ []) → ⊥) × (f ≡ fault_of place (open_count 0 ts) t)) ⊎ First (ts ++ t ∷ []) rest f
+    (Viable ts × (Viable (ts ++ t ∷ []) → ⊥) × (f ≡ fault_of place (open_count 0 ts) t))
+    ⊎ First (ts ++ t ∷ []) rest f
 
 abbrev pub Answers : List Token → Tape → Result Expr LangFault → Type 0
 Answers ts rest (Ok e) = Whole ts rest e

@@ -40,9 +40,11 @@ plain_word w =
 -- a word that isn't reserved is a name
 abbrev pub word_token : List ℕ → Token
 word_token w =
-    if bytes_eq w (codes "and") then token.Operator op.And else if bytes_eq w (codes "or") then token.Operator op.Or
+    if bytes_eq w (codes "and") then token.Operator op.And else if bytes_eq w (codes "or")
+    then token.Operator op.Or
     else if bytes_eq w (codes "not") then token.Not
-    else if bytes_eq w (codes "in") then token.Within else if bytes_eq w (codes "exist") then token.Exist
+    else if bytes_eq w (codes "in") then token.Within else if bytes_eq w (codes "exist")
+    then token.Exist
     else plain_word w
 
 abbrev pub Taken : Type 0
@@ -64,7 +66,11 @@ own_name_at place text =
     let name = drop 1 text in
     let size = lead is_word name in
     if not (is_letter (byte_at text 1)) then Err (fault.Syntax place)
-    else if nat_lt 256 size then Err (fault.Syntax place) else Ok (token.Name (take size name), size + 1)
+    else if nat_lt 256 size then Err (fault.Syntax place) else Ok (
+      token.Name (take size name),
+      size
+          + 1,
+    )
 
 -- a value with one digit more behind it, none from 2 ^ 63 on
 abbrev pub with_digit : ℕ → ℕ → Option ℕ
@@ -89,7 +95,8 @@ number_at place text =
     let size = lead is_digit text in
     let next = byte_at text size in
     if (next == 46) || ((next == 101) || (next == 69)) then Err (fault.Float place)
-    else if is_word next then Err (fault.Syntax place) else number_of place size (value_of 0 (take size text))
+    else if is_word next then Err (fault.Syntax place) else number_of place size
+    (value_of 0 (take size text))
 
 -- what stands in quotes behind own, of which a `\` was the last byte or not: the text, and the bytes up to the closing
 -- quote with those of before, none where another byte follows a `\` or the end is missing
@@ -111,7 +118,8 @@ quoted_at place text = quoted_of place (quoted_from false [] 1 (drop 1 text))
 
 -- a sign that is `one`, or `two` where `=` follows
 abbrev pub with_equal : ℕ → Op → Op → Taken
-with_equal next two one = if next == 61 then Ok (token.Operator two, 2) else Ok (token.Operator one, 1)
+with_equal next two one = if next == 61 then Ok (token.Operator two, 2) else Ok
+    (token.Operator one, 1)
 
 -- a sign that begins as a comparison
 unfoldable pub comparison_at : ℕ → List ℕ → Taken
@@ -129,7 +137,8 @@ sign_at place text =
     let b = byte_at text 0 in
     if b == 40 then Ok (token.Open, 1) else if b == 41 then Ok (token.Close, 1)
     else if b == 43 then Ok (token.Operator op.Add, 1)
-    else if b == 45 then Ok (token.Operator op.Sub, 1) else if b == 42 then Ok (token.Operator op.Mul, 1)
+    else if b == 45 then Ok (token.Operator op.Sub, 1) else if b == 42 then Ok
+    (token.Operator op.Mul, 1)
     else if b == 47 then Ok (token.Operator op.Div, 1)
     else if b == 126 then Ok (token.Operator op.Twiddle, 1) else comparison_at place text
 

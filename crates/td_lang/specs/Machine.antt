@@ -21,7 +21,8 @@ use Rattle.td_lang.specs.Levels.{level, left, right}
 abbrev pub reduction : ℕ → List Frame → ℕ → Expr → List Frame × ℕ × Expr
 reduction n [] m e = ([], m, e)
 reduction n (frame.Binary o a ∷ st) m e =
-    if nat_lt n (right o) then reduction n st (level o) (expr.Binary o a e) else (frame.Binary o a ∷ st, m, e)
+    if nat_lt n (right o) then reduction n st (level o)
+    (expr.Binary o a e) else (frame.Binary o a ∷ st, m, e)
 reduction n (frame.Not ∷ st) m e = reduction n st 8 (expr.Not e)
 reduction n (frame.Open ∷ st) m e = (frame.Open ∷ st, m, e)
 
@@ -61,8 +62,10 @@ operand d st (token.Quoted t) = Ok (stand d st (state.Done 9 (expr.Str t)))
 operand d st (token.Truth b) = Ok (stand d st (state.Done 9 (expr.Truth b)))
 operand d st (token.Operator op.Sub) = Ok (stand d st state.AfterMinus)
 operand d st token.Exist = Ok (stand d st state.AfterExist)
-operand d st token.Not = if takes_not st then Ok (stand d (frame.Not ∷ st) state.Operand) else Err stop.Refused
-operand d st token.Open = if nat_lt d 64 then Ok (stand (d + 1) (frame.Open ∷ st) state.Operand) else Err stop.Deep
+operand d st token.Not = if takes_not st then Ok (stand d (frame.Not ∷ st) state.Operand)
+    else Err stop.Refused
+operand d st token.Open = if nat_lt d 64 then Ok (stand (d + 1) (frame.Open ∷ st) state.Operand)
+    else Err stop.Deep
 operand d st t = Err stop.Refused
 
 abbrev pub name_of : ℕ → List Frame → (List ℕ → State) → Token → Step
@@ -79,7 +82,8 @@ IsSmall t = Unit {0}
 
 abbrev pub operator_step : ℕ → Op → List Frame × ℕ × Expr → Step
 operator_step d o s =
-    if nat_lt s.1 (left o) then Err stop.Refused else Ok (stand d (frame.Binary o s.2 ∷ s.0) state.Operand)
+    if nat_lt s.1 (left o) then Err stop.Refused else Ok
+    (stand d (frame.Binary o s.2 ∷ s.0) state.Operand)
 
 abbrev pub within_step : ℕ → List Frame × ℕ × Expr → Step
 within_step d s = if nat_lt s.1 5 then Err stop.Refused else Ok (stand d s.0 (state.AfterIn s.2))

@@ -52,8 +52,8 @@ FirstFault ts (Over place) f =
     ViablePreference ts × ((p : Preference) → IsPreference ts p → ⊥) × (f ≡ fault.Syntax place)
 FirstFault ts (Broken g) f = ViablePreference ts × (f ≡ g)
 FirstFault ts (Spot place t rest) f =
-    (ViablePreference ts × (ViablePreference (ts ++ t ∷ []) → ⊥) × (f ≡ fault_of place (open_count 0 ts) t))
-    ⊎ FirstFault (ts ++ t ∷ []) rest f
+    (ViablePreference ts × (ViablePreference (ts ++ t ∷ []) → ⊥)
+    × (f ≡ fault_of place (open_count 0 ts) t)) ⊎ FirstFault (ts ++ t ∷ []) rest f
 
 abbrev pub Chooses : Tape → Result Preference LangFault → Type 0
 Chooses rest (Ok p) = WholePreference [] rest p
@@ -61,7 +61,8 @@ Chooses rest (Err f) = FirstFault [] rest f
 
 -- the preference of a text, or its first fault in reading order, by the grammar
 abbrev pub Prefers : List ℕ → Result Preference LangFault → Type 0
-Prefers text r = ((4096 < length text) × (r ≡ Err fault.TooLong)) ⊎ ((length text ≤ 4096) × Chooses (tape 0 0 text) r)
+Prefers text r = ((4096 < length text) × (r ≡ Err fault.TooLong))
+    ⊎ ((length text ≤ 4096) × Chooses (tape 0 0 text) r)
 
 -- ---- the same as the reader finds it
 
@@ -88,7 +89,8 @@ tape_preference (Broken f) = Err f
 tape_preference (Spot place t rest) = spot_preference place t rest
 
 abbrev pub preference_of : List ℕ → Result Preference LangFault
-preference_of text = if nat_lt 4096 (length text) then Err fault.TooLong else tape_preference (tape 0 0 text)
+preference_of text = if nat_lt 4096 (length text) then Err fault.TooLong else tape_preference
+    (tape 0 0 text)
 
 -- What a look at a text's next token answers: none is left, or its place, the token and where the text goes on, or no
 -- token stands there.

@@ -88,7 +88,8 @@ close_if b text = if b then put text token.Close else text
 
 -- the left operand and its operator, where the grammar has something of level l
 abbrev pub left_text : List ℕ → Expr → Op → ℕ → List ℕ
-left_text text a o l = put (expr_text (open_if (nat_lt (level o) l) text) a (left o)) (token.Operator o)
+left_text text a o l = put (expr_text (open_if (nat_lt (level o) l) text) a (left o))
+    (token.Operator o)
 
 -- the right operand
 abbrev pub right_text : List ℕ → Expr → Op → ℕ → List ℕ

@@ -16,7 +16,8 @@ use Rattle.td_lang.specs.declared.fault.LangFault.TheVariants as fault
 abbrev pub SpellsPart : Part → List ℕ → Type 0
 SpellsPart (part.Byte b) bytes = ((b ≢ 36) × (b ≢ 92) × (bytes ≡ b ∷ [])) ⊎ (bytes ≡ 92 ∷ b ∷ [])
 SpellsPart part.Constraint bytes = bytes ≡ codes "$*"
-SpellsPart (part.Property name) bytes = IsIdentifier name × (bytes ≡ codes "$(" ++ (name ++ codes ")"))
+SpellsPart (part.Property name) bytes = IsIdentifier name
+    × (bytes ≡ codes "$(" ++ (name ++ codes ")"))
 
 -- the bytes begin with a spelling of the part, and then there is the rest
 pub record Begins (bytes : List ℕ) (p : Part) (rest : List ℕ) : Type 0 where
@@ -59,7 +60,8 @@ escape_part [] = None
 escape_part (b ∷ more) = Some (part.Byte b, 2)
 
 abbrev pub named_part : List ℕ → ℕ → Option (Part × ℕ)
-named_part more size = if identifier (take size more) then Some (part.Property (take size more), size + 3) else None
+named_part more size = if identifier (take size more) then Some
+    (part.Property (take size more), size + 3) else None
 
 -- the name of a property stands before the first `)`
 unfoldable pub property_part : List ℕ → Option (Part × ℕ)
@@ -68,18 +70,22 @@ property_part more = option_and_then (named_part more) (position (λ b. nat_eq b
 abbrev pub dollar_part : List ℕ → Option (Part × ℕ)
 dollar_part [] = None
 dollar_part (b ∷ more) =
-    if nat_eq b 42 then Some (part.Constraint, 2) else if nat_eq b 40 then property_part more else None
+    if nat_eq b 42 then Some (part.Constraint, 2) else if nat_eq b 40 then property_part more
+    else None
 
 abbrev pub part_in_front : List ℕ → Option (Part × ℕ)
 part_in_front [] = None
 part_in_front (b ∷ more) =
-    if nat_eq b 92 then escape_part more else if nat_eq b 36 then dollar_part more else Some (part.Byte b, 1)
+    if nat_eq b 92 then escape_part more else if nat_eq b 36 then dollar_part more else Some
+    (part.Byte b, 1)
 
 -- ---- the parts of a text
 
-abbrev pub part_before : (List ℕ → Option (List Part)) → List ℕ → Option (Part × ℕ) → Option (List Part)
+abbrev pub part_before : (List ℕ → Option (List Part)) → List ℕ → Option (Part × ℕ)
+    → Option (List Part)
 part_before rest text None = None
-part_before rest text (Some found) = option_map (λ parts. found.0 ∷ parts) (rest (drop found.1 text))
+part_before rest text (Some found) = option_map (λ parts. found.0 ∷ parts)
+    (rest (drop found.1 text))
 
 -- the parts that stand one behind the other up to the end; there are no more of them than bytes
 abbrev pub parts_of : (most : ℕ) → List ℕ → Option (List Part)

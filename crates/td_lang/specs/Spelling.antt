@@ -58,7 +58,8 @@ needs_backslash b = (b == 39) || (b == 92)
 
 abbrev pub inside_quotes : List ℕ → List ℕ
 inside_quotes [] = []
-inside_quotes (b ∷ bs) = if needs_backslash b then 92 ∷ b ∷ inside_quotes bs else b ∷ inside_quotes bs
+inside_quotes (b ∷ bs) = if needs_backslash b then 92 ∷ b ∷ inside_quotes bs else b
+    ∷ inside_quotes bs
 
 -- the bytes spell the token
 abbrev pub Spells : Token → List ℕ → Type 0
@@ -69,7 +70,8 @@ Spells token.Exist bs = bs ≡ codes "exist"
 Spells token.Open bs = bs ≡ codes "("
 Spells token.Close bs = bs ≡ codes ")"
 Spells (token.Name n) bs = IsIdentifier n × ((bs ≡ 92 ∷ n) ⊎ ((bs ≡ n) × (is_reserved n ≡ false)))
-Spells (token.Number n) bs = (0 < length bs) × AllDigits 10 bs × (digits_value 10 bs ≡ n) × (n < 2 ^ 63)
+Spells (token.Number n) bs = (0 < length bs) × AllDigits 10 bs × (digits_value 10 bs ≡ n)
+    × (n < 2 ^ 63)
 Spells (token.Quoted t) bs = bs ≡ 39 ∷ (inside_quotes t ++ 39 ∷ [])
 Spells (token.Truth true) bs = bs ≡ codes "TRUE"
 Spells (token.Truth false) bs = bs ≡ codes "FALSE"

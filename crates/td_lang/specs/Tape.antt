@@ -25,7 +25,8 @@ abbrev pub tape : ℕ → ℕ → List ℕ → Tape
 tape skip place [] = Over place
 tape (suc skip) place (b ∷ bs) = tape skip (place + 1) bs
 tape zero place (b ∷ bs) =
-    if is_blank b then tape 0 (place + 1) bs else spot place (token_at place (b ∷ bs)) (λ k. tape k (place + 1) bs)
+    if is_blank b then tape 0 (place + 1) bs else spot place (token_at place (b ∷ bs))
+    (λ k. tape k (place + 1) bs)
 
 abbrev pub at_place : {A : Type 0} → ℕ → Result A Stop → Result A LangFault
 at_place place (Ok x) = Ok x
@@ -34,7 +35,8 @@ at_place place (Err stop.Refused) = Err (fault.Syntax place)
 at_place place (Err stop.Deep) = Err (fault.Depth place)
 
 infixl 10 ◌>>=◌
-abbrev pub ◌>>=◌ : {A B : Type 0} → Result A LangFault → (A → Result B LangFault) → Result B LangFault
+abbrev pub ◌>>=◌ : {A B : Type 0} → Result A LangFault → (A → Result B LangFault)
+    → Result B LangFault
 (Ok x) >>= f = f x
 (Err e) >>= f = Err e
 
@@ -49,7 +51,8 @@ abbrev pub read_at : List ℕ → ℕ → Stand → Result Expr LangFault
 read_at text place s = read_tape s (tape 0 place (drop place text))
 
 -- Where one turn of the reader leads: the rest is read from there, or it is the fault.
-abbrev pub Turns : {X : Type 0} → (X → Result Expr LangFault) → Result X LangFault → Result Expr LangFault → Type 0
+abbrev pub Turns : {X : Type 0} → (X → Result Expr LangFault) → Result X LangFault
+    → Result Expr LangFault → Type 0
 Turns from (Ok x) all = all ≡ from x
 Turns from (Err fault.Memory) all = Unit {0}
 Turns from (Err e) all = all ≡ Err e

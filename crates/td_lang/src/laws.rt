@@ -20,7 +20,8 @@ pub fn reads_the_grammar()
 /// No text has two trees, a tree and a fault, or two first faults.
 #[tactic(auto, using(crate::proofs::Uniqueness::one_said))]
 pub fn one_answer()
-    ensures { (text : List ℕ) (r q : Result Constraint LangFault) → Says text r → Says text q → r ≡ q }
+    ensures { (text : List ℕ) (r q : Result Constraint LangFault) → Says text r → Says text q
+        → r ≡ q }
 {}
 
 /// No list of tokens has two trees.

@@ -117,7 +117,8 @@ fn settle(
     e: Expr,
     next: u8,
 ) -> Result<(u8, Expr), Stop>
-    ensures { Gives (operand_on stack.new.items) result (Ok (reduction next (reverse stack.old.items) level_of e)) }
+    ensures { Gives (operand_on stack.new.items) result
+        (Ok (reduction next (reverse stack.old.items) level_of e)) }
 {
     let mut reached = level_of;
     let mut found = e;
@@ -178,7 +179,8 @@ pub fn step(
 ) -> Result<(u32, State), Stop>
     requires depth { depth ≤ 64 }
     requires small { IsSmall token }
-    ensures gives { Gives (standing stack.new.items) result (step_of depth (reverse stack.old.items) state token) }
+    ensures gives { Gives (standing stack.new.items) result
+        (step_of depth (reverse stack.old.items) state token) }
     ensures depth { IfOk result (λ r. r.0 ≤ 64) }
 {
     match state {
@@ -192,7 +194,8 @@ pub fn step(
 
 fn after_exist(depth: u32, token: Token) -> Result<(u32, State), Stop>
     requires depth { depth ≤ 64 }
-    ensures gives { (st : List Frame) → Gives (λ r. stand r.0 st r.1) result (step_of depth st AfterExist token) }
+    ensures gives { (st : List Frame)
+        → Gives (λ r. stand r.0 st r.1) result (step_of depth st AfterExist token) }
     ensures depth { IfOk result (λ r. r.0 ≤ 64) }
 {
     match token {
@@ -204,7 +207,8 @@ fn after_exist(depth: u32, token: Token) -> Result<(u32, State), Stop>
 fn after_minus(depth: u32, token: Token) -> Result<(u32, State), Stop>
     requires depth { depth ≤ 64 }
     requires small { IsSmall token }
-    ensures gives { (st : List Frame) → Gives (λ r. stand r.0 st r.1) result (step_of depth st AfterMinus token) }
+    ensures gives { (st : List Frame)
+        → Gives (λ r. stand r.0 st r.1) result (step_of depth st AfterMinus token) }
     ensures depth { IfOk result (λ r. r.0 ≤ 64) }
 {
     match token {
@@ -215,7 +219,8 @@ fn after_minus(depth: u32, token: Token) -> Result<(u32, State), Stop>
 
 fn after_in(alloc: Global, depth: u32, item: Expr, token: Token) -> Result<(u32, State), Stop>
     requires depth { depth ≤ 64 }
-    ensures gives { (st : List Frame) → Gives (λ r. stand r.0 st r.1) result (step_of depth st (AfterIn item) token) }
+    ensures gives { (st : List Frame)
+        → Gives (λ r. stand r.0 st r.1) result (step_of depth st (AfterIn item) token) }
     ensures depth { IfOk result (λ r. r.0 ≤ 64) }
 {
     match token {
@@ -242,7 +247,8 @@ fn refusal(depth: u32, token: &Token) -> Stop
 fn operand(stack: &mut Vec<Frame>, depth: u32, token: Token) -> Result<(u32, State), Stop>
     requires depth { depth ≤ 64 }
     requires small { IsSmall token }
-    ensures gives { Gives (standing stack.new.items) result (operand depth (reverse stack.old.items) token) }
+    ensures gives { Gives (standing stack.new.items) result
+        (operand depth (reverse stack.old.items) token) }
     ensures depth { IfOk result (λ r. r.0 ≤ 64) }
 {
     match token {
@@ -261,7 +267,8 @@ fn operand(stack: &mut Vec<Frame>, depth: u32, token: Token) -> Result<(u32, Sta
 /// Takes a `not` where an operand may stand.
 fn deny(stack: &mut Vec<Frame>, depth: u32) -> Result<(u32, State), Stop>
     requires depth { depth ≤ 64 }
-    ensures gives { Gives (standing stack.new.items) result (operand depth (reverse stack.old.items) Not) }
+    ensures gives { Gives (standing stack.new.items) result
+        (operand depth (reverse stack.old.items) Not) }
     ensures depth { IfOk result (λ r. r.0 ≤ 64) }
 {
     if !takes_not(stack.as_slice()) {
@@ -274,7 +281,8 @@ fn deny(stack: &mut Vec<Frame>, depth: u32) -> Result<(u32, State), Stop>
 /// Takes a `(` where an operand may stand.
 fn open(stack: &mut Vec<Frame>, depth: u32) -> Result<(u32, State), Stop>
     requires depth { depth ≤ 64 }
-    ensures gives { Gives (standing stack.new.items) result (operand depth (reverse stack.old.items) Open) }
+    ensures gives { Gives (standing stack.new.items) result
+        (operand depth (reverse stack.old.items) Open) }
     ensures depth { IfOk result (λ r. r.0 ≤ 64) }
 {
     if depth == DEPTH {
@@ -300,7 +308,8 @@ fn suffix(
     token: Token,
 ) -> Result<(u32, State), Stop>
     requires { depth ≤ 64 }
-    ensures gives { Gives (standing stack.new.items) result (suffix depth (reverse stack.old.items) reached e token) }
+    ensures gives { Gives (standing stack.new.items) result
+        (suffix depth (reverse stack.old.items) reached e token) }
     ensures depth { IfOk result (λ r. r.0 ≤ 64) }
 {
     match token {
@@ -346,7 +355,8 @@ fn look_in(
     e: Expr,
 ) -> Result<(u32, State), Stop>
     requires { depth ≤ 64 }
-    ensures gives { Gives (standing stack.new.items) result (suffix depth (reverse stack.old.items) reached e Within) }
+    ensures gives { Gives (standing stack.new.items) result
+        (suffix depth (reverse stack.old.items) reached e Within) }
     ensures depth { IfOk result (λ r. r.0 ≤ 64) }
 {
     let (reached, found) = settle(alloc, stack, reached, e, 4)?;
@@ -366,7 +376,8 @@ fn close(
     e: Expr,
 ) -> Result<(u32, State), Stop>
     requires { depth ≤ 64 }
-    ensures gives { Gives (standing stack.new.items) result (suffix depth (reverse stack.old.items) reached e Close) }
+    ensures gives { Gives (standing stack.new.items) result
+        (suffix depth (reverse stack.old.items) reached e Close) }
     ensures depth { IfOk result (λ r. r.0 ≤ 64) }
 {
     let (_, found) = settle(alloc, stack, reached, e, 0)?;

@@ -101,7 +101,8 @@ fn behind(alloc: Global, text: &[u8], word: Keyword, place: u32) -> Result<Prefe
 fn end_at(alloc: Global, text: &[u8], place: u32) -> Result<(), LangFault>
     requires short { length text.now ≤ 4096 }
     requires place { place ≤ length text.now }
-    ensures { (p : Preference) → GivesFault (λ _. p) result (alone p (tape 0 place (drop place text.now))) }
+    ensures { (p : Preference)
+        → GivesFault (λ _. p) result (alone p (tape 0 place (drop place text.now))) }
 {
     match next_token(alloc, text, place)? {
         None => Ok(()),

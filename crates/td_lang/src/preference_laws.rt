@@ -10,6 +10,8 @@ ghost use Rattle.td_lang.specs.Preferences.{IsPreference, Prefers, preference_of
 /// has two of these, and no list of tokens is two preferences.
 pub fn preferences_are_read()
     ensures found { (text : List ℕ) → Prefers text (preference_of text) }
-    ensures one_answer { (text : List ℕ) (r q : Result Preference LangFault) → Prefers text r → Prefers text q → r ≡ q }
-    ensures one_preference { (ts : List Token) (p q : Preference) → IsPreference ts p → IsPreference ts q → p ≡ q }
+    ensures one_answer { (text : List ℕ) (r q : Result Preference LangFault) → Prefers text r
+        → Prefers text q → r ≡ q }
+    ensures one_preference { (ts : List Token) (p q : Preference) → IsPreference ts p
+        → IsPreference ts q → p ≡ q }
 {}

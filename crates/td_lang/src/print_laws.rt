@@ -14,10 +14,14 @@ ghost use Rattle.td_lang.specs.Printing.{phrase_of, IsTight};
 /// What is printed is read as the same tree, where it is short, its names are identifiers, its numbers
 /// have a size below 2^63, and few enough parentheses are open. Each tree that was read is such a tree.
 pub fn printed_is_read()
-    ensures constraint { (c : Constraint) → ConstraintCanBeRead c → IsReadAs constraint_of (constraint_text c) c }
-    ensures preference { (p : Preference) → PreferenceCanBeRead p → IsReadAs preference_of (preference_text p) p }
-    ensures read_constraint { (text : List ℕ) (c : Constraint) → constraint_of text ≡ Ok c → ConstraintCanBeRead c }
-    ensures read_preference { (text : List ℕ) (p : Preference) → preference_of text ≡ Ok p → PreferenceCanBeRead p }
+    ensures constraint { (c : Constraint) → ConstraintCanBeRead c
+        → IsReadAs constraint_of (constraint_text c) c }
+    ensures preference { (p : Preference) → PreferenceCanBeRead p
+        → IsReadAs preference_of (preference_text p) p }
+    ensures read_constraint { (text : List ℕ) (c : Constraint) → constraint_of text ≡ Ok c
+        → ConstraintCanBeRead c }
+    ensures read_preference { (text : List ℕ) (p : Preference) → preference_of text ≡ Ok p
+        → PreferenceCanBeRead p }
 {}
 
 /// The phrase that is printed is in the grammar and has the tree. It is the only such phrase of which no
@@ -27,5 +31,6 @@ pub fn printed_has_least()
     ensures same { (e : Expr) → tree (phrase_of e 1) ≡ e }
     ensures tight { (e : Expr) → IsTight 1 (phrase_of e 1) }
     ensures only { (c : Phrase) → Fits 1 c → IsTight 1 c → c ≡ phrase_of (tree c) 1 }
-    ensures least { (c : Phrase) (most : ℕ) → Fits 1 c → Shallow most c → Shallow most (phrase_of (tree c) 1) }
+    ensures least { (c : Phrase) (most : ℕ) → Fits 1 c → Shallow most c
+        → Shallow most (phrase_of (tree c) 1) }
 {}

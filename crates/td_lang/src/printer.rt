@@ -282,7 +282,8 @@ fn print_within(
     name: &[u8],
     place: u8,
 ) -> Result<(), Memory>
-    ensures { OnOk result (out.new.items ≡ expr_text out.old.items (expr.Within a.now name.now) place) }
+    ensures { OnOk result (out.new.items
+        ≡ expr_text out.old.items (expr.Within a.now name.now) place) }
 {
     let wanted = 4 < place;
     open_if(out, wanted)?;

@@ -65,7 +65,8 @@ adding t = change.AddType t.name t.if_name t.props t.supers
 
 abbrev pub exporting : OpenOffer → Option ProxyWords → Change
 exporting o None = change.Export o.reference o.service_type o.properties
-exporting o (Some p) = change.ExportProxy o.reference o.service_type o.properties p.if_match_all p.recipe []
+exporting o (Some p) = change.ExportProxy o.reference o.service_type o.properties p.if_match_all
+    p.recipe []
 
 -- no more line belongs to the entry above
 abbrev pub closed_with : Draft → Open → Draft

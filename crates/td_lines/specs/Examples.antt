@@ -13,8 +13,8 @@ short_type = file (codes "address h 9" ∷ codes "trader A" ∷ codes "type Prin
 -- a property of no known type, behind its type in the fourth line
 abbrev pub odd_property : List ℕ
 odd_property =
-    file (codes "address h 9" ∷ codes "trader A" ∷ [] ∷ codes "type B -" ∷ codes "# one" ∷ codes "prop normal float X"
-    ∷ [])
+    file (codes "address h 9" ∷ codes "trader A" ∷ [] ∷ codes "type B -" ∷ codes "# one"
+    ∷ codes "prop normal float X" ∷ [])
 
 -- no line but a comment
 abbrev pub comment_alone : List ℕ
@@ -30,4 +30,5 @@ late_version = file (codes "address h 9" ∷ codes "trader A" ∷ codes "iiop 1"
 -- a trader with a link to one that isn't there yet, and an attribute that is set, without a last line feed
 abbrev pub linked : List ℕ
 linked =
-    file (codes "address h 9" ∷ codes "trader A" ∷ codes "link l B local_only always" ∷ []) ++ codes "set max_list 7"
+    file (codes "address h 9" ∷ codes "trader A" ∷ codes "link l B local_only always" ∷ [])
+    ++ codes "set max_list 7"

@@ -58,7 +58,12 @@ last_trader d = record { name = d.name; interfaces = d.interfaces; entries = d.e
 abbrev pub finished : Draft → Draft
 finished d =
     if has_trader d
-    then record d { finished = d.finished ++ last_trader d ∷ []; name = []; interfaces = []; entries = [] }
+    then record d {
+      finished = d.finished ++ last_trader d ∷ [];
+      name = [];
+      interfaces = [];
+      entries = [];
+    }
     else d
 
 -- a trader, of whom nothing was said yet
@@ -79,7 +84,8 @@ unfoldable pub with_stem : Draft → ℕ → List ℕ → Result Draft LineCause
 with_stem d n line = do
   said ← or_cause cause.Words (one_word line)
   refused_if (not (has_trader d)) cause.Place
-      (octets_told said >>= λ stem. Ok (with_entry d n (entry.Change (change.SetRequestIdStem stem))))
+      (octets_told said >>= λ stem.
+      Ok (with_entry d n (entry.Change (change.SetRequestIdStem stem))))
 
 -- `set ATTRIBUTE VALUE`
 unfoldable pub with_set : Draft → ℕ → List ℕ → Result Draft LineCause

@@ -34,9 +34,10 @@ keyword_name (Belongs p) = part_name p
 
 abbrev pub keywords : List Keyword
 keywords =
-    Begins head.Address ∷ Begins head.Seed ∷ Begins head.Iiop ∷ Begins head.Trader ∷ Begins head.Stem ∷ Begins head.Set
-    ∷ Begins head.Interface ∷ Begins head.Type ∷ Begins head.Offer ∷ Begins head.Proxy ∷ Begins head.Link
-    ∷ Belongs part.Prop ∷ Belongs part.With ∷ Belongs part.Dynamic ∷ []
+    Begins head.Address ∷ Begins head.Seed ∷ Begins head.Iiop ∷ Begins head.Trader
+    ∷ Begins head.Stem ∷ Begins head.Set
+    ∷ Begins head.Interface ∷ Begins head.Type ∷ Begins head.Offer ∷ Begins head.Proxy
+    ∷ Begins head.Link ∷ Belongs part.Prop ∷ Belongs part.With ∷ Belongs part.Dynamic ∷ []
 
 -- what the first word says, and what stands right behind it
 unfoldable pub begin_of : List ℕ → Option (Keyword × List ℕ)

@@ -16,7 +16,8 @@ use Rattle.td_lines.specs.declared.entry.Entry.{Entry}
 use Rattle.td_lines.specs.declared.entry.Entry.TheVariants as entry
 
 -- DEF LIMIT
-abbrev pub rules_told : (def_pass_on limiting : List ℕ) → Result (FollowOption × FollowOption) LineCause
+abbrev pub rules_told : (def_pass_on limiting : List ℕ)
+    → Result (FollowOption × FollowOption) LineCause
 rules_told def_pass_on limiting = do
   first ← or_cause cause.Name (rule_named def_pass_on)
   second ← or_cause cause.Name (rule_named limiting)
@@ -46,11 +47,13 @@ with_outside d n line = do
       Ok (with_entry d n (outside_link said.0 ends.0 ends.1 rules.0 rules.1)))
 
 -- `link NAME TRADER DEF LIMIT`: to a trader of the file, which may come later
-abbrev pub with_inside : Draft → ℕ → List ℕ → Option (List ℕ × List ℕ × List ℕ × List ℕ) → Result Draft LineCause
+abbrev pub with_inside : Draft → ℕ → List ℕ → Option (List ℕ × List ℕ × List ℕ × List ℕ)
+    → Result Draft LineCause
 with_inside d n line None = with_outside d n line
 with_inside d n line (Some said) =
     refused_if (not (has_trader d)) cause.Place
-    (rules_told said.2 said.3 >>= λ rules. Ok (with_entry d n (inside_link said.0 said.1 rules.0 rules.1)))
+    (rules_told said.2 said.3 >>= λ rules.
+    Ok (with_entry d n (inside_link said.0 said.1 rules.0 rules.1)))
 
 -- a link of either kind, by the number of its words
 unfoldable pub with_link : Draft → ℕ → List ℕ → Result Draft LineCause

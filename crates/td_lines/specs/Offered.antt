@@ -36,11 +36,13 @@ unfoldable pub with_offer : Draft → ℕ → List ℕ → Result Draft LineCaus
 with_offer d n line = do
   said ← or_cause cause.Words (two_words line)
   refused_if (not (has_trader d)) cause.Place
-      (reference_told said.1 >>= λ reference. Ok (with_new_offer d (new_offer n said.0 reference None)))
+      (reference_told said.1 >>= λ reference.
+      Ok (with_new_offer d (new_offer n said.0 reference None)))
 
 abbrev pub how_named : List ℕ → Option Bool
 how_named word =
-    if bytes_eq word (codes "all") then Some true else (if bytes_eq word (codes "match") then Some false else None)
+    if bytes_eq word (codes "all")
+    then Some true else (if bytes_eq word (codes "match") then Some false else None)
 
 -- HOW RECIPE
 abbrev pub proxy_told : (how recipe : List ℕ) → Result ProxyWords LineCause

@@ -22,7 +22,11 @@ use Rattle.td_lines.specs.declared.cause.LineCause.{LineCause}
 use Rattle.td_lines.specs.declared.cause.LineCause.TheVariants as cause
 
 abbrev pub prop_with : PropertyMode → ValueType → List ℕ → PropStruct
-prop_with mode value_type name = record { name = name; value_type = code_of value_type; mode = mode }
+prop_with mode value_type name = record {
+  name = name;
+  value_type = code_of value_type;
+  mode = mode;
+}
 
 -- MODE VALUETYPE NAME
 abbrev pub prop_told : (mode value_type name : List ℕ) → Result PropStruct LineCause
@@ -51,7 +55,8 @@ property_told value_type name text = do
 
 abbrev pub evaluator_code : TypeCode
 evaluator_code =
-    code.ObjRef (codes "IDL:omg.org/CosTradingDynamic/DynamicPropEval:1.0") (codes "DynamicPropEval")
+    code.ObjRef (codes "IDL:omg.org/CosTradingDynamic/DynamicPropEval:1.0")
+    (codes "DynamicPropEval")
 
 abbrev pub member : List ℕ → TypeCode → Member
 member name c = record { name = name; code = c }
@@ -70,7 +75,8 @@ null_any = record { code = code.Null; value = value.Empty }
 abbrev pub dynamic_any : Ior → TypeCode → Any
 dynamic_any evaluator returned = record {
   code = dynamic_code;
-  value = value.Struct (value.ObjRef evaluator ∷ value.Code returned ∷ value.AnyValue null_any ∷ []);
+  value = value.Struct (value.ObjRef evaluator ∷ value.Code returned ∷ value.AnyValue null_any
+      ∷ []);
 }
 
 -- VALUETYPE NAME REF

@@ -38,7 +38,8 @@ go_on (stops d refused) f = script d (Some refused)
 -- what the lines that are left say, behind n lines that said this
 abbrev pub rest_of_file : ℕ → Draft → List (List ℕ) → Script
 rest_of_file n d [] = ended d
-rest_of_file n d (line ∷ rest) = go_on (with_line d (n + 1) line) (λ more. rest_of_file (n + 1) more rest)
+rest_of_file n d (line ∷ rest) = go_on (with_line d (n + 1) line)
+    (λ more. rest_of_file (n + 1) more rest)
 
 unfoldable pub script_of : List ℕ → Script
 script_of text = rest_of_file 0 nothing_yet (lines text)

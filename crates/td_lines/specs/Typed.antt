@@ -42,7 +42,8 @@ with_type d n line = do
 
 -- one property more of the type above
 abbrev pub with_added_prop : Draft → Open → PropStruct → Result Draft LineCause
-with_added_prop d (opened.Type t) p = Ok (record d { above = opened.Type (record t { props = t.props ++ p ∷ [] }) })
+with_added_prop d (opened.Type t) p = Ok
+    (record d { above = opened.Type (record t { props = t.props ++ p ∷ [] }) })
 with_added_prop d (opened.Offer o) p = Err cause.Place
 with_added_prop d opened.Nothing p = Err cause.Place
 

@@ -43,7 +43,8 @@ fn put_member(
 
 fn dynamic_members(alloc: Global) -> Result<List<Member>, Memory>
     ensures { IfOk result (λ m. m ≡ member (codes "eval_if") evaluator_code
-        ∷ member (codes "returned_type") code.Code ∷ member (codes "extra_info") code.AnyCode ∷ []) }
+        ∷ member (codes "returned_type") code.Code ∷ member (codes "extra_info") code.AnyCode
+        ∷ []) }
 {
     let mut members = List::new(alloc);
     put_member(alloc, &mut members, b"eval_if", evaluator_code(alloc)?)?;

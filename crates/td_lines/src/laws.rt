@@ -26,7 +26,8 @@ pub fn worked_files()
     ensures words { (script_of short_type).refused ≡ Some (refusal 3 Words) }
     ensures first_line { (script_of odd_property).refused ≡ Some (refusal 4 Name) }
     ensures address { (script_of comment_alone).refused ≡ Some (refusal 1 Place) }
-    ensures version { (script_of versioned).home ≡ Some (record { host = codes "h"; port = 9; minor = 1 }) }
+    ensures version { (script_of versioned).home
+        ≡ Some (record { host = codes "h"; port = 9; minor = 1 }) }
     ensures late { (script_of late_version).refused ≡ Some (refusal 3 Place) }
     ensures whole { (script_of linked).refused ≡ None }
     ensures entries { map (λ t. t.entries) (script_of linked).traders

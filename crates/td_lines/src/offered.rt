@@ -158,7 +158,8 @@ impl Draft {
 
     /// Adds a property to the offer above.
     fn add_property(&mut self, property: Property) -> Result<(), Misfit>
-        ensures { Takes (with_added_property self.old self.old.above property) self.old self.new result }
+        ensures { Takes (with_added_property self.old self.old.above property)
+            self.old self.new result }
     {
         match &mut self.above {
             Open::Offer(one) => {

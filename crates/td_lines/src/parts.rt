@@ -103,8 +103,8 @@ impl Draft {
         part: Part,
         line: &[u8],
     ) -> Result<(), Stop>
-        ensures { Steps (with_belonging self.old number part line.now (line_above self.old.above part))
-            self.new result }
+        ensures { Steps (with_belonging self.old number part line.now
+            (line_above self.old.above part)) self.new result }
     {
         match self.line_above(part) {
             Some(first) => {

@@ -137,7 +137,8 @@ pub(crate) fn four_words(line: &[u8]) -> Option<(&[u8], &[u8], &[u8], &[u8])>
 /// The words of a line that has five.
 #[tactic(auto, unfolding(crate::specs::Words::five_words))]
 pub(crate) fn five_words(line: &[u8]) -> Option<(&[u8], &[u8], &[u8], &[u8], &[u8])>
-    ensures { option_map (λ w. (w.0.now, w.1.now, w.2.now, w.3.now, w.4.now)) result ≡ five_words line.now }
+    ensures { option_map (λ w. (w.0.now, w.1.now, w.2.now, w.3.now, w.4.now)) result
+        ≡ five_words line.now }
 {
     let (a, rest) = cut_word(line)?;
     let (b, rest) = cut_word(rest)?;
@@ -172,7 +173,8 @@ pub(crate) fn two_and_text(line: &[u8]) -> Option<(&[u8], &[u8], &[u8])>
 /// Three words, and the rest of the line behind a space.
 #[tactic(auto, unfolding(crate::specs::Words::three_and_text))]
 pub(crate) fn three_and_text(line: &[u8]) -> Option<(&[u8], &[u8], &[u8], &[u8])>
-    ensures { option_map (λ w. (w.0.now, w.1.now, w.2.now, w.3.now)) result ≡ three_and_text line.now }
+    ensures { option_map (λ w. (w.0.now, w.1.now, w.2.now, w.3.now)) result
+        ≡ three_and_text line.now }
 {
     let (a, rest) = cut_word(line)?;
     let (b, rest) = cut_word(rest)?;

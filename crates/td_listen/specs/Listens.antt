@@ -58,8 +58,10 @@ module _ {X : Type 0} (outside_of : X → Outside) (seeded : X → Seeded) where
   -- have been handed on then, but no traders.
   abbrev pub ServesOpening : Opening → Listened → Front X → Front X → Type 0
   ServesOpening o Over before after =
-      ServesAll outside_of seeded o.home o.seed o.traders before.door before.told after.door after.told
-  ServesOpening o Unaccepted before after = Rose before.faults after.faults × HandsSome before.told after.told
+      ServesAll outside_of seeded o.home o.seed o.traders before.door before.told after.door
+      after.told
+  ServesOpening o Unaccepted before after = Rose before.faults after.faults
+      × HandsSome before.told after.told
   ServesOpening o Memory before after = HandsSome before.told after.told
   ServesOpening o Usage before after = ⊥
   ServesOpening o Missing before after = ⊥
@@ -82,7 +84,8 @@ module _ {X : Type 0} (outside_of : X → Outside) (seeded : X → Seeded) where
   -- with the name of a file the same, or the file can't be had
   abbrev pub ServesFile : Shelves → List ℕ → Listened → Front X → Front X → Type 0
   ServesFile texts name Over before after =
-      (text : List ℕ) × HasText texts.told name texts.before texts.after (Ok text) × ServesText text Over before after
+      (text : List ℕ) × HasText texts.told name texts.before texts.after (Ok text)
+      × ServesText text Over before after
   ServesFile texts name Unaccepted before after =
       (text : List ℕ) × HasText texts.told name texts.before texts.after (Ok text)
       × ServesText text Unaccepted before after

@@ -46,8 +46,8 @@ pub fn serve<
     ended: &mut N,
 ) -> u8
     ensures listens { Listens
-        (λ v. outside (A.S.left v.source) (A.S.faults v.source) (A.K.written v.sink) (A.K.faults v.sink))
-        (λ v. A.W.word_after v.words) (map string_bytes args.now)
+        (λ v. outside (A.S.left v.source) (A.S.faults v.source) (A.K.written v.sink)
+        (A.K.faults v.sink)) (λ v. A.W.word_after v.words) (map string_bytes args.now)
         (shelves (F.told files.old) (F.faults files.old) (F.faults files.new))
         (front (A.told accept.old) (A.faults accept.old) (N.told ended.old))
         (front (A.told accept.new) (A.faults accept.new) (N.told ended.new)) (E.written faults.old)
@@ -76,8 +76,8 @@ fn obey<
     ended: &mut N,
 ) -> Listened
     ensures obeys { Obeys
-        (λ v. outside (A.S.left v.source) (A.S.faults v.source) (A.K.written v.sink) (A.K.faults v.sink))
-        (λ v. A.W.word_after v.words) (file_named (map string_bytes args.now))
+        (λ v. outside (A.S.left v.source) (A.S.faults v.source) (A.K.written v.sink)
+        (A.K.faults v.sink)) (λ v. A.W.word_after v.words) (file_named (map string_bytes args.now))
         (shelves (F.told files.old) (F.faults files.old) (F.faults files.new)) result
         (front (A.told accept.old) (A.faults accept.old) (N.told ended.old))
         (front (A.told accept.new) (A.faults accept.new) (N.told ended.new)) }
@@ -123,9 +123,9 @@ fn serve_file<
     ended: &mut N,
 ) -> Listened
     ensures serves { ServesFile
-        (λ v. outside (A.S.left v.source) (A.S.faults v.source) (A.K.written v.sink) (A.K.faults v.sink))
-        (λ v. A.W.word_after v.words) (shelves (F.told files.old) (F.faults files.old) (F.faults files.new)) name.now
-        result
+        (λ v. outside (A.S.left v.source) (A.S.faults v.source) (A.K.written v.sink)
+        (A.K.faults v.sink)) (λ v. A.W.word_after v.words)
+        (shelves (F.told files.old) (F.faults files.old) (F.faults files.new)) name.now result
         (front (A.told accept.old) (A.faults accept.old) (N.told ended.old))
         (front (A.told accept.new) (A.faults accept.new) (N.told ended.new)) }
     ensures texts { F.faults files.old ≤ F.faults files.new }
@@ -149,8 +149,8 @@ fn serve_text<
 >(rt: &R, alloc: Global, text: &[u8], accept: &mut A, gate: &G, ended: &mut N) -> Listened
     requires { length text.now ≤ 67108864 }
     ensures serves { ServesText
-        (λ v. outside (A.S.left v.source) (A.S.faults v.source) (A.K.written v.sink) (A.K.faults v.sink))
-        (λ v. A.W.word_after v.words) text.now result
+        (λ v. outside (A.S.left v.source) (A.S.faults v.source) (A.K.written v.sink)
+        (A.K.faults v.sink)) (λ v. A.W.word_after v.words) text.now result
         (front (A.told accept.old) (A.faults accept.old) (N.told ended.old))
         (front (A.told accept.new) (A.faults accept.new) (N.told ended.new)) }
     ensures later { A.faults accept.old ≤ A.faults accept.new }
@@ -172,9 +172,9 @@ fn serve_opening<
     requires address { IsAddress opened.home }
     requires seed { length opened.seed ≡ 32 }
     ensures serves { ServesOpening
-        (λ v. outside (A.S.left v.source) (A.S.faults v.source) (A.K.written v.sink) (A.K.faults v.sink))
-        (λ v. A.W.word_after v.words) (seen opened) result
-        (front (A.told accept.old) (A.faults accept.old) (N.told ended.old))
+        (λ v. outside (A.S.left v.source) (A.S.faults v.source) (A.K.written v.sink)
+        (A.K.faults v.sink)) (λ v. A.W.word_after v.words)
+        (seen opened) result (front (A.told accept.old) (A.faults accept.old) (N.told ended.old))
         (front (A.told accept.new) (A.faults accept.new) (N.told ended.new)) }
     ensures later { A.faults accept.old ≤ A.faults accept.new }
 {

@@ -46,8 +46,8 @@ impl Listened {
 
 /// Writes the line for it. Where the sink fails, the rest of the line is lost.
 pub(crate) fn tell<E: Sink>(faults: &mut E, listened: Listened)
-    ensures { Tells (line_of listened) (E.written faults.old) (E.written faults.new) (E.faults faults.old)
-        (E.faults faults.new) }
+    ensures { Tells (line_of listened) (E.written faults.old) (E.written faults.new)
+        (E.faults faults.old) (E.faults faults.new) }
 {
     match listened {
         Listened::Usage => report(faults, Ended::Usage),

@@ -37,7 +37,8 @@ pub record WorkedValues : Type 0 where
 
 -- a Reply with a system exception whose id is empty
 abbrev pub told : List ℕ
-told = codes "47494f50010000010000001c0000000000000007000000020000000100000000" ++ codes "0000000000000001"
+told = codes "47494f50010000010000001c0000000000000007000000020000000100000000"
+    ++ codes "0000000000000001"
 
 -- the line of a Reply of call 0 that has no iterator
 abbrev pub answered : (message : List ℕ) → Line

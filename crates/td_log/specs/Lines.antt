@@ -35,7 +35,12 @@ trader_named names name = position (λ n. bytes_eq n name) names
 
 -- a call of an object of a trader, with its reply
 abbrev pub exchange : (trader : ℕ) → ReplyForm × Call → Recorded → Exchange
-exchange trader asked reply = record { trader = trader; form = asked.0; call = asked.1; reply = reply }
+exchange trader asked reply = record {
+  trader = trader;
+  form = asked.0;
+  call = asked.1;
+  reply = reply;
+}
 
 -- the reply to a call, in hexadecimal digits
 abbrev pub replied_with : (trader : ℕ) → (reply : List ℕ) → ReplyForm × Call → Option Exchange

@@ -53,7 +53,8 @@ header_of kind message = whole_in (length message) (header_at most message) >>= 
     if nat_eq h.kind kind then Some h else None
 
 -- The same of a message of this type that stands in front of so many bytes.
-abbrev pub if_alone : {A : Type 0} → (wanted count kind : ℕ) → (message : List ℕ) → Option A → Option A
+abbrev pub if_alone : {A : Type 0} → (wanted count kind : ℕ) → (message : List ℕ) → Option A
+    → Option A
 if_alone wanted count kind message found =
     if nat_eq count (length message) && nat_eq kind wanted then found else None
 
@@ -78,7 +79,8 @@ call_of_object name r body key =
     if bytes_eq key.trader name then call_told (call_read key.kind r.operation body) else None
 
 -- the same behind a head, and the form of its reply
-abbrev pub request_behind : (name : List ℕ) → Order → (minor : ℕ) → Request → (body : At) → Option (ReplyForm × Call)
+abbrev pub request_behind : (name : List ℕ) → Order → (minor : ℕ) → Request → (body : At)
+    → Option (ReplyForm × Call)
 request_behind name order minor r body = do
   key ← key_of r.key
   c ← call_of_object name r body key
@@ -86,9 +88,11 @@ request_behind name order minor r body = do
 
 -- The call that a Request of this order and version spells, for an object of the trader of this name, and the form of
 -- its reply. Anything may follow the last parameter.
-unfoldable pub request_in : (name : List ℕ) → Order → (minor : ℕ) → (message : List ℕ) → Option (ReplyForm × Call)
+unfoldable pub request_in : (name : List ℕ) → Order → (minor : ℕ) → (message : List ℕ)
+    → Option (ReplyForm × Call)
 request_in name order minor message =
-    result_ok (request_at minor (behind_header order message)) >>= λ r. request_behind name order minor r.0 r.1
+    result_ok (request_at minor (behind_header order message)) >>= λ r.
+    request_behind name order minor r.0 r.1
 
 -- the same of a message by itself
 unfoldable pub request_of : (name message : List ℕ) → Option (ReplyForm × Call)

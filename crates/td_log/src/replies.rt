@@ -77,7 +77,8 @@ fn reply_alone(
 #[tactic(auto, unfolding(crate::specs::Messages::reply_in))]
 fn reply_in(alloc: Global, call: &Call, message: &Raw) -> Result<Option<Recorded>, Memory>
     requires { IsReadable message.now.bytes.now }
-    ensures { IfOk result (λ r. r ≡ reply_in (operation_in call.now) message.now.order message.now.bytes.now) }
+    ensures { IfOk result (λ r. r
+        ≡ reply_in (operation_in call.now) message.now.order message.now.bytes.now) }
 {
     match read_reply(message) {
         Ok(head) => answer_at(alloc, call, message.bytes, head.status, &head.body),
@@ -93,7 +94,8 @@ fn answer_at(
     status: u32,
     body: &Reader,
 ) -> Result<Option<Recorded>, Memory>
-    ensures { IfOk result (λ r. r ≡ answer_told message.now (outcome_read call.now status body.now)) }
+    ensures { IfOk result (λ r. r
+        ≡ answer_told message.now (outcome_read call.now status body.now)) }
 {
     let mut reader = body.copied();
     match read_outcome(alloc, call, status, &mut reader) {

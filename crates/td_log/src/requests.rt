@@ -95,7 +95,8 @@ fn request_in(
     message: &Raw,
 ) -> Result<Option<(ReplyForm, Boxed<Call>)>, Memory>
     requires { IsReadable message.now.bytes.now }
-    ensures { IfOk result (λ r. r ≡ request_in name.now message.now.order message.now.minor message.now.bytes.now) }
+    ensures { IfOk result (λ r. r
+        ≡ request_in name.now message.now.order message.now.minor message.now.bytes.now) }
 {
     match read_request(message) {
         Ok(head) => request_behind(alloc, name, message, &head),
@@ -132,7 +133,11 @@ fn request_behind(
 
 /// The form of the reply to a Request of this id.
 fn form_of(message: &Raw, id: u32) -> ReplyForm
-    ensures { result ≡ record { order = message.now.order; version = version_of message.now.minor; id = id } }
+    ensures { result ≡ record {
+      order = message.now.order;
+      version = version_of message.now.minor;
+      id = id;
+    } }
 {
     ReplyForm {
         order: message.order,

@@ -20,12 +20,15 @@ pub record AreOpened (traders : List PlainTrader) : Type 0 where
 -- Each of its lines is what the network does.
 abbrev pub MadeLogsPass : Type 0
 MadeLogsPass =
-    (traders : List PlainTrader) (home : Address) (log : List ℕ) → AreOpened traders → IsAddress home
-    → IsLog traders home log → length log < 2 ^ 32 → Audits traders home log (Yes (length (lines_of log)))
+    (traders : List PlainTrader) (home : Address) (log : List ℕ) → AreOpened traders
+    → IsAddress home
+    → IsLog traders home log → length log < 2 ^ 32
+    → Audits traders home log (Yes (length (lines_of log)))
 
 -- So that is the verdict on it, or memory is wanted.
 abbrev pub MadeLogsAreRight : Type 0
 MadeLogsAreRight =
-    (traders : List PlainTrader) (home : Address) (log : List ℕ) (v : Verdict) → AreOpened traders → IsAddress home
+    (traders : List PlainTrader) (home : Address) (log : List ℕ) (v : Verdict) → AreOpened traders
+    → IsAddress home
     → IsLog traders home log → length log < 2 ^ 32 → AuditsOrWants traders home log v
     → (v ≡ Yes (length (lines_of log))) ⊎ (v ≡ Memory)

@@ -28,5 +28,6 @@ SparseTrader t = IsSparse (store_of t)
 -- The log of such traders has 128 lines at most for each of them: the Ask, its reply, and the events between.
 abbrev pub MadeLogsAreShort : Type 0
 MadeLogsAreShort =
-    (traders : List PlainTrader) (home : Address) (log : List ℕ) → AllByRecursion SparseTrader traders
+    (traders : List PlainTrader) (home : Address) (log : List ℕ)
+    → AllByRecursion SparseTrader traders
     → (is : IsLog traders home log) → length is.lines ≤ 128 * length traders

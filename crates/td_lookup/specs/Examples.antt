@@ -30,12 +30,15 @@ module _ (v : Any) where
 
   pub record WorkedChoosing : Type 0 where
     pub none : chosen_of props.None three ≡ []
-    pub some : chosen_of (props.Some (codes "Cost" ∷ codes "Rank" ∷ codes "Size" ∷ [])) three ≡ cost ∷ size ∷ []
+    pub some : chosen_of (props.Some (codes "Cost" ∷ codes "Rank" ∷ codes "Size" ∷ [])) three
+        ≡ cost ∷ size ∷ []
     pub all : chosen_of props.All three ≡ three
 
 pub record WorkedCompletion (w : List View) : Type 0 where
-  pub marked : completion_of (Walk (record { items = item.Path 0 3 ∷ item.Search 1 5 7 ∷ item.Leave ∷ [] })) ≡ 2
-  pub unmarked : completion_of (Walk (record { items = item.Path 0 3 ∷ item.Repeat 1 5 7 ∷ item.Leave ∷ [] })) ≡ 1
+  pub marked : completion_of
+      (Walk (record { items = item.Path 0 3 ∷ item.Search 1 5 7 ∷ item.Leave ∷ [] })) ≡ 2
+  pub unmarked : completion_of
+      (Walk (record { items = item.Path 0 3 ∷ item.Repeat 1 5 7 ∷ item.Leave ∷ [] })) ≡ 1
   pub no_walk : completion_of (Point 0 3) ≡ 1
   pub in_vain : in_vain w 0 (Point 0 3) ≡ Plain
 

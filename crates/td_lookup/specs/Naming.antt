@@ -20,9 +20,11 @@ name_entry k point (Some gave) = Asked k point gave
 
 module _ (others : List Accepted → Type 0) (later : Marks → Marks → Type 0) (home : Address) where
   -- What the names of links lead to. Where a register outside was asked in vain, the count of faults rose.
-  pub record NameComes (s : Scene) (k : ℕ) (names : List (List ℕ)) (o : Outcome) (e : Entry) (t : Scene) : Type 0 where
+  pub record NameComes (s : Scene) (k : ℕ) (names : List (List ℕ)) (o : Outcome) (e : Entry)
+      (t : Scene) : Type 0 where
     pub answer : NameAnswer
-    pub resolves : Resolves others later home s.world s.peers.calls k names answer t.world t.peers.calls
+    pub resolves : Resolves others later home s.world s.peers.calls k names answer t.world
+        t.peers.calls
     pub faults : CountsFaults s.peers.calls t.peers.calls s.peers.faults t.peers.faults
     pub outcome : o ≡ answer.outcome
     pub noted : e ≡ name_entry k answer.point answer.asked

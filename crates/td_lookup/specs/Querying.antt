@@ -29,8 +29,8 @@ use Rattle.td_walk.specs.declared.trace.Visit.TheVariants as visit
 use Rattle.td_walk_laws.specs.Faults.{CountsFaults}
 
 -- the result that has the first count of the offers; the iterator's reference is nil where nothing is left behind them
-abbrev pub first_offers : Address → (name : List ℕ) → (number : ℕ) → (limits : List (List ℕ)) → List Offer → (count : ℕ)
-    → Outcome
+abbrev pub first_offers : Address → (name : List ℕ) → (number : ℕ) → (limits : List (List ℕ))
+    → List Offer → (count : ℕ) → Outcome
 first_offers home name number limits offers count =
     Done (reply.Found (take count offers)
     (given_or_nil (offer_iterator home name number) (is_some (drop count offers))) limits)
@@ -42,8 +42,8 @@ offers_kept name left d = if is_some left then added name (Offers left) d else d
 module _ (home : Address) (name : List ℕ) (n : ℕ) where
   -- This is the outcome of a batch for n of the offers, and the others are kept. Where n is at least 1 and there are
   -- offers, the batch isn't empty.
-  pub record IsFirst (limits : List (List ℕ)) (offers : List Offer) (old : Draft) (d : Live) (o : Outcome) (e : Live)
-      : Type 0 where
+  pub record IsFirst (limits : List (List ℕ)) (offers : List Offer) (old : Draft) (d : Live)
+      (o : Outcome) (e : Live) : Type 0 where
     pub count : ℕ
     pub batch : IsBatch (offers_found (offer_iterator home name d.1) limits) offers old n count
     pub outcome : o ≡ first_offers home name d.1 limits offers count
@@ -51,15 +51,18 @@ module _ (home : Address) (name : List ℕ) (n : ℕ) where
     pub some : 0 < n → 0 < length offers → 0 < count
 
 -- what a visit is answered with: a refusal as it is, offers in batches for the lesser of how_many and max_list
-abbrev pub VisitTold : Address → (name : List ℕ) → Query → Visit → Draft → Live → Outcome → Live → Type 0
+abbrev pub VisitTold : Address → (name : List ℕ) → Query → Visit → Draft → Live → Outcome → Live
+    → Type 0
 VisitTold home name q (visit.Refused r) draft d o e = (o ≡ r) × (e ≡ d)
 VisitTold home name q (visit.Answered a max_list) draft d o e =
-    IsFirst home name (min q.how_many max_list) a.limits (map (chosen q.desired) a.offers) draft d o e
+    IsFirst home name (min q.how_many max_list) a.limits (map (chosen q.desired) a.offers)
+    draft d o e
 
 module _ (others : List Accepted → Type 0) (later : Marks → Marks → Type 0) (home : Address) where
   -- The trace is a walk from the trader on, and the answer is what the walk comes to. At each call of a peer that
   -- failed the count of faults rose.
-  pub record QueryComes (s : Scene) (k : ℕ) (q : Query) (draft : Draft) (o : Outcome) (e : Entry) (t : Scene) : Type 0
+  pub record QueryComes (s : Scene) (k : ℕ) (q : Query) (draft : Draft) (o : Outcome) (e : Entry)
+      (t : Scene) : Type 0
     where
       pub items : List TraceItem
       pub visit : Visit

@@ -52,8 +52,8 @@ GivesSmall q (visit.Refused o) = Unit {0}
 
 -- the first batch for n of these offers was written, with this reference where any are left, and those are kept; where
 -- n is at least 1 and there are offers, it isn't empty
-pub record PutsBatched (reference : Ior) (limits : List (List ℕ)) (name : List ℕ) (n : ℕ) (offers : List Offer)
-    (old new : Draft) (d e : Live) : Type 0 where
+pub record PutsBatched (reference : Ior) (limits : List (List ℕ)) (name : List ℕ) (n : ℕ)
+    (offers : List Offer) (old new : Draft) (d e : Live) : Type 0 where
   pub count : ℕ
   pub puts : PutsBatch (offers_found reference limits) offers n old new count
   pub kept : e ≡ offers_kept name (drop count offers) d
@@ -61,27 +61,28 @@ pub record PutsBatched (reference : Ior) (limits : List (List ℕ)) (name : List
 
 -- the first batch for n of the offers was written, with the reference of the desk's next iterator, and the others are
 -- kept
-pub record PutsFirst (home : Address) (name : List ℕ) (n : ℕ) (limits : List (List ℕ)) (offers : List Offer)
-    (old new : Draft) (d e : Live) : Type 0 where
+pub record PutsFirst (home : Address) (name : List ℕ) (n : ℕ) (limits : List (List ℕ))
+    (offers : List Offer) (old new : Draft) (d e : Live) : Type 0 where
   pub count : ℕ
   pub batch : IsBatch (offers_found (offer_iterator home name d.1) limits) offers old n count
   pub bytes : new.bytes ≡
-      old.bytes ++ outcome_piece (first_offers home name d.1 limits offers count) old.order (length old.bytes)
+      old.bytes ++ outcome_piece (first_offers home name d.1 limits offers count) old.order
+      (length old.bytes)
   pub kept : e ≡ offers_kept name (drop count offers) d
   pub some : 0 < n → 0 < length offers → 0 < count
 
 -- ---- a visit
 
 -- a visit was told so
-pub record TellsVisit (home : Address) (name : List ℕ) (q : Query) (v : Visit) (old : Draft) (d : Live) (b : ReplyBody)
-    (new : Draft) (e : Live) : Type 0 where
+pub record TellsVisit (home : Address) (name : List ℕ) (q : Query) (v : Visit) (old : Draft)
+    (d : Live) (b : ReplyBody) (new : Draft) (e : Live) : Type 0 where
   pub outcome : Outcome
   pub told : VisitTold home name q v old d outcome e
   pub tells : Tells outcome b old new
 
 -- only a visit that came to an end is told
-abbrev pub TellsVisited : Address → (name : List ℕ) → Query → Result Visit Wanting → Draft → Live → ReplyBody → Draft
-    → Live → Type 0
+abbrev pub TellsVisited : Address → (name : List ℕ) → Query → Result Visit Wanting → Draft → Live
+    → ReplyBody → Draft → Live → Type 0
 TellsVisited home name q (Ok v) old d b new e = TellsVisit home name q v old d b new e
 TellsVisited home name q (Err m) old d b new e = ⊥
 
@@ -129,14 +130,16 @@ module _ (others : List Accepted → Type 0) (later : Marks → Marks → Type 0
   TakenBack home j s e t = Unserved others later home j s (wanting e) e t
 
   -- a query is answered with what it comes to, or memory was wanted
-  abbrev pub QueryTold : Address → Object → Scene → (k : ℕ) → Query → (old : Draft) → Answer → (new : Draft) → Scene
-      → Type 0
+  abbrev pub QueryTold : Address → Object → Scene → (k : ℕ) → Query → (old : Draft) → Answer
+      → (new : Draft) → Scene → Type 0
   QueryTold home x s k q old a new t =
       IsTold (λ o e. QueryComes others later home s k q old o e t) a old new
       ⊎ IsTold (λ o e. Unserved others later home (Call x (call.Query q)) s o e t) a old new
 
   -- and so are names; an answer that memory was wanted for isn't what they come to
-  abbrev pub NameTold : Address → Object → Scene → (k : ℕ) → (names : List (List ℕ)) → Answer → Scene → Type 0
+  abbrev pub NameTold : Address → Object → Scene → (k : ℕ) → (names : List (List ℕ)) → Answer
+      → Scene → Type 0
   NameTold home x s k names a t =
-      IsToldPlainly (λ o e. NameComes others later home s k names o e t × (wants_memory o ≡ false)) a
+      IsToldPlainly (λ o e. NameComes others later home s k names o e t × (wants_memory o ≡ false))
+      a
       ⊎ IsToldPlainly (λ o e. Unserved others later home (Call x (call.Resolve names)) s o e t) a

@@ -76,9 +76,11 @@ pub data WantingEntry (w : List View) : Judged → Entry → Type 0 where
   unread : {o : Outcome} → WantingEntry w (Refused o) (unbegun_entry class.Query)
   trace : {x : Object} {q : Query} (t : Trace) → WantingEntry w (Call x (call.Query q)) (Walk t)
   link : {x : Object} {l : AddLink} (gave : Result Ior PeerFault)
-      → WantingEntry w (Call x (call.AddLink l)) (Asked x.trader (length (history_at w x.trader)) gave)
+      → WantingEntry w (Call x (call.AddLink l))
+      (Asked x.trader (length (history_at w x.trader)) gave)
   name : {x : Object} {names : List (List ℕ)} (gave : Result Ior PeerFault)
-      → WantingEntry w (Call x (call.Resolve names)) (Asked x.trader (length (history_at w x.trader)) gave)
+      → WantingEntry w (Call x (call.Resolve names))
+      (Asked x.trader (length (history_at w x.trader)) gave)
 
 module _ (others : List Accepted → Type 0) (later : Marks → Marks → Type 0) (home : Address) where
   -- what is noted of a query is the beginning of a walk from its trader on
@@ -98,7 +100,8 @@ module _ (others : List Accepted → Type 0) (later : Marks → Marks → Type 0
     pub goes : Goes others later s.world t.world
     pub marks : (k : ℕ) → own_marks_at t.world k ≡ own_marks_at s.world k ++ marks_of k (items_of e)
     pub points : (k : ℕ)
-        → Rises (length (history_at s.world k)) (points_of k (items_of e)) (length (history_at t.world k))
+        → Rises (length (history_at s.world k)) (points_of k (items_of e))
+        (length (history_at t.world k))
     pub peers : Gives s.peers (gave_in e) t.peers
     pub draws : DrawsOn s.words t.words
     pub words : is_query j ≡ false → t.words ≡ s.words

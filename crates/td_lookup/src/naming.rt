@@ -34,14 +34,17 @@ pub fn answer_resolve<T: Traders, P: Peers>(
     ensures same { T.same traders.old traders.new }
     ensures same_peers { P.same peers.old peers.new }
     ensures faults { P.faults peers.old ≤ P.faults peers.new }
-    ensures told { (x : Object) (d : Live) (words : ℕ → ℕ) → x.trader ≡ trader → NameTold T.others T.later home.now x
-        (scene (T.world traders.old) d (peers_seen (P.calls peers.old) (P.faults peers.old)) words) trader names.now
-        result (scene (T.world traders.new) d (peers_seen (P.calls peers.new) (P.faults peers.new)) words) }
+    ensures told { (x : Object) (d : Live) (words : ℕ → ℕ) → x.trader ≡ trader
+        → NameTold T.others T.later home.now x
+        (scene (T.world traders.old) d (peers_seen (P.calls peers.old) (P.faults peers.old)) words)
+        trader names.now result (scene (T.world traders.new) d
+        (peers_seen (P.calls peers.new) (P.faults peers.new)) words) }
     ensures taken_back { (x : Object) (d : Live) (words : ℕ → ℕ) → x.trader ≡ trader →
         TakenBack T.others T.later home.now (Call x (call.Resolve names.now))
         (scene (T.world traders.old) d (peers_seen (P.calls peers.old) (P.faults peers.old)) words)
         (in_vain (T.world traders.new) trader result.entry)
-        (scene (T.world traders.new) d (peers_seen (P.calls peers.new) (P.faults peers.new)) words) }
+        (scene (T.world traders.new) d (peers_seen (P.calls peers.new) (P.faults peers.new))
+        words) }
 {
     match resolve(alloc, traders, home, trader, names, peers) {
         Ok(answer) => tell_name(traders, trader, answer),

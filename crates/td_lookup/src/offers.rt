@@ -82,7 +82,8 @@ fn put_offers(
     requires small { AreSmallOffers offers }
     requires start { length w.old.bytes ≡ REPLY_START }
     requires numbers { desk.old.1 < 2 ^ 63 }
-    ensures puts { OnOk result (PutsFirst home.now name.now n limits.now offers w.old w.new desk.old desk.new) }
+    ensures puts { OnOk result
+        (PutsFirst home.now name.now n limits.now offers w.old w.new desk.old desk.new) }
     ensures err { OnErr result ((desk.new ≡ desk.old) × (w.new.bytes ≡ w.old.bytes)) }
     ensures order { w.new.order ≡ w.old.order }
 {
@@ -119,7 +120,8 @@ fn put_some(
     requires limits { AreLimits limits.now }
     requires start { length w.old.bytes ≡ REPLY_START }
     requires numbers { desk.old.1 < 2 ^ 63 }
-    ensures puts { OnOk result (PutsFirst home.now name.now n limits.now left w.old w.new desk.old desk.new) }
+    ensures puts { OnOk result
+        (PutsFirst home.now name.now n limits.now left w.old w.new desk.old desk.new) }
     ensures err { OnErr result ((desk.new ≡ desk.old) × (w.new.bytes ≡ w.old.bytes)) }
     ensures order { w.new.order ≡ w.old.order }
 {
@@ -171,8 +173,8 @@ fn put_first(
     requires limits { AreLimits limits.now }
     requires start { length w.old.bytes ≡ REPLY_START }
     requires numbers { desk.old.1 < 2 ^ 63 }
-    ensures puts { OnOk result (PutsBatched label.reference limits.now label.trader n left w.old w.new desk.old
-        desk.new) }
+    ensures puts { OnOk result
+        (PutsBatched label.reference limits.now label.trader n left w.old w.new desk.old desk.new) }
     ensures err { OnErr result ((desk.new ≡ desk.old) × (w.new.bytes ≡ w.old.bytes)) }
     ensures order { w.new.order ≡ w.old.order }
 {

@@ -53,14 +53,14 @@ pub fn answer_query<T: Traders, P: Peers, W: Words>(
     ensures same_words { W.same words.old words.new }
     ensures faults { P.faults peers.old ≤ P.faults peers.new }
     ensures told { (x : Object) → x.trader ≡ trader → QueryTold T.others T.later home.now x
-        (scene (T.world traders.old) desk.old (peers_seen (P.calls peers.old) (P.faults peers.old)) (W.word words.old))
-        trader q.now w.old result w.new
+        (scene (T.world traders.old) desk.old (peers_seen (P.calls peers.old) (P.faults peers.old))
+        (W.word words.old)) trader q.now w.old result w.new
         (scene (T.world traders.new) desk.new (peers_seen (P.calls peers.new) (P.faults peers.new))
         (W.word words.new)) }
-    ensures taken_back { (x : Object) → x.trader ≡ trader → IfOutcome result.body (TakenBack T.others T.later
-        home.now (Call x (call.Query q.now))
-        (scene (T.world traders.old) desk.old (peers_seen (P.calls peers.old) (P.faults peers.old)) (W.word words.old))
-        result.entry
+    ensures taken_back { (x : Object) → x.trader ≡ trader
+        → IfOutcome result.body (TakenBack T.others T.later home.now (Call x (call.Query q.now))
+        (scene (T.world traders.old) desk.old (peers_seen (P.calls peers.old) (P.faults peers.old))
+        (W.word words.old)) result.entry
         (scene (T.world traders.new) desk.new (peers_seen (P.calls peers.new) (P.faults peers.new))
         (W.word words.new))) }
     ensures order { w.new.order ≡ w.old.order }
@@ -134,7 +134,8 @@ fn tell_visit(
     requires small { GivesSmall q.now visit }
     requires start { length w.old.bytes ≡ REPLY_START }
     requires numbers { desk.old.1 < 2 ^ 63 }
-    ensures told { IfOk result (λ b. TellsVisit home.now name.now q.now visit w.old desk.old b w.new desk.new) }
+    ensures told { IfOk result
+        (λ b. TellsVisit home.now name.now q.now visit w.old desk.old b w.new desk.new) }
     ensures unwritten { IfOk result (λ b. IfOutcome b (desk.new ≡ desk.old)) }
     ensures err { OnErr result ((desk.new ≡ desk.old) × (w.new.bytes ≡ w.old.bytes)) }
     ensures order { w.new.order ≡ w.old.order }
@@ -165,7 +166,8 @@ fn tell_answer(
     requires start { length w.old.bytes ≡ REPLY_START }
     requires numbers { desk.old.1 < 2 ^ 63 }
     ensures told { IfOk result (λ b.
-        TellsVisit home.now name.now q.now (visit.Answered answer max_list) w.old desk.old b w.new desk.new) }
+        TellsVisit home.now name.now q.now (visit.Answered answer max_list)
+        w.old desk.old b w.new desk.new) }
     ensures written { IfOk result (λ b. b ≡ ReplyBody.Written) }
     ensures err { OnErr result ((desk.new ≡ desk.old) × (w.new.bytes ≡ w.old.bytes)) }
     ensures order { w.new.order ≡ w.old.order }

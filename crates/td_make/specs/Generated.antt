@@ -50,7 +50,8 @@ link_lines count trader =
 
 abbrev pub heading : (trader : ℕ) → List ℕ
 heading trader =
-    counted (codes "trader T") trader ++ codes "\ntype Base -\nprop mandatory ulong Cost\ntype Sub - Base\n"
+    counted (codes "trader T") trader
+    ++ codes "\ntype Base -\nprop mandatory ulong Cost\ntype Sub - Base\n"
 
 abbrev pub trader_lines : (count trader : ℕ) → List ℕ
 trader_lines count trader = heading trader ++ first_offers trader 10 ++ link_lines count trader

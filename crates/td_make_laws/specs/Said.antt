@@ -45,14 +45,19 @@ type_entries =
 -- an offer's object and what it costs
 abbrev pub item : (trader number : ℕ) → Ior
 item trader number =
-    made_reference (codes "IDL:Item:1.0") (codes "h") 9 (counted (counted [] trader ++ codes ".") number) 0
+    made_reference (codes "IDL:Item:1.0")
+    (codes "h") 9 (counted (counted [] trader ++ codes ".") number) 0
 
 abbrev pub costing : (amount : ℕ) → Property
-costing amount = record { name = codes "Cost"; value = record { code = code.ULong; value = value.ULong amount } }
+costing amount = record {
+  name = codes "Cost";
+  value = record { code = code.ULong; value = value.ULong amount };
+}
 
 abbrev pub offer_entry : (trader number : ℕ) → Entry
 offer_entry trader number =
-    entry.Change (change.Export (item trader number) (offer_type number) (costing (cost trader number) ∷ []))
+    entry.Change (change.Export (item trader number) (offer_type number)
+    (costing (cost trader number) ∷ []))
 
 -- the first so many offers
 abbrev pub offer_entries : (trader count : ℕ) → List Entry
@@ -107,4 +112,5 @@ pub record SaysRing (count : ℕ) (s : Script) : Type 0 where
   pub traders : map asked s.traders ≡ ring_traders count count
 
 abbrev pub GeneratedAreRead : Type 0
-GeneratedAreRead = (count : ℕ) → 1 ≤ count → count ≤ 64 → SaysRing count (script_of (generated count))
+GeneratedAreRead = (count : ℕ) → 1 ≤ count → count ≤ 64
+    → SaysRing count (script_of (generated count))

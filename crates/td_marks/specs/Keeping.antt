@@ -53,12 +53,14 @@ is_key identifier key = bytes_eq identifier key.items
 
 -- in the map each identifier has the number under which it is remembered, and no other has one
 abbrev pub Finds : Entries → Marks → Type 0
-Finds entries m = (identifier : List ℕ) → lookup (is_key identifier) entries ≡ remembered m identifier
+Finds entries m = (identifier : List ℕ) → lookup (is_key identifier) entries
+    ≡ remembered m identifier
 
 -- the map finds this identifier besides
 abbrev pub Enters : Entries → (identifier : List ℕ) → (number : ℕ) → Entries → Type 0
 Enters entries identifier number more =
-    (m : Marks) → Finds entries m → Finds more (keeping m (m.kept ++ entry_of identifier number ∷ []))
+    (m : Marks) → Finds entries m
+    → Finds more (keeping m (m.kept ++ entry_of identifier number ∷ []))
 
 -- how many identifiers there is no room for
 abbrev pub forgotten : Buffer (List ℕ) → ℕ
@@ -69,7 +71,8 @@ abbrev pub Forgets : Buffer (List ℕ) → Entries → Entries → Type 0
 Forgets ring entries left =
     (m : Marks) (first : ℕ) → length ring.items ≤ ring.capacity + 1 → IsDistinct bytes_eq ring.items
     → Finds entries (keeping m (numbered first ring.items))
-    → Finds left (keeping m (numbered (first + forgotten ring) (keep_last ring.capacity ring.items)))
+    → Finds left (keeping m (numbered (first + forgotten ring)
+    (keep_last ring.capacity ring.items)))
 
 -- the ring holds the last identifiers, as many as were marked or as there is room for, and the map finds these
 pub record IsTied (count counter : ℕ) (ring : Buffer (List ℕ)) (entries : Entries) : Type 0 where

@@ -6,7 +6,8 @@ use Rattle.td_marks.specs.Making.{next_value, IsNextValue}
 -- an identifier that isn't remembered is marked: the marks go on
 abbrev pub FreshMarksFollow : Type 0
 FreshMarksFollow =
-    (m : Marks) (i : List ℕ) (c : ℕ) → Orderly m → m.counter ≤ c → remembered m i ≡ None → Follows m (marked m i c)
+    (m : Marks) (i : List ℕ) (c : ℕ) → Orderly m → m.counter ≤ c → remembered m i ≡ None
+    → Follows m (marked m i c)
 
 -- an identifier that was marked under a number and isn't remembered any more: its next mark has a number that is
 -- greater by more than there is room for

@@ -108,7 +108,8 @@ impl Ring {
     /// `Memory` for want of memory alone.
     pub fn make(&self, alloc: Global, stem: &[u8]) -> Result<Made, Memory>
         requires { self.now.count ≤ 2 ^ 40 }
-        ensures made { IfOk result (λ made. made ≡ made_from stem.now (next_value self.now stem.now)) }
+        ensures made { IfOk result (λ made. made
+            ≡ made_from stem.now (next_value self.now stem.now)) }
         ensures fresh { IfOk result (λ made. remembered self.now made.identifier ≡ None) }
         ensures up { IfOk result (λ made. self.now.counter < made.counter) }
         ensures near { IfOk result (λ made. made.counter ≤ self.now.counter + most_kept + 1) }
@@ -164,7 +165,8 @@ fn enter(
     number: u64,
 ) -> Result<(), Memory>
     requires fresh { lookup (is_key identifier.now) numbers.old.entries ≡ None }
-    ensures entered { OnOk result (Enters numbers.old.entries identifier.now number numbers.new.entries) }
+    ensures entered { OnOk result
+        (Enters numbers.old.entries identifier.now number numbers.new.entries) }
     ensures unchanged { OnErr result (numbers.new.entries ≡ numbers.old.entries) }
 {
     let key = Vec::from_slice(alloc, identifier)?;
@@ -180,7 +182,8 @@ fn keep(
     identifier: Octets,
 )
     ensures kept { last.new
-        ≡ buffer (keep_last last.old.capacity (last.old.items ++ identifier ∷ [])) last.old.capacity }
+        ≡ buffer (keep_last last.old.capacity (last.old.items ++ identifier ∷ []))
+        last.old.capacity }
     ensures forgets { Forgets (buffer (last.old.items ++ identifier ∷ []) last.old.capacity)
         numbers.old.entries numbers.new.entries }
 {

@@ -253,8 +253,8 @@ pub fn modify(
     deleted: List<Text>,
     changed: List<Property>,
 ) -> Result<Accepted, Fault>
-    ensures { Accepts (change.Modify id deleted changed) (modify store.old id deleted changed) store.old store.new
-        result }
+    ensures { Accepts (change.Modify id deleted changed) (modify store.old id deleted changed)
+        store.old store.new result }
 {
     let (number, properties) = renewal(alloc, store, &id, deleted.as_slice(), changed.as_slice())?;
     store.offers.modify(number, properties);

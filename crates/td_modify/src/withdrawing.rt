@@ -121,7 +121,8 @@ fn all_met(
     constraint: &Constraint,
 ) -> Result<List<u32>, Memory>
     ensures { IfOk result (λ met. met
-        ≡ map (λ o. o.number) (filter (is_met store.now.types.types asked.now constraint.now) store.now.offers)) }
+        ≡ map (λ o. o.number) (filter (is_met store.now.types.types asked.now constraint.now)
+        store.now.offers)) }
 {
     let offers = conforming::<Brand>(alloc, store, asked, Blank::new(1))?;
     met_among(alloc, constraint, offers.as_slice())
@@ -138,8 +139,8 @@ fn some_met(
     ensures { MatchResult result
         (λ met. (none_met store.now asked.now text.now constraint.now ≡ None)
         × (without_offers met store.now.offers
-        ≡ filter (λ o. not (is_met store.now.types.types asked.now constraint.now o)) store.now.offers))
-        (IsMet (none_met store.now asked.now text.now constraint.now)) }
+        ≡ filter (λ o. not (is_met store.now.types.types asked.now constraint.now o))
+        store.now.offers)) (IsMet (none_met store.now asked.now text.now constraint.now)) }
 {
     let numbers = all_met(alloc, store, asked, constraint)?;
     if numbers.is_empty() {
@@ -212,8 +213,8 @@ pub fn withdraw_using_constraint(
     service_type: Text,
     constraint: Text,
 ) -> Result<Accepted, Fault>
-    ensures { Accepts (change.WithdrawUsingConstraint service_type constraint) (withdraw_using_constraint store.old
-        service_type constraint) store.old store.new result }
+    ensures { Accepts (change.WithdrawUsingConstraint service_type constraint)
+        (withdraw_using_constraint store.old service_type constraint) store.old store.new result }
 {
     let numbers = met_numbers(alloc, store, &service_type, &constraint)?;
     remove_all(&mut store.offers, numbers.as_slice());

@@ -12,7 +12,8 @@ use Rattle.td_name_command.specs.Words.{home_of}
 -- the status is 0, and the messages up to the first that closes the session were served, or it is 9
 abbrev pub IsAnswered : Address → Outside → Outside → List (List ℕ) → ℕ → Type 0
 IsAnswered home before after messages status =
-    ((status ≡ 0) × (later : Scene) × ServesAll nothing (beginning home) later before after messages) ⊎ (status ≡ 9)
+    ((status ≡ 0) × (later : Scene)
+    × ServesAll nothing (beginning home) later before after messages) ⊎ (status ≡ 9)
 
 -- so it is wherever the words are such, the input is such messages and nothing failed
 abbrev pub Completes : List (List ℕ) → Outside → Outside → ℕ → Type 0

@@ -37,8 +37,8 @@ Obeys None ended before after = (ended ≡ Usage) × (after ≡ before)
 Obeys (Some home) ended before after = ObeysAt home ended before after
 
 -- a run of the program with these words
-pub record Runs (words : List (List ℕ)) (before after : Outside) (written0 written1 : Option (List ℕ))
-    (faults0 faults1 : ℕ) (status : ℕ) : Type 0 where
+pub record Runs (words : List (List ℕ)) (before after : Outside)
+    (written0 written1 : Option (List ℕ)) (faults0 faults1 : ℕ) (status : ℕ) : Type 0 where
   pub ended : Ended
   pub obeys : Obeys (home_of words) ended before after
   pub answered : status ≡ status_of ended

@@ -15,9 +15,11 @@ fits_host host = nat_le (length host) 1000 && not (has_nul host)
 
 -- a port is from 0 to 65535, in decimal without leading zeros
 abbrev pub home_named : (host port : List ℕ) → Option Address
-home_named host port = if fits_host host then option_map (home host) (number_below 65536 port) else None
+home_named host port = if fits_host host then option_map (home host)
+    (number_below 65536 port) else None
 
 -- where the words let naming contexts be reached; other words are no command
 abbrev pub home_of : List (List ℕ) → Option Address
-home_of (word ∷ host ∷ port ∷ []) = if bytes_eq word (codes "names") then home_named host port else None
+home_of (word ∷ host ∷ port ∷ []) = if bytes_eq word (codes "names")
+    then home_named host port else None
 home_of other = None

@@ -33,10 +33,12 @@ pub fn run_names<S: Source, K: Sink, E: Sink>(
     ensures runs { Runs (map string_bytes args.now)
         (outside (S.left source.old) (S.faults source.old) (K.written sink.old) (K.faults sink.old))
         (outside (S.left source.new) (S.faults source.new) (K.written sink.new) (K.faults sink.new))
-        (E.written faults.old) (E.written faults.new) (E.faults faults.old) (E.faults faults.new) result }
+        (E.written faults.old) (E.written faults.new) (E.faults faults.old)
+        (E.faults faults.new) result }
     ensures complete { Completes (map string_bytes args.now)
         (outside (S.left source.old) (S.faults source.old) (K.written sink.old) (K.faults sink.old))
-        (outside (S.left source.new) (S.faults source.new) (K.written sink.new) (K.faults sink.new)) result }
+        (outside (S.left source.new) (S.faults source.new) (K.written sink.new) (K.faults sink.new))
+        result }
 {
     let ended = obey(alloc, args, source, sink);
     let _ = write_all(faults, ended.line());
@@ -47,7 +49,8 @@ pub fn run_names<S: Source, K: Sink, E: Sink>(
 fn obey<S: Source, K: Sink>(alloc: Global, args: &[String], source: &mut S, sink: &mut K) -> Ended
     ensures { Obeys (home_of (map string_bytes args.now)) result
         (outside (S.left source.old) (S.faults source.old) (K.written sink.old) (K.faults sink.old))
-        (outside (S.left source.new) (S.faults source.new) (K.written sink.new) (K.faults sink.new)) }
+        (outside (S.left source.new) (S.faults source.new) (K.written sink.new)
+        (K.faults sink.new)) }
 {
     match home_of(args) {
         Some((host, port)) => serve_new(alloc, host, port, source, sink),

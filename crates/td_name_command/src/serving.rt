@@ -26,7 +26,8 @@ pub(crate) fn serve_new<S: Source, K: Sink>(
     requires short { length host.now ≤ 1000 }
     ensures { ObeysAt (home host.now port) result
         (outside (S.left source.old) (S.faults source.old) (K.written sink.old) (K.faults sink.old))
-        (outside (S.left source.new) (S.faults source.new) (K.written sink.new) (K.faults sink.new)) }
+        (outside (S.left source.new) (S.faults source.new) (K.written sink.new)
+        (K.faults sink.new)) }
 {
     let Ok(mut names) = new_naming(alloc, host, port) else {
         return Ended::Memory;

@@ -16,7 +16,8 @@ use Rattle.td_name_listen.specs.declared.listened.Listened.TheVariants.{Usage, M
 -- where the words let naming contexts be reached; other words are no command
 abbrev pub home_of : List (List ℕ) → Option Address
 home_of (word ∷ what ∷ host ∷ port ∷ []) =
-    if bytes_eq word (codes "listen") && bytes_eq what (codes "names") then home_named host port else None
+    if bytes_eq word (codes "listen")
+    && bytes_eq what (codes "names") then home_named host port else None
 home_of other = None
 
 abbrev pub status_of : Listened → ℕ
@@ -47,7 +48,8 @@ module _ {X : Type 0} (outside_of : X → Outside) (seeded : X → Seeded) where
   abbrev pub ServesNew : Past → Listened → Front X → Front X → Type 0
   ServesNew contexts Over before after =
       ServesAll outside_of seeded contexts before.door before.told after.door after.told
-  ServesNew contexts Unaccepted before after = Rose before.faults after.faults × HandsSome before.told after.told
+  ServesNew contexts Unaccepted before after = Rose before.faults after.faults
+      × HandsSome before.told after.told
   ServesNew contexts Memory before after = HandsSome before.told after.told
   ServesNew contexts Usage before after = ⊥
 
@@ -61,8 +63,8 @@ module _ {X : Type 0} (outside_of : X → Outside) (seeded : X → Seeded) where
   Obeys (Some home) listened before after = ServesAt home listened before after
 
   -- a run of the program with these words
-  pub record Listens (words : List (List ℕ)) (before after : Front X) (written0 written1 : Option (List ℕ))
-      (faults0 faults1 : ℕ) (status : ℕ) : Type 0 where
+  pub record Listens (words : List (List ℕ)) (before after : Front X)
+      (written0 written1 : Option (List ℕ)) (faults0 faults1 : ℕ) (status : ℕ) : Type 0 where
     pub listened : Listened
     pub obeys : Obeys (home_of words) listened before after
     pub answered : status ≡ status_of listened

@@ -47,8 +47,8 @@ pub fn listen_names<
     ended: &mut N,
 ) -> u8
     ensures listens { Listens
-        (λ v. outside (A.S.left v.source) (A.S.faults v.source) (A.K.written v.sink) (A.K.faults v.sink))
-        (λ v. A.W.word_after v.words) (map string_bytes args.now)
+        (λ v. outside (A.S.left v.source) (A.S.faults v.source) (A.K.written v.sink)
+        (A.K.faults v.sink)) (λ v. A.W.word_after v.words) (map string_bytes args.now)
         (front (A.told accept.old) (A.faults accept.old) (N.told ended.old))
         (front (A.told accept.new) (A.faults accept.new) (N.told ended.new)) (E.written faults.old)
         (E.written faults.new) (E.faults faults.old) (E.faults faults.new) result }
@@ -69,9 +69,9 @@ fn obey<A: Accept, G: Gate, N: Ended<Visitor<A::S, A::K, A::L, A::W>>, R: Thread
     ended: &mut N,
 ) -> Listened
     ensures obeys { Obeys
-        (λ v. outside (A.S.left v.source) (A.S.faults v.source) (A.K.written v.sink) (A.K.faults v.sink))
-        (λ v. A.W.word_after v.words) (home_of (map string_bytes args.now)) result
-        (front (A.told accept.old) (A.faults accept.old) (N.told ended.old))
+        (λ v. outside (A.S.left v.source) (A.S.faults v.source) (A.K.written v.sink)
+        (A.K.faults v.sink)) (λ v. A.W.word_after v.words) (home_of (map string_bytes args.now))
+        result (front (A.told accept.old) (A.faults accept.old) (N.told ended.old))
         (front (A.told accept.new) (A.faults accept.new) (N.told ended.new)) }
     ensures later { A.faults accept.old ≤ A.faults accept.new }
 {
@@ -110,10 +110,10 @@ fn serve_at<
     requires plain { HasNoNul host.now }
     requires short { length host.now ≤ 1000 }
     ensures serves { ServesAt
-        (λ v. outside (A.S.left v.source) (A.S.faults v.source) (A.K.written v.sink) (A.K.faults v.sink))
-        (λ v. A.W.word_after v.words) (home host.now port) result
-        (front (A.told accept.old) (A.faults accept.old) (N.told ended.old))
-        (front (A.told accept.new) (A.faults accept.new) (N.told ended.new)) }
+        (λ v. outside (A.S.left v.source) (A.S.faults v.source) (A.K.written v.sink)
+        (A.K.faults v.sink)) (λ v. A.W.word_after v.words)
+        (home host.now port) result (front (A.told accept.old) (A.faults accept.old)
+        (N.told ended.old)) (front (A.told accept.new) (A.faults accept.new) (N.told ended.new)) }
     ensures later { A.faults accept.old ≤ A.faults accept.new }
 {
     match new_naming(alloc, host, port) {
@@ -130,8 +130,8 @@ fn serve_new<
     R: Threads + Wait + Sync,
 >(rt: &R, alloc: Global, contexts: Naming, accept: &mut A, gate: &G, ended: &mut N) -> Listened
     ensures serves { ServesNew
-        (λ v. outside (A.S.left v.source) (A.S.faults v.source) (A.K.written v.sink) (A.K.faults v.sink))
-        (λ v. A.W.word_after v.words) contexts result
+        (λ v. outside (A.S.left v.source) (A.S.faults v.source) (A.K.written v.sink)
+        (A.K.faults v.sink)) (λ v. A.W.word_after v.words) contexts result
         (front (A.told accept.old) (A.faults accept.old) (N.told ended.old))
         (front (A.told accept.new) (A.faults accept.new) (N.told ended.new)) }
     ensures later { A.faults accept.old ≤ A.faults accept.new }

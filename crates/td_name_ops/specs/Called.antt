@@ -53,17 +53,20 @@ abbrev pub of_act : {X : Type 0} → (NameAct → Option X) → NameCall → Opt
 of_act from (call.Act a) = from a
 of_act from _ = None
 
-abbrev pub act_arm : {X : Type 0} (o : ContextOperation) (to : X → NameAct) (from : NameAct → Option X)
-    → ((x : X) → from (to x) ≡ Some x) → ((x : X) → Context o ≡ operation_in (call.Act (to x))) → Sound ValueFault X
-    → Arm ValueFault NameOperation NameCall operation_in
+abbrev pub act_arm : {X : Type 0} (o : ContextOperation) (to : X → NameAct)
+    (from : NameAct → Option X)
+    → ((x : X) → from (to x) ≡ Some x) → ((x : X) → Context o ≡ operation_in (call.Act (to x)))
+    → Sound ValueFault X → Arm ValueFault NameOperation NameCall operation_in
 act_arm o to from back told g = arm (Context o) (λ x. call.Act (to x)) (of_act from) back told g
 
 abbrev pub of_iterator : {X : Type 0} → (IteratorCall → Option X) → NameCall → Option X
 of_iterator from (call.Iterator i) = from i
 of_iterator from _ = None
 
-abbrev pub iterator_arm : {X : Type 0} (o : IteratorOperation) (to : X → IteratorCall) (from : IteratorCall → Option X)
-    → ((x : X) → from (to x) ≡ Some x) → ((x : X) → Iterator o ≡ operation_in (call.Iterator (to x)))
-    → Sound ValueFault X
+abbrev pub iterator_arm : {X : Type 0} (o : IteratorOperation) (to : X → IteratorCall)
+    (from : IteratorCall → Option X)
+    → ((x : X) → from (to x) ≡ Some x)
+    → ((x : X) → Iterator o ≡ operation_in (call.Iterator (to x))) → Sound ValueFault X
     → Arm ValueFault NameOperation NameCall operation_in
-iterator_arm o to from back told g = arm (Iterator o) (λ x. call.Iterator (to x)) (of_iterator from) back told g
+iterator_arm o to from back told g = arm (Iterator o) (λ x. call.Iterator (to x))
+    (of_iterator from) back told g

@@ -19,8 +19,8 @@ abbrev pub body_of : NameOperation → Format ValueFault NameCall
 body_of operation = (row operation).body.format
 
 -- these bytes are the body of a request for this call, by the name of an operation that the object has
-pub record Body (kind : NameKind) (called : List ℕ) (order : Order) (place : ℕ) (c : NameCall) (bytes : List ℕ) : Type
-    0 where
+pub record Body (kind : NameKind) (called : List ℕ) (order : Order) (place : ℕ) (c : NameCall)
+    (bytes : List ℕ) : Type 0 where
   pub operation : NameOperation
   pub named : operation_named kind called ≡ Some operation
   pub spelled : (body_of operation).spells order place c bytes

@@ -48,7 +48,8 @@ pub record WorkedBodies : Type 0 where
   pub resolve : call_read kind.Context (codes "resolve") (in_front_of y_name)
       ≡ Ok (call.Act (act.Resolve (y ∷ [])), behind y_name)
   -- the nil reference: an empty id, and no profiles
-  pub bind : let bytes : List ℕ = y_name ++ (0 ∷ 0 ∷ 0 ∷ 0 ∷ 0 ∷ 0 ∷ 1 ∷ 0 ∷ 0 ∷ 0 ∷ 0 ∷ []) ++ zero_long in
+  pub bind : let bytes : List ℕ = y_name ++ (0 ∷ 0 ∷ 0 ∷ 0 ∷ 0 ∷ 0 ∷ 1 ∷ 0 ∷ 0 ∷ 0 ∷ 0 ∷ [])
+      ++ zero_long in
       call_read kind.Context (codes "bind") (in_front_of bytes)
       ≡ Ok (call.Act (act.Bind (y ∷ []) nil), behind bytes)
   pub list : let bytes : List ℕ = 0 ∷ 0 ∷ 0 ∷ 5 ∷ [] in
@@ -58,20 +59,22 @@ pub record WorkedBodies : Type 0 where
   pub destroy_iterator : call_read kind.Iterator (codes "destroy") (in_front_of [])
       ≡ Ok (call.Iterator iter.Destroy, behind [])
   pub short : call_read kind.Context (codes "list") (in_front_of (0 ∷ [])) ≡ Err (Marshal 0)
-  pub not_implemented : call_read kind.Context (codes "rebind_context") (in_front_of []) ≡ Err NoImplement
+  pub not_implemented : call_read kind.Context (codes "rebind_context") (in_front_of [])
+      ≡ Err NoImplement
   pub of_iterators : call_read kind.Context (codes "next_n") (in_front_of []) ≡ Err BadOperation
 
 pub record WorkedReplies : Type 0 where
   -- the component y wasn't bound: the id of the exception has 48 bytes with its NUL
   pub not_found : outcome_piece (User (fault.NotFound 0 (y ∷ []))) Big 24
-      ≡ 0 ∷ 0 ∷ 0 ∷ 49 ∷ codes "IDL:omg.org/CosNaming/NamingContext/NotFound:1.0" ++ 0 ∷ 0 ∷ 0 ∷ 0 ∷ zero_long
-      ++ y_name
+      ≡ 0 ∷ 0 ∷ 0 ∷ 49 ∷ codes "IDL:omg.org/CosNaming/NamingContext/NotFound:1.0" ++ 0 ∷ 0 ∷ 0 ∷ 0
+      ∷ zero_long ++ y_name
   pub not_empty : outcome_piece (User fault.NotEmpty) Big 24
       ≡ 0 ∷ 0 ∷ 0 ∷ 49 ∷ codes "IDL:omg.org/CosNaming/NamingContext/NotEmpty:1.0" ++ 0 ∷ []
   -- a binding comes with TRUE, and past the end FALSE with an empty name
   pub next : outcome_piece (Done (result.NextOne (Some y_context))) Big 24
       ≡ 1 ∷ 0 ∷ 0 ∷ 0 ∷ y_name ++ 0 ∷ 0 ∷ 0 ∷ 0 ∷ 0 ∷ 0 ∷ 1 ∷ []
-  pub past_the_end : outcome_piece (Done (result.NextOne None)) Big 24 ≡ 0 ∷ 0 ∷ 0 ∷ 0 ∷ zero_long ++ zero_long
+  pub past_the_end : outcome_piece (Done (result.NextOne None)) Big 24 ≡ 0 ∷ 0 ∷ 0 ∷ 0 ∷ zero_long
+      ++ zero_long
   pub some : outcome_piece (Done (result.NextN (y_context ∷ []))) Big 24
       ≡ 1 ∷ 0 ∷ 0 ∷ 0 ∷ 0 ∷ 0 ∷ 0 ∷ 1 ∷ y_name ++ 0 ∷ 0 ∷ 0 ∷ 0 ∷ 0 ∷ 0 ∷ 1 ∷ []
   pub no_more : outcome_piece (Done (result.NextN [])) Big 24 ≡ 0 ∷ 0 ∷ 0 ∷ 0 ∷ zero_long
@@ -79,6 +82,7 @@ pub record WorkedReplies : Type 0 where
   pub list : outcome_piece (Done (result.List [] nil)) Big 24
       ≡ zero_long ++ 0 ∷ 0 ∷ 0 ∷ 1 ∷ 0 ∷ 0 ∷ 0 ∷ 0 ∷ zero_long
   pub limit : outcome_piece (System ImpLimit 0 1) Big 24
-      ≡ 0 ∷ 0 ∷ 0 ∷ 32 ∷ codes "IDL:omg.org/CORBA/IMP_LIMIT:1.0" ++ 0 ∷ zero_long ++ 0 ∷ 0 ∷ 0 ∷ 1 ∷ []
-  pub statuses : (outcome_status (Done result.Nothing) ≡ 0) × (outcome_status (User fault.NotEmpty) ≡ 1)
-      × (outcome_status (System ImpLimit 0 1) ≡ 2)
+      ≡ 0 ∷ 0 ∷ 0 ∷ 32 ∷ codes "IDL:omg.org/CORBA/IMP_LIMIT:1.0" ++ 0 ∷ zero_long ++ 0 ∷ 0 ∷ 0 ∷ 1
+      ∷ []
+  pub statuses : (outcome_status (Done result.Nothing) ≡ 0)
+      × (outcome_status (User fault.NotEmpty) ≡ 1) × (outcome_status (System ImpLimit 0 1) ≡ 2)

@@ -26,11 +26,12 @@ not_found_reason = restriction (λ n. nat_lt n 3) bad_value ulong
 
 abbrev pub members_of : NameException → Sound ValueFault NameException
 members_of (fault.NotFound _ _) =
-    variant (λ p. fault.NotFound p.0 p.1) (elim [ fault.NotFound why rest ↦ Some (why, rest) | _ ↦ None ]) (λ _. refl)
+    variant (λ p. fault.NotFound p.0 p.1)
+    (elim [ fault.NotFound why rest ↦ Some (why, rest) | _ ↦ None ]) (λ _. refl)
     (not_found_reason & name)
 members_of (fault.CannotProceed _ _) =
-    variant (λ p. fault.CannotProceed p.0 p.1) (elim [ fault.CannotProceed o rest ↦ Some (o, rest) | _ ↦ None ])
-    (λ _. refl) (reference & name)
+    variant (λ p. fault.CannotProceed p.0 p.1)
+    (elim [ fault.CannotProceed o rest ↦ Some (o, rest) | _ ↦ None ]) (λ _. refl) (reference & name)
 members_of fault.InvalidName = constant fault.InvalidName
 members_of fault.AlreadyBound = constant fault.AlreadyBound
 members_of fault.NotEmpty = constant fault.NotEmpty

@@ -15,7 +15,8 @@ use Rattle.td_name_ops.specs.declared.operation.NameOperation.TheVariants.{NonEx
 abbrev pub AreFound : Type 0
 AreFound =
     (kind : NameKind)
-    → map (λ o. operation_named kind (name_of o)) (operations kind) ≡ map (λ o. Some o) (operations kind)
+    → map (λ o. operation_named kind (name_of o)) (operations kind)
+    ≡ map (λ o. Some o) (operations kind)
 
 abbrev pub SecondName : Type 0
 SecondName = (kind : NameKind) → operation_named kind (codes "_not_existent") ≡ Some NonExistent
@@ -33,8 +34,8 @@ ReadAsSpelled =
 -- what is spelled so is read, whatever follows
 abbrev pub SpelledIsRead : Type 0
 SpelledIsRead =
-    (kind : NameKind) (called : List ℕ) (a : At) (c : NameCall) (b rest : List ℕ) → a.origin ≤ a.place
-    → Body kind called a.order (a.place - a.origin) c b → a.rest ≡ b ++ rest
+    (kind : NameKind) (called : List ℕ) (a : At) (c : NameCall) (b rest : List ℕ)
+    → a.origin ≤ a.place → Body kind called a.order (a.place - a.origin) c b → a.rest ≡ b ++ rest
     → call_read kind called a ≡ Ok (c, after (length b) a)
 
 -- BAD_OPERATION comes exactly where the object has no operation of the name

@@ -24,7 +24,8 @@ pub fn operations_are_named()
 /// the object has no operation of the name.
 pub fn calls_are_spelled()
     ensures lawful { (operation : Operation) → Lawful (body_of operation) }
-    ensures refused { (operation : Operation) → Refuses (row operation).body.faults (body_of operation).reads }
+    ensures refused { (operation : Operation)
+        → Refuses (row operation).body.faults (body_of operation).reads }
     ensures found { ReadAsSpelled }
     ensures only { SpelledIsRead }
     ensures unknown { UnknownIsRefused }

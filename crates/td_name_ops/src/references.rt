@@ -14,7 +14,8 @@ use td_codes::{Ior, Profile};
 /// refused only for want of the writer's room.
 pub(crate) fn put_reference(alloc: Global, w: &mut Writer, object: &Ior) -> Result<(), Memory>
     ensures puts { Puts (reference.format.writes object.now) w.old w.new result }
-    ensures fits { IsTrue (has_one_profile object.now) → FitsRoom (reference.format.writes object.now) w.old result }
+    ensures fits { IsTrue (has_one_profile object.now)
+        → FitsRoom (reference.format.writes object.now) w.old result }
     ensures room { IsTrue (has_one_profile object.now) → w.old.room ≤ w.new.room }
 {
     match object.profiles.as_slice() {

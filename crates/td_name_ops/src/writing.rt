@@ -68,7 +68,8 @@ pub fn write_name_outcome(
     outcome: &NameOutcome,
 ) -> Result<(), Memory>
     ensures appends { Appends (outcome_piece outcome.now) w.old w.new result }
-    ensures fits { IsTrue (is_plain outcome.now) → FitsRoom (outcome_piece outcome.now) w.old result }
+    ensures fits { IsTrue (is_plain outcome.now)
+        → FitsRoom (outcome_piece outcome.now) w.old result }
     ensures room { IsTrue (is_plain outcome.now) → w.old.room ≤ w.new.room }
 {
     let held = w.len();
@@ -84,7 +85,8 @@ pub fn write_name_outcome(
 /// A reply's body. Where it fails, some of it may be written.
 fn put_outcome(alloc: Global, w: &mut Writer, outcome: &NameOutcome) -> Result<(), Memory>
     ensures puts { Puts (outcome_piece outcome.now) w.old w.new result }
-    ensures fits { IsTrue (is_plain outcome.now) → FitsRoom (outcome_piece outcome.now) w.old result }
+    ensures fits { IsTrue (is_plain outcome.now)
+        → FitsRoom (outcome_piece outcome.now) w.old result }
     ensures room { IsTrue (is_plain outcome.now) → w.old.room ≤ w.new.room }
 {
     match outcome {
@@ -101,7 +103,8 @@ fn put_outcome(alloc: Global, w: &mut Writer, outcome: &NameOutcome) -> Result<(
 /// A result. Where it fails, some of it may be written.
 fn put_result(alloc: Global, w: &mut Writer, value: &NameResult) -> Result<(), Memory>
     ensures puts { Puts (result_piece value.now) w.old w.new result }
-    ensures fits { IsTrue (is_plain_result value.now) → FitsRoom (result_piece value.now) w.old result }
+    ensures fits { IsTrue (is_plain_result value.now)
+        → FitsRoom (result_piece value.now) w.old result }
     ensures room { IsTrue (is_plain_result value.now) → w.old.room ≤ w.new.room }
 {
     match value {

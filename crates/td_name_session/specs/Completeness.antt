@@ -15,7 +15,8 @@ use Rattle.td_name_session.specs.Turns.{Run, Turn, exchanges_of}
 module _ (others : List NameChange → Type 0) where
   -- The messages before the first that closes the session, or all of them, were served in order, each where the one
   -- before has left everything, and their answers were given.
-  pub record ServesAll (s u : Scene) (before after : Outside) (messages : List (List ℕ)) : Type 0 where
+  pub record ServesAll (s u : Scene) (before after : Outside)
+      (messages : List (List ℕ)) : Type 0 where
     pub turns : List Turn
     pub run : Run others s turns u
     pub all : messages_of (exchanges_of turns) ≡ before_first is_closing messages
@@ -29,5 +30,6 @@ module _ (others : List NameChange → Type 0) where
   -- so it is wherever the source is such messages and none of the outside failed
   abbrev pub Completes : Scene → Scene → End → Outside → Outside → Type 0
   Completes s u end before after =
-      (stream : List ℕ) (messages : List (List ℕ)) → before.left ≡ Some stream → IsServable stream messages
+      (stream : List ℕ) (messages : List (List ℕ)) → before.left ≡ Some stream
+      → IsServable stream messages
       → NoneFailed before after → IsComplete s u end before after messages

@@ -82,8 +82,8 @@ pub record WorkedRequests (draft : Draft) : Type 0 where
   -- a refused change
   pub already : Comes nothing (Call (Context 1) (call.Act make)) draft with_context
       (outcome.User fault.AlreadyBound) false with_context
-  pub is_a : Comes nothing (Call (Context 1) (call.IsA (codes "IDL:omg.org/CORBA/Object:1.0"))) draft
-      at_first (outcome.Done (result.Truth true)) false at_first
+  pub is_a : Comes nothing (Call (Context 1) (call.IsA (codes "IDL:omg.org/CORBA/Object:1.0")))
+      draft at_first (outcome.Done (result.Truth true)) false at_first
   pub is_no_iterator : Comes nothing
       (Call (Context 1) (call.IsA (codes "IDL:omg.org/CosNaming/BindingIterator:1.0"))) draft
       at_first (outcome.Done (result.Truth false)) false at_first

@@ -31,12 +31,13 @@ abbrev pub judged_body : NameKey → List ℕ → At → Judged
 judged_body key operation body = judged_as key (call_read (kind_of key) operation body)
 
 abbrev pub judged_if : Bool → NameKey → List ℕ → At → Judged
-judged_if live key operation body = cond live (judged_body key operation body) (Refused system.ObjectNotExist 0)
+judged_if live key operation body = cond live (judged_body key operation body)
+    (Refused system.ObjectNotExist 0)
 
 module _ (others : List NameChange → Type 0) where
   -- an object's Request is judged at what is seen of it
-  pub record JudgesKey (v : View) (d : Kept) (key : NameKey) (operation : List ℕ) (body : At) (j : Judged) (u : View)
-      : Type 0 where
+  pub record JudgesKey (v : View) (d : Kept) (key : NameKey) (operation : List ℕ) (body : At)
+      (j : Judged) (u : View) : Type 0 where
     pub live : Bool
     pub finds : Finds others v d key live u
     pub is : j ≡ judged_if live key operation body

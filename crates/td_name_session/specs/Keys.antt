@@ -30,7 +30,8 @@ iterator_reference home n = made_reference iterator_id home.host home.port (iter
 -- ---- how they are read
 
 abbrev pub iterator_number : List ℕ → Option ℕ
-iterator_number key = if bytes_eq (take 4 key) (codes "N/I/") then from_one (number_of (drop 4 key)) else None
+iterator_number key = if bytes_eq (take 4 key) (codes "N/I/") then from_one (number_of (drop 4 key))
+    else None
 
 abbrev pub or_iterator : Option ℕ → Option ℕ → Option NameKey
 or_iterator (Some n) i = Some (Context n)

@@ -57,7 +57,8 @@ pub record Stands (u : Scene) (t : Turn) (rest : List Turn) : Type 0 where
 module _ (others : List NameChange → Type 0) where
   -- the points never fall, from how much of the history was seen before to how much is seen behind
   abbrev pub PointsRise : Type 0
-  PointsRise = (s u : Scene) (ts : List Turn) → Run others s ts u → Rises (seen_in s) (journal_of ts) (seen_in u)
+  PointsRise = (s u : Scene) (ts : List Turn) → Run others s ts u
+      → Rises (seen_in s) (journal_of ts) (seen_in u)
 
   -- the places of one's own changes are those of the accepted ones, in order
   abbrev pub OwnPlacesAreAccepted : Type 0
@@ -74,21 +75,26 @@ module _ (others : List NameChange → Type 0) where
   -- each accepted change stands at its point, and later points are above it
   abbrev pub AcceptedStand : Type 0
   AcceptedStand =
-      (s u : Scene) (before rest : List Turn) (t : Turn) (n : Noted) → Run others s (before ++ t ∷ rest) u
+      (s u : Scene) (before rest : List Turn) (t : Turn) (n : Noted)
+      → Run others s (before ++ t ∷ rest) u
       → t.request ≡ Some n → n.accepted ≡ true → Stands u t rest
 
   -- a Request that is answered with an exception has changed nothing: one's own changes and the iterators are as they
   -- were
   abbrev pub RefusalsChangeNothing : Type 0
   RefusalsChangeNothing =
-      (s : Scene) (t : Turn) (n : Noted) → IsTurn others s t → t.request ≡ Some n → (outcome_status n.outcome ≡ 0 → ⊥)
+      (s : Scene) (t : Turn) (n : Noted) → IsTurn others s t → t.request ≡ Some n
+      → (outcome_status n.outcome ≡ 0 → ⊥)
       → (t.after.names.own ≡ s.names.own) × (t.after.desk ≡ s.desk)
 
   -- a name within the limits is resolved to an object exactly where it reaches it at what is seen then, or memory was
   -- wanted
   abbrev pub ResolvesByReach : Type 0
   ResolvesByReach =
-      (s : Scene) (t : Turn) (n : Noted) (key : NameKey) (name : List NameComponent) (object : Ior) → IsTurn others s t
-      → t.request ≡ Some n → n.judged ≡ Call key (call.Act (act.Resolve name)) → name_fits name ≡ true
+      (s : Scene) (t : Turn) (n : Noted) (key : NameKey) (name : List NameComponent) (object : Ior)
+      → IsTurn others s t
+      → t.request ≡ Some n → n.judged ≡ Call key (call.Act (act.Resolve name))
+      → name_fits name ≡ true
       → is_live (store_seen t.after.names) (context_in key) ≡ true → (n.outcome ≡ no_memory → ⊥)
-      → (n.outcome ≡ Done (Object object)) ↔ Reach (store_seen t.after.names) (context_in key) name object
+      → (n.outcome ≡ Done (Object object))
+      ↔ Reach (store_seen t.after.names) (context_in key) name object

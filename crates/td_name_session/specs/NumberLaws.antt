@@ -38,7 +38,8 @@ kept_rises : (left : List NameBinding) (d e : Kept) → e ≡ kept_for left d �
 kept_rises [] d e h = same d e h
 kept_rises (b ∷ bs) d e h = omega (arith, ap number h)
 
-list_rises : (home : Home) (r : NameAnswer) (m : ℕ) (draft : Draft) (d : Kept) (o : NameOutcome) (e : Kept)
+list_rises : (home : Home) (r : NameAnswer) (m : ℕ) (draft : Draft) (d : Kept) (o : NameOutcome)
+    (e : Kept)
     → CutsList home r m draft d o e → Rises d e
 list_rises home (Done (Bindings bs)) m draft d o e h = kept_rises (drop h.count bs) d e h.kept
 list_rises home (Done Nothing) m draft d o e h = same d e h.1
@@ -46,8 +47,8 @@ list_rises home (Done (Object x)) m draft d o e h = same d e h.1
 list_rises home (User x) m draft d o e h = same d e h.1
 list_rises home (System x) m draft d o e h = same d e h.1
 
-iterator_rises : (n : ℕ) (left : Option (List NameBinding)) (i : IteratorCall) (draft : Draft) (d : Kept)
-    (o : NameOutcome) (e : Kept) → IteratorDone n left i draft d o e → Rises d e
+iterator_rises : (n : ℕ) (left : Option (List NameBinding)) (i : IteratorCall) (draft : Draft)
+    (d : Kept) (o : NameOutcome) (e : Kept) → IteratorDone n left i draft d o e → Rises d e
 iterator_rises n None i draft d o e h = same d e h.1
 iterator_rises n (Some left) iter.NextOne draft d o e h = omega (arith, ap number h.1)
 iterator_rises n (Some left) (iter.NextN m) draft d o e h = omega (arith, ap number h.kept)
@@ -64,10 +65,12 @@ not_request : (m : List ℕ) (k : ℕ) → kind_of m ≡ k → 0 < k → is_requ
 not_request m k e some = rw (e, ne_eqb k 0 (omega (arith, some))) refl
 
 module _ (others : List NameChange → Type 0) where
-  call_rises : (key : NameKey) (c : NameCall) (draft : Draft) (s : Scene) (o : NameOutcome) (b : Bool) (t : Scene)
+  call_rises : (key : NameKey) (c : NameCall) (draft : Draft) (s : Scene) (o : NameOutcome)
+      (b : Bool) (t : Scene)
       → CallComes others key c draft s o b t → Rises s.desk t.desk
   call_rises key (call.Act a) draft s o b t h = same s.desk t.desk h.desk
-  call_rises key (call.List n) draft s o b t h = list_rises s.names.home h.0.answer n draft s.desk o t.desk h.0.cuts
+  call_rises key (call.List n) draft s o b t h = list_rises s.names.home h.0.answer n draft s.desk o
+      t.desk h.0.cuts
   call_rises key (call.Iterator i) draft s o b t h = iterator_rises _ _ i draft s.desk o t.desk h.0
   call_rises key (call.IsA id) draft s o b t h = same s.desk t.desk (ap desk_of h.1)
   call_rises key call.NonExistent draft s o b t h = same s.desk t.desk (ap desk_of h.1)
@@ -95,15 +98,18 @@ module _ (others : List NameChange → Type 0) where
   turn_rises : (s : Scene) (t : Turn) → IsTurn others s t → By s (is_request t.message) t.after
   turn_rises s t (request r) =
       asked_by s t.after (is_request t.message) (ap (λ (k : ℕ). eqb k 0) r.kind)
-      (answers_rise r.serves.noted.judged r.serves.draft (record { names = r.serves.looked; desk = s.desk })
+      (answers_rise r.serves.noted.judged r.serves.draft
+      (record { names = r.serves.looked; desk = s.desk })
       r.serves.noted.outcome r.serves.noted.accepted t.after r.serves.answers)
   turn_rises s t (locate l) =
       kept_by s t.after (is_request t.message) (not_request t.message 3 l.kind (omega arith)) l.desk
   turn_rises s t (cancel c) =
-      kept_by s t.after (is_request t.message) (not_request t.message 2 c.kind (omega arith)) (ap desk_of c.kept)
+      kept_by s t.after (is_request t.message) (not_request t.message 2 c.kind (omega arith))
+      (ap desk_of c.kept)
 
   -- from one stage to the next
-  pub message_spends : (s : Stage) (message reply : List ℕ) (u : Stage) → ServesMessage others s message reply u
+  pub message_spends : (s : Stage) (message reply : List ℕ) (u : Stage)
+      → ServesMessage others s message reply u
       → number u.scene.desk ≤ number s.scene.desk + cond (is_request message) 1 0
   message_spends s message reply u h =
       turn_rises s.scene (turn_of message h.noted h.point reply u.scene) h.leads.run.0

@@ -41,7 +41,8 @@ use Rattle.td_name_session.specs.declared.reply_to.ReplyTo.{ReplyTo}
 abbrev pub IsBodyOf : NameOutcome → AnswerBody → (draft written : Draft) → Type 0
 IsBodyOf o (Outcome told) draft written = told ≡ o
 IsBodyOf o Written draft written =
-    (outcome_status o ≡ 0) × (written.bytes ≡ draft.bytes ++ outcome_piece o draft.order (length draft.bytes))
+    (outcome_status o ≡ 0) × (written.bytes
+    ≡ draft.bytes ++ outcome_piece o draft.order (length draft.bytes))
     × (written.order ≡ draft.order)
 
 abbrev pub IfOutcome : AnswerBody → Type 0 → Type 0
@@ -57,8 +58,8 @@ abbrev pub IsWanting : Answer → Type 0
 IsWanting a = (a.body ≡ Outcome no_memory) × (a.accepted ≡ false)
 
 -- the first of these bindings stand in the writer behind the draft, and the others are kept in an iterator
-pub record CutsTo (iterator : Ior) (bindings : List NameBinding) (how_many : ℕ) (draft : Draft) (d : Kept) (a : Answer)
-    (written : Draft) (e : Kept) : Type 0 where
+pub record CutsTo (iterator : Ior) (bindings : List NameBinding) (how_many : ℕ) (draft : Draft)
+    (d : Kept) (a : Answer) (written : Draft) (e : Kept) : Type 0 where
   pub count : ℕ
   pub batch : IsBatch (list_head iterator) bindings draft how_many count
   pub body : a.body ≡ Written
@@ -67,13 +68,16 @@ pub record CutsTo (iterator : Ior) (bindings : List NameBinding) (how_many : ℕ
       (given_or_nil iterator (is_some (drop count bindings))) draft.order (length draft.bytes)
   pub order : written.order ≡ draft.order
   pub kept : e ≡ kept_for (drop count bindings) d
-  pub some : AreShort binding.format.writes bindings → 0 < how_many → 0 < length bindings → 0 < count
+  pub some : AreShort binding.format.writes bindings → 0 < how_many → 0 < length bindings
+      → 0 < count
 
 -- as many as are asked for and fit
-pub record PutsSome (n : ℕ) (left : List NameBinding) (draft written : Draft) (rest : List NameBinding) : Type 0 where
+pub record PutsSome (n : ℕ) (left : List NameBinding) (draft written : Draft)
+    (rest : List NameBinding) : Type 0 where
   pub count : ℕ
   pub batch : IsBatch next_head left draft n count
-  pub bytes : written.bytes ≡ draft.bytes ++ next_n_piece (take count left) draft.order (length draft.bytes)
+  pub bytes : written.bytes
+      ≡ draft.bytes ++ next_n_piece (take count left) draft.order (length draft.bytes)
   pub order : written.order ≡ draft.order
   pub rest_is : rest ≡ drop count left
   pub some : AreShort binding.format.writes left → 0 < n → 0 < length left → 0 < count
@@ -84,7 +88,8 @@ batch_call None = iter.NextOne
 batch_call (Some n) = iter.NextN n
 
 -- the next bindings stand in the writer behind the draft, and these are left
-abbrev pub Puts : IteratorCall → List NameBinding → (draft written : Draft) → List NameBinding → Type 0
+abbrev pub Puts : IteratorCall → List NameBinding → (draft written : Draft) → List NameBinding
+    → Type 0
 Puts iter.NextOne left draft written rest =
     (written.bytes ≡ draft.bytes ++ next_one_piece (first_of left) draft.order (length draft.bytes))
     × (written.order ≡ draft.order) × (rest ≡ drop 1 left)
@@ -92,44 +97,49 @@ Puts (iter.NextN n) left draft written rest = PutsSome n left draft written rest
 Puts iter.Destroy left draft written rest = ⊥
 
 -- a batch, or memory was wanted
-pub data GivesTo (i : IteratorCall) (left : List NameBinding) (draft : Draft) (a : Answer) (written : Draft)
-    (rest : List NameBinding) : Type 0 where
-  gives : Puts i left draft written rest → a.body ≡ Written → a.accepted ≡ false → GivesTo i left draft a written rest
+pub data GivesTo (i : IteratorCall) (left : List NameBinding) (draft : Draft) (a : Answer)
+    (written : Draft) (rest : List NameBinding) : Type 0 where
+  gives : Puts i left draft written rest → a.body ≡ Written → a.accepted ≡ false
+      → GivesTo i left draft a written rest
   wanting : IsWanting a → rest ≡ left → GivesTo i left draft a written rest
 
 -- a call of an iterator comes to this, or memory was wanted
-pub data Iterates (n : ℕ) (i : IteratorCall) (draft : Draft) (d : Kept) (a : Answer) (written : Draft) (e : Kept) : Type
-    0 where
-  done : (o : NameOutcome) → IteratorDone n (item_of desk_label n d) i draft d o e → IsBodyOf o a.body draft written
+pub data Iterates (n : ℕ) (i : IteratorCall) (draft : Draft) (d : Kept) (a : Answer)
+    (written : Draft) (e : Kept) : Type 0 where
+  done : (o : NameOutcome) → IteratorDone n (item_of desk_label n d) i draft d o e
+      → IsBodyOf o a.body draft written
       → a.accepted ≡ false → IfOutcome a.body (AlwaysFits o) → Iterates n i draft d a written e
   wanting : IsWanting a → e ≡ d → Iterates n i draft d a written e
 
 module _ (others : List NameChange → Type 0) where
   -- What a judged Request comes to with a writer that held the draft. A body for which memory may be wanted can be taken
   -- back.
-  pub record Performs (j : Judged) (draft : Draft) (s : Scene) (a : Answer) (written : Draft) (t : Scene) : Type 0 where
+  pub record Performs (j : Judged) (draft : Draft) (s : Scene) (a : Answer) (written : Draft)
+      (t : Scene) : Type 0 where
     pub outcome : NameOutcome
     pub answers : Answers others j draft s outcome a.accepted t
     pub body : IsBodyOf outcome a.body draft written
-    pub taken_back : IfOutcome a.body (AlwaysFits outcome ⊎ Unserved others s no_memory a.accepted t)
+    pub taken_back : IfOutcome a.body (AlwaysFits outcome
+        ⊎ Unserved others s no_memory a.accepted t)
 
   -- the same, with a writer that was begun for the Reply
-  pub record Performed (to : ReplyTo) (j : Judged) (s : Scene) (a : Answer) (written : Draft) (t : Scene) : Type 0 where
+  pub record Performed (to : ReplyTo) (j : Judged) (s : Scene) (a : Answer) (written : Draft)
+      (t : Scene) : Type 0 where
     pub draft : Draft
     pub begun : BeginsReply to draft
     pub performs : Performs j draft s a written t
 
   -- a Request with this key, operation and body is judged, and performed at what is seen then
-  pub record Handles (to : ReplyTo) (key operation : List ℕ) (body : At) (s : Scene) (a : Answer) (written : Draft)
-      (t : Scene) : Type 0 where
+  pub record Handles (to : ReplyTo) (key operation : List ℕ) (body : At) (s : Scene) (a : Answer)
+      (written : Draft) (t : Scene) : Type 0 where
     pub judged : Judged
     pub looked : View
     pub asks : Judges others s.names s.desk key operation body judged looked
     pub performed : Performed to judged (scene looked s.desk) a written t
 
   -- a listing of a context
-  pub record Lists (n how_many : ℕ) (draft : Draft) (s : Scene) (a : Answer) (written : Draft) (t : Scene) : Type
-      0 where
+  pub record Lists (n how_many : ℕ) (draft : Draft) (s : Scene) (a : Answer) (written : Draft)
+      (t : Scene) : Type 0 where
     pub outcome : NameOutcome
     pub comes : ListComes others n how_many draft s outcome t
     pub body : IsBodyOf outcome a.body draft written
@@ -137,14 +147,16 @@ module _ (others : List NameChange → Type 0) where
     pub taken_back : IfOutcome a.body (Unserved others s no_memory false t)
 
   -- or memory was wanted
-  pub data ListsOrWants (n how_many : ℕ) (draft : Draft) (s : Scene) (a : Answer) (written : Draft) (t : Scene) : Type
-      0 where
+  pub data ListsOrWants (n how_many : ℕ) (draft : Draft) (s : Scene) (a : Answer) (written : Draft)
+      (t : Scene) : Type 0 where
     lists : Lists n how_many draft s a written t → ListsOrWants n how_many draft s a written t
-    wanting : IsWanting a → Unserved others s no_memory false t → ListsOrWants n how_many draft s a written t
+    wanting : IsWanting a → Unserved others s no_memory false t
+        → ListsOrWants n how_many draft s a written t
 
   -- A call of a context comes to this, or memory was wanted. There is always room for the reply of an accepted change.
   pub data ActsTo (n : ℕ) (act : NameAct) (v : View) (a : Answer) (u : View) : Type 0 where
-    done : (answer : NameAnswer) → Acts others v n act answer u → a.body ≡ Outcome (outcome_of answer)
+    done : (answer : NameAnswer) → Acts others v n act answer u
+        → a.body ≡ Outcome (outcome_of answer)
         → a.accepted ≡ is_accepted act answer → (a.accepted ≡ true → AlwaysFits (outcome_of answer))
         → ActsTo n act v a u
     wanting : Meanwhile others v u → IsWanting a → ActsTo n act v a u

@@ -11,7 +11,12 @@ use Rattle.td_name_session.specs.declared.reply_to.ReplyTo.{ReplyTo}
 
 -- what the reply to a Request with this head answers, whose message is in this order and of this version
 abbrev pub reply_to : Order → (minor : ℕ) → Request → ReplyTo
-reply_to order minor head = record { order = order; minor = minor; id = head.id; answered = head.answered }
+reply_to order minor head = record {
+  order = order;
+  minor = minor;
+  id = head.id;
+  answered = head.answered;
+}
 
 -- the reply is of a version that is written
 abbrev pub IsWritable : ReplyTo → Type 0
@@ -34,4 +39,5 @@ pub record BeginsReply (to : ReplyTo) (draft : Draft) : Type 0 where
 
 -- the LocateReply: OBJECT_HERE for the key of a live object, else UNKNOWN_OBJECT
 abbrev pub locate_reply : Order → (minor : ℕ) → ℕ → (live : Bool) → List ℕ
-locate_reply order minor id live = sealed order (locate_reply_written order minor id (if live then 1 else 0))
+locate_reply order minor id live = sealed order
+    (locate_reply_written order minor id (if live then 1 else 0))

@@ -56,17 +56,20 @@ kept_for (b ∷ bs) d = added desk_label (b ∷ bs) d
 
 -- A listing is told as far as it is asked for and fits: the first bindings, and an iterator of the others, nil exactly
 -- where none are left. Where one at least is asked for and there is one, and each is short, one at least is told.
-pub record CutsBindings (home : Home) (bindings : List NameBinding) (how_many : ℕ) (draft : Draft) (d : Kept)
-    (o : NameOutcome) (e : Kept) : Type 0 where
+pub record CutsBindings (home : Home) (bindings : List NameBinding) (how_many : ℕ) (draft : Draft)
+    (d : Kept) (o : NameOutcome) (e : Kept) : Type 0 where
   pub count : ℕ
   pub batch : IsBatch (list_head (iterator_reference home d.1)) bindings draft how_many count
   pub told : o ≡ outcome.Done (result.List (take count bindings)
       (given_or_nil (iterator_reference home d.1) (is_some (drop count bindings))))
   pub kept : e ≡ kept_for (drop count bindings) d
-  pub some : AreShort binding.format.writes bindings → 0 < how_many → 0 < length bindings → 0 < count
+  pub some : AreShort binding.format.writes bindings → 0 < how_many → 0 < length bindings
+      → 0 < count
 
-abbrev pub CutsList : Home → NameAnswer → (how_many : ℕ) → Draft → Kept → NameOutcome → Kept → Type 0
-CutsList home (Done (Bindings bindings)) how_many draft d o e = CutsBindings home bindings how_many draft d o e
+abbrev pub CutsList : Home → NameAnswer → (how_many : ℕ) → Draft → Kept → NameOutcome → Kept
+    → Type 0
+CutsList home (Done (Bindings bindings)) how_many draft d o e = CutsBindings home bindings how_many
+    draft d o e
 CutsList home r how_many draft d o e = (o ≡ outcome_of r) × (e ≡ d)
 
 -- ---- iterators
@@ -77,8 +80,8 @@ first_of (b ∷ bs) = Some b
 
 -- The next bindings: as many as are asked for and fit. Where one at least is asked for and is left, and each is short,
 -- one at least is given.
-pub record Gives (n how_many : ℕ) (left : List NameBinding) (draft : Draft) (d : Kept) (o : NameOutcome) (e : Kept)
-    : Type 0 where
+pub record Gives (n how_many : ℕ) (left : List NameBinding) (draft : Draft) (d : Kept)
+    (o : NameOutcome) (e : Kept) : Type 0 where
   pub count : ℕ
   pub batch : IsBatch next_head left draft how_many count
   pub told : o ≡ outcome.Done (result.NextN (take count left))
@@ -86,10 +89,12 @@ pub record Gives (n how_many : ℕ) (left : List NameBinding) (draft : Draft) (d
   pub some : AreShort binding.format.writes left → 0 < how_many → 0 < length left → 0 < count
 
 -- a call of an iterator with these bindings left
-abbrev pub IteratorDone : (n : ℕ) → Option (List NameBinding) → IteratorCall → Draft → Kept → NameOutcome → Kept → Type 0
+abbrev pub IteratorDone : (n : ℕ) → Option (List NameBinding) → IteratorCall → Draft → Kept
+    → NameOutcome → Kept → Type 0
 IteratorDone n None i draft d o e = (o ≡ system ObjectNotExist) × (e ≡ d)
 IteratorDone n (Some left) iter.NextOne draft d o e =
-    (o ≡ outcome.Done (result.NextOne (first_of left))) × (e ≡ with_item desk_label n d (drop 1 left))
+    (o ≡ outcome.Done (result.NextOne (first_of left)))
+    × (e ≡ with_item desk_label n d (drop 1 left))
 IteratorDone n (Some left) (iter.NextN m) draft d o e = Gives n m left draft d o e
 IteratorDone n (Some left) iter.Destroy draft d o e =
     (o ≡ outcome.Done result.Nothing) × (e ≡ removed desk_label n d)
@@ -101,25 +106,29 @@ is_a kind id = bytes_eq id (interface_id kind) || bytes_eq id object_id
 
 module _ (others : List NameChange → Type 0) where
   -- a call of a context, but for `list`
-  pub record ActComes (n : ℕ) (a : NameAct) (s : Scene) (o : NameOutcome) (accepted : Bool) (t : Scene) : Type 0 where
+  pub record ActComes (n : ℕ) (a : NameAct) (s : Scene) (o : NameOutcome) (accepted : Bool)
+      (t : Scene) : Type 0 where
     pub answer : NameAnswer
     pub acts : Acts others s.names n a answer t.names
     pub told : o ≡ outcome_of answer
     pub is : accepted ≡ is_accepted a answer
     pub desk : t.desk ≡ s.desk
 
-  pub record ListComes (n how_many : ℕ) (draft : Draft) (s : Scene) (o : NameOutcome) (t : Scene) : Type 0 where
+  pub record ListComes (n how_many : ℕ) (draft : Draft) (s : Scene) (o : NameOutcome)
+      (t : Scene) : Type 0 where
     pub answer : NameAnswer
     pub acts : Acts others s.names n act.List answer t.names
     pub cuts : CutsList s.names.home answer how_many draft s.desk o t.desk
 
   -- A call of an object: its outcome, whether it was an accepted change, and how everything stands then.
-  abbrev pub CallComes : NameKey → NameCall → (draft : Draft) → Scene → NameOutcome → Bool → Scene → Type 0
+  abbrev pub CallComes : NameKey → NameCall → (draft : Draft) → Scene → NameOutcome → Bool → Scene
+      → Type 0
   CallComes key (call.Act a) draft s o accepted t = ActComes (context_in key) a s o accepted t
   CallComes key (call.List n) draft s o accepted t =
       ListComes (context_in key) n draft s o t × (accepted ≡ false)
   CallComes key (call.Iterator i) draft s o accepted t =
-      IteratorDone (iterator_in key) (item_of desk_label (iterator_in key) s.desk) i draft s.desk o t.desk
+      IteratorDone (iterator_in key) (item_of desk_label (iterator_in key) s.desk)
+      i draft s.desk o t.desk
       × (t.names ≡ s.names) × (accepted ≡ false)
   CallComes key (call.IsA id) draft s o accepted t =
       (o ≡ outcome.Done (result.Truth (is_a (kind_of key) id))) × (t ≡ s) × (accepted ≡ false)
@@ -128,7 +137,8 @@ module _ (others : List NameChange → Type 0) where
 
   -- a Request that spells no call is refused, and that is all
   abbrev pub Comes : Judged → (draft : Draft) → Scene → NameOutcome → Bool → Scene → Type 0
-  Comes (Refused k minor) draft s o accepted t = (o ≡ refused k minor) × (t ≡ s) × (accepted ≡ false)
+  Comes (Refused k minor) draft s o accepted t = (o ≡ refused k minor) × (t ≡ s)
+      × (accepted ≡ false)
   Comes (Call key c) draft s o accepted t = CallComes key c draft s o accepted t
 
   -- Memory was wanted: nothing was done but by others.

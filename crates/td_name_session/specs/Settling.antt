@@ -22,7 +22,8 @@ pub record AlwaysFits (o : NameOutcome) : Type 0 where
 
 -- The outcome was told, or memory was wanted where there isn't always room for it.
 abbrev pub Tells : ReplyTo → NameOutcome → List ℕ → Type 0
-Tells to o bytes = (bytes ≡ outcome_reply to o) ⊎ ((AlwaysFits o → ⊥) × (bytes ≡ outcome_reply to no_memory))
+Tells to o bytes = (bytes ≡ outcome_reply to o)
+    ⊎ ((AlwaysFits o → ⊥) × (bytes ≡ outcome_reply to no_memory))
 
 abbrev pub SettlesBody : ReplyTo → AnswerBody → (written : Draft) → List ℕ → Type 0
 SettlesBody to (Outcome o) written bytes = Tells to o bytes

@@ -48,15 +48,15 @@ module _ (others : List NameChange → Type 0) where
     pub noted : u.journal ≡ s.journal ++ journal_of turns
 
   -- the Request is served, and its point is noted behind the journal
-  pub record NotesHead (to : ReplyTo) (key operation : List ℕ) (body : At) (s : Stage) (reply : List ℕ) (u : Stage)
-      : Type 0 where
+  pub record NotesHead (to : ReplyTo) (key operation : List ℕ) (body : At) (s : Stage)
+      (reply : List ℕ) (u : Stage) : Type 0 where
     pub point : ℕ
     pub serves : ServesHead others to key operation body s.scene reply point u.scene
     pub journal : u.journal ≡ s.journal ++ point ∷ []
 
   -- A LocateRequest is answered, and how many changes are seen then is noted behind the journal.
-  pub record NotesLocate (order : Order) (minor id : ℕ) (key : List ℕ) (s : Stage) (reply : List ℕ) (u : Stage) : Type
-      0 where
+  pub record NotesLocate (order : Order) (minor id : ℕ) (key : List ℕ) (s : Stage) (reply : List ℕ)
+      (u : Stage) : Type 0 where
     pub live : Bool
     pub finds : FindsKey others s.scene.names s.scene.desk (key_of key) live u.scene.names
     pub told : reply ≡ locate_reply order minor id live

@@ -50,7 +50,8 @@ module _ (others : List NameChange → Type 0) where
   FindsKey v d (Some key) live u = Finds others v d key live u
 
   -- the live object of a key, if there is one
-  pub record FindsLive (v : View) (d : Kept) (key : Option NameKey) (found : Option NameKey) (u : View) : Type 0 where
+  pub record FindsLive (v : View) (d : Kept) (key : Option NameKey) (found : Option NameKey)
+      (u : View) : Type 0 where
     pub live : Bool
     pub finds : FindsKey v d key live u
     pub is : found ≡ cond live key None
@@ -80,14 +81,15 @@ module _ (others : List NameChange → Type 0) where
 
   -- A Request with this key, operation and body is judged at what is seen once its object was looked for, and served as
   -- it asks from there on, with this reply; this point is noted of it.
-  pub record ServesHead (to : ReplyTo) (key operation : List ℕ) (body : At) (s : Scene) (reply : List ℕ) (point : ℕ)
-      (u : Scene) : Type 0 where
+  pub record ServesHead (to : ReplyTo) (key operation : List ℕ) (body : At) (s : Scene)
+      (reply : List ℕ) (point : ℕ) (u : Scene) : Type 0 where
     pub noted : Noted
     pub looked : View
     pub asks : Judges others s.names s.desk key operation body noted.judged looked
     pub draft : Draft
     pub begun : BeginsReply to draft
-    pub answers : Answers others noted.judged draft (scene looked s.desk) noted.outcome noted.accepted u
+    pub answers : Answers others noted.judged draft (scene looked s.desk)
+        noted.outcome noted.accepted u
     pub told : reply ≡ reply_for to noted.outcome
     pub point_is : point ≡ point_of (seen_in u) noted.accepted
 
@@ -97,8 +99,8 @@ module _ (others : List NameChange → Type 0) where
     pub kind : kind_of t.message ≡ REQUEST
     pub read : request_at (minor_of t.message) (behind t.message) ≡ Ok (head, body)
     pub point : ℕ
-    pub serves : ServesHead (reply_to (order_of t.message) (minor_of t.message) head) head.key head.operation body s
-        t.reply point t.after
+    pub serves : ServesHead (reply_to (order_of t.message) (minor_of t.message) head)
+        head.key head.operation body s t.reply point t.after
     pub request : t.request ≡ Some serves.noted
     pub point_is : t.point ≡ Some point
 

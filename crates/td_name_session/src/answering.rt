@@ -32,9 +32,11 @@ pub(crate) fn answer_message<N: Names>(
     requires head { HasHead message.now head.now }
     requires numbers { room.old.desk.1 < 2 ^ 63 }
     ensures same { N.same names.old names.new }
-    ensures ok { OnOk result (ServesMessage N.others (stage_in (N.view names.old) room.old) message.now.bytes.now
-        room.new.replies (stage_in (N.view names.new) room.new)) }
-    ensures err { OnErr result (Stays (stage_in (N.view names.old) room.old) (stage_in (N.view names.new) room.new)) }
+    ensures ok { OnOk result
+        (ServesMessage N.others (stage_in (N.view names.old) room.old)
+        message.now.bytes.now room.new.replies (stage_in (N.view names.new) room.new)) }
+    ensures err { OnErr result (Stays (stage_in (N.view names.old) room.old)
+        (stage_in (N.view names.new) room.new)) }
 {
     match head {
         Head::Request(request) => {
@@ -67,8 +69,10 @@ fn answer_request<N: Names>(
     requires numbers { room.old.desk.1 < 2 ^ 63 }
     ensures same { N.same names.old names.new }
     ensures ok { OnOk result (NotesHead N.others (reply_to order minor (asked_of head.now))
-        head.now.key.now head.now.operation.now head.now.body (stage_in (N.view names.old) room.old) room.new.replies (stage_in (N.view names.new) room.new)) }
-    ensures err { OnErr result (Stays (stage_in (N.view names.old) room.old) (stage_in (N.view names.new) room.new)) }
+        head.now.key.now head.now.operation.now head.now.body (stage_in (N.view names.old) room.old)
+        room.new.replies (stage_in (N.view names.new) room.new)) }
+    ensures err { OnErr result (Stays (stage_in (N.view names.old) room.old)
+        (stage_in (N.view names.new) room.new)) }
 {
     room.journal.reserve(1)?;
     let to = ReplyTo {
@@ -105,8 +109,10 @@ fn answer_locate<N: Names>(
     requires version { minor ≤ NEWEST_MINOR }
     ensures same { N.same names.old names.new }
     ensures ok { OnOk result (NotesLocate N.others order minor id key.now
-        (stage_in (N.view names.old) room.old) room.new.replies (stage_in (N.view names.new) room.new)) }
-    ensures err { OnErr result (Stays (stage_in (N.view names.old) room.old) (stage_in (N.view names.new) room.new)) }
+        (stage_in (N.view names.old) room.old) room.new.replies
+        (stage_in (N.view names.new) room.new)) }
+    ensures err { OnErr result (Stays (stage_in (N.view names.old) room.old)
+        (stage_in (N.view names.new) room.new)) }
 {
     room.journal.reserve(1)?;
     let live = is_live(names, &mut room.iterators, key);

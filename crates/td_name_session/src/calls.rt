@@ -33,7 +33,8 @@ pub(crate) fn perform<N: Names>(
     requires start { length w.old.bytes ≡ REPLY_START }
     requires numbers { iterators.old.1 < 2 ^ 63 }
     ensures same { N.same names.old names.new }
-    ensures performs { Performs N.others (asked.Call key call) w.old (scene (N.view names.old) iterators.old) result w.new
+    ensures performs { Performs N.others (asked.Call key call) w.old
+        (scene (N.view names.old) iterators.old) result w.new
         (scene (N.view names.new) iterators.new) }
 {
     match call {

@@ -149,7 +149,8 @@ fn batch(
 /// Takes an iterator away.
 fn destroy(desk: &mut Desk<Iter<NameBinding>>, label: &Text, number: u64) -> Answer
     requires { label.now ≡ desk_label }
-    ensures { (draft written : Draft) → Iterates number asked.Destroy draft desk.old result written desk.new }
+    ensures { (draft written : Draft)
+        → Iterates number asked.Destroy draft desk.old result written desk.new }
 {
     if is_at(desk, label, number) {
         let _found = desk.remove(label, number);

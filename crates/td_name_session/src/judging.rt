@@ -52,7 +52,8 @@ fn is_there<N: Names>(names: &mut N, iterators: &mut Iterators, key: NameKey) ->
 /// The live object that these octets are the key of. Takes no memory.
 fn find<N: Names>(names: &mut N, iterators: &mut Iterators, key: &[u8]) -> Option<NameKey>
     ensures same { N.same names.old names.new }
-    ensures finds { FindsLive N.others (N.view names.old) iterators.old (key_of key.now) result (N.view names.new) }
+    ensures finds { FindsLive N.others (N.view names.old) iterators.old (key_of key.now) result
+        (N.view names.new) }
     ensures iterators { iterators.new ≡ iterators.old }
 {
     let key = read_name_key(key)?;
@@ -67,7 +68,8 @@ fn find<N: Names>(names: &mut N, iterators: &mut Iterators, key: &[u8]) -> Optio
 #[tactic(auto, using(crate::proofs::Judgements::found_live, crate::proofs::Judgements::missed_live))]
 pub(crate) fn is_live<N: Names>(names: &mut N, iterators: &mut Iterators, key: &[u8]) -> bool
     ensures same { N.same names.old names.new }
-    ensures finds { FindsKey N.others (N.view names.old) iterators.old (key_of key.now) result (N.view names.new) }
+    ensures finds { FindsKey N.others (N.view names.old) iterators.old (key_of key.now) result
+        (N.view names.new) }
     ensures iterators { iterators.new ≡ iterators.old }
 {
     match find(names, iterators, key) {
@@ -92,9 +94,11 @@ pub(crate) fn judge<N: Names>(
 ) -> Result<Judged, Memory>
     ensures same { N.same names.old names.new }
     ensures judged { IfOk result (λ j.
-        Judges N.others (N.view names.old) iterators.old key.now operation.now body.now j (N.view names.new)) }
+        Judges N.others (N.view names.old) iterators.old key.now operation.now body.now j
+        (N.view names.new)) }
     ensures unread { OnErr result ((j : Spelled)
-        × Judges N.others (N.view names.old) iterators.old key.now operation.now body.now j (N.view names.new)) }
+        × Judges N.others (N.view names.old) iterators.old key.now operation.now body.now j
+        (N.view names.new)) }
     ensures iterators { iterators.new ≡ iterators.old }
 {
     match find(names, iterators, key) {

@@ -30,7 +30,8 @@ pub(crate) fn serve_list<N: Names>(
     requires start { length w.old.bytes ≡ REPLY_START }
     requires numbers { iterators.old.1 < 2 ^ 63 }
     ensures same { N.same names.old names.new }
-    ensures lists { ListsOrWants N.others context how_many w.old (scene (N.view names.old) iterators.old) result w.new
+    ensures lists { ListsOrWants N.others context how_many w.old
+        (scene (N.view names.old) iterators.old) result w.new
         (scene (N.view names.new) iterators.new) }
 {
     match list(alloc, names, iterators, w, context, how_many) {
@@ -51,7 +52,8 @@ fn list<N: Names>(
     requires start { length w.old.bytes ≡ REPLY_START }
     requires numbers { iterators.old.1 < 2 ^ 63 }
     ensures same { N.same names.old names.new }
-    ensures ok { IfOk result (λ a. Lists N.others context how_many w.old (scene (N.view names.old) iterators.old) a w.new
+    ensures ok { IfOk result
+        (λ a. Lists N.others context how_many w.old (scene (N.view names.old) iterators.old) a w.new
         (scene (N.view names.new) iterators.new)) }
     ensures err { OnErr result (Idles N.others (N.view names.old) (N.view names.new)) }
     ensures iterators { OnErr result (iterators.new ≡ iterators.old) }
@@ -78,7 +80,8 @@ fn cut(
     requires start { length w.old.bytes ≡ REPLY_START }
     requires numbers { iterators.old.1 < 2 ^ 63 }
     requires small { IsSmallReference reference.now }
-    ensures ok { IfOk result (λ a. CutsTo reference.now bindings how_many w.old iterators.old a w.new iterators.new) }
+    ensures ok { IfOk result
+        (λ a. CutsTo reference.now bindings how_many w.old iterators.old a w.new iterators.new) }
     ensures err { OnErr result (iterators.new ≡ iterators.old) }
 {
     if bindings.len() > u32::MAX as usize {

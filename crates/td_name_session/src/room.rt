@@ -25,7 +25,11 @@ impl Model for NameRoom {
 
     ghost coded = { Prim.hlevel codes };
 
-    ghost view = { λ r. record { desk = r.iterators; journal = r.journal.items; replies = r.replies } };
+    ghost view = { λ r. record {
+      desk = r.iterators;
+      journal = r.journal.items;
+      replies = r.replies;
+    } };
 }
 
 impl NameRoom {

@@ -20,21 +20,23 @@ pub(crate) struct NameServant<'n, 'r, N> {
 }
 
 impl<'n, 'r, N: Names> Servant for NameServant<'n, 'r, N> {
-    ghost serves = { λ s message reply u. ServesMessage N.others (stage_in (N.view s.names.now) s.room.now) message reply
+    ghost serves = { λ s message reply u.
+        ServesMessage N.others (stage_in (N.view s.names.now) s.room.now) message reply
         (stage_in (N.view u.names.now) u.room.now) };
 
     ghost stays = { λ s u. Stays (stage_in (N.view s.names.now) s.room.now)
         (stage_in (N.view u.names.now) u.room.now) };
 
-    ghost same = { λ a b. (a.names.ghost_name ≡ b.names.ghost_name) × (a.room.ghost_name ≡ b.room.ghost_name)
-        × N.same a.names.now b.names.now };
+    ghost same = { λ a b. (a.names.ghost_name ≡ b.names.ghost_name)
+        × (a.room.ghost_name ≡ b.room.ghost_name) × N.same a.names.now b.names.now };
 
     ghost told = { λ s. s.room.now.replies };
 
     ghost budget = { λ s. s.room.now.desk.1 };
 
-    ghost spends = { λ s message reply u h. message_spends N.others (stage_in (N.view s.names.now) s.room.now) message
-        reply (stage_in (N.view u.names.now) u.room.now) h };
+    ghost spends = { λ s message reply u h.
+        message_spends N.others (stage_in (N.view s.names.now) s.room.now) message reply
+        (stage_in (N.view u.names.now) u.room.now) h };
 
     ghost stays_itself = { λ _. refl };
 

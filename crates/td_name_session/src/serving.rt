@@ -39,7 +39,8 @@ pub(crate) fn serve_request<N: Names>(
     requires numbers { iterators.old.1 < 2 ^ 63 }
     ensures same { N.same names.old names.new }
     ensures serves { ServesHead N.others to head.now.key.now head.now.operation.now head.now.body
-        (scene (N.view names.old) iterators.old) replies.new result (scene (N.view names.new) iterators.new) }
+        (scene (N.view names.old) iterators.old) replies.new result
+        (scene (N.view names.new) iterators.new) }
 {
     let answer = handle(alloc, names, iterators, &mut replies.long, to, head);
     replies.is_long = settle(
@@ -76,7 +77,8 @@ fn handle<N: Names>(
     requires numbers { iterators.old.1 < 2 ^ 63 }
     ensures same { N.same names.old names.new }
     ensures handles { Handles N.others to head.now.key.now head.now.operation.now head.now.body
-        (scene (N.view names.old) iterators.old) result w.new (scene (N.view names.new) iterators.new) }
+        (scene (N.view names.old) iterators.old) result w.new
+        (scene (N.view names.new) iterators.new) }
 {
     match judge(
         alloc,
@@ -103,8 +105,8 @@ fn serve_judged<N: Names>(
     requires version { IsWritable to }
     requires numbers { iterators.old.1 < 2 ^ 63 }
     ensures same { N.same names.old names.new }
-    ensures performed { Performed N.others to judged (scene (N.view names.old) iterators.old) result w.new
-        (scene (N.view names.new) iterators.new) }
+    ensures performed { Performed N.others to judged (scene (N.view names.old) iterators.old)
+        result w.new (scene (N.view names.new) iterators.new) }
 {
     match judged {
         Judged::Call { key, call } => begin(alloc, names, iterators, w, to, key, call),
@@ -126,8 +128,9 @@ fn begin<N: Names>(
     requires version { IsWritable to }
     requires numbers { iterators.old.1 < 2 ^ 63 }
     ensures same { N.same names.old names.new }
-    ensures performed { Performed N.others to (asked.Call key call) (scene (N.view names.old) iterators.old) result
-        w.new (scene (N.view names.new) iterators.new) }
+    ensures performed { Performed N.others to (asked.Call key call)
+        (scene (N.view names.old) iterators.old) result w.new
+        (scene (N.view names.new) iterators.new) }
 {
     w.restart(to.order);
     match start_reply(w, to.minor, to.id, NO_EXCEPTION) {

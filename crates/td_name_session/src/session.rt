@@ -27,14 +27,16 @@ pub fn serve_names<N: Names, S: Source, K: Sink>(
 ) -> End
     requires { IsNew room.old }
     ensures same { N.same names.old names.new }
-    ensures serves { Serves N.others (scene (N.view names.old) room.old.desk) (scene (N.view names.new) room.new.desk)
-        room.new.journal result
+    ensures serves { Serves N.others (scene (N.view names.old) room.old.desk)
+        (scene (N.view names.new) room.new.desk) room.new.journal result
         (outside (S.left source.old) (S.faults source.old) (K.written sink.old) (K.faults sink.old))
-        (outside (S.left source.new) (S.faults source.new) (K.written sink.new) (K.faults sink.new)) }
+        (outside (S.left source.new) (S.faults source.new) (K.written sink.new)
+        (K.faults sink.new)) }
     ensures complete { Completes N.others (scene (N.view names.old) room.old.desk)
         (scene (N.view names.new) room.new.desk) result
         (outside (S.left source.old) (S.faults source.old) (K.written sink.old) (K.faults sink.old))
-        (outside (S.left source.new) (S.faults source.new) (K.written sink.new) (K.faults sink.new)) }
+        (outside (S.left source.new) (S.faults source.new) (K.written sink.new)
+        (K.faults sink.new)) }
 {
     serve_session(alloc, names, room, source, sink)
 }
@@ -49,10 +51,11 @@ fn serve_session<N: Names, S: Source, K: Sink>(
 ) -> End
     requires { IsNew room.old }
     ensures same { N.same names.old names.new }
-    ensures serves { Serves N.others (scene (N.view names.old) room.old.desk) (scene (N.view names.new) room.new.desk)
-        room.new.journal result
+    ensures serves { Serves N.others (scene (N.view names.old) room.old.desk)
+        (scene (N.view names.new) room.new.desk) room.new.journal result
         (outside (S.left source.old) (S.faults source.old) (K.written sink.old) (K.faults sink.old))
-        (outside (S.left source.new) (S.faults source.new) (K.written sink.new) (K.faults sink.new)) }
+        (outside (S.left source.new) (S.faults source.new) (K.written sink.new)
+        (K.faults sink.new)) }
 {
     let mut servant = NameServant { names, room };
     let end = serve_lent(alloc, &mut servant, source, sink);
@@ -73,10 +76,13 @@ fn serve_lent<'n, 'r, N: Names, S: Source, K: Sink>(
     ensures named_names { servant.new.names.ghost_name ≡ servant.old.names.ghost_name }
     ensures named_room { servant.new.room.ghost_name ≡ servant.old.room.ghost_name }
     ensures same { N.same servant.old.names.now servant.new.names.now }
-    ensures serves { Serves N.others (scene (N.view servant.old.names.now) servant.old.room.now.desk)
-        (scene (N.view servant.new.names.now) servant.new.room.now.desk) servant.new.room.now.journal result
-        (outside (S.left source.old) (S.faults source.old) (K.written sink.old) (K.faults sink.old))
-        (outside (S.left source.new) (S.faults source.new) (K.written sink.new) (K.faults sink.new)) }
+    ensures serves { Serves N.others
+        (scene (N.view servant.old.names.now) servant.old.room.now.desk)
+        (scene (N.view servant.new.names.now) servant.new.room.now.desk)
+        servant.new.room.now.journal result (outside (S.left source.old) (S.faults source.old)
+        (K.written sink.old) (K.faults sink.old))
+        (outside (S.left source.new) (S.faults source.new) (K.written sink.new)
+        (K.faults sink.new)) }
 {
     serve_stream(alloc, servant, source, sink)
 }

@@ -103,7 +103,8 @@ fn write_outcome(
 ) -> Result<bool, Memory>
     requires version { IsWritable to }
     requires reserved { 1300 ≤ short.old.room }
-    ensures ok { IfOk result (λ is_long. chosen is_long short.new long.new ≡ outcome_reply to outcome.now) }
+    ensures ok { IfOk result (λ is_long. chosen is_long short.new long.new
+        ≡ outcome_reply to outcome.now) }
     ensures err { OnErr result (AlwaysFits outcome.now → ⊥) }
     ensures reserved { 1300 ≤ short.new.room }
 {

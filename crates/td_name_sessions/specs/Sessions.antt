@@ -49,8 +49,8 @@ pub record Closes (opened : Past) (v : View) (closed : Past) : Type 0 where
 
 -- A session over contexts that others call too: it began with this view of them, with no iterator kept, and ended with
 -- that one. Of streams of whole messages it loses none.
-pub record ServesOver (others : List NameChange → Type 0) (first : View) (journal : List ℕ) (end : End)
-    (before after : Outside) (last : View) : Type 0 where
+pub record ServesOver (others : List NameChange → Type 0) (first : View) (journal : List ℕ)
+    (end : End) (before after : Outside) (last : View) : Type 0 where
   pub scene_after : Scene
   pub seen : scene_after.names ≡ last
   pub serves : Serves others (scene first ([], 1)) scene_after journal end before after

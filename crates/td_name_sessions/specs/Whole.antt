@@ -18,15 +18,16 @@ abbrev pub Whole : {X : Type 0} → (X → Outside) → (X → Seeded) → (s t 
 Whole {X} = WholeOf {k = naming} {X = X}
 
 -- The contexts in the end are handed on: those that were opened, gone on from what was seen.
-pub record HandsOn {X : Type 0} (opened : Past) (world : View) (told told_after : Option (Told X)) : Type 0 where
+pub record HandsOn {X : Type 0} (opened : Past) (world : View)
+    (told told_after : Option (Told X)) : Type 0 where
   pub contexts : Past
   pub closes : Closes opened world contexts
   pub handed_on : told_after ≡ option_map (with_closed {k = naming} contexts) told
 
 -- Sessions were served from what was seen on to the end, and then the contexts handed on.
-pub record ServesFrom {X : Type 0} (outside_of : X → Outside) (seeded : X → Seeded) (opened : Past) (world : View)
-    (door : Option (Door X)) (told : Option (Told X)) (door_after : Option (Door X)) (told_after : Option (Told X))
-    : Type 0 where
+pub record ServesFrom {X : Type 0} (outside_of : X → Outside) (seeded : X → Seeded) (opened : Past)
+    (world : View) (door : Option (Door X)) (told : Option (Told X)) (door_after : Option (Door X))
+    (told_after : Option (Told X)) : Type 0 where
   pub seed : List ℕ
   pub end : Stand X
   pub whole : Whole outside_of seeded
@@ -35,7 +36,8 @@ pub record ServesFrom {X : Type 0} (outside_of : X → Outside) (seeded : X → 
   pub hands : HandsOn opened end.world end.told told_after
 
 -- All sessions of a server over these contexts, from the binding of its acceptor to the contexts in the end.
-abbrev pub ServesAll : {X : Type 0} → (X → Outside) → (X → Seeded) → (opened : Past) → Option (Door X) → Option (Told X)
+abbrev pub ServesAll : {X : Type 0} → (X → Outside) → (X → Seeded) → (opened : Past)
+    → Option (Door X) → Option (Told X)
     → (door_after : Option (Door X)) → (told_after : Option (Told X)) → Type 0
 ServesAll outside_of seeded opened door told door_after told_after =
     ServesFrom outside_of seeded opened (view_of opened [])

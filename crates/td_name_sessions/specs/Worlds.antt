@@ -9,10 +9,13 @@ use Rattle.td_shared_names.specs.BookLaws.{goes_on_itself, goes_on_more}
 use Rattle.td_name_sessions.specs.Sessions.{Joins, naming, past_in}
 
 -- a place that is own then was own before, or is the session's
-own_after : (w e u : View) (place : ℕ) → Joins w e u → In place u.own → In place w.own ⊎ In place e.own
-own_after w e u place j h = in-merge itself place w.own e.own (subst (λ (l : List ℕ). In place l) j.own h)
+own_after : (w e u : View) (place : ℕ) → Joins w e u → In place u.own → In place w.own
+    ⊎ In place e.own
+own_after w e u place j h = in-merge itself place w.own e.own
+    (subst (λ (l : List ℕ). In place l) j.own h)
 
-own_stays : (w e u : View) (place : ℕ) → Joins w e u → In place w.own ⊎ In place e.own → In place u.own
+own_stays : (w e u : View) (place : ℕ) → Joins w e u → In place w.own ⊎ In place e.own
+    → In place u.own
 own_stays w e u place j h =
     subst (λ (l : List ℕ). In place l) (sym j.own) (has-merge itself place w.own e.own h)
 

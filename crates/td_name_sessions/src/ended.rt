@@ -47,7 +47,8 @@ pub trait Ended<V> {
     /// All sessions have ended.
     fn naming(&mut self, contexts: Naming)
         ensures same { same self.old self.new }
-        ensures told { told self.new ≡ option_map (with_closed {k = naming} contexts) (told self.old) };
+        ensures told { told self.new ≡ option_map (with_closed {k = naming} contexts)
+            (told self.old) };
 
     ghost same_on: { (a b c : Self) → same a b → same b c → same a c };
 }

@@ -49,9 +49,9 @@ pub fn serve_naming<
     ended: &mut N,
 ) -> Result<(), Stop>
     ensures serves { OnOk result (ServesAll
-        (λ v. outside (A.S.left v.source) (A.S.faults v.source) (A.K.written v.sink) (A.K.faults v.sink))
-        (λ v. A.W.word_after v.words) contexts (A.told accept.old) (N.told ended.old) (A.told accept.new)
-        (N.told ended.new)) }
+        (λ v. outside (A.S.left v.source) (A.S.faults v.source) (A.K.written v.sink)
+        (A.K.faults v.sink)) (λ v. A.W.word_after v.words) contexts (A.told accept.old)
+        (N.told ended.old) (A.told accept.new) (N.told ended.new)) }
     ensures handed { OnErr result (HandsSome (N.told ended.old) (N.told ended.new)) }
     ensures later { A.faults accept.old ≤ A.faults accept.new }
     ensures stops { IfErr result (λ why. StopsSo why (A.faults accept.old) (A.faults accept.new)) }
@@ -83,9 +83,9 @@ fn serve_bound<
 ) -> Result<(), Stop>
     requires bound { A.bound accept.old ≡ true }
     ensures serves { OnOk result (ServesFrom
-        (λ v. outside (A.S.left v.source) (A.S.faults v.source) (A.K.written v.sink) (A.K.faults v.sink))
-        (λ v. A.W.word_after v.words) contexts (view_of contexts []) (A.told accept.old) (N.told ended.old)
-        (A.told accept.new) (N.told ended.new)) }
+        (λ v. outside (A.S.left v.source) (A.S.faults v.source) (A.K.written v.sink)
+        (A.K.faults v.sink)) (λ v. A.W.word_after v.words) contexts (view_of contexts [])
+        (A.told accept.old) (N.told ended.old) (A.told accept.new) (N.told ended.new)) }
     ensures handed { OnErr result (HandsSome (N.told ended.old) (N.told ended.new)) }
     ensures later { A.faults accept.old ≤ A.faults accept.new }
     ensures stops { IfErr result (λ why. StopsSo why (A.faults accept.old) (A.faults accept.new)) }
@@ -168,9 +168,9 @@ fn serve_opened<
     requires bound { A.bound accept.old ≡ true }
     requires seed { length seed.now ≡ 32 }
     ensures serves { OnOk result (ServesFrom
-        (λ v. outside (A.S.left v.source) (A.S.faults v.source) (A.K.written v.sink) (A.K.faults v.sink))
-        (λ v. A.W.word_after v.words) (opened names.cell) (seen_by pass) (A.told accept.old) (N.told ended.old)
-        (A.told accept.new) (N.told ended.new)) }
+        (λ v. outside (A.S.left v.source) (A.S.faults v.source) (A.K.written v.sink)
+        (A.K.faults v.sink)) (λ v. A.W.word_after v.words) (opened names.cell) (seen_by pass)
+        (A.told accept.old) (N.told ended.old) (A.told accept.new) (N.told ended.new)) }
     ensures handed { OnErr result (HandsSome (N.told ended.old) (N.told ended.new)) }
     ensures later { A.faults accept.old ≤ A.faults accept.new }
     ensures stops { IfErr result (λ why. StopsSo why (A.faults accept.old) (A.faults accept.new)) }
@@ -221,9 +221,8 @@ fn serve_visitors<
     ensures opening { OnOk result.0 (IsOpeningOf service.entry.names.now.cell result.1.pass) }
     ensures met { OnOk result.0 (all_met (knowledge result.1.pass).met ≡ true) }
     ensures whole { OnOk result.0 (Whole
-        (λ v. outside (A.S.left v.source) (A.S.faults v.source) (A.K.written v.sink) (A.K.faults v.sink))
-        (λ v. A.W.word_after v.words)
-        (record {
+        (λ v. outside (A.S.left v.source) (A.S.faults v.source) (A.K.written v.sink)
+        (A.K.faults v.sink)) (λ v. A.W.word_after v.words) (record {
           given = tt;
           seed = seed.now;
           door = A.told accept.old;
@@ -239,7 +238,8 @@ fn serve_visitors<
         })) }
     ensures handed { HandsSome (N.told service.entry.ended.now) (N.told result.1.ended.now) }
     ensures later { A.faults accept.old ≤ A.faults accept.new }
-    ensures stops { IfErr result.0 (λ why. StopsSo why (A.faults accept.old) (A.faults accept.new)) }
+    ensures stops { IfErr result.0 (λ why. StopsSo why (A.faults accept.old)
+        (A.faults accept.new)) }
 {
     serve_all(rt, alloc, seed, accept, gate, service)
 }

@@ -45,8 +45,8 @@ impl<'g, S: ClientSource, K: ClientSink, L: ClientWire, W: Words, R: Wait> Pass<
 > for SessionPass<'g, R> {
     ghost same = { λ p q. SamePass p.pass.pass q.pass };
 
-    ghost serves = { λ p words before after q e. ServesOver any_changes (seen_by p.pass.pass) e.journal e.end
-        (outside before.left before.reads before.written before.writes)
+    ghost serves = { λ p words before after q e. ServesOver any_changes (seen_by p.pass.pass)
+        e.journal e.end (outside before.left before.reads before.written before.writes)
         (outside after.left after.reads after.written after.writes) (seen_by q.pass) };
 
     fn serve(self, visitor: &mut Visitor<S, K, L, W>) -> (NamePass<'g, R>, SessionEnd) {
@@ -71,11 +71,10 @@ fn serve_visitor<N: Names, S: Source, K: Sink, L, W>(
     requires new { IsNew room.old }
     ensures same { N.same names.old names.new }
     ensures serves { ServesOver N.others (N.view names.old) room.new.journal result
-        (outside (S.left visitor.old.source) (S.faults visitor.old.source) (K.written visitor.old.sink)
-        (K.faults visitor.old.sink))
-        (outside (S.left visitor.new.source) (S.faults visitor.new.source) (K.written visitor.new.sink)
-        (K.faults visitor.new.sink))
-        (N.view names.new) }
+        (outside (S.left visitor.old.source) (S.faults visitor.old.source)
+        (K.written visitor.old.sink) (K.faults visitor.old.sink))
+        (outside (S.left visitor.new.source) (S.faults visitor.new.source)
+        (K.written visitor.new.sink) (K.faults visitor.new.sink)) (N.view names.new) }
 {
     serve_names(alloc, names, room, &mut visitor.source, &mut visitor.sink)
 }

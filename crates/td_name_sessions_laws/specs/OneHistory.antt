@@ -42,8 +42,8 @@ pub record MakesChange (history : List NameChange) (t : Turn) : Type 0 where
 -- so it is of each accepted change of the session
 abbrev pub MakesAll : List NameChange → List Turn → Type 0
 MakesAll history turns =
-    (before rest : List Turn) (t : Turn) (n : Noted) → turns ≡ before ++ t ∷ rest → t.request ≡ Some n
-    → n.accepted ≡ true → MakesChange history t
+    (before rest : List Turn) (t : Turn) (n : Noted) → turns ≡ before ++ t ∷ rest
+    → t.request ≡ Some n → n.accepted ≡ true → MakesChange history t
 
 -- ---- those of all sessions
 
@@ -61,21 +61,23 @@ module _ {X : Type 0} (outside_of : X → Outside) (seeded : X → Seeded) where
   AllMake history (v ∷ vs) each = MakesAll history each.0.serves.turns × AllMake history vs each.1
 
 -- The contexts as they were opened and as they are handed on, and all sessions.
-pub record AreOfSessions {X : Type 0} (outside_of : X → Outside) (seeded : X → Seeded) (opened closed : Past)
-    (visits : List (Visit X)) (each : AreServed outside_of seeded visits) : Type 0 where
+pub record AreOfSessions {X : Type 0} (outside_of : X → Outside) (seeded : X → Seeded)
+    (opened closed : Past) (visits : List (Visit X))
+    (each : AreServed outside_of seeded visits) : Type 0 where
   -- what came to the history is legal
   pub goes_on : GoesOn opened closed
   -- each change since the opening is an accepted change of one Request of one session
   pub once : (place : ℕ) → size_of opened ≤ place → place < size_of closed
       → times place (all_places outside_of seeded visits each) ≡ 1
   -- no accepted change is lost, or stands anywhere else
-  pub since : (place : ℕ) → In place (all_places outside_of seeded visits each) → size_of opened ≤ place
+  pub since : (place : ℕ) → In place (all_places outside_of seeded visits each)
+      → size_of opened ≤ place
   pub made : AllMake outside_of seeded closed.history visits each
 
 -- so it is where a server has served its last visitor
 abbrev pub ChangesAreOfSessions : Type 0 → Type 0
 ChangesAreOfSessions X =
-    (outside_of : X → Outside) (seeded : X → Seeded) (opened : Past) (door door_after : Option (Door X))
-    (told told_after : Option (Told X))
+    (outside_of : X → Outside) (seeded : X → Seeded) (opened : Past)
+    (door door_after : Option (Door X)) (told told_after : Option (Told X))
     (s : ServesFrom outside_of seeded opened (view_of opened []) door told door_after told_after)
     → AreOfSessions outside_of seeded opened s.hands.contexts s.whole.visits s.whole.each

@@ -24,7 +24,10 @@ use Rattle.td_names.specs.Walking.{last_of, missing_node, not_found, not_object,
 -- ---- what a change leaves
 
 abbrev pub set_bindings : Store → ℕ → Option Bindings → Store
-set_bindings s n bs = record s { contexts = slice_set s.contexts (n - 1) bs; changes = s.changes + 1 }
+set_bindings s n bs = record s {
+  contexts = slice_set s.contexts (n - 1) bs;
+  changes = s.changes + 1;
+}
 
 abbrev pub or_none : Option Bindings → Bindings
 or_none None = []
@@ -32,10 +35,12 @@ or_none (Some bs) = bs
 
 -- with this bound in the context under the component, in its place or behind the others
 abbrev pub with_bound : Store → ℕ → NameComponent → Bound → Store
-with_bound s n k b = set_bindings s n (Some (insert_entry same_component (or_none (bindings_of s n)) k b))
+with_bound s n k b = set_bindings s n
+    (Some (insert_entry same_component (or_none (bindings_of s n)) k b))
 
 abbrev pub without_bound : Store → ℕ → NameComponent → Store
-without_bound s n k = set_bindings s n (Some (remove_entry (same_component k) (or_none (bindings_of s n))))
+without_bound s n k = set_bindings s n
+    (Some (remove_entry (same_component k) (or_none (bindings_of s n))))
 
 -- with one live context more, without bindings
 abbrev pub with_context : Store → Store
@@ -71,14 +76,17 @@ at_place s (Err r) go = (s, r)
 -- bind and bind_context
 abbrev pub bound_anew : Store → ℕ → NameComponent → Bound → Option Bound → Store × NameAnswer
 bound_anew s d k b (Some old) = (s, User fault.AlreadyBound)
-bound_anew s d k b None = unless_full (changes_full s || bindings_full s) s (with_bound s d k b) done
+bound_anew s d k b None = unless_full (changes_full s || bindings_full s) s (with_bound s d k b)
+    done
 
 abbrev pub rebound : Store → ℕ → NameComponent → Ior → Option Bound → Store × NameAnswer
 rebound s d k o None =
-    unless_full (changes_full s || bindings_full s) s (with_bound s d k (record { context = false; object = o })) done
+    unless_full (changes_full s || bindings_full s) s
+    (with_bound s d k (record { context = false; object = o })) done
 rebound s d k o (Some old) =
     cond old.context (s, not_found not_object (k ∷ []))
-    (unless_full (changes_full s) s (with_bound s d k (record { context = false; object = o })) done)
+    (unless_full (changes_full s) s (with_bound s d k (record { context = false; object = o }))
+    done)
 
 abbrev pub resolved : Store → NameComponent → Option Bound → Store × NameAnswer
 resolved s k None = (s, not_found missing_node (k ∷ []))
@@ -90,7 +98,8 @@ unbound s d k (Some b) = unless_full (changes_full s) s (without_bound s d k) do
 
 abbrev pub fresh_context : Store → Store × NameAnswer
 fresh_context s =
-    unless_full (changes_full s || contexts_full s) s (with_context s) (Done (reply.Object (next_reference s)))
+    unless_full (changes_full s || contexts_full s) s (with_context s)
+    (Done (reply.Object (next_reference s)))
 
 -- bind_new_context
 abbrev pub context_bound_anew : Store → ℕ → NameComponent → Option Bound → Store × NameAnswer
@@ -100,8 +109,8 @@ context_bound_anew s d k None =
     (Done (reply.Object (next_reference s)))
 
 abbrev pub destroyed : Store → ℕ → Bindings → Store × NameAnswer
-destroyed s c [] = cond (nat_eq c 1) (s, System NoImplement) (unless_full (changes_full s) s (set_bindings s c None)
-    done)
+destroyed s c [] = cond (nat_eq c 1) (s, System NoImplement)
+    (unless_full (changes_full s) s (set_bindings s c None) done)
 destroyed s c (b ∷ bs) = cond (nat_eq c 1) (s, System NoImplement) (s, User fault.NotEmpty)
 
 abbrev pub told : NameComponent × Bound → NameBinding
@@ -114,10 +123,12 @@ listed bs = Done (reply.Bindings (map told bs))
 abbrev pub done_at : Store → ℕ → Bindings → NameAct → Store × NameAnswer
 done_at s c bs (act.Bind name o) =
     at_place s (place s c name)
-    (λ d. bound_anew s d (last_of name) (record { context = false; object = o }) (bound_in s d (last_of name)))
+    (λ d. bound_anew s d (last_of name) (record { context = false; object = o })
+    (bound_in s d (last_of name)))
 done_at s c bs (act.BindContext name o) =
     at_place s (place s c name)
-    (λ d. bound_anew s d (last_of name) (record { context = true; object = o }) (bound_in s d (last_of name)))
+    (λ d. bound_anew s d (last_of name) (record { context = true; object = o })
+    (bound_in s d (last_of name)))
 done_at s c bs (act.Rebind name o) =
     at_place s (place s c name) (λ d. rebound s d (last_of name) o (bound_in s d (last_of name)))
 done_at s c bs (act.Resolve name) =
@@ -126,7 +137,8 @@ done_at s c bs (act.Unbind name) =
     at_place s (place s c name) (λ d. unbound s d (last_of name) (bound_in s d (last_of name)))
 done_at s c bs act.NewContext = fresh_context s
 done_at s c bs (act.BindNewContext name) =
-    at_place s (place s c name) (λ d. context_bound_anew s d (last_of name) (bound_in s d (last_of name)))
+    at_place s (place s c name)
+    (λ d. context_bound_anew s d (last_of name) (bound_in s d (last_of name)))
 done_at s c bs act.Destroy = destroyed s c bs
 done_at s c bs act.List = (s, listed bs)
 

@@ -31,4 +31,5 @@ change_reply s a = reply.Nothing
 pub data Changes (s : Store) (a : NameAct) (r : NameAnswer) (t : Store) : Type 0 where
   refused : is_refusal r ≡ true → t ≡ s → Changes s a r t
   other : is_change a ≡ false → t ≡ s → Changes s a r t
-  accepted : is_change a ≡ true → r ≡ Done (change_reply s a) → t.changes ≡ s.changes + 1 → Changes s a r t
+  accepted : is_change a ≡ true → r ≡ Done (change_reply s a) → t.changes ≡ s.changes + 1
+      → Changes s a r t

@@ -46,12 +46,16 @@ abbrev pub bound : Store
 bound = (applied cycle 1 (act.Bind (x ∷ []) p1)).0
 
 pub record WorkedCalls : Type 0 where
-  pub makes : (applied (start home) 1 (act.BindNewContext (a ∷ []))).1 ≡ Done (reply.Object (reference_of home 2))
+  pub makes : (applied (start home) 1 (act.BindNewContext (a ∷ []))).1
+      ≡ Done (reply.Object (reference_of home 2))
   pub binds : (applied cycle 1 (act.Bind (x ∷ []) p1)).1 ≡ done
   -- through the cycle, and twice
-  pub resolves : (applied bound 1 (act.Resolve (a ∷ up ∷ a ∷ up ∷ x ∷ []))).1 ≡ Done (reply.Object p1)
-  pub missing : (applied bound 1 (act.Resolve (a ∷ y ∷ x ∷ []))).1 ≡ not_found missing_node (y ∷ x ∷ [])
-  pub no_context : (applied bound 1 (act.Resolve (x ∷ y ∷ []))).1 ≡ not_found not_context (x ∷ y ∷ [])
+  pub resolves : (applied bound 1 (act.Resolve (a ∷ up ∷ a ∷ up ∷ x ∷ []))).1
+      ≡ Done (reply.Object p1)
+  pub missing : (applied bound 1 (act.Resolve (a ∷ y ∷ x ∷ []))).1
+      ≡ not_found missing_node (y ∷ x ∷ [])
+  pub no_context : (applied bound 1 (act.Resolve (x ∷ y ∷ []))).1
+      ≡ not_found not_context (x ∷ y ∷ [])
   pub no_name : (applied bound 1 (act.Resolve [])).1 ≡ User fault.InvalidName
   pub already : (applied bound 1 (act.BindNewContext (x ∷ []))).1 ≡ User fault.AlreadyBound
   pub root : (applied (start home) 1 act.Destroy).1 ≡ System NoImplement

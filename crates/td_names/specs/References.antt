@@ -53,10 +53,12 @@ from_one (Some n) = if nat_eq n 0 then None else Some n
 
 abbrev pub context_number : List ℕ → Option ℕ
 context_number key =
-    if bytes_eq (take 2 key) (codes "N/") then from_one (number_below (2 ^ 32) (drop 2 key)) else None
+    if bytes_eq (take 2 key) (codes "N/") then from_one (number_below (2 ^ 32) (drop 2 key))
+    else None
 
 abbrev pub number_at : Address → Iiop → Option ℕ
-number_at home p = if bytes_eq p.host home.host && nat_eq p.port home.port then context_number p.key else None
+number_at home p = if bytes_eq p.host home.host
+    && nat_eq p.port home.port then context_number p.key else None
 
 abbrev pub number_by : Address → Option Iiop → Option ℕ
 number_by home None = None

@@ -16,7 +16,8 @@ use Rattle.td_names.specs.declared.component.NameComponent.{NameComponent}
 -- NameComponent: the id and the kind
 abbrev pub component : Sound ValueFault NameComponent
 component =
-    structure (λ p. record { id = p.0; kind = p.1 }) (λ c. (c.id, c.kind)) (λ _. refl) (λ _. refl) (text & text)
+    structure (λ p. record { id = p.0; kind = p.1 }) (λ c. (c.id, c.kind)) (λ _. refl) (λ _. refl)
+    (text & text)
 
 -- Name
 abbrev pub name : Sound ValueFault (List NameComponent)
@@ -28,7 +29,8 @@ binding_type_number false = 0
 binding_type_number true = 1
 
 abbrev pub binding_type : Sound ValueFault Bool
-binding_type = enumeration (false ∷ true ∷ []) binding_type_number (elim [ false ↦ refl | true ↦ refl ]) refl
+binding_type = enumeration (false ∷ true ∷ []) binding_type_number
+    (elim [ false ↦ refl | true ↦ refl ]) refl
 
 -- ---- Binding: a name and a type. The name is of one component.
 
@@ -66,6 +68,6 @@ binding = record {
       (λ p b h. parts_back p.0 p.1 b h) binding_parts.lawful;
   faults = PartialFault binding_parts.format.spells binding_of not_one binding_parts.faults;
   refuses =
-      partial_format-refuses binding_of parts_of not_one binding_parts.format binding_parts.faults binding_parts.lawful
-      binding_parts.refuses;
+      partial_format-refuses binding_of parts_of not_one binding_parts.format binding_parts.faults
+      binding_parts.lawful binding_parts.refuses;
 }

@@ -84,6 +84,7 @@ pub record AreCounted (contexts : List (Option Bindings)) (count changed : ℕ) 
   pub few_contexts : length contexts - 1 ≤ most_contexts
 
 -- the parts of a store that is kept
-pub record IsKept (home : Address) (contexts : List (Option Bindings)) (count changed : ℕ) : Type 0 where
+pub record IsKept (home : Address) (contexts : List (Option Bindings))
+    (count changed : ℕ) : Type 0 where
   pub address : IsAddress home
   pub counted : AreCounted contexts count changed

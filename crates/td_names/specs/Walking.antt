@@ -33,13 +33,14 @@ if_live s (Some n) = cond (is_live s n) (Some n) None
 abbrev pub next_context : Store → Bound → Option ℕ
 next_context s b = if_live s (led_to s.home b.object)
 
-abbrev pub through_context : Option ℕ → Bound → List NameComponent → (ℕ → Result ℕ NameAnswer) → Result ℕ NameAnswer
+abbrev pub through_context : Option ℕ → Bound → List NameComponent → (ℕ → Result ℕ NameAnswer)
+    → Result ℕ NameAnswer
 through_context None b rest go = Err (User (fault.CannotProceed b.object rest))
 through_context (Some d) b rest go = go d
 
 -- on through what is bound under the first component, with the name and with what is left of it behind that one
-abbrev pub through : Store → Option Bound → (name rest : List NameComponent) → (ℕ → Result ℕ NameAnswer)
-    → Result ℕ NameAnswer
+abbrev pub through : Store → Option Bound → (name rest : List NameComponent)
+    → (ℕ → Result ℕ NameAnswer) → Result ℕ NameAnswer
 through s None name rest go = Err (not_found missing_node name)
 through s (Some b) name rest go =
     cond b.context (through_context (next_context s b) b rest go) (Err (not_found not_context name))
@@ -48,7 +49,8 @@ through s (Some b) name rest go =
 abbrev pub holder : Store → ℕ → List NameComponent → Result ℕ NameAnswer
 holder s c [] = Err (User fault.InvalidName)
 holder s c (k ∷ []) = Ok c
-holder s c (k ∷ l ∷ ks) = through s (bound_in s c k) (k ∷ l ∷ ks) (l ∷ ks) (λ d. holder s d (l ∷ ks))
+holder s c (k ∷ l ∷ ks) = through s (bound_in s c k) (k ∷ l ∷ ks) (l ∷ ks)
+    (λ d. holder s d (l ∷ ks))
 
 -- the same, with the limits of a name before
 abbrev pub place : Store → ℕ → List NameComponent → Result ℕ NameAnswer

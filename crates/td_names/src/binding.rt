@@ -27,8 +27,10 @@ impl NameStore {
         bound: Bound,
     ) -> Result<NameAnswer, Memory>
         requires { is_live self.old context ≡ true }
-        ensures ok { IfOk result (λ r. (self.new, r) ≡ at_place self.old (place self.old context name)
-            (λ d. bound_anew self.old d (last_of name) bound (bound_in self.old d (last_of name)))) }
+        ensures ok { IfOk result (λ r. (self.new, r)
+            ≡ at_place self.old (place self.old context name)
+            (λ d. bound_anew self.old d (last_of name) bound
+            (bound_in self.old d (last_of name)))) }
         ensures err { OnErr result (self.new ≡ self.old) }
     {
         match self.place(alloc, context, name.as_slice())? {
@@ -71,7 +73,8 @@ impl NameStore {
         object: Ior,
     ) -> Result<NameAnswer, Memory>
         requires { is_live self.old context ≡ true }
-        ensures ok { IfOk result (λ r. (self.new, r) ≡ at_place self.old (place self.old context name)
+        ensures ok { IfOk result (λ r. (self.new, r)
+            ≡ at_place self.old (place self.old context name)
             (λ d. rebound self.old d (last_of name) object (bound_in self.old d (last_of name)))) }
         ensures err { OnErr result (self.new ≡ self.old) }
     {
@@ -126,7 +129,8 @@ impl NameStore {
         name: List<NameComponent>,
     ) -> Result<NameAnswer, Memory>
         requires { is_live self.old context ≡ true }
-        ensures ok { IfOk result (λ r. (self.new, r) ≡ at_place self.old (place self.old context name)
+        ensures ok { IfOk result (λ r. (self.new, r)
+            ≡ at_place self.old (place self.old context name)
             (λ d. unbound self.old d (last_of name) (bound_in self.old d (last_of name)))) }
         ensures err { OnErr result (self.new ≡ self.old) }
     {

@@ -69,8 +69,10 @@ impl Bindings {
     /// `Memory` for want of memory alone; the bindings are then as before.
     pub(crate) fn set(&mut self, component: NameComponent, bound: Bound) -> Result<bool, Memory>
         ensures ok { OnOk result (self.new ≡ insert_entry same_component self.old component bound) }
-        ensures old { IfOk result (λ b. b ≡ not (is_some (lookup (same_component component) self.old))) }
-        ensures count { IfOk result (λ b. length self.new ≡ length self.old + (if b then 1 else 0)) }
+        ensures old { IfOk result (λ b. b
+            ≡ not (is_some (lookup (same_component component) self.old))) }
+        ensures count { IfOk result (λ b. length self.new ≡ length self.old
+            + (if b then 1 else 0)) }
         ensures err { OnErr result (self.new ≡ self.old) }
     {
         match self.named.insert(component, bound) {

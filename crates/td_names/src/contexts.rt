@@ -64,8 +64,10 @@ impl NameStore {
         name: List<NameComponent>,
     ) -> Result<NameAnswer, Memory>
         requires { is_live self.old context ≡ true }
-        ensures ok { IfOk result (λ r. (self.new, r) ≡ at_place self.old (place self.old context name)
-            (λ d. context_bound_anew self.old d (last_of name) (bound_in self.old d (last_of name)))) }
+        ensures ok { IfOk result (λ r. (self.new, r)
+            ≡ at_place self.old (place self.old context name)
+            (λ d. context_bound_anew self.old d (last_of name)
+            (bound_in self.old d (last_of name)))) }
         ensures err { OnErr result (self.new ≡ self.old) }
     {
         match self.place(alloc, context, name.as_slice())? {
@@ -100,7 +102,8 @@ impl NameStore {
     /// Destroys a context without bindings.
     pub(crate) fn destroy(&mut self, context: u32) -> NameAnswer
         requires { is_live self.old context ≡ true }
-        ensures { (self.new, result) ≡ destroyed self.old context (or_none (bindings_of self.old context)) }
+        ensures { (self.new, result)
+            ≡ destroyed self.old context (or_none (bindings_of self.old context)) }
     {
         if context == ROOT {
             return NameAnswer::System(NameRefusal::NoImplement);

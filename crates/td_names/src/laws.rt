@@ -25,13 +25,15 @@ ghost use Rattle.td_names.specs.declared.component.NameComponent.{NameComponent 
 /// A name within the limits is resolved to an object exactly where it reaches the object, whatever the contexts lead
 /// to, also back to themselves.
 pub fn resolve_reaches()
-    ensures { (s : Store) (c : ℕ) (name : List Part) (object : Reference) → name_fits name ≡ true → is_live s c ≡ true
+    ensures { (s : Store) (c : ℕ) (name : List Part) (object : Reference) → name_fits name ≡ true
+        → is_live s c ≡ true
         → Applies s c (call.Resolve name) (Done (Object object)) s ↔ Reach s c name object }
 {}
 
 /// A call that is refused leaves everything as it was.
 pub fn refusals_change_nothing()
-    ensures { (s t : Store) (c : ℕ) (a : Called) (r : Answered) → Applies s c a r t → is_refusal r ≡ true → t ≡ s }
+    ensures { (s t : Store) (c : ℕ) (a : Called) (r : Answered) → Applies s c a r t
+        → is_refusal r ≡ true → t ≡ s }
 {}
 
 /// A call makes one change at most, and no context's number is given again.
@@ -44,7 +46,8 @@ pub fn calls_change_once()
 /// A call that changes something is refused or accepted, and where it is accepted it counts as one change: its reply is
 /// nothing, or the reference of the context that it makes. Any other call leaves everything as it was.
 pub fn changes_are_replied()
-    ensures { (s t : Store) (c : ℕ) (a : Called) (r : Answered) → Applies s c a r t → Changes s a r t }
+    ensures { (s t : Store) (c : ℕ) (a : Called) (r : Answered) → Applies s c a r t
+        → Changes s a r t }
 {}
 
 /// The key of a context is read as it is written, and only so. A reference leads to a context exactly where its first

@@ -29,7 +29,8 @@ impl NameStore {
     ) -> Result<(), Memory>
         requires live { is_live self.old context ≡ true }
         requires room { changes_full self.old ≡ false }
-        requires place { IsSome (bound_in self.old context component) ⊎ (bindings_full self.old ≡ false) }
+        requires place { IsSome (bound_in self.old context component)
+            ⊎ (bindings_full self.old ≡ false) }
         ensures ok { OnOk result (self.new ≡ with_bound self.old context component bound) }
         ensures err { OnErr result (self.new ≡ self.old) }
     {
@@ -97,8 +98,10 @@ fn bind_in(
     bound: Bound,
 ) -> Result<bool, Memory>
     requires { IsSome context.old }
-    ensures ok { OnOk result (context.new ≡ Some (insert_entry same_component (or_none context.old) component bound)) }
-    ensures added { IfOk result (λ b. count_in context.new ≡ count_in context.old + (if b then 1 else 0)) }
+    ensures ok { OnOk result (context.new
+        ≡ Some (insert_entry same_component (or_none context.old) component bound)) }
+    ensures added { IfOk result (λ b. count_in context.new ≡ count_in context.old
+        + (if b then 1 else 0)) }
     ensures old { IfOk result (λ b. b ≡ not (is_some (looked_up component context.old))) }
     ensures err { OnErr result (context.new ≡ context.old) }
 {
@@ -111,7 +114,8 @@ fn bind_in(
 /// Takes what is bound in these bindings under a component away.
 fn unbind_in(context: &mut Option<Bindings>, component: &NameComponent)
     requires { IsSome (looked_up component.now context.old) }
-    ensures new { context.new ≡ Some (remove_entry (same_component component.now) (or_none context.old)) }
+    ensures new { context.new
+        ≡ Some (remove_entry (same_component component.now) (or_none context.old)) }
     ensures count { count_in context.new + 1 ≡ count_in context.old }
 {
     match context {

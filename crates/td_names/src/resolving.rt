@@ -40,7 +40,8 @@ impl NameStore {
         place: u32,
         last: NameComponent,
     ) -> Result<NameAnswer, Memory>
-        ensures { IfOk result (λ r. (self.now, r) ≡ resolved self.now last (bound_in self.now place last)) }
+        ensures { IfOk result (λ r. (self.now, r)
+            ≡ resolved self.now last (bound_in self.now place last)) }
     {
         match self.bound(place, &last) {
             Some(bound) => {

@@ -47,7 +47,11 @@ impl Model for NameStore {
 
     ghost Value = { Store };
 
-    ghost view = { λ n. record { home = n.home; contexts = n.contexts.items; changes = n.changes } };
+    ghost view = { λ n. record {
+      home = n.home;
+      contexts = n.contexts.items;
+      changes = n.changes;
+    } };
 
     ghost invariant = { λ n. IsKept n.home n.contexts.items n.bindings n.changes };
 }

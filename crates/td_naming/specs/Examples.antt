@@ -32,5 +32,6 @@ pub record WorkedHistory : Type 0 where
   pub history : again.history ≡ record { context = 1; act = make; made = Some 2 }
       ∷ record { context = 1; act = bind; made = None } ∷ []
   pub own : again.own ≡ 0 ∷ 1 ∷ []
-  pub replies : (reply_of home (Some 2) ≡ reply.Object (reference_of home 2)) × (reply_of home None ≡ reply.Nothing)
+  pub replies : (reply_of home (Some 2) ≡ reply.Object (reference_of home 2))
+      × (reply_of home None ≡ reply.Nothing)
   pub kept : again ≡ bound

@@ -79,7 +79,7 @@ pub record Remembers (s : Store) (history : List NameChange) : Type 0 where
   pub store : s ≡ store_after s.home history
 
 -- a call of the store was answered so, and is noted where it is an accepted change
-pub record Records (s : Store) (h : List NameChange) (c : ℕ) (a : NameAct) (r : NameAnswer) (t : Store)
-    (k : List NameChange) : Type 0 where
+pub record Records (s : Store) (h : List NameChange) (c : ℕ) (a : NameAct) (r : NameAnswer)
+    (t : Store) (k : List NameChange) : Type 0 where
   pub applied : (t, r) ≡ applied s c a
   pub noted : k ≡ noted h s c a r

@@ -19,14 +19,14 @@ module _ (others : List NameChange → Type 0) where
   -- a refused call changes nothing: what is seen then was done by others alone
   abbrev pub RefusalsChangeNothing : Type 0
   RefusalsChangeNothing =
-      (v u : View) (c : ℕ) (a : NameAct) (r : NameAnswer) → Acts others v c a r u → is_refusal r ≡ true
-      → Meanwhile others v u
+      (v u : View) (c : ℕ) (a : NameAct) (r : NameAnswer) → Acts others v c a r u
+      → is_refusal r ≡ true → Meanwhile others v u
 
   -- what is seen stays legal
   abbrev pub StaysLegal : Type 0
   StaysLegal =
-      (v u : View) (c : ℕ) (a : NameAct) (r : NameAnswer) → Acts others v c a r u → Legal v.home v.history
-      → Legal u.home u.history
+      (v u : View) (c : ℕ) (a : NameAct) (r : NameAnswer) → Acts others v c a r u
+      → Legal v.home v.history → Legal u.home u.history
 
   -- an accepted change is the last that is seen, in its own place
   pub record Stands (c : ℕ) (a : NameAct) (v u : View) : Type 0 where
@@ -39,13 +39,13 @@ module _ (others : List NameChange → Type 0) where
 
   abbrev pub AcceptedStand : Type 0
   AcceptedStand =
-      (v u : View) (c : ℕ) (a : NameAct) (r : NameAnswer) → Acts others v c a r u → is_accepted a r ≡ true
-      → Stands c a v u
+      (v u : View) (c : ℕ) (a : NameAct) (r : NameAnswer) → Acts others v c a r u → is_accepted a r
+      ≡ true → Stands c a v u
 
   -- a name within the limits is resolved to an object exactly where it reaches the object at what is seen then, whatever
   -- the contexts lead to, also back to themselves
   abbrev pub ResolvesByReach : Type 0
   ResolvesByReach =
       (v u : View) (c : ℕ) (name : List NameComponent) (r : NameAnswer) (object : Ior)
-      → Acts others v c (act.Resolve name) r u → name_fits name ≡ true → is_live (store_seen u) c ≡ true
-      → (r ≡ Done (Object object)) ↔ Reach (store_seen u) c name object
+      → Acts others v c (act.Resolve name) r u → name_fits name ≡ true → is_live (store_seen u) c
+      ≡ true → (r ≡ Done (Object object)) ↔ Reach (store_seen u) c name object

@@ -75,7 +75,8 @@ impl Naming {
     ///
     /// `Memory` for want of memory alone; nothing was done then.
     pub fn act(&mut self, alloc: Global, context: u32, act: NameAct) -> Result<NameAnswer, Memory>
-        ensures ok { IfOk result (λ r. Acts nothing (solo_view self.old) context act r (solo_view self.new)) }
+        ensures ok { IfOk result
+            (λ r. Acts nothing (solo_view self.old) context act r (solo_view self.new)) }
         ensures err { OnErr result (self.new ≡ self.old) }
     {
         let Naming { store, history } = self;
@@ -115,7 +116,8 @@ fn record(
     context: u32,
     act: NameAct,
 ) -> Result<NameAnswer, Memory>
-    ensures ok { IfOk result (λ r. Records store.old history.old.items context act r store.new history.new.items) }
+    ensures ok { IfOk result
+        (λ r. Records store.old history.old.items context act r store.new history.new.items) }
     ensures err { OnErr result ((store.new ≡ store.old) × (history.new.items ≡ history.old.items)) }
 {
     if act.is_change() {
@@ -133,7 +135,8 @@ fn record_change(
     act: NameAct,
 ) -> Result<NameAnswer, Memory>
     requires { is_change act ≡ true }
-    ensures ok { IfOk result (λ r. Records store.old history.old.items context act r store.new history.new.items) }
+    ensures ok { IfOk result
+        (λ r. Records store.old history.old.items context act r store.new history.new.items) }
     ensures err { OnErr result ((store.new ≡ store.old) × (history.new.items ≡ history.old.items)) }
 {
     history.reserve(1)?;

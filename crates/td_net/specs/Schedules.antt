@@ -8,16 +8,18 @@ use Rattle.td_net.specs.declared.event.NetFault.TheVariants.{Memory}
 -- The world becomes this by these events in order; one that is refused changes nothing.
 pub data Run : World → List Event → World → Type 0 where
   over : {w : World} → Run w [] w
-  then : {w v u : World} {e : Event} {es : List Event} → Becomes w (step_of w e) v → Run v es u → Run w (e ∷ es) u
+  then : {w v u : World} {e : Event} {es : List Event} → Becomes w (step_of w e) v → Run v es u
+      → Run w (e ∷ es) u
 
 -- and none of them is refused
 pub data Accepted : World → List Event → World → Type 0 where
   none : {w : World} → Accepted w [] w
-  more : {w v u : World} {e : Event} {es : List Event} → fault_of w e ≡ None → Becomes w (step_of w e) v
-      → Accepted v es u → Accepted w (e ∷ es) u
+  more : {w v u : World} {e : Event} {es : List Event} → fault_of w e ≡ None
+      → Becomes w (step_of w e) v → Accepted v es u → Accepted w (e ∷ es) u
 
 -- the events before this one are accepted, and it is refused for this, or wants memory
-pub record IsFirstRefused (w : World) (events : List Event) (place : ℕ) (f : NetFault) : Type 0 where
+pub record IsFirstRefused (w : World) (events : List Event) (place : ℕ)
+    (f : NetFault) : Type 0 where
   pub before : World
   pub accepted : Accepted w (take place events) before
   pub event : Event

@@ -10,8 +10,9 @@ abbrev pub world_code : Coded PlainTrader → Coded Address → Coded Call → C
 world_code trader address call =
     code_by
     (List PlainTrader × (Address × (List Call × (ℕ × (List ℕ × (ℕ × Bool))))))
-    (coded× (coded_list trader) (coded× address (coded× (coded_list call) (coded× coded_ℕ (coded× (coded_list coded_ℕ)
-    (coded× coded_ℕ coded_bool))))))
+    (coded× (coded_list trader)
+    (coded× address (coded× (coded_list call)
+    (coded× coded_ℕ (coded× (coded_list coded_ℕ) (coded× coded_ℕ coded_bool))))))
     (λ w. (w.traders, (w.home, (w.calls, (w.clock, (w.words, (w.drawn, w.wanting)))))))
     (λ p. record {
       traders = p.0;

@@ -90,25 +90,27 @@ evaluate_by go rs ss true = settled rs ss pending.Value
 evaluate_by go rs ss false = go (rs ++ given.Failed ∷ []) (ss ++ step.Unreachable ∷ [])
 
 -- a trader of the network is asked
-abbrev pub forward_by : (go : List StepAnswer → List Step → Settled) → List StepAnswer → List Step → Query
-    → (inside : Option ℕ) → Settled
+abbrev pub forward_by : (go : List StepAnswer → List Step → Settled) → List StepAnswer → List Step
+    → Query → (inside : Option ℕ) → Settled
 forward_by go rs ss q (Some k) = settled rs ss (pending.SubQuery k q)
 forward_by go rs ss q None = go (rs ++ given.Failed ∷ []) (ss ++ step.Outside ∷ [])
 
-abbrev pub settle_by : (go : List StepAnswer → List Step → Settled) → (inside : Ior → Option ℕ) → List StepAnswer
-    → List Step → Next → Settled
+abbrev pub settle_by : (go : List StepAnswer → List Step → Settled) → (inside : Ior → Option ℕ)
+    → List StepAnswer → List Step → Next → Settled
 settle_by go inside rs ss Done = settled rs ss pending.Nothing
-settle_by go inside rs ss (Evaluate e name returned extra) = evaluate_by go rs ss (is_some (iiop_of e))
+settle_by go inside rs ss (Evaluate e name returned extra) = evaluate_by go rs ss
+    (is_some (iiop_of e))
 settle_by go inside rs ss (Forward target q) = forward_by go rs ss q (inside target)
 
 -- Steps to targets outside, and to evaluators that can't be reached, fail at once. At most so many questions are asked.
-abbrev pub settle : (most : ℕ) → (inside : Ior → Option ℕ) → Local → List StepAnswer → List Step → Settled
+abbrev pub settle : (most : ℕ) → (inside : Ior → Option ℕ) → Local → List StepAnswer → List Step
+    → Settled
 settle zero inside l rs ss = settled rs ss pending.Nothing
 settle (suc most) inside l rs ss = settle_by (settle most inside l) inside rs ss (next_of l rs)
 
 -- where a visit stands that asked one question: it waits, or the question failed and it goes on
-abbrev pub or_further : (go : List StepAnswer → List Step → Settled) → List StepAnswer → List Step → Option Pending
-    → Settled
+abbrev pub or_further : (go : List StepAnswer → List Step → Settled) → List StepAnswer → List Step
+    → Option Pending → Settled
 or_further go rs ss None = go rs ss
 or_further go rs ss (Some p) = settled rs ss p
 
@@ -153,9 +155,11 @@ abbrev pub with_calls : World → List Call → World
 with_calls w calls = record w { calls = calls }
 
 -- The visit of the call k, which has the number c, ends, or waits for a value, or opens a call and waits for it.
-abbrev pub placed_by : World → (c : ℕ) → Call → Local → List StepAnswer → List Step → Pending → Taken
+abbrev pub placed_by : World → (c : ℕ) → Call → Local → List StepAnswer → List Step → Pending
+    → Taken
 placed_by w c k l rs ss pending.Nothing = Closing w c k l rs ss
-placed_by w c k l rs ss pending.Value = Moved (with_calls w (slice_set w.calls c (evaluating k l rs ss)))
+placed_by w c k l rs ss pending.Value = Moved
+    (with_calls w (slice_set w.calls c (evaluating k l rs ss)))
 placed_by w c k l rs ss (pending.SubQuery target q) =
     Moved (with_calls w (slice_set w.calls c (waiting k l rs ss (length w.calls))
     ++ sent target q k.root (Some c) ∷ []))
@@ -214,7 +218,8 @@ delivered k d = record k { delivery = Some d }
 
 -- it ends at once
 abbrev pub ended_at_once : World → (c : ℕ) → Call → Visit → Taken
-ended_at_once w c k v = Moved (with_calls w (slice_set w.calls c (record k { stage = Ended v; drawn = w.drawn })))
+ended_at_once w c k v = Moved
+    (with_calls w (slice_set w.calls c (record k { stage = Ended v; drawn = w.drawn })))
 
 -- the query of the call k has begun at its trader
 abbrev pub begun_by : World → (c : ℕ) → Call → Begin → Taken
@@ -233,7 +238,8 @@ with_begun w n t q = record w {
 abbrev pub deliver_to : World → (c : ℕ) → Call → Option PlainTrader → Taken
 deliver_to w c k None = Refused NoTrader
 deliver_to w c k (Some t) =
-    begun_by (with_begun w k.target t k.query) c (delivered k (delivery_of w.clock t)) (begin_at t k.query)
+    begun_by (with_begun w k.target t k.query) c (delivered k (delivery_of w.clock t))
+    (begin_at t k.query)
 
 abbrev pub deliver_in : World → (c : ℕ) → Call → Stage → Taken
 deliver_in w c k Sent = deliver_to w c k (slice_get w.traders k.target)
@@ -364,7 +370,8 @@ traders_behind w (Closing v c k l rs ss) = v.traders
 
 -- calls that have ended stay so
 abbrev pub KeepsEnded : (before after : List Call) → Type 0
-KeepsEnded before after = (c : ℕ) (v : Visit) → visit_at before c ≡ Some v → visit_at after c ≡ Some v
+KeepsEnded before after = (c : ℕ) (v : Visit) → visit_at before c ≡ Some v → visit_at after c
+    ≡ Some v
 
 -- What an event leaves that wants memory: the traders are as before it or as behind it.
 pub record IsLeft (w : World) (t : Taken) (u : World) : Type 0 where
@@ -397,7 +404,8 @@ OnAs w e r u = OnBy w.wanting w (step_of w e) r u
 -- ---- how the code keeps a world
 
 -- a world whose parts these are, in which no event wanted memory
-abbrev pub world : List PlainTrader → Address → List Call → (clock : ℕ) → (words : List ℕ) → (drawn : ℕ) → World
+abbrev pub world : List PlainTrader → Address → List Call → (clock : ℕ) → (words : List ℕ)
+    → (drawn : ℕ) → World
 world traders home calls clock words drawn = record {
   traders = traders;
   home = home;

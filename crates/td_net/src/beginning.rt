@@ -58,7 +58,8 @@ fn end_at_once(visits: &mut Visits, call: usize, visit: Boxed<Visit>)
     requires { call < length visits.old.calls.items }
     ensures becomes { (k : Opened) (w : World) → slice_get visits.old.calls.items call ≡ Some k
         → HasVisits w visits.old.calls.items visits.old.words
-        → Becomes w (ended_at_once w call k visit) (after w visits.new.calls.items visits.new.words.drawn) }
+        → Becomes w (ended_at_once w call k visit)
+        (after w visits.new.calls.items visits.new.words.drawn) }
     ensures words { visits.new.words ≡ visits.old.words }
 {
     let drawn = visits.words.drawn();
@@ -74,10 +75,11 @@ fn open(
     local: Boxed<Local>,
 ) -> Result<(), Memory>
     requires { call < length visits.old.calls.items }
-    ensures becomes { OnOk result ((k : Opened) (w : World) → slice_get visits.old.calls.items call ≡ Some k
-        → HasGroup w group.now.traders.items group.now.home
+    ensures becomes { OnOk result ((k : Opened) (w : World) → slice_get visits.old.calls.items call
+        ≡ Some k → HasGroup w group.now.traders.items group.now.home
         → HasVisits w visits.old.calls.items visits.old.words
-        → Becomes w (goes_on w call k local [] []) (after w visits.new.calls.items visits.new.words.drawn)) }
+        → Becomes w (goes_on w call k local [] [])
+        (after w visits.new.calls.items visits.new.words.drawn)) }
     ensures words { visits.new.words.all ≡ visits.old.words.all }
     ensures kept { OnErr result (visits.new.calls.items ≡ visits.old.calls.items) }
 {
@@ -94,10 +96,11 @@ fn go_on_from(
     begin: Begin,
 ) -> Result<(), Memory>
     requires { call < length visits.old.calls.items }
-    ensures becomes { OnOk result ((k : Opened) (w : World) → slice_get visits.old.calls.items call ≡ Some k
-        → HasGroup w group.now.traders.items group.now.home
+    ensures becomes { OnOk result ((k : Opened) (w : World) → slice_get visits.old.calls.items call
+        ≡ Some k → HasGroup w group.now.traders.items group.now.home
         → HasVisits w visits.old.calls.items visits.old.words
-        → Becomes w (begun_by w call k begin) (after w visits.new.calls.items visits.new.words.drawn)) }
+        → Becomes w (begun_by w call k begin)
+        (after w visits.new.calls.items visits.new.words.drawn)) }
     ensures words { visits.new.words.all ≡ visits.old.words.all }
     ensures kept { OnErr result (visits.new.calls.items ≡ visits.old.calls.items) }
 {
@@ -166,8 +169,8 @@ fn deliver_next(
 ) -> Result<(), NetFault>
     requires call { call < length visits.old.calls.items }
     requires trader { target < length group.old.traders.items }
-    ensures { (k : Opened) (t : PlainTrader) → slice_get visits.old.calls.items call ≡ Some k → k.target ≡ target
-        → k.stage ≡ Sent → slice_get group.old.traders.items target ≡ Some t
+    ensures { (k : Opened) (t : PlainTrader) → slice_get visits.old.calls.items call ≡ Some k
+        → k.target ≡ target → k.stage ≡ Sent → slice_get group.old.traders.items target ≡ Some t
         → DoneAs (world_of group.old visits.old clock.old)
         (deliver_to (world_of group.old visits.old clock.old) call k (Some t)) result
         (world_of group.new visits.new clock.new) }
@@ -194,8 +197,9 @@ pub(crate) fn ask(
     query: Boxed<Query>,
 ) -> Result<(), NetFault>
     ensures { TakenAs (world_of group.old visits.old clock.old)
-        (ask_at (world_of group.old visits.old clock.old) trader query (slice_get group.old.traders.items trader))
-        result (world_of group.new visits.new clock.new) }
+        (ask_at (world_of group.old visits.old clock.old) trader query
+        (slice_get group.old.traders.items trader)) result
+        (world_of group.new visits.new clock.new) }
 {
     if trader >= group.traders.len() {
         return Err(NetFault::NoTrader);
@@ -216,7 +220,8 @@ fn open_asked(
     ensures number { IfOk result (λ call. call ≡ length calls.old.items) }
     ensures within { IfOk result (λ call. call < length calls.new.items) }
     ensures opened { OnOk result
-        (calls.new.items ≡ calls.old.items ++ sent trader query (length calls.old.items) None ∷ []) }
+        (calls.new.items ≡ calls.old.items ++ sent trader query (length calls.old.items) None
+        ∷ []) }
     ensures kept { OnErr result (calls.new.items ≡ calls.old.items) }
 {
     let call = calls.len();
@@ -239,8 +244,8 @@ pub(crate) fn deliver(
     call: usize,
 ) -> Result<(), NetFault>
     ensures { TakenAs (world_of group.old visits.old clock.old)
-        (deliver_at (world_of group.old visits.old clock.old) call (slice_get visits.old.calls.items call)) result
-        (world_of group.new visits.new clock.new) }
+        (deliver_at (world_of group.old visits.old clock.old) call
+        (slice_get visits.old.calls.items call)) result (world_of group.new visits.new clock.new) }
 {
     if call >= visits.calls.len() {
         return Err(NetFault::NoCall);

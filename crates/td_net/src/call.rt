@@ -168,7 +168,8 @@ impl Call {
         requires { is_some (frame_in self.old.stage) ≡ true }
         ensures taken { frame_in self.old.stage ≡ Some result.0 }
         ensures steps { result.1 ≡ self.old.steps }
-        ensures rest { record self.new { stage = self.old.stage; steps = self.old.steps } ≡ self.old }
+        ensures rest { record self.new { stage = self.old.stage; steps = self.old.steps }
+            ≡ self.old }
     {
         let frame = mem::replace(&mut self.stage, Stage::Running).into_frame();
         let steps = mem::replace(&mut self.steps, List::new(alloc));

@@ -140,7 +140,8 @@ fn take_event(
     event: Event,
 ) -> Result<(), NetFault>
     ensures { TakenAs (world_of group.old visits.old clock.old)
-        (step_of (world_of group.old visits.old clock.old) event) result (world_of group.new visits.new clock.new) }
+        (step_of (world_of group.old visits.old clock.old) event) result
+        (world_of group.new visits.new clock.new) }
 {
     match event {
         Event::Change {

@@ -38,8 +38,8 @@ pub(crate) fn go_on(
     steps: List<Step>,
 ) -> Result<(), Memory>
     requires { call < length visits.old.calls.items }
-    ensures becomes { OnOk result ((k : Opened) (w : World) → slice_get visits.old.calls.items call ≡ Some k
-        → HasGroup w group.now.traders.items group.now.home
+    ensures becomes { OnOk result ((k : Opened) (w : World) → slice_get visits.old.calls.items call
+        ≡ Some k → HasGroup w group.now.traders.items group.now.home
         → HasVisits w visits.old.calls.items visits.old.words
         → Becomes w (goes_on w call k frame.local frame.answers steps)
         (after w visits.new.calls.items visits.new.words.drawn)) }
@@ -72,8 +72,8 @@ fn end(
 ) -> Result<(), Memory>
     requires call { call < length visits.old.calls.items }
     requires done { next_of frame.local frame.answers ≡ Done }
-    ensures becomes { OnOk result ((k : Opened) (w : World) → slice_get visits.old.calls.items call ≡ Some k
-        → HasVisits w visits.old.calls.items visits.old.words
+    ensures becomes { OnOk result ((k : Opened) (w : World) → slice_get visits.old.calls.items call
+        ≡ Some k → HasVisits w visits.old.calls.items visits.old.words
         → Becomes w (Closing w call k frame.local frame.answers steps)
         (after w visits.new.calls.items visits.new.words.drawn)) }
     ensures words { visits.new.words.all ≡ visits.old.words.all }

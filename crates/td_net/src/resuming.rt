@@ -32,12 +32,14 @@ fn resume(
     answer: StepAnswer,
 ) -> Result<(), Memory>
     requires call { call < length visits.old.calls.items }
-    requires waits { (k : Opened) → slice_get visits.old.calls.items call ≡ Some k → is_some (frame_in k.stage) ≡ true }
+    requires waits { (k : Opened) → slice_get visits.old.calls.items call ≡ Some k
+        → is_some (frame_in k.stage) ≡ true }
     ensures becomes { OnOk result ((k : Opened) (w : World) (f : Standing) →
         slice_get visits.old.calls.items call ≡ Some k → frame_in k.stage ≡ Some f
         → HasGroup w group.now.traders.items group.now.home
         → HasVisits w visits.old.calls.items visits.old.words
-        → Becomes w (takes w call k f step answer) (after w visits.new.calls.items visits.new.words.drawn)) }
+        → Becomes w (takes w call k f step answer)
+        (after w visits.new.calls.items visits.new.words.drawn)) }
     ensures words { visits.new.words.all ≡ visits.old.words.all }
     ensures kept { OnErr result (KeepsEnded visits.old.calls.items visits.new.calls.items) }
 {

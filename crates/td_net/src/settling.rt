@@ -44,8 +44,8 @@ pub(crate) fn settle(
 ) -> Result<Pending, Memory>
     ensures local { frame.new.local ≡ frame.old.local }
     ensures settled { IfOk result (λ p. settled frame.new.answers steps.new p
-        ≡ settle (turns_of frame.old.local + 1) (inside group.now.traders.items group.now.home) frame.old.local
-        frame.old.answers steps.old) }
+        ≡ settle (turns_of frame.old.local + 1) (inside group.now.traders.items group.now.home)
+        frame.old.local frame.old.answers steps.old) }
     ensures done { IfOk result (IsDoneAt frame.new.local frame.new.answers) }
 {
     loop {

@@ -49,7 +49,13 @@ kept number name = record {
 
 -- a link that is always followed
 abbrev pub link : (to : List ℕ → Ior) → (name : List ℕ) → LinkRecord
-link to name = record { name = name; target = to name; register = nil; def_pass_on = Always; limiting = Always }
+link to name = record {
+  name = name;
+  target = to name;
+  register = nil;
+  def_pass_on = Always;
+  limiting = Always;
+}
 
 -- a new trader with these offers and links, which remembers so many identifiers
 abbrev pub trader : (ring : ℕ) → (name : List ℕ) → List OfferRecord → List LinkRecord → PlainTrader
@@ -85,7 +91,8 @@ asks_under identifier hops card = record {
   service_type = printer;
   constraint = [];
   preference = [];
-  policies = hop_policy hops ∷ follow_policy Always ∷ identifier_policy identifier ∷ card_policy card ∷ [];
+  policies = hop_policy hops ∷ follow_policy Always ∷ identifier_policy identifier
+      ∷ card_policy card ∷ [];
   desired = props.All;
   how_many = 1000;
 }
@@ -113,7 +120,8 @@ repeated = Ended (visit.Answered (found []) 0)
 
 -- A call of the Ask of call 0, which was delivered behind so many others to this trader, with what came of its
 -- questions, and where it stands. A caller was handed what it ended with, or that it was lost.
-abbrev pub call : (target hops card : ℕ) → (caller : Option ℕ) → (serial : ℕ) → PlainTrader → List Step → Stage → Call
+abbrev pub call : (target hops card : ℕ) → (caller : Option ℕ) → (serial : ℕ) → PlainTrader
+    → List Step → Stage → Call
 call target hops card caller serial t steps stage = record (sent target (asks hops card) 0 caller) {
   handed = is_some caller;
   stage = stage;
@@ -122,5 +130,6 @@ call target hops card caller serial t steps stage = record (sent target (asks ho
 }
 
 -- the tree of a call over so many calls
-abbrev pub HasTree : List Call → (inside : Ior → Option ℕ) → (words : List ℕ) → (c : ℕ) → SubAnswer → Type 0
+abbrev pub HasTree : List Call → (inside : Ior → Option ℕ) → (words : List ℕ) → (c : ℕ) → SubAnswer
+    → Type 0
 HasTree calls inside words c a = IsTree (length calls) calls inside words c a

@@ -30,8 +30,10 @@ pub record WorkedRing (to : List ℕ → Ior) (inside : Ior → Option ℕ) (wor
 
 abbrev pub stopped : (to : List ℕ → Ior) → List Call
 stopped to =
-    call 0 3 2 None 0 (linked to (codes "A") (codes "a") (codes "B")) (Given 1 ∷ []) (answered (codes "ab"))
-    ∷ call 1 2 1 (Some 0) 1 (linked to (codes "B") (codes "b") (codes "C")) [] (answered (codes "b"))
+    call 0 3 2 None 0 (linked to (codes "A") (codes "a") (codes "B")) (Given 1 ∷ [])
+    (answered (codes "ab"))
+    ∷ call 1 2 1 (Some 0) 1 (linked to (codes "B") (codes "b") (codes "C")) []
+    (answered (codes "b"))
     ∷ []
 
 pub record WorkedStop (to : List ℕ → Ior) (inside : Ior → Option ℕ) (words : List ℕ) : Type 0 where
@@ -82,7 +84,8 @@ left_first to =
     ∷ call 3 1 7 (Some 3) 4 (searched (codes "q") bottom) [] repeated
     ∷ []
 
-pub record WorkedDiamond (to : List ℕ → Ior) (inside : Ior → Option ℕ) (words : List ℕ) : Type 0 where
+pub record WorkedDiamond (to : List ℕ → Ior) (inside : Ior → Option ℕ)
+    (words : List ℕ) : Type 0 where
   pub in_turn_at_a : HasTree (in_turn to) inside words 0 (found (codes "abdc"))
   pub in_turn_at_b : HasTree (in_turn to) inside words 1 (found (codes "bd"))
   pub in_turn_at_c : HasTree (in_turn to) inside words 3 (found (codes "c"))
@@ -106,7 +109,8 @@ changed to =
     ∷ call 2 2 7 (Some 0) 2 (without_first c) [] (answered (codes "e"))
     ∷ []
 
-pub record WorkedChanges (to : List ℕ → Ior) (inside : Ior → Option ℕ) (words : List ℕ) : Type 0 where
+pub record WorkedChanges (to : List ℕ → Ior) (inside : Ior → Option ℕ)
+    (words : List ℕ) : Type 0 where
   pub at_a : HasTree (changed to) inside words 0 (found (codes "abe"))
   pub at_b : HasTree (changed to) inside words 1 (found (codes "b"))
   pub at_c : HasTree (changed to) inside words 2 (found (codes "e"))
@@ -122,7 +126,8 @@ returned to =
     ∷ call 0 1 7 (Some 1) 2 (without_first (searched (codes "q") a)) [] repeated
     ∷ []
 
-pub record WorkedReturn (to : List ℕ → Ior) (inside : Ior → Option ℕ) (words : List ℕ) : Type 0 where
+pub record WorkedReturn (to : List ℕ → Ior) (inside : Ior → Option ℕ)
+    (words : List ℕ) : Type 0 where
   pub at_a : HasTree (returned to) inside words 0 (found (codes "ab"))
   pub at_b : HasTree (returned to) inside words 1 (found (codes "b"))
   pub again_at_a : HasTree (returned to) inside words 2 (found [])

@@ -30,7 +30,8 @@ pub record AreLookups (home : Address) (to : List ℕ → Ior) : Type 0 where
   pub b : home_key home (to (codes "B")) ≡ Some (lookup (codes "B"))
 
 -- a call of an Ask, delivered behind so many others to this trader, as it stands now
-abbrev pub call_of : (target : ℕ) → Query → (root : ℕ) → (caller : Option ℕ) → (serial : ℕ) → PlainTrader → Stage → Call
+abbrev pub call_of : (target : ℕ) → Query → (root : ℕ) → (caller : Option ℕ) → (serial : ℕ)
+    → PlainTrader → Stage → Call
 call_of target q root caller serial t stage = record (sent target q root caller) {
   stage = stage;
   delivery = Some (delivery_of serial t);
@@ -75,8 +76,10 @@ shared to =
     ∷ []
 
 pub record WithoutAlone (to : List ℕ → Ior) (home : Address) (words : List ℕ) : Type 0 where
-  pub run : Run (start (asking to ∷ asked ∷ []) home words) (Ask 0 (asks 1 9) ∷ Ask 1 (asks 1 9) ∷ Deliver 1 ∷ [])
-      (world (searched (codes "q") (asking to) ∷ searched (codes "q") asked ∷ []) home (shared to) 3 words 0)
+  pub run : Run (start (asking to ∷ asked ∷ []) home words)
+      (Ask 0 (asks 1 9) ∷ Ask 1 (asks 1 9) ∷ Deliver 1 ∷ [])
+      (world (searched (codes "q") (asking to) ∷ searched (codes "q") asked ∷ []) home (shared to)
+      3 words 0)
   pub not_alone : IsAlone 0 (map head_of (shared to)) → ⊥
   pub tree : HasTree (shared to) (inside (asking to ∷ asked ∷ []) home) words 1 (found (codes "b"))
   pub gives : Gives (shared to) 1 (found [])
@@ -94,7 +97,8 @@ abbrev pub forgotten : (to : List ℕ → Ior) → List Call
 forgotten to =
     call_of 0 (asks 1 9) 0 None 0 (forgetting to) (waits_at (forgetting to) (asks 1 9) 1)
     ∷ call_of 0 (asks 0 8) 0 (Some 0) 2 (forgot to) (answered (codes "a"))
-    ∷ call_of 0 (asks_under (codes "r") 0 9) 2 None 1 (searched (codes "q") (forgetting to)) (answered (codes "a"))
+    ∷ call_of 0 (asks_under (codes "r") 0 9) 2 None 1 (searched (codes "q") (forgetting to))
+    (answered (codes "a"))
     ∷ []
 
 pub record WithoutRemembered (to : List ℕ → Ior) (home : Address) (words : List ℕ) : Type 0 where

@@ -16,15 +16,16 @@ use Rattle.td_walk.specs.declared.trace.Address.{Address}
 -- It holds of every world to which events lead, in whatever order they come.
 abbrev pub Always : (World → Type 0) → Type 0
 Always P =
-    (ts : List PlainTrader) (home : Address) (words : List ℕ) (events : List Event) (w : World) → AreReached ts
-    → Run (start ts home words) events w → P w
+    (ts : List PlainTrader) (home : Address) (words : List ℕ) (events : List Event) (w : World)
+    → AreReached ts → Run (start ts home words) events w → P w
 
 -- the two numbers differ by more than this
 abbrev pub AreFar : (most a b : ℕ) → Type 0
 AreFar most a b = (a + most < b) ⊎ (b + most < a)
 
 -- the call of this number was delivered, and its trader was searched for it
-pub record IsSearched (calls : List Call) (c : ℕ) (k : Call) (d : Delivery) (l : Local) : Type 0 where
+pub record IsSearched (calls : List Call) (c : ℕ) (k : Call) (d : Delivery)
+    (l : Local) : Type 0 where
   pub is : slice_get calls c ≡ Some k
   pub delivered : k.delivery ≡ Some d
   pub begun : begin_at d.seen.value k.query ≡ Search l
@@ -34,7 +35,8 @@ abbrev pub AreApart : World → Type 0
 AreApart w =
     (i j : ℕ) (h g : Call) (d e : Delivery) (k l : Local) (identifier : List ℕ) → (i ≡ j → ⊥)
     → IsSearched w.calls i h d k → IsSearched w.calls j g e l → g.target ≡ h.target
-    → k.identifier ≡ Some identifier → l.identifier ≡ Some identifier → AreFar d.seen.value.bounds.ring k.mark l.mark
+    → k.identifier ≡ Some identifier → l.identifier ≡ Some identifier
+    → AreFar d.seen.value.bounds.ring k.mark l.mark
 
 -- what a trader was seen as is what it is, but for later changes and marks: its opening store, its bounds, and the
 -- store at the point to which its history had come
@@ -49,5 +51,5 @@ pub record IsPast (seen t : PlainTrader) : Type 0 where
 -- What a call was served with is of its trader at one point of the history.
 abbrev pub AreRead : World → Type 0
 AreRead w =
-    (c : ℕ) (k : Call) (d : Delivery) (t : PlainTrader) → slice_get w.calls c ≡ Some k → k.delivery ≡ Some d
-    → slice_get w.traders k.target ≡ Some t → IsPast d.seen.value t
+    (c : ℕ) (k : Call) (d : Delivery) (t : PlainTrader) → slice_get w.calls c ≡ Some k
+    → k.delivery ≡ Some d → slice_get w.traders k.target ≡ Some t → IsPast d.seen.value t

@@ -29,7 +29,8 @@ way_by None None = Here
 -- read off the trader's store, the number of its marks and the query alone, and not off what is remembered
 unfoldable pub way_of : PlainTrader → Query → Way
 way_of t q =
-    way_by (refusal t.bounds t.marks.count (store_of t) q) (path_link (store_of t).links (parts_of q).stated)
+    way_by (refusal t.bounds t.marks.count (store_of t) q)
+    (path_link (store_of t).links (parts_of q).stated)
 
 abbrev pub is_here : Way → Bool
 is_here Nowhere = false

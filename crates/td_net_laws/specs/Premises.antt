@@ -28,7 +28,8 @@ pub record Visits (r : ℕ) (hs : List Head) (h : Head) (d : Arrival) : Type 0 w
 
 -- no trader remembers the identifier
 abbrev pub Forgotten : List PlainTrader → List ℕ → Type 0
-Forgotten ts id = (n : ℕ) (t : PlainTrader) (k : ℕ) → slice_get ts n ≡ Some t → Holds t.marks id k → ⊥
+Forgotten ts id = (n : ℕ) (t : PlainTrader) (k : ℕ) → slice_get ts n ≡ Some t → Holds t.marks id k
+    → ⊥
 
 -- Fresh: at the Ask no trader remembered an identifier under which its calls came.
 abbrev pub IsFresh : (before : List PlainTrader) → (r : ℕ) → List Head → Type 0
@@ -37,14 +38,14 @@ IsFresh before r hs = (h : Head) (d : Arrival) → Visits r hs h d → Forgotten
 -- Alone: no call of another Ask came under it, stated or made, earlier or later.
 abbrev pub IsAlone : (r : ℕ) → List Head → Type 0
 IsAlone r hs =
-    (h g : Head) (d e : Arrival) → Visits r hs h d → At hs g e → e.visits ≡ true → e.identifier ≡ d.identifier
-    → g.root ≡ r
+    (h g : Head) (d e : Arrival) → Visits r hs h d → At hs g e → e.visits ≡ true
+    → e.identifier ≡ d.identifier → g.root ≡ r
 
 -- Remembered: between two visits of the Ask's calls at one trader fewer marks were made than it remembers.
 abbrev pub IsRemembered : (r : ℕ) → List Head → Type 0
 IsRemembered r hs =
-    (h g : Head) (d e : Arrival) → Visits r hs h d → Visits r hs g e → g.target ≡ h.target → d.serial < e.serial
-    → d.searches ≡ true → e.before < d.before + 1 + d.seen.bounds.ring
+    (h g : Head) (d e : Arrival) → Visits r hs h d → Visits r hs g e → g.target ≡ h.target
+    → d.serial < e.serial → d.searches ≡ true → e.before < d.before + 1 + d.seen.bounds.ring
 
 -- the three of them: of the traders before the Ask r, and of the calls afterwards
 pub record Premises (before : List PlainTrader) (r : ℕ) (calls : List Call) : Type 0 where
@@ -61,8 +62,9 @@ AllTrees r w =
 -- One depth-first walk results, whatever comes before the Ask, between and after.
 abbrev pub OneTree : Type 0
 OneTree =
-    (ts : List PlainTrader) (home : Address) (words : List ℕ) (events later : List Event) (w u v : World) (n : ℕ)
-    (q : Query) → AreReached ts → Run (start ts home words) events w → Becomes w (step_of w (Ask n q)) u
+    (ts : List PlainTrader) (home : Address) (words : List ℕ) (events later : List Event)
+    (w u v : World) (n : ℕ) (q : Query) → AreReached ts → Run (start ts home words) events w
+    → Becomes w (step_of w (Ask n q)) u
     → Run u later v → Premises w.traders (length w.calls) v.calls → AllTrees (length w.calls) v
 
 -- what an ended call gives follows from its own sub-calls
@@ -80,14 +82,14 @@ AllAnswered w =
 abbrev pub AreNamed : World → Type 0
 AreNamed w =
     (r : ℕ) (k : Call) (id : List ℕ) → slice_get w.calls r ≡ Some k → k.caller ≡ None
-    → stated_identifier k.query ≡ Some id → (h : Head) (d : Arrival) → Visits r (map head_of w.calls) h d
-    → d.identifier ≡ id
+    → stated_identifier k.query ≡ Some id → (h : Head) (d : Arrival)
+    → Visits r (map head_of w.calls) h d → d.identifier ≡ id
 
 -- whether stated or made: all calls of an Ask visit under one identifier
 abbrev pub AreUnderOne : World → Type 0
 AreUnderOne w =
-    (r : ℕ) (h g : Head) (d e : Arrival) → Visits r (map head_of w.calls) h d → Visits r (map head_of w.calls) g e
-    → d.identifier ≡ e.identifier
+    (r : ℕ) (h g : Head) (d e : Arrival) → Visits r (map head_of w.calls) h d
+    → Visits r (map head_of w.calls) g e → d.identifier ≡ e.identifier
 
 -- a list of events leads to one world
 abbrev pub RunsAreOne : Type 0
@@ -96,5 +98,6 @@ RunsAreOne = (w u v : World) (es : List Event) → Run w es u → Run w es v →
 -- a call has one tree
 abbrev pub TreesAreOne : Type 0
 TreesAreOne =
-    (f : ℕ) (w : World) (c : ℕ) (a b : SubAnswer) → IsTree f w.calls (inside w.traders w.home) w.words c a
+    (f : ℕ) (w : World) (c : ℕ) (a b : SubAnswer)
+    → IsTree f w.calls (inside w.traders w.home) w.words c a
     → IsTree f w.calls (inside w.traders w.home) w.words c b → a ≡ b

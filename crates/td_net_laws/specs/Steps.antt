@@ -33,29 +33,36 @@ pub record Opened (calls : List Call) (c target : ℕ) (q : Query) (d : ℕ) : T
 
 -- The questions of the visit l of the call c, in order, with what came of each. `inside` is the number of the trader
 -- that a target is, and Sub says what a sub-call gives. A call keeps the steps; the answers follow from them.
-pub data Told (calls : List Call) (inside : Ior → Option ℕ) (c : ℕ) (l : Local) (Sub : ℕ → SubAnswer → Type 0)
-    : List StepAnswer → List Step → Type 0 where
+pub data Told (calls : List Call) (inside : Ior → Option ℕ) (c : ℕ) (l : Local)
+    (Sub : ℕ → SubAnswer → Type 0) : List StepAnswer → List Step → Type 0 where
   nothing_yet : Told calls inside c l Sub [] []
   -- a target outside gives nothing
-  outside : {rs : List StepAnswer} {ss : List Step} {target : Ior} {q : Query} → Told calls inside c l Sub rs ss
-      → next_of l rs ≡ Forward target q → inside target ≡ None
+  outside : {rs : List StepAnswer} {ss : List Step} {target : Ior} {q : Query}
+      → Told calls inside c l Sub rs ss → next_of l rs ≡ Forward target q → inside target ≡ None
       → Told calls inside c l Sub (rs ++ answer.Failed ∷ []) (ss ++ step.Outside ∷ [])
   -- and so does an evaluator without an IIOP profile
-  unreachable : {rs : List StepAnswer} {ss : List Step} {e : Ior} {name : List ℕ} {returned : TypeCode} {extra : Any}
-      → Told calls inside c l Sub rs ss → next_of l rs ≡ Evaluate e name returned extra → is_some (iiop_of e) ≡ false
+  unreachable : {rs : List StepAnswer} {ss : List Step} {e : Ior} {name : List ℕ}
+      {returned : TypeCode} {extra : Any}
+      → Told calls inside c l Sub rs ss → next_of l rs ≡ Evaluate e name returned extra
+      → is_some (iiop_of e) ≡ false
       → Told calls inside c l Sub (rs ++ answer.Failed ∷ []) (ss ++ step.Unreachable ∷ [])
-  unvalued : {rs : List StepAnswer} {ss : List Step} {e : Ior} {name : List ℕ} {returned : TypeCode} {extra : Any}
-      → Told calls inside c l Sub rs ss → next_of l rs ≡ Evaluate e name returned extra → is_some (iiop_of e) ≡ true
+  unvalued : {rs : List StepAnswer} {ss : List Step} {e : Ior} {name : List ℕ} {returned : TypeCode}
+      {extra : Any}
+      → Told calls inside c l Sub rs ss → next_of l rs ≡ Evaluate e name returned extra
+      → is_some (iiop_of e) ≡ true
       → Told calls inside c l Sub (rs ++ answer.Failed ∷ []) (ss ++ step.Unvalued ∷ [])
-  valued : {rs : List StepAnswer} {ss : List Step} {e : Ior} {name : List ℕ} {returned : TypeCode} {extra : Any}
+  valued : {rs : List StepAnswer} {ss : List Step} {e : Ior} {name : List ℕ} {returned : TypeCode}
+      {extra : Any}
       → (v : Any) → Told calls inside c l Sub rs ss → next_of l rs ≡ Evaluate e name returned extra
       → is_some (iiop_of e) ≡ true
       → Told calls inside c l Sub (rs ++ answer.Evaluated v ∷ []) (ss ++ value_step (Some v) ∷ [])
   -- a sub-call that was lost gives nothing
   lost : {rs : List StepAnswer} {ss : List Step} {target : Ior} {k : ℕ} {q : Query} {d : ℕ}
       → Told calls inside c l Sub rs ss → next_of l rs ≡ Forward target q → inside target ≡ Some k
-      → Opened calls c k q d → Told calls inside c l Sub (rs ++ answer.Failed ∷ []) (ss ++ step.Lost d ∷ [])
-  given : {rs : List StepAnswer} {ss : List Step} {target : Ior} {k : ℕ} {q : Query} {d : ℕ} {a : SubAnswer}
+      → Opened calls c k q d → Told calls inside c l Sub (rs ++ answer.Failed ∷ [])
+      (ss ++ step.Lost d ∷ [])
+  given : {rs : List StepAnswer} {ss : List Step} {target : Ior} {k : ℕ} {q : Query} {d : ℕ}
+      {a : SubAnswer}
       → Told calls inside c l Sub rs ss → next_of l rs ≡ Forward target q → inside target ≡ Some k
       → Opened calls c k q d → Sub d a
       → Told calls inside c l Sub (rs ++ answer.Offers a ∷ []) (ss ++ step.Given d ∷ [])
@@ -68,12 +75,14 @@ pub record EndedAs (calls : List Call) (d : ℕ) (a : SubAnswer) : Type 0 where
   pub ended : call.stage ≡ Ended visit
   pub gives : a ≡ answer_in visit
 
-abbrev pub Led : List Call → (inside : Ior → Option ℕ) → (c : ℕ) → Local → List StepAnswer → List Step → Type 0
+abbrev pub Led : List Call → (inside : Ior → Option ℕ) → (c : ℕ) → Local → List StepAnswer
+    → List Step → Type 0
 Led calls inside c l = Told calls inside c l (EndedAs calls)
 
 -- all questions of a visit were asked, and its answer is that, by the words that were to come at its end
-pub record Asked (calls : List Call) (inside : Ior → Option ℕ) (c : ℕ) (Sub : ℕ → SubAnswer → Type 0) (words : List ℕ)
-    (k : Call) (a : SubAnswer) (l : Local) : Type 0 where
+pub record Asked (calls : List Call) (inside : Ior → Option ℕ) (c : ℕ)
+    (Sub : ℕ → SubAnswer → Type 0) (words : List ℕ) (k : Call) (a : SubAnswer)
+    (l : Local) : Type 0 where
   pub answers : List StepAnswer
   pub told : Told calls inside c l Sub answers k.steps
   pub none_left : next_of l answers ≡ Done
@@ -81,9 +90,12 @@ pub record Asked (calls : List Call) (inside : Ior → Option ℕ) (c : ℕ) (Su
 
 -- What a call gives that came so to the trader: nothing where it was refused or was a repeat, else the answer of its
 -- questions.
-abbrev pub Answered : List Call → (inside : Ior → Option ℕ) → (c : ℕ) → (Sub : ℕ → SubAnswer → Type 0)
+abbrev pub Answered : List Call → (inside : Ior → Option ℕ) → (c : ℕ)
+    → (Sub : ℕ → SubAnswer → Type 0)
     → (words : List ℕ) → Call → PlainTrader → SubAnswer → Way → (searches : Bool) → Type 0
 Answered calls inside c Sub words k t a Nowhere s = a ≡ nothing
-Answered calls inside c Sub words k t a (Along link) s = Asked calls inside c Sub words k a (path_at t link k.query)
+Answered calls inside c Sub words k t a (Along link) s = Asked calls inside c Sub words k a
+    (path_at t link k.query)
 Answered calls inside c Sub words k t a Here false = a ≡ nothing
-Answered calls inside c Sub words k t a Here true = Asked calls inside c Sub words k a (search_at t k.query)
+Answered calls inside c Sub words k t a Here true = Asked calls inside c Sub words k a
+    (search_at t k.query)

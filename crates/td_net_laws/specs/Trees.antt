@@ -17,7 +17,8 @@ earlier serial (Some d) = d.visits && nat_lt d.serial serial
 abbrev pub visited : List Head → (target root serial : ℕ) → Bool
 visited [] target root serial = false
 visited (h ∷ hs) target root serial =
-    ((h.target == target) && ((h.root == root) && earlier serial h.arrival)) || visited hs target root serial
+    ((h.target == target) && ((h.root == root) && earlier serial h.arrival))
+    || visited hs target root serial
 
 abbrev pub TreeBy : List Call → (inside : Ior → Option ℕ) → (c : ℕ) → (Sub : ℕ → SubAnswer → Type 0)
     → (words : List ℕ) → SubAnswer → Call → Option Delivery → Type 0
@@ -35,8 +36,8 @@ TreeAt calls inside c Sub words a (Some k) = TreeBy calls inside c Sub words a k
 -- trader as it was when the call came there, and asks nothing of what the trader remembered. It gives nothing where the
 -- query is refused, and where the trader was visited before; else the answer of its questions, of which each gives
 -- nothing, a value, or the tree of its sub-call.
-abbrev pub IsTree : (depth : ℕ) → List Call → (inside : Ior → Option ℕ) → (words : List ℕ) → (c : ℕ) → SubAnswer
-    → Type 0
+abbrev pub IsTree : (depth : ℕ) → List Call → (inside : Ior → Option ℕ) → (words : List ℕ) → (c : ℕ)
+    → SubAnswer → Type 0
 IsTree zero calls inside words c a = ⊥
 IsTree (suc f) calls inside words c a =
     TreeAt calls inside c (IsTree f calls inside words) words a (slice_get calls c)

@@ -23,7 +23,8 @@ pub record IsAddress (home : Address) : Type 0 where
 -- the object of a kind that the trader of a name has, reached where the server listens
 abbrev pub own_reference : Address → Interface → (name : List ℕ) → Kind → Ior
 own_reference home i name k =
-    made_reference (interface_id i) home.host home.port (written_key (record { trader = name; kind = k })) home.minor
+    made_reference (interface_id i) home.host home.port
+    (written_key (record { trader = name; kind = k })) home.minor
 
 -- ---- the objects of every trader (OMG's Trading Object Service, TraderComponents)
 

@@ -21,15 +21,15 @@ abbrev pub admin_row : AdminOperation → Row
 admin_row admin.ListOffers = record {
   name = codes "list_offers";
   body =
-      look_arm (Admin admin.ListOffers) (λ p. look.ListOffers p) (elim [ look.ListOffers x ↦ Some x | _ ↦ None ])
-      (λ _. refl) (λ _. refl) (ulong);
+      look_arm (Admin admin.ListOffers) (λ p. look.ListOffers p)
+      (elim [ look.ListOffers x ↦ Some x | _ ↦ None ]) (λ _. refl) (λ _. refl) (ulong);
   result = shape.Ids;
 }
 admin_row admin.ListProxies = record {
   name = codes "list_proxies";
   body =
-      look_arm (Admin admin.ListProxies) (λ p. look.ListProxies p) (elim [ look.ListProxies x ↦ Some x | _ ↦ None ])
-      (λ _. refl) (λ _. refl) (ulong);
+      look_arm (Admin admin.ListProxies) (λ p. look.ListProxies p)
+      (elim [ look.ListProxies x ↦ Some x | _ ↦ None ]) (λ _. refl) (λ _. refl) (ulong);
   result = shape.Ids;
 }
 admin_row admin.SetTypeRepos = record {

@@ -22,15 +22,16 @@ use Rattle.td_ops.specs.Outcomes.{outcome_piece, system_id}
 use Rattle.td_ops.specs.Refusals.{told}
 
 abbrev pub done_answer : Shape → Sound ValueFault Answered
-done_answer shape = variant (λ r. Done r) (elim [ Done r ↦ Some r | _ ↦ None ]) (λ _. refl) (results shape)
+done_answer shape = variant (λ r. Done r) (elim [ Done r ↦ Some r | _ ↦ None ]) (λ _. refl)
+    (results shape)
 
 abbrev pub user_answer : Sound ValueFault Answered
 user_answer = variant (λ id. User id) (elim [ User id ↦ Some id | _ ↦ None ]) (λ _. refl) text
 
 abbrev pub system_answer : Sound ValueFault Answered
 system_answer =
-    variant (λ p. System p.0 p.1.0 p.1.1) (elim [ System x y z ↦ Some (x, (y, z)) | _ ↦ None ]) (λ _. refl)
-    (text & ulong & ulong)
+    variant (λ p. System p.0 p.1.0 p.1.1) (elim [ System x y z ↦ Some (x, (y, z)) | _ ↦ None ])
+    (λ _. refl) (text & ulong & ulong)
 
 abbrev pub no_answer : Sound ValueFault Answered
 no_answer = failure (λ a. BadValue a.place)

@@ -61,13 +61,15 @@ trader_components =
 
 abbrev pub support_attributes : List Attribute
 support_attributes =
-    Truth truth.SupportsModifiableProperties ∷ Truth truth.SupportsDynamicProperties ∷ Truth truth.SupportsProxyOffers
-    ∷ Reference reference.TypeRepos ∷ []
+    Truth truth.SupportsModifiableProperties ∷ Truth truth.SupportsDynamicProperties
+    ∷ Truth truth.SupportsProxyOffers ∷ Reference reference.TypeRepos ∷ []
 
 abbrev pub import_attributes : List Attribute
 import_attributes =
-    Number number.DefSearchCard ∷ Number number.MaxSearchCard ∷ Number number.DefMatchCard ∷ Number number.MaxMatchCard
-    ∷ Number number.DefReturnCard ∷ Number number.MaxReturnCard ∷ Number number.MaxList ∷ Number number.DefHopCount
+    Number number.DefSearchCard ∷ Number number.MaxSearchCard ∷ Number number.DefMatchCard
+    ∷ Number number.MaxMatchCard
+    ∷ Number number.DefReturnCard ∷ Number number.MaxReturnCard ∷ Number number.MaxList
+    ∷ Number number.DefHopCount
     ∷ Number number.MaxHopCount ∷ Follow follow.DefFollowPolicy ∷ Follow follow.MaxFollowPolicy ∷ []
 
 abbrev pub link_attributes : List Attribute
@@ -76,11 +78,13 @@ link_attributes = Follow follow.MaxLinkFollowPolicy ∷ []
 -- ---- what Admin sets, by the types of the values
 
 abbrev pub truths_set : List TruthAttribute
-truths_set = truth.SupportsModifiableProperties ∷ truth.SupportsDynamicProperties ∷ truth.SupportsProxyOffers ∷ []
+truths_set = truth.SupportsModifiableProperties ∷ truth.SupportsDynamicProperties
+    ∷ truth.SupportsProxyOffers ∷ []
 
 abbrev pub numbers_set : List NumberAttribute
 numbers_set =
-    number.DefSearchCard ∷ number.MaxSearchCard ∷ number.DefMatchCard ∷ number.MaxMatchCard ∷ number.DefReturnCard
+    number.DefSearchCard ∷ number.MaxSearchCard ∷ number.DefMatchCard ∷ number.MaxMatchCard
+    ∷ number.DefReturnCard
     ∷ number.MaxReturnCard ∷ number.MaxList ∷ number.DefHopCount ∷ number.MaxHopCount ∷ []
 
 abbrev pub follows_set : List FollowAttribute

@@ -43,7 +43,8 @@ answer_faults operation status = (answer_of operation status).faults
 
 -- the object's table has no such operation
 abbrev pub IsUnknown : Kind → List ℕ → Type 0
-IsUnknown kind name = AllByRecursion (λ o. bytes_eq (first_name name) (name_of o) ≡ false) (operations kind)
+IsUnknown kind name = AllByRecursion (λ o. bytes_eq (first_name name) (name_of o) ≡ false)
+    (operations kind)
 
 -- it would change the type repository of a trader, or has a kind of TypeCode that is left out
 pub data IsNotImplemented (kind : Kind) (name : List ℕ) (a : At) : Type 0 where

@@ -85,8 +85,8 @@ of_change from (call.Change c) = from c
 of_change from _ = None
 
 abbrev pub change_arm : {X : Type 0} (o : Operation) (to : X → Change) (from : Change → Option X)
-    → ((x : X) → from (to x) ≡ Some x) → ((x : X) → o ≡ change_operation (to x)) → Sound ValueFault X
-    → Arm ValueFault Operation Call operation_in
+    → ((x : X) → from (to x) ≡ Some x) → ((x : X) → o ≡ change_operation (to x))
+    → Sound ValueFault X → Arm ValueFault Operation Call operation_in
 change_arm o to from back told g = arm o (λ x. call.Change (to x)) (of_change from) back told g
 
 abbrev pub of_look : {X : Type 0} → (Look → Option X) → Call → Option X
@@ -102,7 +102,8 @@ abbrev pub of_iterator : {X : Type 0} → (IterCall → Option X) → Call → O
 of_iterator from (call.Iter i) = from i
 of_iterator from _ = None
 
-abbrev pub iterator_arm : {X : Type 0} (o : Operation) (to : X → IterCall) (from : IterCall → Option X)
-    → ((x : X) → from (to x) ≡ Some x) → ((x : X) → o ≡ iterator_operation (to x)) → Sound ValueFault X
-    → Arm ValueFault Operation Call operation_in
+abbrev pub iterator_arm : {X : Type 0} (o : Operation) (to : X → IterCall)
+    (from : IterCall → Option X)
+    → ((x : X) → from (to x) ≡ Some x) → ((x : X) → o ≡ iterator_operation (to x))
+    → Sound ValueFault X → Arm ValueFault Operation Call operation_in
 iterator_arm o to from back told g = arm o (λ x. call.Iter (to x)) (of_iterator from) back told g

@@ -19,7 +19,8 @@ abbrev pub body_of : Operation → Format ValueFault Call
 body_of operation = (row operation).body.format
 
 -- these bytes are the body of a request for this call, by the name of an operation that the object has
-pub record Body (kind : Kind) (name : List ℕ) (order : Order) (place : ℕ) (c : Call) (bytes : List ℕ) : Type 0 where
+pub record Body (kind : Kind) (name : List ℕ) (order : Order) (place : ℕ) (c : Call)
+    (bytes : List ℕ) : Type 0 where
   pub operation : Operation
   pub named : operation_named kind name ≡ Some operation
   pub spelled : (body_of operation).spells order place c bytes

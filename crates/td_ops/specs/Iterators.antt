@@ -20,8 +20,8 @@ iterator_row iterator.MaxLeft = record {
 iterator_row iterator.NextN = record {
   name = codes "next_n";
   body =
-      iterator_arm (Iterator iterator.NextN) (λ p. iter.NextN p) (elim [ iter.NextN x ↦ Some x | _ ↦ None ]) (λ _. refl)
-      (λ _. refl) (ulong);
+      iterator_arm (Iterator iterator.NextN) (λ p. iter.NextN p)
+      (elim [ iter.NextN x ↦ Some x | _ ↦ None ]) (λ _. refl) (λ _. refl) (ulong);
   result = shape.Batch;
 }
 iterator_row iterator.Destroy = record {
@@ -31,4 +31,5 @@ iterator_row iterator.Destroy = record {
 }
 
 abbrev pub iterator_operations : List Operation
-iterator_operations = Iterator iterator.MaxLeft ∷ Iterator iterator.NextN ∷ Iterator iterator.Destroy ∷ []
+iterator_operations = Iterator iterator.MaxLeft ∷ Iterator iterator.NextN
+    ∷ Iterator iterator.Destroy ∷ []

@@ -22,7 +22,8 @@ use Rattle.td_ops.specs.BodyFaults.{answer_faults}
 -- each operation of an object is found by its name
 abbrev pub AreFound : Type 0
 AreFound =
-    (kind : Kind) → map (λ o. operation_named kind (name_of o)) (operations kind) ≡ map (λ o. Some o) (operations kind)
+    (kind : Kind) → map (λ o. operation_named kind (name_of o)) (operations kind)
+    ≡ map (λ o. Some o) (operations kind)
 
 abbrev pub SecondName : Type 0
 SecondName = (kind : Kind) → operation_named kind (codes "_not_existent") ≡ Some NonExistent
@@ -37,8 +38,8 @@ ReadAsSpelled = (kind : Kind) (name : List ℕ) (a : At) (c : Call) (next : At)
 
 -- what is spelled so is read, whatever follows
 abbrev pub SpelledIsRead : Type 0
-SpelledIsRead = (kind : Kind) (name : List ℕ) (a : At) (c : Call) (b rest : List ℕ) → a.origin ≤ a.place
-    → Body kind name a.order (a.place - a.origin) c b → a.rest ≡ b ++ rest
+SpelledIsRead = (kind : Kind) (name : List ℕ) (a : At) (c : Call) (b rest : List ℕ)
+    → a.origin ≤ a.place → Body kind name a.order (a.place - a.origin) c b → a.rest ≡ b ++ rest
     → call_read kind name a ≡ Ok (c, after (length b) a)
 
 abbrev pub UnknownIsRefused : Type 0
@@ -54,25 +55,28 @@ IsCalled = (operation : Operation) (order : Order) (place : ℕ) (c : Call) (b :
 -- what is written for a call is read as that call, by an object that has the operation
 abbrev pub CallReadsBack : Type 0
 CallReadsBack = (kind : Kind) (c : Call) (a : At) (rest : List ℕ)
-    → operation_named kind (name_of (operation_in c)) ≡ Some (operation_in c) → AdmitsCall c → a.origin ≤ a.place
-    → length (call_piece c a.order (a.place - a.origin)) < 2 ^ 32
+    → operation_named kind (name_of (operation_in c)) ≡ Some (operation_in c) → AdmitsCall c
+    → a.origin ≤ a.place → length (call_piece c a.order (a.place - a.origin)) < 2 ^ 32
     → a.rest ≡ call_piece c a.order (a.place - a.origin) ++ rest
-    → call_read kind (name_of (operation_in c)) a ≡ Ok (c, after (length (call_piece c a.order (a.place - a.origin))) a)
+    → call_read kind (name_of (operation_in c)) a
+    ≡ Ok (c, after (length (call_piece c a.order (a.place - a.origin))) a)
 
 -- what is written for an outcome is read, under its status, as what a client is told of it
 abbrev pub OutcomeReadsBack : Type 0
 OutcomeReadsBack =
-    (c : Call) (o : Outcome) (a : At) (rest : List ℕ) → AdmitsOutcome (operation_in c) o → a.origin ≤ a.place
-    → length (outcome_piece o a.order (a.place - a.origin)) < 2 ^ 32
+    (c : Call) (o : Outcome) (a : At) (rest : List ℕ) → AdmitsOutcome (operation_in c) o
+    → a.origin ≤ a.place → length (outcome_piece o a.order (a.place - a.origin)) < 2 ^ 32
     → a.rest ≡ outcome_piece o a.order (a.place - a.origin) ++ rest
-    → outcome_read c (outcome_status o) a ≡ Ok (answered o, after (length (telling o a.order (a.place - a.origin))) a)
+    → outcome_read c (outcome_status o) a
+    ≡ Ok (answered o, after (length (telling o a.order (a.place - a.origin))) a)
 
 -- ---- why a body is refused
 
 -- BAD_OPERATION, whatever the body
 abbrev pub BadOperationIsUnknown : Type 0
 BadOperationIsUnknown =
-    (kind : Kind) (name : List ℕ) (a : At) → (call_read kind name a ≡ Err BadOperation) ↔ IsUnknown kind name
+    (kind : Kind) (name : List ℕ) (a : At) → (call_read kind name a ≡ Err BadOperation)
+    ↔ IsUnknown kind name
 
 abbrev pub NoImplementIsLeftOut : Type 0
 NoImplementIsLeftOut = (kind : Kind) (name : List ℕ) (a : At) → a.origin ≤ a.place
@@ -85,8 +89,10 @@ MarshalIsMisspelled = (kind : Kind) (name : List ℕ) (a : At) (place : ℕ) →
 -- the same of a reply to a call
 abbrev pub ReplyIsLeftOut : Type 0
 ReplyIsLeftOut = (c : Call) (status : ℕ) (a : At) → a.origin ≤ a.place
-    → (outcome_read c status a ≡ Err NoImplement) ↔ UnsupportedKind (answer_faults (operation_in c) status) a
+    → (outcome_read c status a ≡ Err NoImplement)
+    ↔ UnsupportedKind (answer_faults (operation_in c) status) a
 
 abbrev pub ReplyIsMisspelled : Type 0
 ReplyIsMisspelled = (c : Call) (status : ℕ) (a : At) (place : ℕ) → a.origin ≤ a.place
-    → (outcome_read c status a ≡ Err (Marshal place)) ↔ Misspelling (answer_faults (operation_in c) status) a place
+    → (outcome_read c status a ≡ Err (Marshal place))
+    ↔ Misspelling (answer_faults (operation_in c) status) a place

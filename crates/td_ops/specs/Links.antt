@@ -18,22 +18,22 @@ abbrev pub link_row : LinkOperation → Row
 link_row link.AddLink = record {
   name = codes "add_link";
   body =
-      arm (Link link.AddLink) (λ p. call.AddLink p) (elim [ call.AddLink x ↦ Some x | _ ↦ None ]) (λ _. refl)
-      (λ _. refl) (add_link);
+      arm (Link link.AddLink) (λ p. call.AddLink p) (elim [ call.AddLink x ↦ Some x | _ ↦ None ])
+      (λ _. refl) (λ _. refl) (add_link);
   result = shape.Nothing;
 }
 link_row link.RemoveLink = record {
   name = codes "remove_link";
   body =
-      change_arm (Link link.RemoveLink) (λ p. change.RemoveLink p) (elim [ change.RemoveLink x ↦ Some x | _ ↦ None ])
-      (λ _. refl) (λ _. refl) (text);
+      change_arm (Link link.RemoveLink) (λ p. change.RemoveLink p)
+      (elim [ change.RemoveLink x ↦ Some x | _ ↦ None ]) (λ _. refl) (λ _. refl) (text);
   result = shape.Nothing;
 }
 link_row link.DescribeLink = record {
   name = codes "describe_link";
   body =
-      look_arm (Link link.DescribeLink) (λ p. look.DescribeLink p) (elim [ look.DescribeLink x ↦ Some x | _ ↦ None ])
-      (λ _. refl) (λ _. refl) (text);
+      look_arm (Link link.DescribeLink) (λ p. look.DescribeLink p)
+      (elim [ look.DescribeLink x ↦ Some x | _ ↦ None ]) (λ _. refl) (λ _. refl) (text);
   result = shape.Link;
 }
 link_row link.ListLinks = record {
@@ -52,4 +52,5 @@ link_row link.ModifyLink = record {
 
 abbrev pub link_operations : List Operation
 link_operations =
-    Link link.AddLink ∷ Link link.RemoveLink ∷ Link link.DescribeLink ∷ Link link.ListLinks ∷ Link link.ModifyLink ∷ []
+    Link link.AddLink ∷ Link link.RemoveLink ∷ Link link.DescribeLink ∷ Link link.ListLinks
+    ∷ Link link.ModifyLink ∷ []

@@ -46,7 +46,8 @@ attribute_shape Incarnation = shape.Incarnation
 abbrev pub row : Operation → Row
 row Query = record {
   name = codes "query";
-  body = arm Query (λ q. call.Query q) (elim [ call.Query q ↦ Some q | _ ↦ None ]) (λ _. refl) (λ _. refl) query;
+  body = arm Query (λ q. call.Query q) (elim [ call.Query q ↦ Some q | _ ↦ None ]) (λ _. refl)
+      (λ _. refl) query;
   result = shape.Found;
 }
 row (Register o) = register_row o
@@ -63,22 +64,22 @@ row (Get a) = record {
 row (SetTruth a) = record {
   name = codes "set_" ++ truth_name a;
   body =
-      change_arm (SetTruth a) (λ v. change.SetTruth a v) (elim [ change.SetTruth _ v ↦ Some v | _ ↦ None ]) (λ _. refl)
-      (λ _. refl) boolean;
+      change_arm (SetTruth a) (λ v. change.SetTruth a v)
+      (elim [ change.SetTruth _ v ↦ Some v | _ ↦ None ]) (λ _. refl) (λ _. refl) boolean;
   result = shape.Truth;
 }
 row (SetNumber a) = record {
   name = codes "set_" ++ number_name a;
   body =
-      change_arm (SetNumber a) (λ v. change.SetNumber a v) (elim [ change.SetNumber _ v ↦ Some v | _ ↦ None ])
-      (λ _. refl) (λ _. refl) ulong;
+      change_arm (SetNumber a) (λ v. change.SetNumber a v)
+      (elim [ change.SetNumber _ v ↦ Some v | _ ↦ None ]) (λ _. refl) (λ _. refl) ulong;
   result = shape.Number;
 }
 row (SetFollow a) = record {
   name = codes "set_" ++ follow_name a;
   body =
-      change_arm (SetFollow a) (λ v. change.SetFollow a v) (elim [ change.SetFollow _ v ↦ Some v | _ ↦ None ])
-      (λ _. refl) (λ _. refl) follow_option;
+      change_arm (SetFollow a) (λ v. change.SetFollow a v)
+      (elim [ change.SetFollow _ v ↦ Some v | _ ↦ None ]) (λ _. refl) (λ _. refl) follow_option;
   result = shape.Follow;
 }
 row SetRequestIdStem = record {
@@ -90,10 +91,15 @@ row SetRequestIdStem = record {
 }
 row IsA = record {
   name = codes "_is_a";
-  body = arm IsA (λ id. call.IsA id) (elim [ call.IsA id ↦ Some id | _ ↦ None ]) (λ _. refl) (λ _. refl) text;
+  body = arm IsA (λ id. call.IsA id) (elim [ call.IsA id ↦ Some id | _ ↦ None ]) (λ _. refl)
+      (λ _. refl) text;
   result = shape.Truth;
 }
-row NonExistent = record { name = codes "_non_existent"; body = bare_arm call.NonExistent; result = shape.Truth }
+row NonExistent = record {
+  name = codes "_non_existent";
+  body = bare_arm call.NonExistent;
+  result = shape.Truth;
+}
 
 -- the name that a client writes
 abbrev pub name_of : Operation → List ℕ

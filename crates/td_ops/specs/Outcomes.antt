@@ -31,7 +31,8 @@ system_id system.NoMemory = codes "IDL:omg.org/CORBA/NO_MEMORY:1.0"
 -- its bytes: the id, the minor code, and whether the call was done
 abbrev pub system_piece : SystemKind → ℕ → ℕ → Piece
 system_piece kind minor completion =
-    text.format.writes (system_id kind) then ulong.format.writes minor then ulong.format.writes completion
+    text.format.writes (system_id kind) then ulong.format.writes minor then ulong.format.writes
+    completion
 
 -- what is written for an outcome
 abbrev pub outcome_piece : Outcome → Piece
@@ -60,7 +61,8 @@ is_short (System kind minor completion) = true
 
 -- it is refused only for want of the writer's room
 abbrev pub FitsRoom : {E : Type 0} → Piece → Draft → Result (Unit {0}) E → Type 0
-FitsRoom piece old result = length old.bytes + length (piece old.order (length old.bytes)) ≤ old.room → IsOk result
+FitsRoom piece old result = length old.bytes + length (piece old.order (length old.bytes))
+    ≤ old.room → IsOk result
 
 -- room for so many bytes suffices
 abbrev pub SufficesRoom : {E : Type 0} → ℕ → Draft → Result (Unit {0}) E → Type 0

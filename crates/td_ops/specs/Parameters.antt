@@ -20,11 +20,15 @@ query =
       desired = p.1.1.1.1.0;
       how_many = p.1.1.1.1.1;
     })
-    (λ x. (x.service_type, (x.constraint, (x.preference, (x.policies, (x.desired, x.how_many)))))) (λ _. refl)
-    (λ _. refl) (text & text & text & sequence policy & specified_props & ulong)
+    (λ x. (x.service_type, (x.constraint, (x.preference, (x.policies, (x.desired, x.how_many))))))
+    (λ _. refl) (λ _. refl) (text & text & text & sequence policy & specified_props & ulong)
 
 abbrev pub add_link : Sound ValueFault AddLink
 add_link =
-    structure (λ p. record { name = p.0; target = p.1.0; def_pass_on = p.1.1.0; limiting = p.1.1.1 })
-    (λ x. (x.name, (x.target, (x.def_pass_on, x.limiting)))) (λ _. refl) (λ _. refl)
-    (text & reference & follow_option & follow_option)
+    structure (λ p. record {
+      name = p.0;
+      target = p.1.0;
+      def_pass_on = p.1.1.0;
+      limiting = p.1.1.1;
+    }) (λ x. (x.name, (x.target, (x.def_pass_on, x.limiting)))) (λ _. refl)
+    (λ _. refl) (text & reference & follow_option & follow_option)

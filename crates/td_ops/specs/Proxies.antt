@@ -17,9 +17,11 @@ abbrev pub proxy_row : ProxyOperation → Row
 proxy_row proxy.ExportProxy = record {
   name = codes "export_proxy";
   body =
-      change_arm (Proxy proxy.ExportProxy) (λ p. change.ExportProxy p.0 p.1.0 p.1.1.0 p.1.1.1.0 p.1.1.1.1.0 p.1.1.1.1.1)
-      (elim [ change.ExportProxy x y z u v w ↦ Some (x, (y, (z, (u, (v, w))))) | _ ↦ None ]) (λ _. refl) (λ _. refl)
-      (reference & text & sequence property & boolean & text & sequence policy);
+      change_arm (Proxy proxy.ExportProxy)
+      (λ p. change.ExportProxy p.0 p.1.0 p.1.1.0 p.1.1.1.0 p.1.1.1.1.0 p.1.1.1.1.1)
+      (elim [ change.ExportProxy x y z u v w ↦ Some (x, (y, (z, (u, (v, w))))) | _ ↦ None ])
+      (λ _. refl) (λ _. refl) (reference & text & sequence property & boolean & text & sequence
+      policy);
   result = shape.Id;
 }
 proxy_row proxy.WithdrawProxy = record {
@@ -38,4 +40,5 @@ proxy_row proxy.DescribeProxy = record {
 }
 
 abbrev pub proxy_operations : List Operation
-proxy_operations = Proxy proxy.ExportProxy ∷ Proxy proxy.WithdrawProxy ∷ Proxy proxy.DescribeProxy ∷ []
+proxy_operations = Proxy proxy.ExportProxy ∷ Proxy proxy.WithdrawProxy ∷ Proxy proxy.DescribeProxy
+    ∷ []

@@ -35,8 +35,8 @@ Told new (Err Memory) reading = reading ≡ Err BadOperation → ⊥
 Told new (Err e) reading = reading ≡ Err e
 
 -- A public reader answers what reading gives, and what can be written. It is unchanged where it refuses.
-pub record Answers {X : Type 0} (admits : X → Type 0) (reading : Result (X × At) OpsFault) (old new : At)
-    (result : Result X OpsFault) : Type 0 where
+pub record Answers {X : Type 0} (admits : X → Type 0) (reading : Result (X × At) OpsFault)
+    (old new : At) (result : Result X OpsFault) : Type 0 where
   pub gives : Told new result reading
   pub unchanged : OnErr result (new ≡ old)
   pub admitted : IfOk result admits

@@ -26,15 +26,15 @@ register_row register.Export = record {
 register_row register.Withdraw = record {
   name = codes "withdraw";
   body =
-      change_arm (Register register.Withdraw) (λ p. change.Withdraw p) (elim [ change.Withdraw x ↦ Some x | _ ↦ None ])
-      (λ _. refl) (λ _. refl) (text);
+      change_arm (Register register.Withdraw) (λ p. change.Withdraw p)
+      (elim [ change.Withdraw x ↦ Some x | _ ↦ None ]) (λ _. refl) (λ _. refl) (text);
   result = shape.Nothing;
 }
 register_row register.Describe = record {
   name = codes "describe";
   body =
-      look_arm (Register register.Describe) (λ p. look.Describe p) (elim [ look.Describe x ↦ Some x | _ ↦ None ])
-      (λ _. refl) (λ _. refl) (text);
+      look_arm (Register register.Describe) (λ p. look.Describe p)
+      (elim [ look.Describe x ↦ Some x | _ ↦ None ]) (λ _. refl) (λ _. refl) (text);
   result = shape.Offer;
 }
 register_row register.Modify = record {
@@ -48,19 +48,22 @@ register_row register.Modify = record {
 register_row register.WithdrawUsingConstraint = record {
   name = codes "withdraw_using_constraint";
   body =
-      change_arm (Register register.WithdrawUsingConstraint) (λ p. change.WithdrawUsingConstraint p.0 p.1)
-      (elim [ change.WithdrawUsingConstraint x y ↦ Some (x, y) | _ ↦ None ]) (λ _. refl) (λ _. refl) (text & text);
+      change_arm (Register register.WithdrawUsingConstraint)
+      (λ p. change.WithdrawUsingConstraint p.0 p.1)
+      (elim [ change.WithdrawUsingConstraint x y ↦ Some (x, y) | _ ↦ None ]) (λ _. refl) (λ _. refl)
+      (text & text);
   result = shape.Nothing;
 }
 register_row register.Resolve = record {
   name = codes "resolve";
   body =
-      arm (Register register.Resolve) (λ p. call.Resolve p) (elim [ call.Resolve x ↦ Some x | _ ↦ None ]) (λ _. refl)
-      (λ _. refl) (sequence text);
+      arm (Register register.Resolve) (λ p. call.Resolve p)
+      (elim [ call.Resolve x ↦ Some x | _ ↦ None ]) (λ _. refl) (λ _. refl) (sequence text);
   result = shape.Reference;
 }
 
 abbrev pub register_operations : List Operation
 register_operations =
-    Register register.Export ∷ Register register.Withdraw ∷ Register register.Describe ∷ Register register.Modify
+    Register register.Export ∷ Register register.Withdraw ∷ Register register.Describe
+    ∷ Register register.Modify
     ∷ Register register.WithdrawUsingConstraint ∷ Register register.Resolve ∷ []

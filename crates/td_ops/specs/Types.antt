@@ -25,22 +25,22 @@ types_row types.AddType = record {
 types_row types.RemoveType = record {
   name = codes "remove_type";
   body =
-      change_arm (Types types.RemoveType) (λ p. change.RemoveType p) (elim [ change.RemoveType x ↦ Some x | _ ↦ None ])
-      (λ _. refl) (λ _. refl) (text);
+      change_arm (Types types.RemoveType) (λ p. change.RemoveType p)
+      (elim [ change.RemoveType x ↦ Some x | _ ↦ None ]) (λ _. refl) (λ _. refl) (text);
   result = shape.Nothing;
 }
 types_row types.ListTypes = record {
   name = codes "list_types";
   body =
-      look_arm (Types types.ListTypes) (λ p. look.ListTypes p) (elim [ look.ListTypes x ↦ Some x | _ ↦ None ])
-      (λ _. refl) (λ _. refl) (specified_types);
+      look_arm (Types types.ListTypes) (λ p. look.ListTypes p)
+      (elim [ look.ListTypes x ↦ Some x | _ ↦ None ]) (λ _. refl) (λ _. refl) (specified_types);
   result = shape.Names;
 }
 types_row types.DescribeType = record {
   name = codes "describe_type";
   body =
-      look_arm (Types types.DescribeType) (λ p. look.DescribeType p) (elim [ look.DescribeType x ↦ Some x | _ ↦ None ])
-      (λ _. refl) (λ _. refl) (text);
+      look_arm (Types types.DescribeType) (λ p. look.DescribeType p)
+      (elim [ look.DescribeType x ↦ Some x | _ ↦ None ]) (λ _. refl) (λ _. refl) (text);
   result = shape.Typed;
 }
 types_row types.FullyDescribeType = record {
@@ -53,15 +53,15 @@ types_row types.FullyDescribeType = record {
 types_row types.MaskType = record {
   name = codes "mask_type";
   body =
-      change_arm (Types types.MaskType) (λ p. change.MaskType p) (elim [ change.MaskType x ↦ Some x | _ ↦ None ])
-      (λ _. refl) (λ _. refl) (text);
+      change_arm (Types types.MaskType) (λ p. change.MaskType p)
+      (elim [ change.MaskType x ↦ Some x | _ ↦ None ]) (λ _. refl) (λ _. refl) (text);
   result = shape.Nothing;
 }
 types_row types.UnmaskType = record {
   name = codes "unmask_type";
   body =
-      change_arm (Types types.UnmaskType) (λ p. change.UnmaskType p) (elim [ change.UnmaskType x ↦ Some x | _ ↦ None ])
-      (λ _. refl) (λ _. refl) (text);
+      change_arm (Types types.UnmaskType) (λ p. change.UnmaskType p)
+      (elim [ change.UnmaskType x ↦ Some x | _ ↦ None ]) (λ _. refl) (λ _. refl) (text);
   result = shape.Nothing;
 }
 

@@ -38,7 +38,8 @@ pub fn read_outcome(
     body: &mut Reader,
 ) -> Result<Answered, OpsFault>
     ensures { let reply = answer_of (operation_in call.now) status in
-        Answers reply.format.admits (outcome_read call.now status body.old) body.old body.new result }
+        Answers reply.format.admits (outcome_read call.now status body.old)
+        body.old body.new result }
 {
     let operation = operation_in(call);
     let mut next = body.copied();

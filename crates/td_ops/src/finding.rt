@@ -186,7 +186,8 @@ fn admin_reading(name: &[u8]) -> Option<Operation>
 /// An attribute that Admin has beside ImportAttributes, or what all objects of a trader have.
 #[tactic(auto, using(crate::proofs::Named::value_named_append))]
 fn admin_reading_of_links(name: &[u8]) -> Option<Operation>
-    ensures { result ≡ value_named name_of (link_readings ++ (Get RequestIdStem ∷ []) ++ trader_operations) name.now }
+    ensures { result ≡ value_named name_of (link_readings ++ (Get RequestIdStem ∷ [])
+        ++ trader_operations) name.now }
 {
     match find_named(
         &[Operation::Get(Attribute::Follow(FollowAttribute::MaxLinkFollowPolicy))],
@@ -200,7 +201,8 @@ fn admin_reading_of_links(name: &[u8]) -> Option<Operation>
 /// The stem, or what all objects of a trader have.
 #[tactic(auto, using(crate::proofs::Named::value_named_append))]
 fn stem_or_common(name: &[u8]) -> Option<Operation>
-    ensures { result ≡ value_named name_of ((Get RequestIdStem ∷ []) ++ trader_operations) name.now }
+    ensures { result ≡ value_named name_of ((Get RequestIdStem ∷ []) ++ trader_operations)
+        name.now }
 {
     match find_named(&[Operation::Get(Attribute::RequestIdStem)], name) {
         Some(operation) => Some(operation),

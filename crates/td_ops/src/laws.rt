@@ -47,7 +47,8 @@ pub fn calls_are_spelled()
 /// fault is a kind of TypeCode that is left out, or the operation is `set_type_repos`; and with `Marshal` at a
 /// place exactly where the first fault is another one, at that place. A reply's body is refused in the same way.
 pub fn bodies_are_refused()
-    ensures parameters { (operation : Operation) → Refuses (parameter_faults operation) (body_of operation).reads }
+    ensures parameters { (operation : Operation)
+        → Refuses (parameter_faults operation) (body_of operation).reads }
     ensures unknown { BadOperationIsUnknown }
     ensures not_implemented { NoImplementIsLeftOut }
     ensures misspelled { MarshalIsMisspelled }
@@ -68,7 +69,8 @@ pub fn calls_are_read_back()
 /// user exception, or a system exception's id, minor code and completion.
 pub fn outcomes_are_read_back()
     ensures results { (shape : Shape) → Lawful (results shape).format }
-    ensures lawful { (operation : Operation) (status : ℕ) → Lawful (answer_of operation status).format }
+    ensures lawful { (operation : Operation) (status : ℕ)
+        → Lawful (answer_of operation status).format }
     ensures back { OutcomeReadsBack }
 {}
 

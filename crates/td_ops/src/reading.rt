@@ -34,7 +34,8 @@ pub fn read_call(
     operation: &[u8],
     body: &mut Reader,
 ) -> Result<Call, OpsFault>
-    ensures { Answers AdmitsCall (call_read kind.now operation.now body.old) body.old body.new result }
+    ensures { Answers AdmitsCall (call_read kind.now operation.now body.old)
+        body.old body.new result }
 {
     let Some(operation) = operation_named(kind, operation) else {
         return Err(OpsFault::BadOperation);

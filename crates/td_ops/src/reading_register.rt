@@ -35,7 +35,8 @@ pub(crate) fn read_register(
 }
 
 fn read_export(alloc: Global, r: &mut Reader) -> Result<Call, ValueFault>
-    ensures { Gives is_memory r.new result ((register_row register.Export).body.format.reads r.old) }
+    ensures { Gives is_memory r.new result
+        ((register_row register.Export).body.format.reads r.old) }
 {
     let (reference, (service_type, properties)) = <(
         Shared<Ior>,
@@ -49,7 +50,8 @@ fn read_export(alloc: Global, r: &mut Reader) -> Result<Call, ValueFault>
 }
 
 fn read_modify(alloc: Global, r: &mut Reader) -> Result<Call, ValueFault>
-    ensures { Gives is_memory r.new result ((register_row register.Modify).body.format.reads r.old) }
+    ensures { Gives is_memory r.new result
+        ((register_row register.Modify).body.format.reads r.old) }
 {
     let (id, (deleted, changed)) = <(Text, (List<Text>, List<Property>))>::read(alloc, r)?;
     Ok(Call::Change(Change::Modify {
@@ -60,7 +62,8 @@ fn read_modify(alloc: Global, r: &mut Reader) -> Result<Call, ValueFault>
 }
 
 fn read_withdraw_using_constraint(alloc: Global, r: &mut Reader) -> Result<Call, ValueFault>
-    ensures { Gives is_memory r.new result ((register_row register.WithdrawUsingConstraint).body.format.reads r.old) }
+    ensures { Gives is_memory r.new result
+        ((register_row register.WithdrawUsingConstraint).body.format.reads r.old) }
 {
     let (service_type, constraint) = <(Text, Text)>::read(alloc, r)?;
     Ok(Call::Change(Change::WithdrawUsingConstraint {

@@ -40,7 +40,8 @@ pub fn status_of(outcome: &Outcome) -> u32
 pub fn write_outcome(alloc: Global, w: &mut Writer, outcome: &Outcome) -> Result<(), Memory>
     ensures appends { Appends (outcome_piece outcome.now) w.old w.new result }
     ensures empty { outcome.now ≡ Done Nothing → IsOk result }
-    ensures fits { IsTrue (is_short outcome.now) → FitsRoom (outcome_piece outcome.now) w.old result }
+    ensures fits { IsTrue (is_short outcome.now)
+        → FitsRoom (outcome_piece outcome.now) w.old result }
     ensures room { IsTrue (is_short outcome.now) → w.old.room ≤ w.new.room }
     ensures small { IsTrue (is_short outcome.now) → SufficesRoom 100 w.old result }
 {
@@ -58,7 +59,8 @@ pub fn write_outcome(alloc: Global, w: &mut Writer, outcome: &Outcome) -> Result
 fn put_outcome(alloc: Global, w: &mut Writer, outcome: &Outcome) -> Result<(), Memory>
     ensures puts { Puts (outcome_piece outcome.now) w.old w.new result }
     ensures empty { outcome.now ≡ Done Nothing → IsOk result }
-    ensures fits { IsTrue (is_short outcome.now) → FitsRoom (outcome_piece outcome.now) w.old result }
+    ensures fits { IsTrue (is_short outcome.now)
+        → FitsRoom (outcome_piece outcome.now) w.old result }
     ensures room { IsTrue (is_short outcome.now) → w.old.room ≤ w.new.room }
     ensures small { IsTrue (is_short outcome.now) → SufficesRoom 100 w.old result }
 {
@@ -77,7 +79,8 @@ fn put_outcome(alloc: Global, w: &mut Writer, outcome: &Outcome) -> Result<(), M
 fn put_reply(alloc: Global, w: &mut Writer, reply: &Reply) -> Result<(), Memory>
     ensures puts { Puts (reply_piece reply.now) w.old w.new result }
     ensures empty { reply.now ≡ Nothing → IsOk result }
-    ensures fits { IsTrue (is_short (Done reply.now)) → FitsRoom (reply_piece reply.now) w.old result }
+    ensures fits { IsTrue (is_short (Done reply.now))
+        → FitsRoom (reply_piece reply.now) w.old result }
     ensures room { IsTrue (is_short (Done reply.now)) → w.old.room ≤ w.new.room }
     ensures small { IsTrue (is_short (Done reply.now)) → SufficesRoom 100 w.old result }
 {
@@ -181,8 +184,10 @@ fn put_system(w: &mut Writer, kind: SystemKind, minor: u32, completion: u32) -> 
 
 /// Two numbers. Where it fails, the first may be written; it fails only for want of room.
 fn put_numbers(w: &mut Writer, first: u32, second: u32) -> Result<(), Memory>
-    ensures puts { Puts (ulong.format.writes first then ulong.format.writes second) w.old w.new result }
-    ensures fits { FitsRoom (ulong.format.writes first then ulong.format.writes second) w.old result }
+    ensures puts { Puts (ulong.format.writes first then ulong.format.writes second)
+        w.old w.new result }
+    ensures fits { FitsRoom (ulong.format.writes first then ulong.format.writes second)
+        w.old result }
     ensures room { w.old.room ≤ w.new.room }
     ensures small { SufficesRoom 14 w.old result }
 {

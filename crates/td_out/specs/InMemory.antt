@@ -28,11 +28,13 @@ abbrev pub given : Supply → ℕ → ℕ
 given s room = min (most_of (slice_get s.pieces s.calls.made)) (min (length s.left) room)
 
 -- a read: it fails exactly where its number is among those that do, and then moves nothing
-pub record Reads (old new : Supply) (before after : List ℕ) (result : Result ℕ Failed) : Type 0 where
+pub record Reads (old new : Supply) (before after : List ℕ)
+    (result : Result ℕ Failed) : Type 0 where
   pub fails_as_set : is_err result ≡ fails old.calls
   pub gave : IfOk result (λ n. n ≡ given old (length before))
   pub filled : IfOk result (λ n. after ≡ take n old.left ++ drop n before)
-  pub moved : IfOk result (λ n. new ≡ record old { left = drop n old.left; calls = counted old.calls })
+  pub moved : IfOk result (λ n. new
+      ≡ record old { left = drop n old.left; calls = counted old.calls })
   pub refused : OnErr result ((after ≡ before) × (new ≡ record old { calls = failed old.calls }))
 
 -- ---- a sink
@@ -47,7 +49,8 @@ pub record Kept : Type 0 where
 pub record Writes (old new : Kept) (piece : List ℕ) (result : Result ℕ Failed) : Type 0 where
   pub fails_as_set : OnOk result (fails old.calls ≡ false)
   pub took : IfOk result (λ n. n ≡ length piece)
-  pub added : OnOk result (new ≡ record { written = old.written ++ piece; calls = counted old.calls })
+  pub added : OnOk result (new
+      ≡ record { written = old.written ++ piece; calls = counted old.calls })
   pub refused : OnErr result (new ≡ record old { calls = failed old.calls })
 
 -- ---- texts

@@ -30,7 +30,8 @@ half_at s place = word_at 10 (key_of s.key) s.stream (place % 2 ^ 68)
 
 -- each word is two successive ones of 32 bits, the first one the lower half
 abbrev pub chacha_word : Course → ℕ → ℕ
-chacha_word c k = half_at c.seeding (c.place + 2 * k) + 2 ^ 32 * half_at c.seeding (c.place + 2 * k + 1)
+chacha_word c k = half_at c.seeding (c.place + 2 * k)
+    + 2 ^ 32 * half_at c.seeding (c.place + 2 * k + 1)
 
 -- the beginning of a stream
 abbrev pub start_of : Seeding → Course

@@ -22,7 +22,8 @@ text_named name texts = option_map (λ t. t.bytes) (find (λ t. bytes_eq t.name 
 -- What `text` may answer, by what the object tells of its texts and by its count of faults before and after:
 -- the text of that name, and only one that isn't too long; that it is too long; a fault that raised the count;
 -- or want of memory.
-abbrev pub HasText : Option (List Named) → List ℕ → (before now : ℕ) → Result (List ℕ) TextFault → Type 0
+abbrev pub HasText : Option (List Named) → List ℕ → (before now : ℕ) → Result (List ℕ) TextFault
+    → Type 0
 HasText told name before now (Ok text) =
     (length text ≤ longest_text) × IfSome told (λ texts. text_named name texts ≡ Some text)
 HasText told name before now (Err Failed) = Rose before now

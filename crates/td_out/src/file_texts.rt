@@ -78,8 +78,10 @@ fn read_file<R: Files>(alloc: Global, rt: &R, path: &str) -> Result<Octets, Text
 fn read_text<R: Read>(alloc: Global, reader: &mut R) -> Result<Octets, TextFault>
     ensures short { IfOk result (λ text. length text ≤ longest_text) }
     ensures whole { IfOk result
-        (λ text. Consumes (R.remaining reader.old) (R.remaining reader.new) text × IsAtEnd (R.remaining reader.new)) }
-    ensures too_long { IsErrOf result of_length → IfSome (R.remaining reader.old) (λ all. longest_text < length all) }
+        (λ text. Consumes (R.remaining reader.old) (R.remaining reader.new) text
+        × IsAtEnd (R.remaining reader.new)) }
+    ensures too_long { IsErrOf result of_length
+        → IfSome (R.remaining reader.old) (λ all. longest_text < length all) }
 {
     let mut text = Vec::new(alloc);
     let mut piece = [0u8; PIECE_SIZE];
@@ -98,7 +100,8 @@ fn add_piece(text: &mut Vec<u8>, piece: &[u8]) -> Result<(), TextFault>
     requires { length text.old.items ≤ longest_text }
     ensures added { OnOk result (text.new.items ≡ text.old.items ++ piece.now) }
     ensures short { OnOk result (length text.new.items ≤ longest_text) }
-    ensures too_long { IsErrOf result of_length → longest_text < length text.old.items + length piece.now }
+    ensures too_long { IsErrOf result of_length → longest_text < length text.old.items
+        + length piece.now }
     ensures not_failed { result ≡ Err of_failure → ⊥ }
 {
     if piece.len() > LONGEST_TEXT - text.len() {

@@ -31,7 +31,10 @@ impl MemSink {
     /// A sink to which nothing was written. `failing` has the numbers of the calls that fail, counted from 1.
     /// It keeps the allocator, with which it grows.
     pub fn new(alloc: Global, failing: List<u64>) -> MemSink
-        ensures { result ≡ record { written = []; calls = record { failing = failing; made = 0; faults = 0 } } }
+        ensures { result ≡ record {
+          written = [];
+          calls = record { failing = failing; made = 0; faults = 0 };
+        } }
     {
         MemSink {
             bytes: Vec::new(alloc),
@@ -59,7 +62,8 @@ impl Sink for MemSink {
     fn write(&mut self, piece: &[u8]) -> Result<usize, Failed>
         ensures same { Unit {0} }
         ensures some { Takes result piece.now }
-        ensures bytes { WriteAppends (Some self.old.written) (Some self.new.written) result piece.now }
+        ensures bytes { WriteAppends (Some self.old.written)
+            (Some self.new.written) result piece.now }
         ensures cause { HasCause self.old.calls.faults self.new.calls.faults result }
         ensures exact { Writes self.old self.new piece.now result }
     {

@@ -27,7 +27,11 @@ impl Model for MemSource {
 
     ghost Value = { Supply };
 
-    ghost view = { λ s. record { left = drop s.place s.bytes; pieces = s.pieces; calls = s.calls } };
+    ghost view = { λ s. record {
+      left = drop s.place s.bytes;
+      pieces = s.pieces;
+      calls = s.calls;
+    } };
 
     ghost invariant = { λ s. s.place ≤ length s.bytes };
 }

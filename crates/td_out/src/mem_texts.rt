@@ -33,7 +33,10 @@ impl MemTexts {
     /// Texts with their names; of two texts of one name the first counts. `failing` has the numbers of the
     /// calls that fail, counted from 1.
     pub fn new(files: List<(Text, Octets)>, failing: List<u64>) -> MemTexts
-        ensures { result ≡ record { texts = named files; calls = record { failing = failing; made = 0; faults = 0 } } }
+        ensures { result ≡ record {
+          texts = named files;
+          calls = record { failing = failing; made = 0; faults = 0 };
+        } }
     {
         MemTexts {
             files,
@@ -78,7 +81,8 @@ impl Texts for MemTexts {
         ensures same { Unit {0} }
         ensures kept { Some self.new.texts ≡ Some self.old.texts }
         ensures later { self.old.calls.faults ≤ self.new.calls.faults }
-        ensures gives { HasText (Some self.old.texts) name.now self.old.calls.faults self.new.calls.faults result }
+        ensures gives { HasText (Some self.old.texts)
+            name.now self.old.calls.faults self.new.calls.faults result }
         ensures exact { (result ≡ answer_of self.old name.now) ⊎ (result ≡ Err of_memory) }
         ensures left { self.new ≡ left_by result self.old }
     {
@@ -98,8 +102,8 @@ impl Texts for MemTexts {
 
 /// A text as it is given.
 fn as_given(text: Option<&[u8]>) -> Result<&[u8], TextFault>
-    ensures { MatchResult result (λ given. as_given (option_map (λ t. t.now) text.entry) ≡ Ok given.now)
-        (λ e. as_given (option_map (λ t. t.now) text.entry) ≡ Err e) }
+    ensures { MatchResult result (λ given. as_given (option_map (λ t. t.now) text.entry)
+        ≡ Ok given.now) (λ e. as_given (option_map (λ t. t.now) text.entry) ≡ Err e) }
 {
     match text {
         None => Err(TextFault::Failed),
@@ -115,7 +119,8 @@ fn as_given(text: Option<&[u8]>) -> Result<&[u8], TextFault>
 
 /// The first text of that name.
 fn find_text<'a>(files: &'a [(Text, Octets)], name: &[u8]) -> Option<&'a [u8]>
-    ensures { option_map (λ t. t.now) result ≡ option_map (λ f. f.1) (find (λ f. bytes_eq f.0 name.now) files.now) }
+    ensures { option_map (λ t. t.now) result
+        ≡ option_map (λ f. f.1) (find (λ f. bytes_eq f.0 name.now) files.now) }
 {
     let file = files.iter().find(|f| f.0.as_slice() == name)?;
     Some(file.1.as_slice())

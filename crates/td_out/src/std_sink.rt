@@ -51,7 +51,8 @@ impl<W: Write> Sink for StdSink<W> {
         ensures bytes { WriteAppends None None result piece.now }
         ensures cause { HasCause self.old.faults self.new.faults result }
         ensures passed { IfOk result
-            (λ n. Appends (W.contents self.old.inner) (W.contents self.new.inner) (take n piece.now)) }
+            (λ n. Appends (W.contents self.old.inner) (W.contents self.new.inner)
+            (take n piece.now)) }
     {
         match write_through(&mut self.writer, piece) {
             Ok(size) => Ok(size),
@@ -66,7 +67,8 @@ impl<W: Write> Sink for StdSink<W> {
 /// One write, and the flush after it.
 fn write_through<W: Write>(writer: &mut W, piece: &[u8]) -> Result<usize, Failed>
     ensures some { Takes result piece.now }
-    ensures bytes { IfOk result (λ n. Appends (W.contents writer.old) (W.contents writer.new) (take n piece.now)) }
+    ensures bytes { IfOk result (λ n. Appends (W.contents writer.old) (W.contents writer.new)
+        (take n piece.now)) }
 {
     let size = write_some(writer, piece)?;
     flush(writer)?;
@@ -80,7 +82,8 @@ fn write_through<W: Write>(writer: &mut W, piece: &[u8]) -> Result<usize, Failed
 /// `Failed` where the writer fails, or takes nothing of a piece that isn't empty.
 pub fn write_some<W: Write>(writer: &mut W, piece: &[u8]) -> Result<usize, Failed>
     ensures some { Takes result piece.now }
-    ensures bytes { IfOk result (λ n. Appends (W.contents writer.old) (W.contents writer.new) (take n piece.now)) }
+    ensures bytes { IfOk result (λ n. Appends (W.contents writer.old) (W.contents writer.new)
+        (take n piece.now)) }
 {
     for _ in 0..u64::MAX {
         match writer.write(piece) {

@@ -49,7 +49,8 @@ impl<R: Read> Source for StdSource<R> {
         ensures bound { ReadsAtMost result into.new }
         ensures bytes { ReadConsumes None None result into.new }
         ensures cause { HasCause self.old.faults self.new.faults result }
-        ensures passed { ReadConsumes (R.remaining self.old.inner) (R.remaining self.new.inner) result into.new }
+        ensures passed { ReadConsumes (R.remaining self.old.inner)
+            (R.remaining self.new.inner) result into.new }
     {
         match read_some(&mut self.reader, into) {
             Ok(size) => Ok(size),

@@ -32,7 +32,8 @@ pub trait Texts {
         ensures same { same self.old self.new }
         ensures kept { told self.new ≡ told self.old }
         ensures later { faults self.old ≤ faults self.new }
-        ensures gives { HasText (told self.old) name.now (faults self.old) (faults self.new) result };
+        ensures gives { HasText (told self.old) name.now (faults self.old)
+            (faults self.new) result };
 
     ghost same_on: { (a b c : Self) → same a b → same b c → same a c };
 }

@@ -22,7 +22,8 @@ pub trait Words {
         requires { length key.now ≡ 32 }
         ensures same { same self.old self.new }
         ensures seeded { last_seeding self.new ≡ Some (record { key = key.now; stream = stream }) }
-        ensures words { (k : ℕ) → word self.new k ≡ word_after self.old (record { key = key.now; stream = stream }) k };
+        ensures words { (k : ℕ) → word self.new k
+            ≡ word_after self.old (record { key = key.now; stream = stream }) k };
 
     /// The next word, which is drawn.
     fn next(&mut self) -> u64

@@ -41,7 +41,8 @@ is_for key entry = bytes_eq entry.0 key
 
 -- where the first entry of the object stands that the target names
 abbrev pub place_among : Script → (target : Ior) → Option ℕ
-place_among script target = option_and_then (λ profile. position (is_for profile.key) script) (iiop_of target)
+place_among script target = option_and_then (λ profile. position (is_for profile.key) script)
+    (iiop_of target)
 
 -- no entry comes where the call is one that fails
 abbrev pub place_for : Played → (target : Ior) → Option ℕ
@@ -96,11 +97,12 @@ without p place = record p { script = rest_of p.script place }
 
 -- the call was made, and the entry given
 abbrev pub after : Played → (target : Ior) → PeerCall → Played
-after p target call = without (with_call p call (gives call (next_entry p target))) (place_for p target)
+after p target call = without (with_call p call (gives call (next_entry p target)))
+    (place_for p target)
 
 -- what a call of an object answers and leaves; one that wants memory leaves all as it was
-abbrev pub IsPlayed : {X : Type 0} → (X → Given) → PeerCall → (target : Ior) → (old new : Played) → Result X PeerFault
-    → Type 0
+abbrev pub IsPlayed : {X : Type 0} → (X → Given) → PeerCall → (target : Ior) → (old new : Played)
+    → Result X PeerFault → Type 0
 IsPlayed given call target old new (Ok x) =
     (gives call (next_entry old target) ≡ given x) × (new ≡ after old target call)
 IsPlayed given call target old new (Err fault.Memory) = new ≡ old

@@ -19,10 +19,15 @@ played_by of_entry of_exchange =
     (coded× (coded_list (coded× (coded_list coded_ℕ) of_entry))
     (coded× (coded_list of_exchange) (coded× (coded_list coded_ℕ) (coded× coded_ℕ coded_ℕ))))
     (λ p. (p.script, (p.calls, (p.failing, (p.made, p.faults)))))
-    (λ p. record { script = p.0; calls = p.1.0; failing = p.1.1.0; made = p.1.1.1.0; faults = p.1.1.1.1 })
-    (λ _. refl)
+    (λ p. record {
+      script = p.0;
+      calls = p.1.0;
+      failing = p.1.1.0;
+      made = p.1.1.1.0;
+      faults = p.1.1.1.1;
+    }) (λ _. refl)
 
-abbrev pub played_code : Coded Scripted → Coded Ior → Coded Query → Coded TypeCode → Coded Any → Coded SubAnswer
-    → Coded PeerFault → Coded Played
+abbrev pub played_code : Coded Scripted → Coded Ior → Coded Query → Coded TypeCode → Coded Any
+    → Coded SubAnswer → Coded PeerFault → Coded Played
 played_code entry ior query code any answer fault =
     played_by entry (exchange_code ior query code any answer fault)

@@ -42,8 +42,9 @@ impl Model for MemPeers {
 
     ghost Value = { Played };
 
-    ghost coded = { played_code entry_row.the_row.coded ior_row.the_row.coded query_row.the_row.coded
-        code_row.the_row.coded any_row.the_row.coded answer_row.the_row.coded fault_row.the_row.coded };
+    ghost coded = { played_code entry_row.the_row.coded ior_row.the_row.coded
+        query_row.the_row.coded code_row.the_row.coded any_row.the_row.coded
+        answer_row.the_row.coded fault_row.the_row.coded };
 
     ghost use Rattle.td_peers.specs.Noted.{exchanges};
     ghost use Rattle.td_peers.specs.Scripts.{AreAllowed};
@@ -80,7 +81,13 @@ impl MemPeers {
     /// `Failed` or of another kind are a fault of the wire.
     pub fn new(alloc: Global, script: List<(Octets, Scripted)>, failing: List<u64>) -> MemPeers
         requires { AreAllowed script }
-        ensures { result ≡ record { script = script; calls = []; failing = failing; made = 0; faults = 0 } }
+        ensures { result ≡ record {
+          script = script;
+          calls = [];
+          failing = failing;
+          made = 0;
+          faults = 0;
+        } }
     {
         MemPeers {
             script: script.into_vec(),
@@ -179,10 +186,12 @@ impl Peers for MemPeers {
 
     fn query(&mut self, alloc: Global, target: &Ior, q: &Query) -> Result<SubAnswer, PeerFault>
         ensures same { Unit {0} }
-        ensures noted { IsNoted (λ a. Answered a) (Querying target.now q.now) self.old.calls self.new.calls
-            self.old.faults self.new.faults result }
+        ensures noted { IsNoted (λ a. Answered a)
+            (Querying target.now q.now) self.old.calls self.new.calls self.old.faults
+            self.new.faults result }
         ensures small { IfOk result (λ a. HasSmallOffers a) }
-        ensures exact { IsPlayed (λ a. Answered a) (Querying target.now q.now) target.now self.old self.new result }
+        ensures exact { IsPlayed (λ a. Answered a)
+            (Querying target.now q.now) target.now self.old self.new result }
     {
         let call = CallNote::Query {
             target: Snapshot::of(target),
@@ -203,9 +212,11 @@ impl Peers for MemPeers {
         extra: &Any,
     ) -> Result<Boxed<Any>, PeerFault>
         ensures same { Unit {0} }
-        ensures noted { IsNoted (λ v. Evaluated v) (Evaluating evaluator.now name.now returned.now extra.now)
+        ensures noted { IsNoted (λ v. Evaluated v)
+            (Evaluating evaluator.now name.now returned.now extra.now)
             self.old.calls self.new.calls self.old.faults self.new.faults result }
-        ensures exact { IsPlayed (λ v. Evaluated v) (Evaluating evaluator.now name.now returned.now extra.now)
+        ensures exact { IsPlayed (λ v. Evaluated v)
+            (Evaluating evaluator.now name.now returned.now extra.now)
             evaluator.now self.old self.new result }
     {
         let call = CallNote::Evaluation {
@@ -222,10 +233,12 @@ impl Peers for MemPeers {
 
     fn register_of(&mut self, alloc: Global, lookup: &Ior) -> Result<Ior, PeerFault>
         ensures same { Unit {0} }
-        ensures noted { IsNoted (λ r. Referred r) (RegisterOf lookup.now) self.old.calls self.new.calls self.old.faults
-            self.new.faults result }
+        ensures noted { IsNoted (λ r. Referred r)
+            (RegisterOf lookup.now) self.old.calls self.new.calls self.old.faults self.new.faults
+            result }
         ensures admitted { IfOk result (λ r. reference.format.admits r) }
-        ensures exact { IsPlayed (λ r. Referred r) (RegisterOf lookup.now) lookup.now self.old self.new result }
+        ensures exact { IsPlayed (λ r. Referred r)
+            (RegisterOf lookup.now) lookup.now self.old self.new result }
     {
         let call = CallNote::Register {
             lookup: Snapshot::of(lookup),
@@ -243,11 +256,12 @@ impl Peers for MemPeers {
         name: &List<Text>,
     ) -> Result<Ior, PeerFault>
         ensures same { Unit {0} }
-        ensures noted { IsNoted (λ r. Referred r) (Resolving register.now name.now) self.old.calls self.new.calls
-            self.old.faults self.new.faults result }
+        ensures noted { IsNoted (λ r. Referred r)
+            (Resolving register.now name.now) self.old.calls self.new.calls self.old.faults
+            self.new.faults result }
         ensures admitted { IfOk result (λ r. reference.format.admits r) }
-        ensures exact { IsPlayed (λ r. Referred r) (Resolving register.now name.now) register.now self.old self.new
-            result }
+        ensures exact { IsPlayed (λ r. Referred r)
+            (Resolving register.now name.now) register.now self.old self.new result }
     {
         let call = CallNote::Resolution {
             register: Snapshot::of(register),

@@ -79,8 +79,10 @@ pub(crate) fn note_call(
     call: CallNote,
 ) -> Result<bool, Memory>
     ensures noted { OnOk result
-        (exchanges notes.new ≡ exchanges notes.old ++ exchange_by (call_of call) (entry_at script.now place) ∷ []) }
-    ensures given { IfOk result (λ given. given ≡ is_given (gives (call_of call) (entry_at script.now place))) }
+        (exchanges notes.new ≡ exchanges notes.old ++ exchange_by (call_of call)
+        (entry_at script.now place) ∷ []) }
+    ensures given { IfOk result (λ given. given
+        ≡ is_given (gives (call_of call) (entry_at script.now place))) }
     ensures kept { OnErr result (notes.new ≡ notes.old) }
 {
     let entry = entry_at(script, place);

@@ -29,7 +29,8 @@ pub enum Scripted {
 
 /// The entry's offers.
 pub(crate) fn offers_in(entry: Option<Scripted>) -> Option<SubAnswer>
-    ensures given { (t : Ior) (q : Query) → gives (Querying t q) entry ≡ given_by (λ a. Answered a) result }
+    ensures given { (t : Ior) (q : Query) → gives (Querying t q) entry
+        ≡ given_by (λ a. Answered a) result }
     ensures small { IfSome entry IsAllowed → IfSome result (λ a. HasSmallOffers a) }
 {
     match entry? {
@@ -56,7 +57,8 @@ pub(crate) fn value_in(entry: Option<Scripted>) -> Option<Boxed<Any>>
 /// The entry's reference.
 pub(crate) fn reference_in(entry: Option<Scripted>) -> Option<Ior>
     ensures register { (t : Ior) → gives (RegisterOf t) entry ≡ given_by (λ r. Referred r) result }
-    ensures resolved { (t : Ior) (n : List (List ℕ)) → gives (Resolving t n) entry ≡ given_by (λ r. Referred r) result }
+    ensures resolved { (t : Ior) (n : List (List ℕ)) → gives (Resolving t n) entry
+        ≡ given_by (λ r. Referred r) result }
     ensures admitted { IfSome entry IsAllowed → IfSome result (λ r. reference.format.admits r) }
 {
     match entry? {
@@ -69,7 +71,8 @@ pub(crate) fn reference_in(entry: Option<Scripted>) -> Option<Ior>
 
 /// Whether the entry answers a query.
 pub(crate) fn is_offers(entry: Option<&Scripted>) -> bool
-    ensures { (t : Ior) (q : Query) → result ≡ is_given (gives (Querying t q) (option_copied entry.entry)) }
+    ensures { (t : Ior) (q : Query)
+        → result ≡ is_given (gives (Querying t q) (option_copied entry.entry)) }
 {
     match entry {
         None => false,
@@ -96,7 +99,8 @@ pub(crate) fn is_value(entry: Option<&Scripted>) -> bool
 
 /// Whether the entry answers a question for a register.
 pub(crate) fn is_reference(entry: Option<&Scripted>) -> bool
-    ensures register { (t : Ior) → result ≡ is_given (gives (RegisterOf t) (option_copied entry.entry)) }
+    ensures register { (t : Ior)
+        → result ≡ is_given (gives (RegisterOf t) (option_copied entry.entry)) }
     ensures resolved { (t : Ior) (n : List (List ℕ))
         → result ≡ is_given (gives (Resolving t n) (option_copied entry.entry)) }
 {

@@ -16,5 +16,6 @@ abbrev pub IsFault : PolicyFault → PolicyFault → Type 0
 IsFault f e = Unless (is_memory e) (e ≡ f)
 
 -- a call that leaves its value in an argument comes to this, or to want of memory
-abbrev pub Leaves : {U X : Type 0} → Result X PolicyFault → (new : X) → Result U PolicyFault → Type 0
+abbrev pub Leaves : {U X : Type 0} → Result X PolicyFault → (new : X) → Result U PolicyFault
+    → Type 0
 Leaves comes new result = Computes is_memory (λ u. new) result comes

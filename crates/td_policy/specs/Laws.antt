@@ -15,9 +15,11 @@ pub record FollowedIsBounded (s : Stated) (a : Attributes) (limiting : FollowOpt
   pub by_stated : (r : FollowOption) → s.follow ≡ Some r → IsAtMost (follow s a limiting) r
 
 -- the rule that is passed on over a link
-pub record PassedOnIsBounded (s : Stated) (a : Attributes) (limiting own : FollowOption) : Type 0 where
+pub record PassedOnIsBounded (s : Stated) (a : Attributes)
+    (limiting own : FollowOption) : Type 0 where
   pub by_maximum : IsAtMost (pass_on s a limiting own) a.max_follow_policy
-  pub by_limiting : (r : FollowOption) → s.follow ≡ Some r → IsAtMost (pass_on s a limiting own) limiting
+  pub by_limiting : (r : FollowOption) → s.follow ≡ Some r
+      → IsAtMost (pass_on s a limiting own) limiting
   pub by_stated : (r : FollowOption) → s.follow ≡ Some r → IsAtMost (pass_on s a limiting own) r
   pub by_own : s.follow ≡ None → IsAtMost (pass_on s a limiting own) own
 
@@ -29,21 +31,30 @@ AloneStates p s = stated (p ∷ []) ≡ Ok s
 pub record EachStatesItsField : Type 0 where
   pub exact_type_match : (b : Bool)
       → AloneStates (policy truth (codes "exact_type_match") b) (record nothing { exact = Some b })
-  pub hop_count : (n : ℕ) → AloneStates (policy number (codes "hop_count") n) (record nothing { hops = Some n })
+  pub hop_count : (n : ℕ) → AloneStates (policy number (codes "hop_count") n)
+      (record nothing { hops = Some n })
   pub link_follow_rule : (r : FollowOption)
       → AloneStates (policy rule (codes "link_follow_rule") r) (record nothing { follow = Some r })
-  pub match_card : (n : ℕ) → AloneStates (policy number (codes "match_card") n) (record nothing { match_card = Some n })
+  pub match_card : (n : ℕ) → AloneStates (policy number (codes "match_card") n)
+      (record nothing { match_card = Some n })
   pub return_card : (n : ℕ)
-      → AloneStates (policy number (codes "return_card") n) (record nothing { return_card = Some n })
+      → AloneStates (policy number (codes "return_card") n)
+      (record nothing { return_card = Some n })
   pub search_card : (n : ℕ)
-      → AloneStates (policy number (codes "search_card") n) (record nothing { search_card = Some n })
+      → AloneStates (policy number (codes "search_card") n)
+      (record nothing { search_card = Some n })
   pub starting_trader : (xs : List (List ℕ)) → length xs ≤ 64
-      → AloneStates (policy (texts 64) (codes "starting_trader") xs) (record nothing { start = Some xs })
+      → AloneStates (policy (texts 64) (codes "starting_trader") xs)
+      (record nothing { start = Some xs })
   pub use_dynamic_properties : (b : Bool)
-      → AloneStates (policy truth (codes "use_dynamic_properties") b) (record nothing { use_dynamic = Some b })
+      → AloneStates (policy truth (codes "use_dynamic_properties") b)
+      (record nothing { use_dynamic = Some b })
   pub use_modifiable_properties : (b : Bool)
-      → AloneStates (policy truth (codes "use_modifiable_properties") b) (record nothing { use_modifiable = Some b })
+      → AloneStates (policy truth (codes "use_modifiable_properties") b)
+      (record nothing { use_modifiable = Some b })
   pub use_proxy_offers : (b : Bool)
-      → AloneStates (policy truth (codes "use_proxy_offers") b) (record nothing { use_proxy = Some b })
+      → AloneStates (policy truth (codes "use_proxy_offers") b)
+      (record nothing { use_proxy = Some b })
   pub request_id : (xs : List ℕ) → length xs ≤ 256
-      → AloneStates (policy (octets 256) (codes "request_id") xs) (record nothing { request_id = Some xs })
+      → AloneStates (policy (octets 256) (codes "request_id") xs)
+      (record nothing { request_id = Some xs })

@@ -15,10 +15,12 @@ IsAtMost a b = follow_option_number a ≤ follow_option_number b
 
 -- the rule by which a link with this limiting rule is followed
 abbrev pub follow : Stated → Attributes → (limiting : FollowOption) → FollowOption
-follow s a limiting = lesser (lesser a.max_follow_policy limiting) (unwrap_or s.follow a.def_follow_policy)
+follow s a limiting = lesser (lesser a.max_follow_policy limiting)
+    (unwrap_or s.follow a.def_follow_policy)
 
 -- the rule that is passed on over a link
-abbrev pub passed_on : (stated : Option FollowOption) → (maximum limiting def_pass_on : FollowOption) → FollowOption
+abbrev pub passed_on : (stated : Option FollowOption)
+    → (maximum limiting def_pass_on : FollowOption) → FollowOption
 passed_on (Some rule) maximum limiting def_pass_on = lesser (lesser maximum limiting) rule
 passed_on None maximum limiting def_pass_on = lesser maximum def_pass_on
 

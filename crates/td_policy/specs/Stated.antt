@@ -42,7 +42,8 @@ stated_value kind p =
     else Err (fault.PolicyTypeMismatch p)
 
 -- a policy of a type, and the field that it states
-abbrev pub states : {A : Type 0} → Kind A → (Option A → Stated → Stated) → Policy → Stated → Result Stated PolicyFault
+abbrev pub states : {A : Type 0} → Kind A → (Option A → Stated → Stated) → Policy → Stated
+    → Result Stated PolicyFault
 states kind put p s = stated_value kind p >>= λ x. Ok (put x s)
 
 -- the policies, by their names
@@ -62,7 +63,8 @@ policies =
     ∷ []
 
 -- a policy of an unknown name states nothing
-abbrev pub known : Option (Policy → Stated → Result Stated PolicyFault) → Policy → Stated → Result Stated PolicyFault
+abbrev pub known : Option (Policy → Stated → Result Stated PolicyFault) → Policy → Stated
+    → Result Stated PolicyFault
 known None p s = Ok s
 known (Some entry) p s = entry p s
 
@@ -78,9 +80,11 @@ next_stated earlier s p =
     else if is_among p.name earlier then Err (fault.DuplicatePolicyName p.name)
     else with_policy p s
 
-abbrev pub stated_after : (earlier : List (List ℕ)) → Stated → List Policy → Result Stated PolicyFault
+abbrev pub stated_after : (earlier : List (List ℕ)) → Stated → List Policy
+    → Result Stated PolicyFault
 stated_after earlier s [] = Ok s
-stated_after earlier s (p ∷ ps) = next_stated earlier s p >>= λ t. stated_after (p.name ∷ earlier) t ps
+stated_after earlier s (p ∷ ps) = next_stated earlier s p >>= λ t.
+    stated_after (p.name ∷ earlier) t ps
 
 -- what a list of policies states, or the refusal of the first bad one
 abbrev pub stated : List Policy → Result Stated PolicyFault

@@ -26,7 +26,11 @@ truth_in (c.Value::Boolean b) = Some b
 truth_in l = None
 
 abbrev pub truth : Kind Bool
-truth = record { code = code.Boolean; value_of = λ v. truth_in (out-Value v); value = λ b. value.Boolean b }
+truth = record {
+  code = code.Boolean;
+  value_of = λ v. truth_in (out-Value v);
+  value = λ b. value.Boolean b;
+}
 
 -- ---- a number
 
@@ -35,7 +39,11 @@ number_in (c.Value::ULong n) = Some n
 number_in l = None
 
 abbrev pub number : Kind ℕ
-number = record { code = code.ULong; value_of = λ v. number_in (out-Value v); value = λ n. value.ULong n }
+number = record {
+  code = code.ULong;
+  value_of = λ v. number_in (out-Value v);
+  value = λ n. value.ULong n;
+}
 
 -- ---- a rule for following links
 
@@ -46,7 +54,8 @@ rule_code =
 
 abbrev pub rule_numbered : ℕ → Option FollowOption
 rule_numbered n =
-    if nat_eq n 0 then Some LocalOnly else if nat_eq n 1 then Some IfNoLocal else if nat_eq n 2 then Some Always
+    if nat_eq n 0 then Some LocalOnly else if nat_eq n 1 then Some IfNoLocal else if nat_eq n 2
+    then Some Always
     else None
 
 abbrev pub rule_in : Held → Option FollowOption
@@ -76,7 +85,8 @@ abbrev pub items_in : {A : Type 0} → (Value → Option A) → (most : ℕ) →
 items_in item_of most (c.Items vs) = if nat_le (length vs) most then items_of item_of vs else None
 items_in item_of most l = None
 
-abbrev pub sequence : {A : Type 0} → TypeCode → (Value → Option A) → (A → Value) → (most : ℕ) → Kind (List A)
+abbrev pub sequence : {A : Type 0} → TypeCode → (Value → Option A) → (A → Value) → (most : ℕ)
+    → Kind (List A)
 sequence item_code item_of item most = record {
   code = code.Sequence item_code 0;
   value_of = λ v. items_in item_of most (out-Value v);
@@ -106,4 +116,7 @@ octets = sequence code.Octet octet_of (λ o. value.Octet o)
 -- ---- a policy as a trader writes it
 
 abbrev pub policy : {A : Type 0} → Kind A → (name : List ℕ) → A → Policy
-policy kind name x = record { name = name; value = record { code = kind.code; value = kind.value x } }
+policy kind name x = record {
+  name = name;
+  value = record { code = kind.code; value = kind.value x };
+}

@@ -26,7 +26,8 @@ pub fn rule_code(alloc: Global) -> Result<TypeCode, Memory>
 
 /// The names of the rules.
 fn rule_labels(alloc: Global) -> Result<List<Text>, Memory>
-    ensures { IfOk result (λ l. l ≡ codes "local_only" ∷ codes "if_no_local" ∷ codes "always" ∷ []) }
+    ensures { IfOk result (λ l. l ≡ codes "local_only" ∷ codes "if_no_local" ∷ codes "always"
+        ∷ []) }
 {
     let mut labels = List::new(alloc);
     labels.push(Text::from_slice(alloc, b"local_only")?)?;

@@ -72,7 +72,8 @@ Tells told (Err e) = Unit {0}
 
 -- an offer is too large, or no number is left
 abbrev pub size_cause : Store → Ior → List Property → Cause
-size_cause s reference properties = limit_if (nat_le last_number s.last_offer || is_too_large reference properties)
+size_cause s reference properties = limit_if (nat_le last_number s.last_offer
+    || is_too_large reference properties)
 
 -- what may be at fault with an export besides the number of offers
 abbrev pub front_cause : Store → Ior → (type_name : List ℕ) → List Property → Cause
@@ -93,18 +94,19 @@ IsAdded o old new (Err Memory) = new ≡ old
 -- ---- an offer that is modified
 
 -- the number of the offer that is modified, and its properties afterwards; or what is at fault
-abbrev pub IsRenewal : Store → (id : List ℕ) → List (List ℕ) → List Property → Result (ℕ × List Property) Fault →
-    Type 0
+abbrev pub IsRenewal : Store → (id : List ℕ) → List (List ℕ) → List Property
+    → Result (ℕ × List Property) Fault → Type 0
 IsRenewal s id deleted changed (Ok new) =
     (modify_cause s id deleted changed ≡ None)
-    × (offers_modified s.offers deleted changed (ordinary s.offers id) ≡ with_properties new.0 new.1 s.offers)
+    × (offers_modified s.offers deleted changed (ordinary s.offers id)
+    ≡ with_properties new.0 new.1 s.offers)
 IsRenewal s id deleted changed (Err f) = IsMet (modify_cause s id deleted changed) f
 
 -- ---- a new proxy offer
 
 -- what may be at fault with a new proxy offer besides its type, its target and the number of offers
-abbrev pub later_proxy_cause : Store → Ior → (type_name : List ℕ) → List Property → (recipe : List ℕ) → List Policy →
-    Cause
+abbrev pub later_proxy_cause : Store → Ior → (type_name : List ℕ) → List Property
+    → (recipe : List ℕ) → List Policy → Cause
 later_proxy_cause s target type_name properties recipe policies =
     offer_cause s type_name properties
     otherwise raise_if (not (is_recipe recipe)) (IllegalRecipe recipe)
@@ -112,8 +114,8 @@ later_proxy_cause s target type_name properties recipe policies =
     otherwise size_cause s target properties
 
 -- the same with these two
-abbrev pub proxy_front_cause : Store → Ior → (type_name : List ℕ) → List Property → (recipe : List ℕ) → List Policy →
-    Cause
+abbrev pub proxy_front_cause : Store → Ior → (type_name : List ℕ) → List Property
+    → (recipe : List ℕ) → List Policy → Cause
 proxy_front_cause s target type_name properties recipe policies =
     unless_supported s.attributes.supports_proxy_offers
     otherwise given (open_type s.types.types type_name) no_more

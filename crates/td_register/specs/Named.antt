@@ -14,7 +14,8 @@ use Rattle.td_register.specs.Causes.{Found, raise, there}
 -- the type of a name
 abbrev pub known : List ServiceType → List ℕ → Found ServiceType
 known types name =
-    if word_name name then there (type_named types name) (UnknownServiceType name) else raise (IllegalServiceType name)
+    if word_name name then there (type_named types name) (UnknownServiceType name) else raise
+    (IllegalServiceType name)
 
 abbrev pub unmasked : Option ServiceType → Option ServiceType
 unmasked None = None

@@ -56,7 +56,8 @@ is_same_as declared (Some code) = same code declared
 
 -- the type of an any's value, or of the values that it is evaluated to
 abbrev pub has_type : TypeCode → Any → Bool
-has_type declared a = if is_dynamic a then is_same_as declared (returned_type a.value) else same a.code declared
+has_type declared a = if is_dynamic a then is_same_as declared (returned_type a.value)
+    else same a.code declared
 
 -- where a type names the property
 abbrev pub is_typed : Option PropStruct → Any → Bool
@@ -83,15 +84,16 @@ name_cause before name =
     otherwise raise_if (is_among name before) (DuplicatePropertyName name)
 
 -- a value that the type doesn't let stand there
-abbrev pub value_cause : (supported : Bool) → (type_name : List ℕ) → List PropStruct → Property → Cause
+abbrev pub value_cause : (supported : Bool) → (type_name : List ℕ) → List PropStruct → Property
+    → Cause
 value_cause supported type_name demanded p =
     raise_if (mismatches supported demanded p) (PropertyTypeMismatch type_name p)
-    otherwise raise_if (is_dynamic p.value && is_readonly (mode_of demanded p.name)) (ReadonlyDynamicProperty
-    type_name p.name)
+    otherwise raise_if (is_dynamic p.value && is_readonly (mode_of demanded p.name))
+    (ReadonlyDynamicProperty type_name p.name)
 
 -- the first cause, property by property
-abbrev pub properties_cause : (supported : Bool) → (type_name : List ℕ) → List PropStruct → (before : List (List ℕ)) →
-    List Property → Cause
+abbrev pub properties_cause : (supported : Bool) → (type_name : List ℕ) → List PropStruct
+    → (before : List (List ℕ)) → List Property → Cause
 properties_cause supported type_name demanded before [] = None
 properties_cause supported type_name demanded before (p ∷ ps) =
     name_cause before p.name
@@ -100,7 +102,8 @@ properties_cause supported type_name demanded before (p ∷ ps) =
 
 -- the first mandatory property that an offer lacks
 abbrev pub missing : List PropStruct → List Property → Option PropStruct
-missing demanded properties = find (λ d. is_mandatory d.mode && not (carries properties d.name)) demanded
+missing demanded properties = find (λ d. is_mandatory d.mode && not (carries properties d.name))
+    demanded
 
 abbrev pub missing_cause : (type_name : List ℕ) → Option PropStruct → Cause
 missing_cause type_name None = None
@@ -110,9 +113,9 @@ missing_cause type_name (Some d) = raise_if true (MissingMandatoryProperty type_
 
 -- the encoded bytes of an offer: of its reference and its properties
 abbrev pub encoded : Ior → List Property → ℕ
-encoded reference properties = length (offer.format.writes (record { reference = reference; properties = properties })
-    Big 0)
+encoded reference properties = length
+    (offer.format.writes (record { reference = reference; properties = properties }) Big 0)
 
 abbrev pub is_too_large : Ior → List Property → Bool
-is_too_large reference properties = nat_lt most_properties (length properties) || nat_lt most_bytes (encoded reference
-    properties)
+is_too_large reference properties = nat_lt most_properties (length properties)
+    || nat_lt most_bytes (encoded reference properties)

@@ -35,8 +35,8 @@ policies_cause before (p ∷ ps) =
     raise_if (is_among p.name before) (DuplicatePolicyName p.name)
     otherwise policies_cause (p.name ∷ before) ps
 
-abbrev pub export_proxy_cause : Store → Ior → (type_name : List ℕ) → List Property → (recipe : List ℕ) → List Policy →
-    Cause
+abbrev pub export_proxy_cause : Store → Ior → (type_name : List ℕ) → List Property
+    → (recipe : List ℕ) → List Policy → Cause
 export_proxy_cause s target type_name properties recipe policies =
     unless_supported s.attributes.supports_proxy_offers
     otherwise given (open_type s.types.types type_name) no_more
@@ -46,14 +46,15 @@ export_proxy_cause s target type_name properties recipe policies =
     otherwise policies_cause [] policies
     otherwise limit_if (passes_limit s target properties)
 
-abbrev pub exported_proxy : Store → Ior → (type_name : List ℕ) → List Property → ProxyPart → OfferRecord
+abbrev pub exported_proxy : Store → Ior → (type_name : List ℕ) → List Property → ProxyPart
+    → OfferRecord
 exported_proxy s target type_name properties part = record (exported s target type_name properties) {
   proxy = Some
       part;
 }
 
-unfoldable pub export_proxy : Store → Ior → (type_name : List ℕ) → List Property → (if_match_all : Bool) →
-    (recipe : List ℕ) → List Policy → Comes
+unfoldable pub export_proxy : Store → Ior → (type_name : List ℕ) → List Property
+    → (if_match_all : Bool) → (recipe : List ℕ) → List Policy → Comes
 export_proxy s target type_name properties if_match_all recipe policies =
     unless (export_proxy_cause s target type_name properties recipe policies)
     (reply.Id (id_of (s.last_offer + 1)))
@@ -67,12 +68,13 @@ export_proxy s target type_name properties if_match_all recipe policies =
 -- ---- withdraw_proxy
 
 abbrev pub withdraw_proxy_cause : Store → List ℕ → Cause
-withdraw_proxy_cause s id = unless_supported s.attributes.supports_proxy_offers otherwise given (proxy s.offers id)
-    no_more
+withdraw_proxy_cause s id = unless_supported s.attributes.supports_proxy_offers otherwise given
+    (proxy s.offers id) no_more
 
 unfoldable pub withdraw_proxy : Store → List ℕ → Comes
 withdraw_proxy s id =
-    unless (withdraw_proxy_cause s id) reply.Nothing (record s { offers = offers_without s.offers (number_in id) })
+    unless (withdraw_proxy_cause s id) reply.Nothing
+    (record s { offers = offers_without s.offers (number_in id) })
 
 -- ---- describe_proxy
 
@@ -102,4 +104,5 @@ if_supported supported outcome = if supported then outcome else refused NotSuppo
 
 unfoldable pub describe_proxy : Store → List ℕ → Outcome
 describe_proxy s id =
-    if_supported s.attributes.supports_proxy_offers (tells (proxy s.offers id) (λ o. reply.Proxy (proxy_info o)))
+    if_supported s.attributes.supports_proxy_offers
+    (tells (proxy s.offers id) (λ o. reply.Proxy (proxy_info o)))

@@ -42,19 +42,20 @@ last_number = 4294967295
 -- one offer more would pass a limit
 abbrev pub passes_limit : Store → Ior → List Property → Bool
 passes_limit s reference properties =
-    nat_le most_offers (length s.offers) || nat_le last_number s.last_offer || is_too_large reference properties
+    nat_le most_offers (length s.offers) || nat_le last_number s.last_offer
+    || is_too_large reference properties
 
 -- what is at fault with the properties of a new offer of this type
 abbrev pub offer_cause : Store → (type_name : List ℕ) → List Property → Cause
 offer_cause s type_name properties =
-    properties_cause s.attributes.supports_dynamic_properties type_name (full_properties s.types.types type_name) []
-    properties
-    otherwise missing_cause type_name (missing (full_properties s.types.types type_name) properties)
+    properties_cause s.attributes.supports_dynamic_properties type_name
+    (full_properties s.types.types type_name) [] properties otherwise missing_cause type_name
+    (missing (full_properties s.types.types type_name) properties)
 
 abbrev pub interface_cause : Store → (type_name : List ℕ) → Ior → ServiceType → Cause
 interface_cause s type_name reference t =
-    raise_if (not (interface_conforms s.types.interfaces reference.id t.if_name)) (InterfaceTypeMismatch type_name
-    reference)
+    raise_if (not (interface_conforms s.types.interfaces reference.id t.if_name))
+    (InterfaceTypeMismatch type_name reference)
 
 abbrev pub export_cause : Store → Ior → (type_name : List ℕ) → List Property → Cause
 export_cause s reference type_name properties =
@@ -101,7 +102,8 @@ offers_without offers (Some number) = without_offer number offers
 
 unfoldable pub withdraw : Store → List ℕ → Comes
 withdraw s id =
-    unless (withdraw_cause s id) reply.Nothing (record s { offers = offers_without s.offers (number_in id) })
+    unless (withdraw_cause s id) reply.Nothing
+    (record s { offers = offers_without s.offers (number_in id) })
 
 -- ---- describe
 
@@ -114,10 +116,12 @@ describe s id = tells (ordinary s.offers id) (λ o. reply.Offer (offer_info_of o
 abbrev pub deletion_cause : List PropStruct → OfferRecord → List ℕ → Cause
 deletion_cause demanded o name =
     raise_if (not (carries o.properties name)) (UnknownPropertyName name)
-    otherwise raise_if (is_mandatory (mode_of demanded name)) (MandatoryProperty o.service_type name)
-    otherwise raise_if (is_readonly (mode_of demanded name)) (ReadonlyProperty o.service_type name)
+    otherwise raise_if (is_mandatory (mode_of demanded name))
+    (MandatoryProperty o.service_type name) otherwise raise_if (is_readonly (mode_of demanded name))
+    (ReadonlyProperty o.service_type name)
 
-abbrev pub deletions_cause : List PropStruct → OfferRecord → (before : List (List ℕ)) → List (List ℕ) → Cause
+abbrev pub deletions_cause : List PropStruct → OfferRecord → (before : List (List ℕ))
+    → List (List ℕ) → Cause
 deletions_cause demanded o before [] = None
 deletions_cause demanded o before (name ∷ names) =
     name_cause before name
@@ -127,11 +131,12 @@ deletions_cause demanded o before (name ∷ names) =
 -- A readonly property may be added where the offer lacks it, and not changed afterwards.
 abbrev pub readonly_cause : List PropStruct → OfferRecord → List ℕ → Cause
 readonly_cause demanded o name =
-    raise_if (is_readonly (mode_of demanded name) && carries o.properties name) (ReadonlyProperty o.service_type name)
+    raise_if (is_readonly (mode_of demanded name) && carries o.properties name)
+    (ReadonlyProperty o.service_type name)
 
 -- The names before are those that are to be deleted, too.
-abbrev pub changes_cause : (supported : Bool) → List PropStruct → OfferRecord → (before : List (List ℕ)) →
-    List Property → Cause
+abbrev pub changes_cause : (supported : Bool) → List PropStruct → OfferRecord
+    → (before : List (List ℕ)) → List Property → Cause
 changes_cause supported demanded o before [] = None
 changes_cause supported demanded o before (p ∷ ps) =
     name_cause before p.name
@@ -144,7 +149,8 @@ abbrev pub renewed : List Property → Property → Property
 renewed changed p = unwrap_or (find (λ q. bytes_eq q.name p.name) changed) p
 
 -- Those that stay, with their new values in their places, and then those that the offer lacked.
-abbrev pub modified : List Property → (deleted : List (List ℕ)) → (changed : List Property) → List Property
+abbrev pub modified : List Property → (deleted : List (List ℕ)) → (changed : List Property)
+    → List Property
 modified properties deleted changed =
     map (renewed changed) (filter (λ p. not (is_among p.name deleted)) properties)
     ++ filter (λ p. not (carries properties p.name)) changed
@@ -152,17 +158,20 @@ modified properties deleted changed =
 abbrev pub offer_changes_cause : Store → List (List ℕ) → List Property → OfferRecord → Cause
 offer_changes_cause s deleted changed o =
     deletions_cause (demanded s.types.types o) o [] deleted
-    otherwise changes_cause s.attributes.supports_dynamic_properties (demanded s.types.types o) o deleted changed
-    otherwise limit_if (is_too_large o.reference (modified o.properties deleted changed))
+    otherwise changes_cause s.attributes.supports_dynamic_properties (demanded s.types.types o)
+    o deleted changed otherwise limit_if
+    (is_too_large o.reference (modified o.properties deleted changed))
 
 abbrev pub modify_cause : Store → List ℕ → List (List ℕ) → List Property → Cause
 modify_cause s id deleted changed =
     raise_if (not s.attributes.supports_modifiable_properties) NotImplemented
     otherwise given (ordinary s.offers id) (offer_changes_cause s deleted changed)
 
-abbrev pub offers_modified : List OfferRecord → List (List ℕ) → List Property → Found OfferRecord → List OfferRecord
+abbrev pub offers_modified : List OfferRecord → List (List ℕ) → List Property → Found OfferRecord
+    → List OfferRecord
 offers_modified offers deleted changed (Err f) = offers
-offers_modified offers deleted changed (Ok o) = with_properties o.number (modified o.properties deleted changed) offers
+offers_modified offers deleted changed (Ok o) = with_properties o.number
+    (modified o.properties deleted changed) offers
 
 unfoldable pub modify : Store → List ℕ → List (List ℕ) → List Property → Comes
 modify s id deleted changed =
@@ -186,8 +195,8 @@ static_properties properties = filter (λ p. not (is_dynamic p.value)) propertie
 -- an ordinary offer whose type conforms and whose properties match
 abbrev pub is_met : List ServiceType → (type_name : List ℕ) → Constraint → OfferRecord → Bool
 is_met types type_name c o =
-    not (is_some o.proxy) && belongs types o && conforms types o.service_type type_name && matching (static_properties
-    o.properties) c
+    not (is_some o.proxy) && belongs types o && conforms types o.service_type type_name
+    && matching (static_properties o.properties) c
 
 abbrev pub none_met : Store → (type_name text : List ℕ) → Constraint → Cause
 none_met s type_name text c =

@@ -58,8 +58,9 @@ pub fn check_interface(
     name: &Text,
     reference: &Ior,
 ) -> Result<(), Fault>
-    ensures { Judges (given (there (type_named store.now.types.types name.now) (user.UnknownServiceType name.now))
-        (interface_cause store.now name.now reference.now)) result }
+    ensures { Judges (given (there (type_named store.now.types.types name.now)
+        (user.UnknownServiceType name.now)) (interface_cause store.now name.now reference.now))
+        result }
 {
     let Some(if_name) = store.types.interface_of(name.as_slice()) else {
         return Err(unknown_type(name.copy(alloc)?));

@@ -54,7 +54,8 @@ pub fn check_name<'a>(
     seen: &mut BTreeSet<&'a [u8]>,
     name: &'a Text,
 ) -> Result<(), Fault>
-    ensures judged { (before : List (List ℕ)) → HaveSeen seen.old before → Judges (name_cause before name.now) result }
+    ensures judged { (before : List (List ℕ)) → HaveSeen seen.old before
+        → Judges (name_cause before name.now) result }
     ensures noted { (before : List (List ℕ)) → HaveSeen seen.old before →
         OnOk result (HaveSeen seen.new (name.now ∷ before)) }
 {
@@ -134,7 +135,8 @@ pub fn check_properties(
     demanded: &[PropStruct],
     properties: &[Property],
 ) -> Result<(), Fault>
-    ensures { Judges (properties_cause supported type_name.now demanded.now [] properties.now) result }
+    ensures { Judges (properties_cause supported type_name.now demanded.now [] properties.now)
+        result }
 {
     let mut seen = nothing_seen(alloc);
     for property in properties {

@@ -21,7 +21,8 @@ use td_value::ProxyInfo;
 
 /// The proxy offer of an id.
 fn proxy<'a>(alloc: Global, offers: &'a Offers, id: &Text) -> Result<&'a OfferRecord, Fault>
-    ensures { MatchResult result (λ o. proxy offers.now id.now ≡ Ok o.now) (IsAbsent (proxy offers.now id.now)) }
+    ensures { MatchResult result (λ o. proxy offers.now id.now ≡ Ok o.now)
+        (IsAbsent (proxy offers.now id.now)) }
 {
     let Some(number) = number_in(id.as_slice()) else {
         return Err(raised(UserException::IllegalOfferId {
@@ -49,7 +50,8 @@ fn proxy<'a>(alloc: Global, offers: &'a Offers, id: &Text) -> Result<&'a OfferRe
 /// `NotProxyOfferId`.
 #[tactic(auto, unfolding(crate::specs::Proxies::withdraw_proxy))]
 pub fn withdraw_proxy(store: &mut Store, id: Text) -> Result<Accepted, Fault>
-    ensures accepts { Accepts (change.WithdrawProxy id) (withdraw_proxy store.old id) store.old store.new result }
+    ensures accepts { Accepts (change.WithdrawProxy id)
+        (withdraw_proxy store.old id) store.old store.new result }
     ensures free { NeedsNone result }
 {
     if !store.attributes.supports_proxy_offers {

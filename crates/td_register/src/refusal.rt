@@ -65,7 +65,8 @@ pub fn unknown_type(service_type: Text) -> Fault
 ///
 /// `Memory` for want of memory alone.
 pub fn invalid_lookup(alloc: Global, target: &Ior) -> Result<Fault, Memory>
-    ensures { IfOk result (λ f. f ≡ fault.Refused (refusal.Raised (user.InvalidLookupRef target.now))) }
+    ensures { IfOk result (λ f. f
+        ≡ fault.Refused (refusal.Raised (user.InvalidLookupRef target.now))) }
 {
     Ok(raised(UserException::InvalidLookupRef {
         target: target.copy(alloc)?,

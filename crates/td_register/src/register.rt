@@ -36,7 +36,8 @@ pub fn is_proxy(offers: &Offers, number: u32) -> Option<bool>
 ///
 /// `IllegalOfferId`; `UnknownOfferId`; `ProxyOfferId`; `Memory` for want of memory.
 pub fn ordinary<'a>(alloc: Global, offers: &'a Offers, id: &Text) -> Result<&'a OfferRecord, Fault>
-    ensures { MatchResult result (λ o. ordinary offers.now id.now ≡ Ok o.now) (IsAbsent (ordinary offers.now id.now)) }
+    ensures { MatchResult result (λ o. ordinary offers.now id.now ≡ Ok o.now)
+        (IsAbsent (ordinary offers.now id.now)) }
 {
     let Some(number) = number_in(id.as_slice()) else {
         return Err(raised(UserException::IllegalOfferId {
@@ -63,7 +64,8 @@ pub fn ordinary<'a>(alloc: Global, offers: &'a Offers, id: &Text) -> Result<&'a 
 /// `IllegalOfferId`, `UnknownOfferId`, `ProxyOfferId`.
 #[tactic(auto, unfolding(crate::specs::Registers::withdraw))]
 pub fn withdraw(store: &mut Store, id: Text) -> Result<Accepted, Fault>
-    ensures accepts { Accepts (change.Withdraw id) (withdraw store.old id) store.old store.new result }
+    ensures accepts { Accepts (change.Withdraw id)
+        (withdraw store.old id) store.old store.new result }
     ensures free { NeedsNone result }
 {
     let Some(number) = number_in(id.as_slice()) else {

@@ -19,7 +19,8 @@ changes_before (System kind minor completion) after = after
 module _ (others : List Accepted → Type 0) (later : Marks → Marks → Type 0) where
   -- The outcome is the change's at what is seen of the trader then. Its point is how many changes had come before: the
   -- place of an accepted one in the history.
-  pub record ChangeComes (w : List View) (k : ℕ) (c : Change) (o : Outcome) (e : Entry) (u : List View) : Type 0 where
+  pub record ChangeComes (w : List View) (k : ℕ) (c : Change) (o : Outcome) (e : Entry)
+      (u : List View) : Type 0 where
     pub changes : Changes others later w k c o u
     pub noted : e ≡ Point k (length changes.seen.history)
 

@@ -37,8 +37,10 @@ pub record WorkedKeys (v : View) : Type 0 where
       ≡ Some (object_with 0 (Iterator 1) interface.OfferIdIterator)
 
 pub record WorkedRequests (v : View) (a : At) : Type 0 where
-  pub unknown_key : judged (v ∷ []) bare (codes "B/L") (codes "query") a ≡ Refused (System ObjectNotExist 0 1)
-  pub unknown_operation : judged (v ∷ []) bare (codes "A/L") (codes "export") a ≡ Refused (System BadOperation 0 1)
+  pub unknown_key : judged (v ∷ []) bare (codes "B/L") (codes "query") a
+      ≡ Refused (System ObjectNotExist 0 1)
+  pub unknown_operation : judged (v ∷ []) bare (codes "A/L") (codes "export") a
+      ≡ Refused (System BadOperation 0 1)
 
 pub record WorkedInterfaces : Type 0 where
   pub inherits : is_a interface.Lookup (codes "IDL:omg.org/CosTrading/ImportAttributes:1.0") ≡ true

@@ -37,8 +37,9 @@ told_left None = gone
 
 -- The outcome has the batch for n of what is left, and tells whether more is left behind it, which the iterator then
 -- has. Where n is at least 1 and something is left, the batch isn't empty.
-pub record GivesNext {X : Type 0} (head : Head X) (told : Bool → List X → Reply) (over : List X → Item) (n : ℕ)
-    (left : List X) (old : Draft) (o : Outcome) (after : Item) : Type 0 where
+pub record GivesNext {X : Type 0} (head : Head X) (told : Bool → List X → Reply)
+    (over : List X → Item) (n : ℕ) (left : List X) (old : Draft) (o : Outcome)
+    (after : Item) : Type 0 where
   pub count : ℕ
   pub batch : IsBatch head left old n count
   pub outcome : o ≡ Done (told (is_some (drop count left)) (take count left))
@@ -48,7 +49,8 @@ pub record GivesNext {X : Type 0} (head : Head X) (told : Bool → List X → Re
 -- next_n, of offers or of ids
 abbrev pub NextOf : (n : ℕ) → (left : Item) → (old : Draft) → Outcome → (after : Item) → Type 0
 NextOf n (Offers left) old o after =
-    GivesNext next_offers (λ more offers. reply.Batch more offers) (λ rest. Offers rest) n left old o after
+    GivesNext next_offers (λ more offers. reply.Batch more offers)
+    (λ rest. Offers rest) n left old o after
 NextOf n (Ids left) old o after =
     GivesNext next_ids (λ more ids. reply.IdBatch more ids) (λ rest. Ids rest) n left old o after
 
@@ -63,19 +65,23 @@ module _ (name : List ℕ) (number : ℕ) where
   -- what a call of the trader's iterator of this number comes to, and what it leaves of those that the connection keeps
   abbrev pub IteratorDone : Option Item → IterCall → Live → (old : Draft) → Outcome → Live → Type 0
   IteratorDone None call d old o e = (o ≡ gone) × (e ≡ d)
-  IteratorDone (Some left) iter.MaxLeft d old o e = (o ≡ Done (reply.Number (left_in left))) × (e ≡ d)
+  IteratorDone (Some left) iter.MaxLeft d old o e = (o ≡ Done (reply.Number (left_in left)))
+      × (e ≡ d)
   IteratorDone (Some left) (iter.NextN n) d old o e =
       (after : Item) × NextOf n left old o after × (e ≡ with_item name number d after)
-  IteratorDone (Some left) iter.Destroy d old o e = (o ≡ Done reply.Nothing) × (e ≡ removed name number d)
+  IteratorDone (Some left) iter.Destroy d old o e = (o ≡ Done reply.Nothing)
+      × (e ≡ removed name number d)
 
   -- no trader is called for it
-  pub record IteratorComes (call : IterCall) (d : Live) (draft : Draft) (o : Outcome) (e : Entry) (f : Live) : Type 0
+  pub record IteratorComes (call : IterCall) (d : Live) (draft : Draft) (o : Outcome) (e : Entry)
+      (f : Live) : Type 0
     where
       pub is_done : IteratorDone (item_of name number d) call d draft o f
       pub noted : e ≡ Plain
 
   -- the body of its reply
-  pub record IteratorTold (call : IterCall) (d : Live) (old : Draft) (b : ReplyBody) (new : Draft) (e : Live) : Type 0
+  pub record IteratorTold (call : IterCall) (d : Live) (old : Draft) (b : ReplyBody) (new : Draft)
+      (e : Live) : Type 0
     where
       pub outcome : Outcome
       pub is_done : IteratorDone (item_of name number d) call d old outcome e

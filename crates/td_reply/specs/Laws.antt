@@ -27,7 +27,8 @@ use Rattle.td_reply.specs.declared.entry.Entry.TheVariants.{Point}
 -- each change that is accepted is answered shortly, whatever came before it
 abbrev pub AcceptedAreShort : Type 0
 AcceptedAreShort =
-    (bounds : Bounds) (opening : Store) (history : List Accepted) (c : Change) (told : Reply) → HasShortReplies opening
+    (bounds : Bounds) (opening : Store) (history : List Accepted) (c : Change) (told : Reply)
+    → HasShortReplies opening
     → (applied_after bounds opening history c).outcome ≡ Done told → IsTrue (is_short (Done told))
 
 module _ (others : List Accepted → Type 0) (later : Marks → Marks → Type 0) where
@@ -43,7 +44,8 @@ module _ (others : List Accepted → Type 0) (later : Marks → Marks → Type 0
   abbrev pub ChangesStand : Type 0
   ChangesStand =
       (w u : List View) (k : ℕ) (c : Change) (told : Reply) (point : ℕ)
-      → ChangeComes others later w k c (Done told) (Point k point) u → StandsAt (history_at u k) point c told
+      → ChangeComes others later w k c (Done told) (Point k point) u
+      → StandsAt (history_at u k) point c told
 
   -- a point is no less than what was seen before, and no more than what is seen after
   abbrev pub PointsAreSeen : Type 0
@@ -56,10 +58,11 @@ module _ (others : List Accepted → Type 0) (later : Marks → Marks → Type 0
 
   abbrev pub RefusalsChangeNothing : Type 0
   RefusalsChangeNothing =
-      (w u : List View) (k : ℕ) (c : Change) (o : Outcome) (e : Entry) → ChangeComes others later w k c o e u
-      → is_done o ≡ false → Watches others later w k u
+      (w u : List View) (k : ℕ) (c : Change) (o : Outcome) (e : Entry)
+      → ChangeComes others later w k c o e u → is_done o ≡ false → Watches others later w k u
 
   abbrev pub LooksChangeNothing : Type 0
   LooksChangeNothing =
-      (home : Address) (w u : List View) (d after : Live) (k : ℕ) (l : Look) (draft : Draft) (o : Outcome) (e : Entry)
+      (home : Address) (w u : List View) (d after : Live) (k : ℕ) (l : Look) (draft : Draft)
+      (o : Outcome) (e : Entry)
       → LookComes others later home w d k l draft o e u after → Watches others later w k u

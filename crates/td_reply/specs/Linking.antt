@@ -47,51 +47,56 @@ peers_seen calls faults = record { calls = calls; faults = faults }
 
 module _ (others : List Accepted → Type 0) (later : Marks → Marks → Type 0) where
   -- The change comes to what it would at any time; what a peer gave is noted with its point.
-  pub record ChangeNoted (w : List View) (k : ℕ) (c : Change) (gave : Gave) (o : Outcome) (e : Entry) (u : List View)
-      : Type 0 where
+  pub record ChangeNoted (w : List View) (k : ℕ) (c : Change) (gave : Gave) (o : Outcome)
+      (e : Entry) (u : List View) : Type 0 where
     pub changes : Changes others later w k c o u
     pub noted : e ≡ Asked k (length changes.seen.history) gave
 
   -- what a peer gave is the register of the change
-  abbrev pub LinkedAs : (w : List View) → (k : ℕ) → AddLink → Gave → Outcome → Entry → (u : List View) → Type 0
+  abbrev pub LinkedAs : (w : List View) → (k : ℕ) → AddLink → Gave → Outcome → Entry
+      → (u : List View) → Type 0
   LinkedAs w k l gave o e u = ChangeNoted w k (link_change l (register_given gave)) gave o e u
 
   -- The target is asked for its register first of all, once.
-  pub record RegisterAsked (w : List View) (k : ℕ) (l : AddLink) (before after : PeersSeen) (o : Outcome) (e : Entry)
-      (u : List View) : Type 0 where
+  pub record RegisterAsked (w : List View) (k : ℕ) (l : AddLink) (before after : PeersSeen)
+      (o : Outcome) (e : Entry) (u : List View) : Type 0 where
     pub gave : Gave
-    pub asked : IsNoted (λ r. Referred r) (RegisterOf l.target) before.calls after.calls before.faults after.faults gave
+    pub asked : IsNoted (λ r. Referred r)
+        (RegisterOf l.target) before.calls after.calls before.faults after.faults gave
     pub answered : IfErr gave (λ f. is_memory f ≡ false)
     pub linked : LinkedAs w k l gave o e u
 
-  abbrev pub AddLinkBy : Target → Address → (w : List View) → ℕ → AddLink → (before after : PeersSeen) → Outcome
-      → Entry → (u : List View) → Type 0
+  abbrev pub AddLinkBy : Target → Address → (w : List View) → ℕ → AddLink
+      → (before after : PeersSeen) → Outcome → Entry → (u : List View) → Type 0
   AddLinkBy (Inside j) home w k l before after o e u =
-      ChangeComes others later w k (link_change l (Some (register_reference home (name_at w j)))) o e u
+      ChangeComes others later w k (link_change l (Some (register_reference home (name_at w j))))
+      o e u
       × (after ≡ before)
   AddLinkBy Unreachable home w k l before after o e u =
       ChangeComes others later w k (link_change l None) o e u × (after ≡ before)
   AddLinkBy Outside home w k l before after o e u = RegisterAsked w k l before after o e u
 
   -- what add_link comes to, by where its target is
-  abbrev pub AddLinkComes : Address → (w : List View) → (k : ℕ) → AddLink → (before after : PeersSeen) → Outcome → Entry
-      → (u : List View) → Type 0
+  abbrev pub AddLinkComes : Address → (w : List View) → (k : ℕ) → AddLink
+      → (before after : PeersSeen) → Outcome → Entry → (u : List View) → Type 0
   AddLinkComes home w k l before after o e u =
       AddLinkBy (target_of home w l.target) home w k l before after o e u
 
   -- ---- memory was wanted once a peer had answered
 
   -- NO_MEMORY; what the peer gave is noted with how many changes are seen
-  pub record NotedInVain (w : List View) (k : ℕ) (gave : Gave) (o : Outcome) (e : Entry) (u : List View) : Type 0 where
+  pub record NotedInVain (w : List View) (k : ℕ) (gave : Gave) (o : Outcome) (e : Entry)
+      (u : List View) : Type 0 where
     pub rests : Rests others later w k u
     pub outcome : o ≡ no_memory
     pub noted : e ≡ Asked k (length (history_at u k)) gave
 
   -- The target, one outside, was asked for its register, and then memory was wanted.
-  pub record AskedInVain (home : Address) (w : List View) (k : ℕ) (l : AddLink) (before after : PeersSeen) (o : Outcome)
-      (e : Entry) (u : List View) : Type 0 where
+  pub record AskedInVain (home : Address) (w : List View) (k : ℕ) (l : AddLink)
+      (before after : PeersSeen) (o : Outcome) (e : Entry) (u : List View) : Type 0 where
     pub outside : target_of home w l.target ≡ Outside
     pub gave : Gave
-    pub asked : IsNoted (λ r. Referred r) (RegisterOf l.target) before.calls after.calls before.faults after.faults gave
+    pub asked : IsNoted (λ r. Referred r)
+        (RegisterOf l.target) before.calls after.calls before.faults after.faults gave
     pub answered : IfErr gave (λ f. is_memory f ≡ false)
     pub noted : NotedInVain w k gave o e u

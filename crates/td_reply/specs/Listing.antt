@@ -18,8 +18,8 @@ abbrev pub has_small_size : (id : List ℕ) → Bool
 has_small_size id = nat_le (length id) 256
 
 -- the first batch for n of these ids was written, with this reference where any are left, and those are kept
-pub record PutsBatched (reference : Ior) (name : List ℕ) (n : ℕ) (ids : List (List ℕ)) (old new : Draft) (d e : Live)
-    : Type 0 where
+pub record PutsBatched (reference : Ior) (name : List ℕ) (n : ℕ) (ids : List (List ℕ))
+    (old new : Draft) (d e : Live) : Type 0 where
   pub count : ℕ
   pub puts : PutsBatch (ids_found reference) ids n old new count
   pub kept : e ≡ kept_for name (drop count ids) d

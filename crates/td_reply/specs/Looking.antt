@@ -36,9 +36,11 @@ how_many (look.ListProxies n) = n
 how_many other = 0
 
 -- the result that has the first count of the ids; the iterator's reference is nil where nothing is left behind them
-abbrev pub first_ids : Address → (name : List ℕ) → (number : ℕ) → List (List ℕ) → (count : ℕ) → Outcome
+abbrev pub first_ids : Address → (name : List ℕ) → (number : ℕ) → List (List ℕ) → (count : ℕ)
+    → Outcome
 first_ids home name number ids count =
-    Done (reply.Ids (take count ids) (given_or_nil (iterator_reference home name number) (is_some (drop count ids))))
+    Done (reply.Ids (take count ids)
+    (given_or_nil (iterator_reference home name number) (is_some (drop count ids))))
 
 -- the connection keeps these for the trader's iterator of the next number, where there are any
 abbrev pub kept_for : (name : List ℕ) → (left : List (List ℕ)) → Live → Live
@@ -54,19 +56,22 @@ module _ (home : Address) (name : List ℕ) (n : ℕ) where
     pub kept : e ≡ kept_for name (drop count ids) d
 
   -- This is the outcome of a batch of the ids, and the others are kept.
-  pub record IsFirst (ids : List (List ℕ)) (old : Draft) (d : Live) (o : Outcome) (e : Live) : Type 0 where
+  pub record IsFirst (ids : List (List ℕ)) (old : Draft) (d : Live) (o : Outcome)
+      (e : Live) : Type 0 where
     pub count : ℕ
     pub batch : IsBatch (ids_found (iterator_reference home name d.1)) ids old n count
     pub outcome : o ≡ first_ids home name d.1 ids count
     pub kept : e ≡ kept_for name (drop count ids) d
 
   -- a list of ids is answered with the first batch for n of them, and any other outcome as it is
-  abbrev pub CutsList : Option (List (List ℕ)) → (found : Outcome) → Draft → Live → Outcome → Live → Type 0
+  abbrev pub CutsList : Option (List (List ℕ)) → (found : Outcome) → Draft → Live → Outcome → Live
+      → Type 0
   CutsList (Some ids) found old d o e = IsFirst ids old d o e
   CutsList None found old d o e = (o ≡ found) × (e ≡ d)
 
   -- the same, with the body of its reply
-  pub record Cuts (found : Outcome) (old : Draft) (d : Live) (b : ReplyBody) (new : Draft) (e : Live) : Type 0 where
+  pub record Cuts (found : Outcome) (old : Draft) (d : Live) (b : ReplyBody) (new : Draft)
+      (e : Live) : Type 0 where
     pub outcome : Outcome
     pub cut : CutsList (ids_in found) found old d outcome e
     pub told : Tells outcome b old new
@@ -74,10 +79,11 @@ module _ (home : Address) (name : List ℕ) (n : ℕ) where
 module _ (others : List Accepted → Type 0) (later : Marks → Marks → Type 0) (home : Address) where
   -- The outcome is the look's at what is seen of the trader then, a list by the lesser of how many are asked for and
   -- the trader's max_list. Its point is how many changes had come before.
-  pub record LookComes (w : List View) (d : Live) (k : ℕ) (l : Look) (draft : Draft) (o : Outcome) (e : Entry)
-      (u : List View) (after : Live) : Type 0 where
+  pub record LookComes (w : List View) (d : Live) (k : ℕ) (l : Look) (draft : Draft) (o : Outcome)
+      (e : Entry) (u : List View) (after : Live) : Type 0 where
     pub found : Outcome
     pub max_list : ℕ
     pub looks : Looks others later w k l (found, max_list) u
-    pub cuts : CutsList home (name_at u k) (min (how_many l) max_list) (ids_in found) found draft d o after
+    pub cuts : CutsList home (name_at u k) (min (how_many l) max_list)
+        (ids_in found) found draft d o after
     pub noted : e ≡ Point k (length looks.seen.history)

@@ -32,7 +32,8 @@ pub fn answer_change<T: Traders>(
     // What may still want memory can be taken back: it wasn't done.
     ensures taken_back { IfOk result (λ a. IfLong a.body
         (Watches T.others T.later (T.world traders.old) trader (T.world traders.new))) }
-    ensures err { OnErr result (Watches T.others T.later (T.world traders.old) trader (T.world traders.new)) }
+    ensures err { OnErr result
+        (Watches T.others T.later (T.world traders.old) trader (T.world traders.new)) }
 {
     let outcome = traders.change(trader, c)?;
     let point = point_of(traders, trader, &outcome);
@@ -45,7 +46,8 @@ pub fn answer_change<T: Traders>(
 /// How many changes had come before the last one, which has this outcome.
 pub(crate) fn point_of<T: Traders>(traders: &T, trader: usize, outcome: &Outcome) -> u64
     requires { trader < length (T.world traders.now) }
-    ensures point { result ≡ changes_before outcome.now (length (history_at (T.world traders.now) trader)) }
+    ensures point { result ≡ changes_before outcome.now
+        (length (history_at (T.world traders.now) trader)) }
     ensures admitted { AdmittedAt (T.world traders.now) trader }
 {
     changes_before(outcome, traders.point(trader))

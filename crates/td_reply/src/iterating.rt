@@ -57,7 +57,8 @@ fn tell_iterator(
     w: &mut Writer,
 ) -> Result<ReplyBody, Memory>
     requires { length w.old.bytes ≡ REPLY_START }
-    ensures ok { IfOk result (λ b. IteratorTold name.now number call.now desk.old w.old b w.new desk.new) }
+    ensures ok { IfOk result
+        (λ b. IteratorTold name.now number call.now desk.old w.old b w.new desk.new) }
     ensures taken_back { IfOk result (λ b. IfLong b (desk.new ≡ desk.old)) }
     ensures err { OnErr result ((desk.new ≡ desk.old) × (w.new.bytes ≡ w.old.bytes)) }
     ensures order { w.new.order ≡ w.old.order }
@@ -119,7 +120,8 @@ fn next_n(
     w: &mut Writer,
 ) -> Result<ReplyBody, Memory>
     requires { length w.old.bytes ≡ REPLY_START }
-    ensures ok { IfOk result (λ b. IteratorTold name.now number (iter.NextN n) desk.old w.old b w.new desk.new) }
+    ensures ok { IfOk result
+        (λ b. IteratorTold name.now number (iter.NextN n) desk.old w.old b w.new desk.new) }
     ensures taken_back { IfOk result (λ b. IfLong b (desk.new ≡ desk.old)) }
     ensures err { OnErr result ((desk.new ≡ desk.old) × (w.new.bytes ≡ w.old.bytes)) }
     ensures order { w.new.order ≡ w.old.order }
@@ -153,8 +155,9 @@ fn put_next(alloc: Global, left: &mut Item, n: u32, w: &mut Writer) -> Result<Re
 
 /// Takes an iterator away.
 fn destroy(desk: &mut Desk, name: &Text, number: u64) -> Outcome
-    ensures removed { (w : Draft) → IteratorDone name.now number (item_of name.now number desk.old) iter.Destroy
-        desk.old w result desk.new }
+    ensures removed { (w : Draft)
+        → IteratorDone name.now number (item_of name.now number desk.old)
+        iter.Destroy desk.old w result desk.new }
     ensures short { is_short result ≡ true }
 {
     match left_of(desk, name, number) {

@@ -43,9 +43,11 @@ pub fn judge<T: Traders>(
     operation: &[u8],
     body: &Reader,
 ) -> Result<Judged, RequestClass>
-    ensures judged { IfOk result (λ j. j ≡ judged (T.world traders.now) desk.old key.now operation.now body.now) }
+    ensures judged { IfOk result (λ j. j
+        ≡ judged (T.world traders.now) desk.old key.now operation.now body.now) }
     ensures servable { IfOk result (λ j. IsServable (T.world traders.now) j) }
-    ensures class { IfErr result (λ c. c ≡ request_class (T.world traders.now) desk.old key.now operation.now) }
+    ensures class { IfErr result (λ c. c
+        ≡ request_class (T.world traders.now) desk.old key.now operation.now) }
     ensures unread { IfErr result (λ c.
         IsOfClass c (judged (T.world traders.now) desk.old key.now operation.now body.now)) }
     ensures same { desk.new ≡ desk.old }
@@ -63,9 +65,12 @@ fn judge_call(
     operation: &[u8],
     body: &Reader,
 ) -> Result<Judged, RequestClass>
-    ensures judged { IfOk result (λ j. j ≡ judged_reading object (call_read object.kind operation.now body.now)) }
-    ensures servable { (w : List View) → IsNamed w object.trader → IfOk result (λ j. IsServable w j) }
-    ensures class { IfErr result (λ c. c ≡ class_named (operation_named object.kind operation.now)) }
+    ensures judged { IfOk result (λ j. j
+        ≡ judged_reading object (call_read object.kind operation.now body.now)) }
+    ensures servable { (w : List View) → IsNamed w object.trader
+        → IfOk result (λ j. IsServable w j) }
+    ensures class { IfErr result (λ c. c
+        ≡ class_named (operation_named object.kind operation.now)) }
     ensures unread { IfErr result (λ c.
         IsOfClass c (judged_reading object (call_read object.kind operation.now body.now))) }
 {
@@ -82,8 +87,8 @@ fn judge_call(
 ///
 /// The class, where memory was wanted to read it.
 fn refuse(fault: OpsFault, class: RequestClass) -> Result<Judged, RequestClass>
-    ensures judged { (x : Object) (reading : Result (asked × At) OpsFault) (at : At) → Told at (Err fault) reading
-        → IfOk result (λ j. j ≡ judged_reading x reading) }
+    ensures judged { (x : Object) (reading : Result (asked × At) OpsFault) (at : At)
+        → Told at (Err fault) reading → IfOk result (λ j. j ≡ judged_reading x reading) }
     ensures servable { (w : List View) → IfOk result (λ j. IsServable w j) }
     ensures class { IfErr result (λ c. c ≡ class) }
 {

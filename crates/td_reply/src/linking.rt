@@ -50,14 +50,17 @@ pub fn answer_add_link<T: Traders, P: Peers>(
     ensures same { T.same traders.old traders.new }
     ensures same_peers { P.same peers.old peers.new }
     ensures ok { IfOk result (λ a. IsToldPlainly (λ o e.
-        AddLinkComes T.others T.later home.now (T.world traders.old) trader call (peers_seen (P.calls peers.old)
-        (P.faults peers.old)) (peers_seen (P.calls peers.new) (P.faults peers.new)) o e (T.world traders.new)
-        ⊎ AskedInVain T.others T.later home.now (T.world traders.old) trader call (peers_seen (P.calls peers.old)
-        (P.faults peers.old)) (peers_seen (P.calls peers.new) (P.faults peers.new)) o e (T.world traders.new)) a) }
+        AddLinkComes T.others T.later home.now (T.world traders.old) trader call
+        (peers_seen (P.calls peers.old) (P.faults peers.old))
+        (peers_seen (P.calls peers.new) (P.faults peers.new)) o e (T.world traders.new)
+        ⊎ AskedInVain T.others T.later home.now (T.world traders.old) trader call
+        (peers_seen (P.calls peers.old) (P.faults peers.old))
+        (peers_seen (P.calls peers.new) (P.faults peers.new)) o e (T.world traders.new)) a) }
     // What may still want memory can be taken back: it wasn't done.
     ensures taken_back { IfOk result (λ a. IfLong a.body
         (Watches T.others T.later (T.world traders.old) trader (T.world traders.new))) }
-    ensures err { OnErr result (Rests T.others T.later (T.world traders.old) trader (T.world traders.new)) }
+    ensures err { OnErr result
+        (Rests T.others T.later (T.world traders.old) trader (T.world traders.new)) }
     ensures unasked { OnErr result (P.calls peers.new ≡ P.calls peers.old) }
     ensures faults { P.faults peers.old ≤ P.faults peers.new }
 {
@@ -76,7 +79,8 @@ pub fn answer_add_link<T: Traders, P: Peers>(
 #[tactic(auto, using(crate::proofs::Admitted::link_admitted))]
 fn link_change(call: AddLink, register: Option<Ior>) -> Change
     ensures same { result ≡ link_change call register }
-    ensures admitted { AdmitsCall (asked.AddLink call) → AdmitsRegister register → AdmitsChange result }
+    ensures admitted { AdmitsCall (asked.AddLink call) → AdmitsRegister register
+        → AdmitsChange result }
 {
     Change::AddLink {
         name: call.name,
@@ -101,12 +105,14 @@ fn add_inside<T: Traders>(
     requires home { IsAddress home.now }
     requires admitted { AdmitsCall (asked.AddLink call) }
     ensures same { T.same traders.old traders.new }
-    ensures ok { IfOk result (λ a. IsToldPlainly (λ o e. ChangeComes T.others T.later (T.world traders.old) trader
-        (link_change call (Some (register_reference home.now (name_at (T.world traders.old) inside)))) o e
-        (T.world traders.new)) a) }
+    ensures ok { IfOk result
+        (λ a. IsToldPlainly (λ o e. ChangeComes T.others T.later (T.world traders.old) trader
+        (link_change call (Some (register_reference home.now
+        (name_at (T.world traders.old) inside)))) o e (T.world traders.new)) a) }
     ensures taken_back { IfOk result (λ a. IfLong a.body
         (Watches T.others T.later (T.world traders.old) trader (T.world traders.new))) }
-    ensures err { OnErr result (Rests T.others T.later (T.world traders.old) trader (T.world traders.new)) }
+    ensures err { OnErr result
+        (Rests T.others T.later (T.world traders.old) trader (T.world traders.new)) }
 {
     match own_reference(
         alloc,
@@ -139,13 +145,16 @@ fn add_outside<T: Traders, P: Peers>(
     ensures same { T.same traders.old traders.new }
     ensures same_peers { P.same peers.old peers.new }
     ensures ok { IfOk result (λ a. IsToldPlainly (λ o e.
-        RegisterAsked T.others T.later (T.world traders.old) trader call (peers_seen (P.calls peers.old)
-        (P.faults peers.old)) (peers_seen (P.calls peers.new) (P.faults peers.new)) o e (T.world traders.new)
-        ⊎ AskedInVain T.others T.later home.now (T.world traders.old) trader call (peers_seen (P.calls peers.old)
-        (P.faults peers.old)) (peers_seen (P.calls peers.new) (P.faults peers.new)) o e (T.world traders.new)) a) }
+        RegisterAsked T.others T.later (T.world traders.old) trader call
+        (peers_seen (P.calls peers.old) (P.faults peers.old))
+        (peers_seen (P.calls peers.new) (P.faults peers.new)) o e (T.world traders.new)
+        ⊎ AskedInVain T.others T.later home.now (T.world traders.old) trader call
+        (peers_seen (P.calls peers.old) (P.faults peers.old))
+        (peers_seen (P.calls peers.new) (P.faults peers.new)) o e (T.world traders.new)) a) }
     ensures taken_back { IfOk result (λ a. IfLong a.body
         (Watches T.others T.later (T.world traders.old) trader (T.world traders.new))) }
-    ensures err { OnErr result (Rests T.others T.later (T.world traders.old) trader (T.world traders.new)) }
+    ensures err { OnErr result
+        (Rests T.others T.later (T.world traders.old) trader (T.world traders.new)) }
     ensures unasked { OnErr result (P.calls peers.new ≡ P.calls peers.old) }
     ensures faults { P.faults peers.old ≤ P.faults peers.new }
 {
@@ -169,8 +178,8 @@ fn ask<P: Peers>(
     lookup: &Ior,
 ) -> Result<Result<Ior, PeerFault>, Memory>
     ensures same { P.same peers.old peers.new }
-    ensures noted { IfOk result (λ gave. IsNoted (λ r. Referred r) (RegisterOf lookup.now) (P.calls peers.old)
-        (P.calls peers.new) (P.faults peers.old) (P.faults peers.new) gave) }
+    ensures noted { IfOk result (λ gave. IsNoted (λ r. Referred r) (RegisterOf lookup.now)
+        (P.calls peers.old) (P.calls peers.new) (P.faults peers.old) (P.faults peers.new) gave) }
     ensures answered { IfOk result (λ gave. IfErr gave (λ f. is_memory f ≡ false)) }
     ensures admitted { IfOk result (λ gave. IfOk gave (λ r. reference.format.admits r)) }
     ensures unasked { OnErr result (P.calls peers.new ≡ P.calls peers.old) }
@@ -199,7 +208,8 @@ fn add_given<T: Traders>(
     ensures same { T.same traders.old traders.new }
     ensures linked { IsToldPlainly (λ o e.
         LinkedAs T.others T.later (T.world traders.old) trader call gave o e (T.world traders.new)
-        ⊎ NotedInVain T.others T.later (T.world traders.old) trader gave o e (T.world traders.new)) result }
+        ⊎ NotedInVain T.others T.later (T.world traders.old) trader gave o e (T.world traders.new))
+        result }
     ensures taken_back { IfLong result.body
         (Watches T.others T.later (T.world traders.old) trader (T.world traders.new)) }
 {
@@ -249,7 +259,8 @@ fn add_as<T: Traders>(
     ensures same { T.same traders.old traders.new }
     ensures changed { IsToldPlainly (λ o e.
         ChangeNoted T.others T.later (T.world traders.old) trader c gave o e (T.world traders.new)
-        ⊎ NotedInVain T.others T.later (T.world traders.old) trader gave o e (T.world traders.new)) result }
+        ⊎ NotedInVain T.others T.later (T.world traders.old) trader gave o e (T.world traders.new))
+        result }
     ensures taken_back { IfLong result.body
         (Watches T.others T.later (T.world traders.old) trader (T.world traders.new)) }
 {
@@ -273,8 +284,10 @@ fn add_as<T: Traders>(
 #[tactic(auto, using(crate::proofs::Linked::in_vain))]
 fn asked_in_vain<T: Traders>(traders: &T, trader: usize, gave: Result<Ior, PeerFault>) -> Answer
     requires { trader < length (T.world traders.now) }
-    ensures told { (w : List View) (c : a_change) → Rests T.others T.later w trader (T.world traders.now)
-        → IsToldPlainly (λ o e. ChangeNoted T.others T.later w trader c gave o e (T.world traders.now)
+    ensures told { (w : List View) (c : a_change)
+        → Rests T.others T.later w trader (T.world traders.now)
+        → IsToldPlainly (λ o e. ChangeNoted T.others T.later w trader c gave o e
+        (T.world traders.now)
         ⊎ NotedInVain T.others T.later w trader gave o e (T.world traders.now)) result }
     ensures taken_back { (w : List View) → IfLong result.body
         (Watches T.others T.later w trader (T.world traders.now)) }

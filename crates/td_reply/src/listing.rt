@@ -49,7 +49,8 @@ pub(crate) fn tell_found(
     requires name { IsTraderName name.now }
     requires start { length w.old.bytes ≡ REPLY_START }
     requires numbers { desk.old.1 < 2 ^ 63 }
-    ensures cuts { IfOk result (λ b. Cuts home.now name.now n found w.old desk.old b w.new desk.new) }
+    ensures cuts { IfOk result
+        (λ b. Cuts home.now name.now n found w.old desk.old b w.new desk.new) }
     ensures taken_back { IfOk result (λ b. IfLong b (desk.new ≡ desk.old)) }
     ensures err { OnErr result ((desk.new ≡ desk.old) × (w.new.bytes ≡ w.old.bytes)) }
     ensures order { w.new.order ≡ w.old.order }
@@ -182,7 +183,8 @@ fn label_for(alloc: Global, home: &Address, name: &Text, number: u64) -> Result<
     requires home { IsAddress home.now }
     requires name { IsTraderName name.now }
     ensures trader { IfOk result (λ l. l.trader ≡ name.now) }
-    ensures reference { IfOk result (λ l. l.reference ≡ iterator_reference home.now name.now number) }
+    ensures reference { IfOk result (λ l. l.reference
+        ≡ iterator_reference home.now name.now number) }
     ensures small { IfOk result (λ l. IsSmallReference l.reference) }
 {
     let reference = iterator_reference(alloc, home, name, number)?;
@@ -203,7 +205,8 @@ fn put_first(
     requires start { length w.old.bytes ≡ REPLY_START }
     requires numbers { desk.old.1 < 2 ^ 63 }
     ensures written { IfOk result (λ b. b ≡ ReplyBody.Written) }
-    ensures puts { OnOk result (PutsBatched label.reference label.trader n left w.old w.new desk.old desk.new) }
+    ensures puts { OnOk result
+        (PutsBatched label.reference label.trader n left w.old w.new desk.old desk.new) }
     ensures err { OnErr result ((desk.new ≡ desk.old) × (w.new.bytes ≡ w.old.bytes)) }
     ensures order { w.new.order ≡ w.old.order }
 {

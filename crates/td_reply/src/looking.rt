@@ -42,8 +42,9 @@ pub fn answer_look<T: Traders>(
     requires numbers { desk.old.1 < 2 ^ 63 }
     ensures same { T.same traders.old traders.new }
     ensures watches { Watches T.others T.later (T.world traders.old) trader (T.world traders.new) }
-    ensures ok { IfOk result (λ a. IsTold (λ o e. LookComes T.others T.later home.now (T.world traders.old) desk.old
-        trader l.now w.old o e (T.world traders.new) desk.new) a w.old w.new) }
+    ensures ok { IfOk result
+        (λ a. IsTold (λ o e. LookComes T.others T.later home.now (T.world traders.old)
+        desk.old trader l.now w.old o e (T.world traders.new) desk.new) a w.old w.new) }
     // What may still want memory can be taken back: the desk is as it was.
     ensures taken_back { IfOk result (λ a. IfLong a.body (desk.new ≡ desk.old)) }
     ensures err { OnErr result ((desk.new ≡ desk.old) × (w.new.bytes ≡ w.old.bytes)) }

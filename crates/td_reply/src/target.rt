@@ -53,7 +53,8 @@ fn place_in<T: Traders>(
     home: &Address,
     target: &Ior,
 ) -> Result<Target, Memory>
-    ensures { IfOk result (λ t. t ≡ reached (inside_group home.now (T.world traders.now) target.now)) }
+    ensures { IfOk result (λ t. t
+        ≡ reached (inside_group home.now (T.world traders.now) target.now)) }
 {
     let found = inside_group(alloc, traders, home, target)?;
     Ok(reached(found))

@@ -30,7 +30,9 @@ unfoldable pub AlikeAt : ℕ → Shape → List Node → ℕ → Type 0
 AlikeAt zero s g p = Unit {0}
 AlikeAt (suc d) s g p =
     (s.kind ≡ indirection → ⊥) × Matches (as_node s) (node_at g (bare g p))
-    × ((j : ℕ) → j < count s.inner → AlikeAt d (shape_at s.inner j) g (edge (node_at g (bare g p)) j))
+    × ((j : ℕ) → j < count s.inner
+    → AlikeAt d (shape_at s.inner j) g (edge (node_at g (bare g p)) j))
 
 abbrev pub AtEveryDepth : Type 0
-AtEveryDepth = (s : Shape) (g : List Node) (p : ℕ) → IsTrue (alike_at g s p) ↔ ((d : ℕ) → AlikeAt d s g p)
+AtEveryDepth = (s : Shape) (g : List Node) (p : ℕ) → IsTrue (alike_at g s p)
+    ↔ ((d : ℕ) → AlikeAt d s g p)

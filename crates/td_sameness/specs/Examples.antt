@@ -72,26 +72,39 @@ arm_at label code = record { label = label ∷ []; shape = code }
 
 abbrev pub union_code : (bound : ℕ) → Shape
 union_code bound =
-    union_shape [] long_code (negsuc 0) (arm_at (Four 1) long_code ∷ arm_at (Four 2) (str_shape bound) ∷ [])
+    union_shape [] long_code (negsuc 0)
+    (arm_at (Four 1) long_code ∷ arm_at (Four 2) (str_shape bound) ∷ [])
 
 -- ---- an enumeration of two names
 
 abbrev pub enum_graph : List Node
 enum_graph =
-    record { kind = 17; id = []; names = codes "E" ∷ codes "A" ∷ codes "B" ∷ []; numbers = []; edges = [] } ∷ []
+    record {
+      kind = 17;
+      id = [];
+      names = codes "E" ∷ codes "A" ∷ codes "B" ∷ [];
+      numbers = [];
+      edges = [];
+    } ∷ []
 
 pub record WorkedSameness : Type 0 where
   -- how often it is unrolled doesn't count
-  pub unrolled : alike_at shared (outer_code (inner_code p_id long_code) (inner_code p_id long_code)) 0 ≡ true
-  pub aliases : alike_at behind_aliases (outer_code (inner_code p_id long_code) (inner_code p_id long_code)) 0 ≡ true
-  pub no_id : alike_at shared (outer_code (inner_code p_id long_code) (inner_code [] long_code)) 0 ≡ true
-  pub other_id : alike_at shared (outer_code (inner_code p_id long_code) (inner_code n_id long_code)) 0 ≡ false
+  pub unrolled : alike_at shared (outer_code (inner_code p_id long_code)
+      (inner_code p_id long_code)) 0 ≡ true
+  pub aliases : alike_at behind_aliases (outer_code (inner_code p_id long_code)
+      (inner_code p_id long_code)) 0 ≡ true
+  pub no_id : alike_at shared (outer_code (inner_code p_id long_code) (inner_code [] long_code)) 0
+      ≡ true
+  pub other_id : alike_at shared (outer_code (inner_code p_id long_code)
+      (inner_code n_id long_code)) 0 ≡ false
   pub other_member :
-      alike_at shared (outer_code (inner_code p_id long_code) (inner_code p_id (kind_shape kind.Short))) 0 ≡ false
+      alike_at shared (outer_code (inner_code p_id long_code)
+      (inner_code p_id (kind_shape kind.Short))) 0 ≡ false
   pub fewer : alike_at shared (inner_code [] (inner_code p_id long_code)) 0 ≡ false
   -- a type that holds itself is the same as none that comes to an end
   pub endless :
-      alike_at rolled (inner_code n_id (items_shape kind.Sequence (inner_code n_id (kind_shape kind.Long)) 0)) 0
+      alike_at rolled (inner_code n_id
+      (items_shape kind.Sequence (inner_code n_id (kind_shape kind.Long)) 0)) 0
       ≡ false
   pub labels : alike_at (union_graph 1 2) (union_code 7) 0 ≡ true
   pub other_label : alike_at (union_graph 1 3) (union_code 7) 0 ≡ false

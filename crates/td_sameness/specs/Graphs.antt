@@ -35,12 +35,14 @@ pub record LeadsWithin (g : List Node) (edges : List ℕ) : Type 0 where
 -- what counts of one that has names in it (of members or arms) and of a node, wherever edges lead
 abbrev pub parts_agree : ℕ → List ℤ → List ℕ → Shapes → Node → Bool
 parts_agree k n i x p =
-    (heads_agree k i p && nat_eq (suc (count x)) (length p.names)) && pointwise int_eq (n ++ labels_in x) p.numbers
+    (heads_agree k i p && nat_eq (suc (count x)) (length p.names))
+    && pointwise int_eq (n ++ labels_in x) p.numbers
 
 -- what counts of a kind without parameters and of a node
 abbrev pub bare_agrees : List Node → ℕ → Node → Bool
 bare_agrees g k p =
-    ((heads_agree k [] p && nat_eq 0 (length p.names)) && pointwise int_eq [] p.numbers) && alike_along g empty p.edges
+    ((heads_agree k [] p && nat_eq 0 (length p.names)) && pointwise int_eq [] p.numbers)
+    && alike_along g empty p.edges
 
 -- the first edge leads to the same
 abbrev pub first_alike : List Node → Shape → List ℕ → Bool

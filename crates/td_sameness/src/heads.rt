@@ -70,7 +70,8 @@ pub(crate) fn has_one(node: &Node, number: u32) -> bool
 
 /// Whether a node has this kind, an id that agrees, a name for each member and its own, and no numbers.
 pub(crate) fn has_members(node: &Node, kind: CodeKind, id: &[u8], members: &[Member]) -> bool
-    ensures { result ≡ parts_agree (number_of kind) [] id.now (row (map member_entry members.now)) node.now }
+    ensures { result ≡ parts_agree (number_of kind) [] id.now (row (map member_entry members.now))
+        node.now }
 {
     if !is_headed(node, kind, id) {
         return false;
@@ -84,8 +85,8 @@ pub(crate) fn has_members(node: &Node, kind: CodeKind, id: &[u8], members: &[Mem
 /// Whether a node is a union with an id that agrees, a name for each arm and its own, this default index
 /// and the labels of the arms.
 pub(crate) fn has_arms(node: &Node, id: &[u8], default: &i32, arms: &[Arm]) -> bool
-    ensures { result ≡ parts_agree (number_of kind.Union) (default.now ∷ []) id.now (row (map arm_entry arms.now))
-        node.now }
+    ensures { result ≡ parts_agree (number_of kind.Union)
+        (default.now ∷ []) id.now (row (map arm_entry arms.now)) node.now }
 {
     if !is_headed(node, CodeKind::Union, id) {
         return false;
@@ -98,7 +99,8 @@ pub(crate) fn has_arms(node: &Node, id: &[u8], default: &i32, arms: &[Arm]) -> b
 
 /// Whether a node has this default index, and then the labels of the arms.
 fn has_labels(node: &Node, default: &i32, arms: &[Arm]) -> bool
-    ensures { result ≡ pointwise int_eq (default.now ∷ labels_in (row (map arm_entry arms.now))) node.now.numbers }
+    ensures { result ≡ pointwise int_eq (default.now ∷ labels_in (row (map arm_entry arms.now)))
+        node.now.numbers }
 {
     match node.numbers.as_slice() {
         [first, labels @ ..] => i128::from(*default) == *first && are_labels(arms, labels),

@@ -99,7 +99,8 @@ fn is_enum(id: &Text, count: usize, graph: &Whole, node: &Node) -> bool
 #[cycle(placed)]
 fn is_struct(id: &Text, members: &[Member], graph: &Whole, node: &Node) -> bool
     requires within { LeadsWithin graph.now node.now.edges }
-    ensures { result ≡ alike_node graph.now (fields_shape kind.Struct id.now (map member_entry members.now)) node.now }
+    ensures { result ≡ alike_node graph.now
+        (fields_shape kind.Struct id.now (map member_entry members.now)) node.now }
 {
     has_members(node, CodeKind::Struct, id.as_slice(), members)
         && members_along(members, graph, node.edges.as_slice())
@@ -108,7 +109,8 @@ fn is_struct(id: &Text, members: &[Member], graph: &Whole, node: &Node) -> bool
 #[cycle(placed)]
 fn is_except(id: &Text, members: &[Member], graph: &Whole, node: &Node) -> bool
     requires within { LeadsWithin graph.now node.now.edges }
-    ensures { result ≡ alike_node graph.now (fields_shape kind.Except id.now (map member_entry members.now)) node.now }
+    ensures { result ≡ alike_node graph.now
+        (fields_shape kind.Except id.now (map member_entry members.now)) node.now }
 {
     has_members(node, CodeKind::Except, id.as_slice(), members)
         && members_along(members, graph, node.edges.as_slice())
@@ -117,7 +119,8 @@ fn is_except(id: &Text, members: &[Member], graph: &Whole, node: &Node) -> bool
 #[cycle(placed)]
 fn is_sequence(item: &TypeCode, bound: u32, graph: &Whole, node: &Node) -> bool
     requires within { LeadsWithin graph.now node.now.edges }
-    ensures { result ≡ alike_node graph.now (items_shape kind.Sequence (shape item.now) bound) node.now }
+    ensures { result ≡ alike_node graph.now (items_shape kind.Sequence (shape item.now) bound)
+        node.now }
 {
     is_headed(node, CodeKind::Sequence, b"")
         && is_nameless(node)
@@ -140,7 +143,8 @@ fn is_array(item: &TypeCode, len: u32, graph: &Whole, node: &Node) -> bool
 #[cycle(placed)]
 fn item_along(item: &TypeCode, graph: &Whole, edges: &[u32]) -> bool
     requires within { LeadsWithin graph.now edges.now }
-    ensures { result ≡ alike_along graph.now (row (entry_without_label (shape item.now) ∷ [])) edges.now }
+    ensures { result ≡ alike_along graph.now (row (entry_without_label (shape item.now) ∷ []))
+        edges.now }
 {
     match edges {
         [edge] => same_at(item, graph, *edge),

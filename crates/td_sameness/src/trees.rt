@@ -87,7 +87,8 @@ fn same_object(id: &Text, b: &TypeCode) -> bool
 #[cycle(same)]
 fn same_struct(id: &Text, members: &[Member], b: &TypeCode) -> bool
     requires { is_alias (out-TypeCode b.now) ≡ false }
-    ensures { result ≡ like (fields_shape kind.Struct id.now (map member_entry members.now)) (shape b.now) }
+    ensures { result ≡ like (fields_shape kind.Struct id.now (map member_entry members.now))
+        (shape b.now) }
 {
     match b {
         TypeCode::Struct {
@@ -102,7 +103,8 @@ fn same_struct(id: &Text, members: &[Member], b: &TypeCode) -> bool
 #[cycle(same)]
 fn same_except(id: &Text, members: &[Member], b: &TypeCode) -> bool
     requires { is_alias (out-TypeCode b.now) ≡ false }
-    ensures { result ≡ like (fields_shape kind.Except id.now (map member_entry members.now)) (shape b.now) }
+    ensures { result ≡ like (fields_shape kind.Except id.now (map member_entry members.now))
+        (shape b.now) }
 {
     match b {
         TypeCode::Except {

@@ -35,7 +35,8 @@ impl<'p, 'h, P: Peers, G: SendsHeld> Peers for SendingPeers<'p, 'h, P, G> {
 
     ghost faults = { λ s. P.faults s.peers.now };
 
-    ghost same = { λ a b. (a.peers.ghost_name ≡ b.peers.ghost_name) × (a.held.ghost_name ≡ b.held.ghost_name)
+    ghost same = { λ a b. (a.peers.ghost_name ≡ b.peers.ghost_name)
+        × (a.held.ghost_name ≡ b.held.ghost_name)
         × P.same a.peers.now b.peers.now × G.reaches a.held.now b.held.now };
 
     ghost same_self = { λ a. (refl, refl, P.same_self a.peers.now, G.reaches_itself a.held.now) };

@@ -154,17 +154,16 @@ accepted_send =
     (struct_send (shape accepted.the_type) (change_field, (change_reply_cross.the_send, tt)))
 
 -- ---- what a trader keeps of what queries were served with
-ruleset kept =
-    (
-      attributes_cross.the_send,
-      attributes_cross.the_sync,
-      link_cross.the_send,
-      link_cross.the_sync,
-      offer_record_send,
-      offer_record_sync,
-      seen,
-      low,
-    )
+ruleset kept = (
+  attributes_cross.the_send,
+  attributes_cross.the_sync,
+  link_cross.the_send,
+  link_cross.the_sync,
+  offer_record_send,
+  offer_record_sync,
+  seen,
+  low,
+)
 
 cached_search_field : IsSend (cached_search.the_field).row
 cached_search_field =

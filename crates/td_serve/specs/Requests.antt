@@ -47,18 +47,20 @@ module _ (others : List Accepted → Type 0) (later : Marks → Marks → Type 0
   CallComes x (call.Change c) draft s o e t =
       ChangeComes others later s.world x.trader c o e t.world × (t ≡ record s { world = t.world })
   CallComes x (call.Look l) draft s o e t =
-      LookComes others later home s.world s.desk x.trader l draft o e t.world t.desk × (t.peers ≡ s.peers)
-      × (t.words ≡ s.words)
+      LookComes others later home s.world s.desk x.trader l draft o e t.world t.desk
+      × (t.peers ≡ s.peers) × (t.words ≡ s.words)
   CallComes x (call.AddLink l) draft s o e t =
-      AddLinkComes others later home s.world x.trader l s.peers t.peers o e t.world × (t.desk ≡ s.desk)
-      × (t.words ≡ s.words)
+      AddLinkComes others later home s.world x.trader l s.peers t.peers o e t.world
+      × (t.desk ≡ s.desk) × (t.words ≡ s.words)
   CallComes x (call.Iter i) draft s o e t =
       IteratorComes (name_at s.world x.trader) (number_in x.kind) i s.desk draft o e t.desk
       × (t ≡ record s { desk = t.desk })
-  CallComes x (call.IsA id) draft s o e t = (o ≡ Done (Truth (is_a x.interface id))) × (e ≡ Plain) × (t ≡ s)
+  CallComes x (call.IsA id) draft s o e t = (o ≡ Done (Truth (is_a x.interface id))) × (e ≡ Plain)
+      × (t ≡ s)
   CallComes x call.NonExistent draft s o e t = (o ≡ Done (Truth false)) × (e ≡ Plain) × (t ≡ s)
   CallComes x (call.Query q) draft s o e t = QueryComes others later home s x.trader q draft o e t
-  CallComes x (call.Resolve names) draft s o e t = NameComes others later home s x.trader names o e t
+  CallComes x (call.Resolve names) draft s o e t = NameComes others later home s x.trader names o e
+      t
 
   -- a Request that spells no call is refused, and that is all
   abbrev pub Comes : Judged → (draft : Draft) → Scene → Outcome → Entry → Scene → Type 0
@@ -70,8 +72,8 @@ module _ (others : List Accepted → Type 0) (later : Marks → Marks → Type 0
   Answers j draft s o e t = Comes j draft s o e t ⊎ Unserved others later home j s o e t
 
   -- The Request was answered so, and these are the bytes of its Reply: none where it expects none.
-  pub record Served (to : ReplyTo) (j : Judged) (s : Scene) (o : Outcome) (e : Entry) (bytes : List ℕ) (t : Scene)
-      : Type 0 where
+  pub record Served (to : ReplyTo) (j : Judged) (s : Scene) (o : Outcome) (e : Entry)
+      (bytes : List ℕ) (t : Scene) : Type 0 where
     pub draft : Draft
     pub begun : BeginsReply to draft
     pub answers : Answers j draft s o e t

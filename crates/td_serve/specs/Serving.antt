@@ -39,27 +39,30 @@ not_begun c = record { body = reply_body.Outcome no_memory; entry = unbegun_entr
 abbrev pub IsBodyOf : Outcome → ReplyBody → (draft written : Draft) → Type 0
 IsBodyOf o (reply_body.Outcome told) draft written = told ≡ o
 IsBodyOf o reply_body.Written draft written =
-    (outcome_status o ≡ 0) × (written.bytes ≡ draft.bytes ++ outcome_piece o draft.order (length draft.bytes))
+    (outcome_status o ≡ 0) × (written.bytes
+    ≡ draft.bytes ++ outcome_piece o draft.order (length draft.bytes))
     × (written.order ≡ draft.order)
 
 module _ (others : List Accepted → Type 0) (later : Marks → Marks → Type 0) where
   -- NO_MEMORY can be answered in place of an answer with this entry.
-  pub record MayBeRefused (home : Address) (j : Judged) (k : ℕ) (s : Scene) (e : Entry) (t : Scene) : Type 0 where
+  pub record MayBeRefused (home : Address) (j : Judged) (k : ℕ) (s : Scene) (e : Entry)
+      (t : Scene) : Type 0 where
     pub within : k < length t.world
-    pub unserved : Unserved others later home j s (wanting (in_vain t.world k e)) (in_vain t.world k e) t
+    pub unserved : Unserved others later home j s (wanting (in_vain t.world k e))
+        (in_vain t.world k e) t
 
   -- What a call comes to at trader k, with a writer that held the draft. A body for which memory may be wanted can be
   -- taken back.
-  pub record Performs (home : Address) (j : Judged) (k : ℕ) (draft : Draft) (s : Scene) (b : ReplyBody) (e : Entry)
-      (written : Draft) (t : Scene) : Type 0 where
+  pub record Performs (home : Address) (j : Judged) (k : ℕ) (draft : Draft) (s : Scene)
+      (b : ReplyBody) (e : Entry) (written : Draft) (t : Scene) : Type 0 where
     pub outcome : Outcome
     pub answers : Answers others later home j draft s outcome e t
     pub body : IsBodyOf outcome b draft written
     pub taken_back : IfLong b (MayBeRefused home j k s e t)
 
   -- the same, with a writer that was begun for the Reply
-  pub record Performed (home : Address) (to : ReplyTo) (j : Judged) (k : ℕ) (s : Scene) (b : ReplyBody) (e : Entry)
-      (written : Draft) (t : Scene) : Type 0 where
+  pub record Performed (home : Address) (to : ReplyTo) (j : Judged) (k : ℕ) (s : Scene)
+      (b : ReplyBody) (e : Entry) (written : Draft) (t : Scene) : Type 0 where
     pub draft : Draft
     pub begun : BeginsReply to draft
     pub performs : Performs home j k draft s b e written t
@@ -76,15 +79,18 @@ module _ (w : List View) (k : ℕ) (to : ReplyTo) where
   abbrev pub SettlesOutcome : Outcome → Entry → (settled : Entry) → (bytes : List ℕ) → Type 0
   SettlesOutcome o e settled bytes =
       ((settled ≡ e) × (bytes ≡ outcome_reply to o))
-      ⊎ ((is_short o ≡ false) × (settled ≡ in_vain w k e) × (bytes ≡ outcome_reply to (wanting settled)))
+      ⊎ ((is_short o ≡ false) × (settled ≡ in_vain w k e)
+      × (bytes ≡ outcome_reply to (wanting settled)))
 
-  abbrev pub SettlesBody : ReplyBody → Entry → (written : Draft) → (settled : Entry) → (bytes : List ℕ) → Type 0
+  abbrev pub SettlesBody : ReplyBody → Entry → (written : Draft) → (settled : Entry)
+      → (bytes : List ℕ) → Type 0
   SettlesBody (reply_body.Outcome o) e written settled bytes = SettlesOutcome o e settled bytes
   SettlesBody reply_body.Written e written settled bytes =
       (settled ≡ e) × (bytes ≡ sealed written.order written.bytes)
 
   -- The body was sent, or what stands in its place; a Request that expects no reply gets no bytes.
-  abbrev pub Settles : ReplyBody → Entry → (written : Draft) → (settled : Entry) → (bytes : List ℕ) → Type 0
+  abbrev pub Settles : ReplyBody → Entry → (written : Draft) → (settled : Entry) → (bytes : List ℕ)
+      → Type 0
   Settles b e written settled bytes =
       ((to.answered ≡ true) × SettlesBody b e written settled bytes)
       ⊎ ((to.answered ≡ false) × (settled ≡ e) × (bytes ≡ []))

@@ -14,8 +14,8 @@ use td_reply::{Answer, Object, answer_is_a, answer_non_existent};
 /// `_is_a`.
 pub(crate) fn serve_is_a<B: Backend>(object: Object, id: Text) -> Answer
     ensures performs { (home : Home) (draft written : Draft) (s : Scene)
-        → Performs B.others B.later home (Call object (call.IsA id)) object.trader draft s result.body result.entry
-        written s }
+        → Performs B.others B.later home (Call object (call.IsA id))
+        object.trader draft s result.body result.entry written s }
 {
     let answer = answer_is_a(object.interface, id.as_slice());
     drop(id);
@@ -25,8 +25,8 @@ pub(crate) fn serve_is_a<B: Backend>(object: Object, id: Text) -> Answer
 /// `_non_existent`.
 pub(crate) fn serve_non_existent<B: Backend>(object: Object) -> Answer
     ensures performs { (home : Home) (draft written : Draft) (s : Scene)
-        → Performs B.others B.later home (Call object call.NonExistent) object.trader draft s result.body result.entry
-        written s }
+        → Performs B.others B.later home (Call object call.NonExistent)
+        object.trader draft s result.body result.entry written s }
 {
     answer_non_existent()
 }

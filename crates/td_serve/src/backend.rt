@@ -59,9 +59,11 @@ pub trait Backend {
         operation: &[u8],
         body: &Reader,
     ) -> Result<Judged, RequestClass>
-        ensures judged { IfOk result (λ j. j ≡ judged (seen self.now).world desk.old key.now operation.now body.now) }
+        ensures judged { IfOk result (λ j. j
+            ≡ judged (seen self.now).world desk.old key.now operation.now body.now) }
         ensures servable { IfOk result (λ j. IsServable (seen self.now).world j) }
-        ensures class { IfErr result (λ c. c ≡ request_class (seen self.now).world desk.old key.now operation.now) }
+        ensures class { IfErr result (λ c. c
+            ≡ request_class (seen self.now).world desk.old key.now operation.now) }
         ensures unread { IfErr result (λ c.
             IsOfClass c (judged (seen self.now).world desk.old key.now operation.now body.now)) }
         ensures desk { desk.new ≡ desk.old };
@@ -73,7 +75,8 @@ pub trait Backend {
         ensures same { same self.old self.new }
         ensures performs { (home : Home) (draft written : Draft) (desk : Live)
             → Performs others later home (Call object (call.Change c)) object.trader draft
-            (scene_of (seen self.old) desk) result.body result.entry written (scene_of (seen self.new) desk) };
+            (scene_of (seen self.old) desk) result.body result.entry written
+            (scene_of (seen self.new) desk) };
 
     /// A look. The writer holds what stands before the body of a Reply with a result.
     fn serve_look(
@@ -90,8 +93,9 @@ pub trait Backend {
         requires start { length w.old.bytes ≡ REPLY_START }
         requires numbers { desk.old.1 < 2 ^ 63 }
         ensures same { same self.old self.new }
-        ensures performs { Performs others later home.now (Call object (call.Look look)) object.trader w.old
-            (scene_of (seen self.old) desk.old) result.body result.entry w.new (scene_of (seen self.new) desk.new) };
+        ensures performs { Performs others later home.now (Call object (call.Look look))
+            object.trader w.old (scene_of (seen self.old) desk.old) result.body result.entry w.new
+            (scene_of (seen self.new) desk.new) };
 
     /// `add_link`, as it was read.
     fn serve_add_link(
@@ -107,7 +111,8 @@ pub trait Backend {
         ensures same { same self.old self.new }
         ensures performs { (draft written : Draft) (desk : Live)
             → Performs others later home.now (Call object (call.AddLink link)) object.trader draft
-            (scene_of (seen self.old) desk) result.body result.entry written (scene_of (seen self.new) desk) };
+            (scene_of (seen self.old) desk) result.body result.entry written
+            (scene_of (seen self.new) desk) };
 
     /// A call of an iterator. The writer holds what stands before the body of a Reply with a result.
     fn serve_iterator(
@@ -122,7 +127,8 @@ pub trait Backend {
         requires start { length w.old.bytes ≡ REPLY_START }
         ensures performs { (home : Home)
             → Performs others later home (Call object (call.Iter iter)) object.trader w.old
-            (scene_of (seen self.now) desk.old) result.body result.entry w.new (scene_of (seen self.now) desk.new) };
+            (scene_of (seen self.now) desk.old) result.body result.entry w.new
+            (scene_of (seen self.now) desk.new) };
 
     /// A query. The writer holds what stands before the body of a Reply with a result.
     fn serve_query(
@@ -139,8 +145,9 @@ pub trait Backend {
         requires start { length w.old.bytes ≡ REPLY_START }
         requires numbers { desk.old.1 < 2 ^ 63 }
         ensures same { same self.old self.new }
-        ensures performs { Performs others later home.now (Call object (call.Query query)) object.trader w.old
-            (scene_of (seen self.old) desk.old) result.body result.entry w.new (scene_of (seen self.new) desk.new) };
+        ensures performs { Performs others later home.now (Call object (call.Query query))
+            object.trader w.old (scene_of (seen self.old) desk.old) result.body result.entry w.new
+            (scene_of (seen self.new) desk.new) };
 
     /// `resolve`.
     fn serve_resolve(
@@ -154,7 +161,8 @@ pub trait Backend {
         ensures same { same self.old self.new }
         ensures performs { (draft written : Draft) (desk : Live)
             → Performs others later home.now (Call object (call.Resolve names)) object.trader draft
-            (scene_of (seen self.old) desk) result.body result.entry written (scene_of (seen self.new) desk) };
+            (scene_of (seen self.old) desk) result.body result.entry written
+            (scene_of (seen self.new) desk) };
 
     /// What is noted in place of an entry of this trader whose answer is taken back, since memory is wanted for it.
     fn entry_in_vain(&self, trader: usize, entry: Entry) -> Entry
@@ -166,5 +174,6 @@ pub trait Backend {
     ghost same_on: { (a b c : Self) → same a b → same b c → same a c };
 
     /// The count of the peers' faults never falls.
-    ghost faults_never_fall: { (a b : Self) → same a b → (seen a).peers.faults ≤ (seen b).peers.faults };
+    ghost faults_never_fall: { (a b : Self) → same a b → (seen a).peers.faults
+        ≤ (seen b).peers.faults };
 }

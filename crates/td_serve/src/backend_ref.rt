@@ -37,10 +37,10 @@ impl<'t, 'p, 'w, T: Traders, P: Peers, W: Words> Backend for BackendRef<'t, 'p, 
 
     ghost later = { T.later };
 
-    ghost same = { λ a b. (b.traders.ghost_name ≡ a.traders.ghost_name) × (b.peers.ghost_name ≡ a.peers.ghost_name)
-        × (b.words.ghost_name ≡ a.words.ghost_name)
-        × T.same a.traders.now b.traders.now × P.same a.peers.now b.peers.now × W.same a.words.now b.words.now
-        × (P.faults a.peers.now ≤ P.faults b.peers.now) };
+    ghost same = { λ a b. (b.traders.ghost_name ≡ a.traders.ghost_name)
+        × (b.peers.ghost_name ≡ a.peers.ghost_name) × (b.words.ghost_name ≡ a.words.ghost_name)
+        × T.same a.traders.now b.traders.now × P.same a.peers.now b.peers.now
+        × W.same a.words.now b.words.now × (P.faults a.peers.now ≤ P.faults b.peers.now) };
 
     fn find_object(&self, desk: &mut Desk, key: &[u8]) -> Option<Object> {
         find_object(self.traders, desk, key)
@@ -143,7 +143,8 @@ impl<'t, 'p, 'w, T: Traders, P: Peers, W: Words> Backend for BackendRef<'t, 'p, 
     ghost use Rattle.std.proofs.Common.{refl, ◌∙◌};
     ghost use Rattle.std.proofs.Math.Nat.{le_refl, le_trans};
 
-    ghost same_itself = { λ a. (refl, refl, refl, T.same_itself _, P.same_self _, W.same_self _, le_refl _) };
+    ghost same_itself = { λ a.
+        (refl, refl, refl, T.same_itself _, P.same_self _, W.same_self _, le_refl _) };
 
     ghost same_on = { λ a b c p q. (
       q.0 ∙ p.0,

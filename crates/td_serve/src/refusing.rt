@@ -107,7 +107,8 @@ fn answer_no_memory(alloc: Global, replies: &mut Replies, to: ReplyTo)
 /// Leaves the Reply for an outcome, or NO_MEMORY.
 fn tell_refusal(alloc: Global, replies: &mut Replies, to: ReplyTo, outcome: Outcome)
     requires version { IsWritable to }
-    ensures { (replies.new ≡ outcome_reply to outcome) ⊎ (replies.new ≡ outcome_reply to no_memory) }
+    ensures { (replies.new ≡ outcome_reply to outcome)
+        ⊎ (replies.new ≡ outcome_reply to no_memory) }
 {
     let told = tell_outcome(alloc, &mut replies.short, &mut replies.long, to, &outcome);
     drop(outcome);

@@ -43,7 +43,8 @@ pub fn serve_request<B: Backend>(
     requires numbers { desk.old.1 < 2 ^ 63 }
     ensures same { B.same backend.old backend.new }
     ensures served { (o : Told) × Served B.others B.later home.now to judged
-        (scene_of (B.seen backend.old) desk.old) o result replies.new (scene_of (B.seen backend.new) desk.new) }
+        (scene_of (B.seen backend.old) desk.old) o result replies.new
+        (scene_of (B.seen backend.new) desk.new) }
     ensures no_call { (c : RequestClass) → NotesNoCall c judged result }
 {
     match judged {
@@ -71,7 +72,8 @@ fn serve_call<B: Backend>(
     requires numbers { desk.old.1 < 2 ^ 63 }
     ensures same { B.same backend.old backend.new }
     ensures served { (o : Told) × Served B.others B.later home.now to (spelled.Call object call)
-        (scene_of (B.seen backend.old) desk.old) o result replies.new (scene_of (B.seen backend.new) desk.new) }
+        (scene_of (B.seen backend.old) desk.old) o result replies.new
+        (scene_of (B.seen backend.new) desk.new) }
 {
     let answer = perform(
         alloc,
@@ -113,8 +115,8 @@ fn perform<B: Backend>(
     requires home { IsAddress home.now }
     requires numbers { desk.old.1 < 2 ^ 63 }
     ensures same { B.same backend.old backend.new }
-    ensures performed { Performed B.others B.later home.now to (spelled.Call object call) object.trader
-        (scene_of (B.seen backend.old) desk.old) result.body result.entry w.new
+    ensures performed { Performed B.others B.later home.now to (spelled.Call object call)
+        object.trader (scene_of (B.seen backend.old) desk.old) result.body result.entry w.new
         (scene_of (B.seen backend.new) desk.new) }
 {
     w.restart(to.order);
@@ -143,8 +145,8 @@ fn answer_call<B: Backend>(
     requires start { length w.old.bytes ≡ REPLY_START }
     requires numbers { desk.old.1 < 2 ^ 63 }
     ensures same { B.same backend.old backend.new }
-    ensures performs { Performs B.others B.later home.now (spelled.Call object call) object.trader w.old
-        (scene_of (B.seen backend.old) desk.old) result.body result.entry w.new
+    ensures performs { Performs B.others B.later home.now (spelled.Call object call)
+        object.trader w.old (scene_of (B.seen backend.old) desk.old) result.body result.entry w.new
         (scene_of (B.seen backend.new) desk.new) }
 {
     match call {

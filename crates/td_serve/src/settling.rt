@@ -89,8 +89,8 @@ fn settle_body<B: Backend>(
     requires reserved { 512 ≤ short.old.room }
     requires head { HasHead body long.old }
     requires within { IfLong body (trader < length (B.seen backend.now).world) }
-    ensures settles { SettlesBody (B.seen backend.now).world trader to body entry long.old result.entry
-        (chosen result.is_long short.new long.new) }
+    ensures settles { SettlesBody (B.seen backend.now).world trader to body entry long.old
+        result.entry (chosen result.is_long short.new long.new) }
     ensures reserved { 512 ≤ short.new.room }
 {
     match body {
@@ -147,7 +147,8 @@ pub(crate) fn tell_outcome(
 ) -> Result<bool, Memory>
     requires version { IsWritable to }
     requires room { 512 ≤ short.old.room }
-    ensures ok { IfOk result (λ is_long. chosen is_long short.new long.new ≡ outcome_reply to outcome.now) }
+    ensures ok { IfOk result (λ is_long. chosen is_long short.new long.new
+        ≡ outcome_reply to outcome.now) }
     ensures err { OnErr result (is_short outcome.now ≡ false) }
     ensures reserved { 512 ≤ short.new.room }
 {

@@ -28,12 +28,14 @@ module _ {k : Kind} {X : Type 0} where
       ≡ option_map (with_sessions {k = k} js) (option_map (with_sessions {k = k} hs) told)
   handed_all None hs js = refl
   handed_all (Some t) hs js =
-      ap (λ (l : List (Handed k X)). Some (record t { sessions = l })) (sym (append_assoc t.sessions hs js))
+      ap (λ (l : List (Handed k X)). Some (record t { sessions = l }))
+      (sym (append_assoc t.sessions hs js))
 
   pub hands_none : (told after : Option (Told k X)) → after ≡ told → HandsSome {k = k} told after
   hands_none told after e = record { sessions = []; handed_on = e ∙ handed_none told }
 
-  pub hands_on : (a b c : Option (Told k X)) → HandsSome {k = k} a b → HandsSome {k = k} b c → HandsSome {k = k} a c
+  pub hands_on : (a b c : Option (Told k X)) → HandsSome {k = k} a b → HandsSome {k = k} b c
+      → HandsSome {k = k} a c
   hands_on a b c p q = record {
     sessions = p.sessions ++ q.sessions;
     handed_on =

@@ -25,7 +25,8 @@ pub record Kind : Type 1 where
   pub own : World → Thing → List ℕ
   -- A session was served: what it was given and what was seen when it began, its random words, what its connection told
   -- before and afterwards, what was kept of it, and what it has seen.
-  pub Serves : Given → (first : World) → (words : ℕ → ℕ) → (before after : Outside) → Kept → (last : World) → Type 0
+  pub Serves : Given → (first : World) → (words : ℕ → ℕ) → (before after : Outside) → Kept
+      → (last : World) → Type 0
 
 -- what is to hold of them
 pub record Laws (k : Kind) : Type 0 where

@@ -47,7 +47,12 @@ pub record Connection : Type 0 where
   pub writes : ℕ
 
 abbrev pub connection : Option (List ℕ) → ℕ → Option (List ℕ) → ℕ → Connection
-connection left reads written writes = record { left = left; reads = reads; written = written; writes = writes }
+connection left reads written writes = record {
+  left = left;
+  reads = reads;
+  written = written;
+  writes = writes;
+}
 
 -- the random words that come after each seeding
 abbrev pub Seeded : Type 0
@@ -70,10 +75,11 @@ pub record Ended (k : Kind) (X : Type 0) : Type 0 where
   pub last : k.World
 
 -- The session was served. Its words are those that come after a seeding with the seed and its number.
-abbrev pub Serving : {k : Kind} {X : Type 0} → (X → k.Outside) → (X → Seeded) → Begun k X → Ended k X → Type 0
+abbrev pub Serving : {k : Kind} {X : Type 0} → (X → k.Outside) → (X → Seeded) → Begun k X
+    → Ended k X → Type 0
 Serving {k} outside_of seeded b e =
-    k.Serves b.given b.first (seeded b.visitor (record { key = b.seed; stream = b.number })) (outside_of b.visitor)
-    (outside_of e.visitor) e.kept e.last
+    k.Serves b.given b.first (seeded b.visitor (record { key = b.seed; stream = b.number }))
+    (outside_of b.visitor) (outside_of e.visitor) e.kept e.last
 
 -- ---- the sessions of a server
 
@@ -87,7 +93,8 @@ pub record Stand (k : Kind) (X : Type 0) : Type 0 where
   pub world : k.World
 
 -- the next visitor has come; its session begins with what is seen then, and with nothing of its own
-pub record ComesIn {k : Kind} {X : Type 0} (s : Stand k X) (number : ℕ) (b : Begun k X) (t : Stand k X) : Type 0 where
+pub record ComesIn {k : Kind} {X : Type 0} (s : Stand k X) (number : ℕ) (b : Begun k X)
+    (t : Stand k X) : Type 0 where
   pub came : Comes (Some b.visitor) s.door t.door
   pub begins : b ≡ record {
     number = number;
@@ -104,8 +111,8 @@ pub record ComesToAnEnd {k : Kind} {X : Type 0} (s t : Stand k X) : Type 0 where
   pub rest : t ≡ record s { door = t.door }
 
 -- a session that has ended is handed on, under its number, and what it has seen and done is taken in
-pub record GoesOut {k : Kind} {X : Type 0} (s : Stand k X) (number : ℕ) (e : Ended k X) (t : Stand k X)
-    : Type 0 where
+pub record GoesOut {k : Kind} {X : Type 0} (s : Stand k X) (number : ℕ) (e : Ended k X)
+    (t : Stand k X) : Type 0 where
   pub handed : t.told ≡ option_map (with_session {k = k}
       (record { number = number; visitor = e.visitor; limited = e.limited; kept = e.kept })) s.told
   pub joined : k.Joins s.world e.last t.world
@@ -115,11 +122,11 @@ abbrev pub was_limited : {k : Kind} {X : Type 0} → Ended k X → Bool
 was_limited e = e.limited
 
 -- from one stand on to the end: so many visitors have come, and these sessions go on
-abbrev pub ServesOn : {k : Kind} {X : Type 0} → (X → k.Outside) → (X → Seeded) → Bool → Stand k X → ℕ
-    → List (ℕ × Begun k X) → Stand k X → Type 0
+abbrev pub ServesOn : {k : Kind} {X : Type 0} → (X → k.Outside) → (X → Seeded) → Bool → Stand k X
+    → ℕ → List (ℕ × Begun k X) → Stand k X → Type 0
 ServesOn {k} outside_of seeded more s n out t =
-    Working (ComesIn {k = k}) (ComesToAnEnd {k = k}) (Serving {k = k} outside_of seeded) (was_limited {k = k})
-    (GoesOut {k = k}) more s n out t
+    Working (ComesIn {k = k}) (ComesToAnEnd {k = k}) (Serving {k = k} outside_of seeded)
+    (was_limited {k = k}) (GoesOut {k = k}) more s n out t
 
 -- why a server stops before its last visitor: its acceptor failed, or memory was wanted
 abbrev pub StopsSo : Stop → (before now : ℕ) → Type 0

@@ -38,13 +38,16 @@ pub record BeginsAfter {k : Kind} {X : Type 0} (s : Stand k X) (b : Begun k X) :
   pub nothing_own : b.first ≡ k.bare b.first
 
 -- all visitors that were left have come, in order
-abbrev pub HaveCome : {k : Kind} {X : Type 0} → Option (Door X) → List (Begun k X) → Option (Door X) → Type 0
+abbrev pub HaveCome : {k : Kind} {X : Type 0} → Option (Door X) → List (Begun k X) → Option (Door X)
+    → Type 0
 HaveCome None came after = after ≡ None
 HaveCome {k} {X} (Some d) came after =
-    (d.visitors ≡ map (λ (b : Begun k X). b.visitor) came) × (after ≡ Some (record d { visitors = [] }))
+    (d.visitors ≡ map (λ (b : Begun k X). b.visitor) came)
+    × (after ≡ Some (record d { visitors = [] }))
 
 -- one of the sessions has made the change at this place of thing i
-abbrev pub HasChanged : {k : Kind} {X : Type 0} → (i : k.Thing) (place : ℕ) → List (Visit k X) → Type 0
+abbrev pub HasChanged : {k : Kind} {X : Type 0} → (i : k.Thing) (place : ℕ) → List (Visit k X)
+    → Type 0
 HasChanged i place [] = ⊥
 HasChanged {k} i place (v ∷ vs) = In place (k.own v.ended.last i) ⊎ HasChanged {k = k} i place vs
 
@@ -52,12 +55,12 @@ HasChanged {k} i place (v ∷ vs) = In place (k.own v.ended.last i) ⊎ HasChang
 abbrev pub AreApart : {k : Kind} {X : Type 0} → List (Visit k X) → Type 0
 AreApart [] = Unit {0}
 AreApart {k} (v ∷ vs) =
-    ((i : k.Thing) (place : ℕ) → In place (k.own v.ended.last i) → HasChanged {k = k} i place vs → ⊥)
-    × AreApart {k = k} vs
+    ((i : k.Thing) (place : ℕ) → In place (k.own v.ended.last i) → HasChanged {k = k} i place vs
+    → ⊥) × AreApart {k = k} vs
 
 -- All sessions of a server, from one stand to another: each visitor was served once, under its number, and handed on.
-pub record Whole {k : Kind} {X : Type 0} (outside_of : X → k.Outside) (seeded : X → Seeded) (s t : Stand k X)
-    : Type 0 where
+pub record Whole {k : Kind} {X : Type 0} (outside_of : X → k.Outside) (seeded : X → Seeded)
+    (s t : Stand k X) : Type 0 where
   -- in the order in which they came
   pub came : List (Begun k X)
   -- in the order in which they were handed on

@@ -21,9 +21,8 @@ pub trait Pass<S: ClientSource, K: ClientSink, L: ClientWire, W: Words, Q, E> {
     fn serve(self, visitor: &mut Visitor<S, K, L, W>) -> (Q, E)
         ensures same { same self result.0 }
         ensures serves { serves self (W.word visitor.old.words)
-            (connection (S.left visitor.old.source) (S.faults visitor.old.source) (K.written visitor.old.sink)
-            (K.faults visitor.old.sink))
-            (connection (S.left visitor.new.source) (S.faults visitor.new.source) (K.written visitor.new.sink)
-            (K.faults visitor.new.sink))
-            result.0 result.1 };
+            (connection (S.left visitor.old.source) (S.faults visitor.old.source)
+            (K.written visitor.old.sink) (K.faults visitor.old.sink))
+            (connection (S.left visitor.new.source) (S.faults visitor.new.source)
+            (K.written visitor.new.sink) (K.faults visitor.new.sink)) result.0 result.1 };
 }

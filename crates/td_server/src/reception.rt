@@ -35,7 +35,8 @@ where
         × (b.seed ≡ a.seed) × (A.faults a.accept.now ≤ A.faults b.accept.now)
         × HandsSome {k = F.kind} (F.told a.service) (F.told b.service) };
 
-    ghost ready = { λ a. F.ready a.service × (A.bound a.accept.now ≡ true) × (length a.seed.now ≡ 32) };
+    ghost ready = { λ a. F.ready a.service × (A.bound a.accept.now ≡ true)
+        × (length a.seed.now ≡ 32) };
 
     ghost waits = { λ a job. F.waits a.service job.pass };
 
@@ -110,7 +111,8 @@ where
     ghost use Rattle.std.proofs.Common.{refl, ◌∙◌};
     ghost use Rattle.td_server.specs.HallLaws.{goes_up, hands_none, hands_on, stays_as, stops_later};
 
-    ghost goes_itself = { λ a. (refl, F.goes_itself _, refl, stays_as _, hands_none {k = F.kind} _ _ refl) };
+    ghost goes_itself = { λ a.
+        (refl, F.goes_itself _, refl, stays_as _, hands_none {k = F.kind} _ _ refl) };
 
     ghost goes_on = { λ a b c p q. (
       p.0 ∙ q.0,

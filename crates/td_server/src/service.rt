@@ -102,15 +102,20 @@ pub trait Service<
         ensures ends { OnOk result (ends self.old pass self.new) }
         ensures joins { OnOk result (kind.Joins (seen self.old) (saw pass) (seen self.new)) }
         ensures handed { OnOk result (told self.new ≡ option_map (with_session {k = kind}
-            (record { number = number; visitor = visitor; limited = is_some limited; kept = kept ending }))
-            (told self.old)) }
+            (record {
+              number = number;
+              visitor = visitor;
+              limited = is_some limited;
+              kept = kept ending;
+            })) (told self.old)) }
         ensures untold { OnErr result (told self.new ≡ told self.old) };
 
     ghost laws: { Laws kind };
 
     ghost serves: { (p : P) (words : ℕ → ℕ) (before after : Connection) (q : Q) (ending : E)
         → P.serves p words before after q ending
-        → kind.Serves (gives p) (sees p) words (outside before) (outside after) (kept ending) (saw q) };
+        → kind.Serves (gives p) (sees p) words (outside before) (outside after) (kept ending)
+        (saw q) };
 
     ghost goes_itself: { (a : Self) → goes a a };
 

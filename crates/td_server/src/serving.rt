@@ -47,13 +47,13 @@ pub fn serve_all<
     requires seed { length seed.now ≡ 32 }
     ensures goes { F.goes service result.1 }
     ensures ready { OnOk result.0 (F.ready result.1) }
-    ensures steps { OnOk result.0 (Working (Begins F.begins) Stays (Keeps P.same) served_here (Ends F.ends) true
-        service 0 [] result.1) }
+    ensures steps { OnOk result.0
+        (Working (Begins F.begins) Stays (Keeps P.same) served_here (Ends F.ends)
+        true service 0 [] result.1) }
     ensures whole { OnOk result.0 (Whole {k = F.kind}
         (λ v. F.outside
-        (connection (A.S.left v.source) (A.S.faults v.source) (A.K.written v.sink) (A.K.faults v.sink)))
-        (λ v. A.W.word_after v.words)
-        (record {
+        (connection (A.S.left v.source) (A.S.faults v.source) (A.K.written v.sink)
+        (A.K.faults v.sink))) (λ v. A.W.word_after v.words) (record {
           given = F.given service;
           seed = seed.now;
           door = A.told accept.old;
@@ -69,7 +69,8 @@ pub fn serve_all<
         })) }
     ensures handed { HandsSome {k = F.kind} (F.told service) (F.told result.1) }
     ensures later { A.faults accept.old ≤ A.faults accept.new }
-    ensures stops { IfErr result.0 (λ why. StopsSo why (A.faults accept.old) (A.faults accept.new)) }
+    ensures stops { IfErr result.0 (λ why. StopsSo why (A.faults accept.old)
+        (A.faults accept.new)) }
 {
     let reception = Reception {
         gate,
@@ -109,13 +110,13 @@ fn receive_all<
     ensures same_accept { result.1.accept.ghost_name ≡ reception.entry.accept.ghost_name }
     ensures goes { F.goes reception.entry.service result.1.service }
     ensures ready { OnOk result.0 (F.ready result.1.service) }
-    ensures steps { OnOk result.0 (Working (Begins F.begins) Stays (Keeps P.same) served_here (Ends F.ends) true
-        reception.entry.service 0 [] result.1.service) }
+    ensures steps { OnOk result.0
+        (Working (Begins F.begins) Stays (Keeps P.same) served_here (Ends F.ends)
+        true reception.entry.service 0 [] result.1.service) }
     ensures whole { OnOk result.0 (Whole {k = F.kind}
         (λ v. F.outside
-        (connection (A.S.left v.source) (A.S.faults v.source) (A.K.written v.sink) (A.K.faults v.sink)))
-        (λ v. A.W.word_after v.words)
-        (record {
+        (connection (A.S.left v.source) (A.S.faults v.source) (A.K.written v.sink)
+        (A.K.faults v.sink))) (λ v. A.W.word_after v.words) (record {
           given = F.given reception.entry.service;
           seed = reception.entry.seed.now;
           door = A.told reception.entry.accept.now;
@@ -129,7 +130,8 @@ fn receive_all<
           told = F.told result.1.service;
           world = F.seen result.1.service;
         })) }
-    ensures handed { HandsSome {k = F.kind} (F.told reception.entry.service) (F.told result.1.service) }
+    ensures handed { HandsSome {k = F.kind} (F.told reception.entry.service)
+        (F.told result.1.service) }
     ensures later { A.faults reception.entry.accept.now ≤ A.faults result.1.accept.now }
     ensures stops { IfErr result.0
         (λ why. StopsSo why (A.faults reception.entry.accept.now) (A.faults result.1.accept.now)) }

@@ -42,12 +42,12 @@ impl<
     G: Gate,
 > Job<Served<S, K, L, W, E, Q>> for Session<'g, S, K, L, W, P, G> {
     ghost does = { λ s e. P.same s.pass e.pass
-        × P.serves s.pass (W.word_after s.visitor.words (record { key = s.seed.now; stream = s.number }))
+        × P.serves s.pass (W.word_after s.visitor.words
+        (record { key = s.seed.now; stream = s.number }))
         (connection (S.left s.visitor.source) (S.faults s.visitor.source) (K.written s.visitor.sink)
         (K.faults s.visitor.sink))
         (connection (S.left e.visitor.source) (S.faults e.visitor.source) (K.written e.visitor.sink)
-        (K.faults e.visitor.sink))
-        e.pass e.kept };
+        (K.faults e.visitor.sink)) e.pass e.kept };
 
     ghost here = { λ e. is_some e.limited };
 
@@ -106,12 +106,12 @@ fn serve_visitor<
     requires seed { length seed.now ≡ 32 }
     ensures same { P.same pass result.0 }
     ensures closed { K.closed visitor.new.sink }
-    ensures serves { P.serves pass (W.word_after visitor.old.words (record { key = seed.now; stream = number }))
-        (connection (S.left visitor.old.source) (S.faults visitor.old.source) (K.written visitor.old.sink)
-        (K.faults visitor.old.sink))
-        (connection (S.left visitor.new.source) (S.faults visitor.new.source) (K.written visitor.new.sink)
-        (K.faults visitor.new.sink))
-        result.0 result.1 }
+    ensures serves { P.serves pass
+        (W.word_after visitor.old.words (record { key = seed.now; stream = number }))
+        (connection (S.left visitor.old.source) (S.faults visitor.old.source)
+        (K.written visitor.old.sink) (K.faults visitor.old.sink))
+        (connection (S.left visitor.new.source) (S.faults visitor.new.source)
+        (K.written visitor.new.sink) (K.faults visitor.new.sink)) result.0 result.1 }
 {
     visitor.words.seed(seed.as_slice(), number);
     let served = pass.serve(visitor);

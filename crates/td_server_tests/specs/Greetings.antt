@@ -37,7 +37,8 @@ greeting_laws = record {
 }
 
 -- the sessions that were handed on: their numbers, visitors, that these were limited, and the answers
-abbrev pub told_of : {X : Type 0} → List (ℕ × X × Option Limited × Result ℕ Failed) → Option (Told greetings X)
+abbrev pub told_of : {X : Type 0} → List (ℕ × X × Option Limited × Result ℕ Failed)
+    → Option (Told greetings X)
 told_of {X} hs = Some (record {
   sessions =
       map (λ (h : ℕ × X × Option Limited × Result ℕ Failed). record {

@@ -65,8 +65,8 @@ told_of {X} hs = Some (record {
   closed = None;
 })
 
-abbrev pub stand_of : {X : Type 0} → (seed : List ℕ) → Option (Door X) → List (ℕ × X × Option Limited × ℕ)
-    → (highest : ℕ) → (own : List ℕ) → Stand tickets X
+abbrev pub stand_of : {X : Type 0} → (seed : List ℕ) → Option (Door X)
+    → List (ℕ × X × Option Limited × ℕ) → (highest : ℕ) → (own : List ℕ) → Stand tickets X
 stand_of seed door hs highest own = record {
   given = tt;
   seed = seed;
@@ -90,7 +90,8 @@ in_which : (place : ℕ) (xs ys : List ℕ) → In place (xs ++ ys) → In place
 in_which place [] ys h = inr h
 in_which place (x ∷ xs) ys (inl e) = inl (inl e)
 in_which place (x ∷ xs) ys (inr h) =
-    elim (in_which place xs ys h) as (λ _. In place (x ∷ xs) ⊎ In place ys) [ inl p ↦ inl (inr p) | inr p ↦ inr p ]
+    elim (in_which place xs ys h) as (λ _. In place (x ∷ xs) ⊎ In place ys)
+    [ inl p ↦ inl (inr p) | inr p ↦ inr p ]
 
 pub up_to : (a b c : ℕ) → a ≤ b → b ≤ c → a ≤ c
 up_to a b c p q = omega arith
@@ -98,8 +99,8 @@ up_to a b c p q = omega arith
 pub itself : (n : ℕ) → n ≤ n
 itself n = omega arith
 
-roll_stays : (w e u : Roll) (i : Unit {0}) (place : ℕ) → JoinsRoll w e u → In place w.own ⊎ In place e.own
-    → In place u.own
+roll_stays : (w e u : Roll) (i : Unit {0}) (place : ℕ) → JoinsRoll w e u → In place w.own
+    ⊎ In place e.own → In place u.own
 roll_stays w e u i place j (inl h) = subst (In place) (sym j.own) (in_front place w.own e.own h)
 roll_stays w e u i place j (inr h) = subst (In place) (sym j.own) (in_back place w.own e.own h)
 
@@ -133,7 +134,8 @@ found ticket (x ∷ xs) (inl e) =
 found ticket (x ∷ xs) (inr h) =
     ap (λ (b : Bool). nat_eq x ticket || b) (found ticket xs h) ∙ or_true (nat_eq x ticket)
 
-pub not_in : (xs : List ℕ) (ticket place : ℕ) → list_any (λ (y : ℕ). nat_eq y ticket) xs ≡ false → In place xs
-    → In place (ticket ∷ []) → ⊥
-not_in xs ticket place e h (inl i) = true≢false (sym (found ticket xs (subst (λ (n : ℕ). In n xs) i h)) ∙ e)
+pub not_in : (xs : List ℕ) (ticket place : ℕ) → list_any (λ (y : ℕ). nat_eq y ticket) xs ≡ false
+    → In place xs → In place (ticket ∷ []) → ⊥
+not_in xs ticket place e h (inl i) = true≢false
+    (sym (found ticket xs (subst (λ (n : ℕ). In n xs) i h)) ∙ e)
 not_in xs ticket place e h (inr f) = f

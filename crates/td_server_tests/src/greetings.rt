@@ -35,8 +35,8 @@ impl<'g, S: ClientSource, K: ClientSink, L: ClientWire, W: Words> Pass<
 > for Greeter<'g> {
     ghost same = { λ p q. Unit {0} };
 
-    ghost serves = { λ p words before after q answer. WriteAppends before.written after.written answer
-        p.greeting.now };
+    ghost serves = { λ p words before after q answer.
+        WriteAppends before.written after.written answer p.greeting.now };
 
     fn serve(self, visitor: &mut Visitor<S, K, L, W>) -> (Greeted, Result<usize, Failed>) {
         let answer = visitor.sink.write(self.greeting.as_slice());
@@ -136,7 +136,8 @@ pub fn serve_greetings<A: Accept, G: Gate, R: Threads + Wait>(
 ) -> Result<(), Stop>
     requires bound { A.bound accept.old ≡ true }
     requires seed { length seed.now ≡ 32 }
-    ensures whole { OnOk result (Whole {k = greetings} (λ v. A.K.written v.sink) (λ v. A.W.word_after v.words)
+    ensures whole { OnOk result (Whole {k = greetings} (λ v. A.K.written v.sink)
+        (λ v. A.W.word_after v.words)
         (stand_of greeting.now seed.now (A.told accept.old) ended.old.sessions)
         (stand_of greeting.now seed.now (A.told accept.new) ended.new.sessions)) }
 {
@@ -162,9 +163,12 @@ fn greet_all<'e, 'g, A: Accept, G: Gate, R: Threads + Wait>(
     requires bound { A.bound accept.old ≡ true }
     requires seed { length seed.now ≡ 32 }
     ensures same_ended { result.1.ended.ghost_name ≡ service.entry.ended.ghost_name }
-    ensures whole { OnOk result.0 (Whole {k = greetings} (λ v. A.K.written v.sink) (λ v. A.W.word_after v.words)
-        (stand_of service.entry.greeting.now seed.now (A.told accept.old) service.entry.ended.now.sessions)
-        (stand_of service.entry.greeting.now seed.now (A.told accept.new) result.1.ended.now.sessions)) }
+    ensures whole { OnOk result.0 (Whole {k = greetings} (λ v. A.K.written v.sink)
+        (λ v. A.W.word_after v.words)
+        (stand_of service.entry.greeting.now seed.now (A.told accept.old)
+        service.entry.ended.now.sessions)
+        (stand_of service.entry.greeting.now seed.now (A.told accept.new)
+        result.1.ended.now.sessions)) }
 {
     serve_all(rt, alloc, seed, accept, gate, service)
 }

@@ -189,7 +189,8 @@ impl<
 /// Notes a ticket that wasn't noted yet.
 fn note(own: &mut Vec<u64>, ticket: u64) -> Result<(), Memory>
     ensures noted { OnOk result (own.new.items ≡ own.old.items ++ ticket ∷ []) }
-    ensures apart { OnOk result ((place : ℕ) → In place own.old.items → In place (ticket ∷ []) → ⊥) }
+    ensures apart { OnOk result ((place : ℕ) → In place own.old.items → In place (ticket ∷ [])
+        → ⊥) }
 {
     if own.as_slice().contains(&ticket) {
         return Err(Memory);
@@ -219,7 +220,8 @@ pub fn serve_tickets<A: Accept, G: Gate, R: Threads + Wait + Sync>(
     requires seed { length seed.now ≡ 32 }
     ensures whole { OnOk result.0 (Whole {k = tickets} (λ v. tt) (λ v. A.W.word_after v.words)
         (stand_of seed.now (A.told accept.old) noted.ended.sessions noted.highest noted.own.items)
-        (stand_of seed.now (A.told accept.new) result.1.ended.sessions result.1.highest result.1.own.items)) }
+        (stand_of seed.now (A.told accept.new) result.1.ended.sessions result.1.highest
+        result.1.own.items)) }
 {
     let service = Tickets { rt, roll, noted };
     let (stop, service) = serve_all(rt, alloc, seed, accept, gate, service);

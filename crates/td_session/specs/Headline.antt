@@ -30,28 +30,32 @@ module _ (others : List Accepted → Type 0) (later : Marks → Marks → Type 0
     -- no answer of a peer is invented, and each that its entry shows as failed is a fault: the count rose
     pub peers : (n : Noted) → t.request ≡ Some n → Gives s.peers (gave_in n.entry) t.after.peers
     -- a refusal with another exception than NO_MEMORY changes nothing
-    pub refusal : (n : Noted) → t.request ≡ Some n → is_refusal n.outcome ≡ true → KeepsAll others later s t.after
+    pub refusal : (n : Noted) → t.request ≡ Some n → is_refusal n.outcome ≡ true
+        → KeepsAll others later s t.after
     -- NO_MEMORY changes nothing, but that a query may have made the marks that its trace shows
     pub no_memory : (n : Noted) → t.request ≡ Some n → wants_memory n.outcome ≡ true
         → Keeps others later s (λ k. marks_in k n.entry) t.after
     -- a query that is answered otherwise is answered with what a walk from its trader on comes to, which is noted
-    pub walk : (n : Noted) (x : Object) (q : Query) → t.request ≡ Some n → n.judged ≡ Call x (call.Query q)
-        → wants_memory n.outcome ≡ false
-        → (draft : Draft) × QueryComes others later home s x.trader q draft n.outcome n.entry t.after
+    pub walk : (n : Noted) (x : Object) (q : Query) → t.request ≡ Some n
+        → n.judged ≡ Call x (call.Query q) → wants_memory n.outcome ≡ false
+        → (draft : Draft) × QueryComes others later home s x.trader q draft n.outcome n.entry
+        t.after
 
   -- the headline, sentence by sentence
   pub record Headline (s : Scene) (turns : List Turn) (u : Scene) : Type 0 where
     -- The points at one trader never fall. None is below how much of its history was seen before the session, and none
     -- above how much is seen at its end.
     pub points : (k : ℕ)
-        → Rises (length (history_at s.world k)) (all_served_at k (noted_of turns)) (length (history_at u.world k))
+        → Rises (length (history_at s.world k)) (all_served_at k (noted_of turns))
+        (length (history_at u.world k))
     -- the session's own changes are exactly those of its Requests that were accepted
     pub places : (k : ℕ) → own_at u.world k ≡ own_at s.world k ++ all_places_in k (noted_of turns)
     -- each of them is the entry of its trader's history at its point, and later points of that trader are above it
-    pub accepted : (before rest : List Noted) (n : Noted) → noted_of turns ≡ before ++ n ∷ rest → is_accepted n ≡ true
-        → Stands u.world n rest
+    pub accepted : (before rest : List Noted) (n : Noted) → noted_of turns ≡ before ++ n ∷ rest
+        → is_accepted n ≡ true → Stands u.world n rest
     -- the session's own marks are exactly those of the searches in its traces
-    pub marks : (k : ℕ) → own_marks_at u.world k ≡ own_marks_at s.world k ++ all_marks_in k (noted_of turns)
+    pub marks : (k : ℕ) → own_marks_at u.world k ≡ own_marks_at s.world k
+        ++ all_marks_in k (noted_of turns)
     -- what is seen of the traders grows, and stays legal
     pub legal : StaysLegal s.world u.world
     -- no answer of a peer is invented, and each that is shown as failed is a fault: the count rose

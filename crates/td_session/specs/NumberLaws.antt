@@ -48,28 +48,32 @@ one_of : (b : Bool) (d x e : Live) → Rises d x → e ≡ cond b x d → Rises 
 one_of true d x e r h = omega (arith, ap number h, r)
 one_of false d x e r h = same d e h
 
-ids_rise : (name : List ℕ) (left : List (List ℕ)) (d e : Live) → e ≡ kept_for name left d → Rises d e
+ids_rise : (name : List ℕ) (left : List (List ℕ)) (d e : Live) → e ≡ kept_for name left d
+    → Rises d e
 ids_rise name left d e h = one_of (is_some left) d _ e (omega arith) h
 
-offers_rise : (name : List ℕ) (left : List Offer) (d e : Live) → e ≡ offers_kept name left d → Rises d e
+offers_rise : (name : List ℕ) (left : List Offer) (d e : Live) → e ≡ offers_kept name left d
+    → Rises d e
 offers_rise name left d e h = one_of (is_some left) d _ e (omega arith) h
 
-look_rises : (home : Address) (name : List ℕ) (n : ℕ) (ids : Option (List (List ℕ))) (found : Outcome) (draft : Draft)
-    (d : Live) (o : Outcome) (e : Live) → CutsList home name n ids found draft d o e → Rises d e
+look_rises : (home : Address) (name : List ℕ) (n : ℕ) (ids : Option (List (List ℕ)))
+    (found : Outcome) (draft : Draft) (d : Live) (o : Outcome) (e : Live)
+    → CutsList home name n ids found draft d o e → Rises d e
 look_rises home name n (Some ids) found draft d o e h = ids_rise name (drop h.count ids) d e h.kept
 look_rises home name n None found draft d o e h = same d e h.1
 
-iterator_rises : (name : List ℕ) (n : ℕ) (item : Option Item) (i : IterCall) (d : Live) (draft : Draft) (o : Outcome)
-    (e : Live) → IteratorDone name n item i d draft o e → Rises d e
+iterator_rises : (name : List ℕ) (n : ℕ) (item : Option Item) (i : IterCall) (d : Live)
+    (draft : Draft) (o : Outcome) (e : Live) → IteratorDone name n item i d draft o e → Rises d e
 iterator_rises name n None i d draft o e h = same d e h.1
 iterator_rises name n (Some item) iter.MaxLeft d draft o e h = same d e h.1
 iterator_rises name n (Some item) (iter.NextN m) d draft o e h = omega (arith, ap number h.2)
 iterator_rises name n (Some item) iter.Destroy d draft o e h = omega (arith, ap number h.1)
 
-visit_rises : (home : Address) (name : List ℕ) (q : Query) (v : Visit) (draft : Draft) (d : Live) (o : Outcome)
-    (e : Live) → VisitTold home name q v draft d o e → Rises d e
+visit_rises : (home : Address) (name : List ℕ) (q : Query) (v : Visit) (draft : Draft) (d : Live)
+    (o : Outcome) (e : Live) → VisitTold home name q v draft d o e → Rises d e
 visit_rises home name q (visit.Refused r) draft d o e h = same d e h.1
-visit_rises home name q (visit.Answered a max_list) draft d o e h = offers_rise name (drop h.count _) d e h.kept
+visit_rises home name q (visit.Answered a max_list) draft d o e h = offers_rise name
+    (drop h.count _) d e h.kept
 
 abbrev desk_of : Scene → Live
 desk_of s = s.desk
@@ -84,15 +88,19 @@ not_request : (m : List ℕ) (k : ℕ) → kind_of m ≡ k → 0 < k → is_requ
 not_request m k e some = rw (e, ne_eqb k 0 (omega (arith, some))) refl
 
 module _ (others : List Accepted → Type 0) (later : Marks → Marks → Type 0) (home : Address) where
-  call_rises : (x : Object) (c : Asking) (draft : Draft) (s : Scene) (o : Outcome) (e : Entry) (t : Scene)
+  call_rises : (x : Object) (c : Asking) (draft : Draft) (s : Scene) (o : Outcome) (e : Entry)
+      (t : Scene)
       → CallComes others later home x c draft s o e t → Rises s.desk t.desk
   call_rises x (call.Change c) draft s o e t h = same s.desk t.desk (ap desk_of h.1)
-  call_rises x (call.Look l) draft s o e t h = look_rises home _ _ _ h.0.found draft s.desk o t.desk h.0.cuts
+  call_rises x (call.Look l) draft s o e t h = look_rises home _ _ _ h.0.found draft s.desk o t.desk
+      h.0.cuts
   call_rises x (call.AddLink l) draft s o e t h = same s.desk t.desk h.1
-  call_rises x (call.Iter i) draft s o e t h = iterator_rises _ _ _ i s.desk draft o t.desk h.0.is_done
+  call_rises x (call.Iter i) draft s o e t h = iterator_rises _ _ _ i s.desk draft o t.desk
+      h.0.is_done
   call_rises x (call.IsA id) draft s o e t h = same s.desk t.desk (ap desk_of h.2)
   call_rises x call.NonExistent draft s o e t h = same s.desk t.desk (ap desk_of h.2)
-  call_rises x (call.Query q) draft s o e t h = visit_rises home _ q h.visit draft s.desk o t.desk h.answer
+  call_rises x (call.Query q) draft s o e t h = visit_rises home _ q h.visit draft s.desk o t.desk
+      h.answer
   call_rises x (call.Resolve names) draft s o e t h = same s.desk t.desk h.desk
 
   comes_rises : (j : Judged) (draft : Draft) (s : Scene) (o : Outcome) (e : Entry) (t : Scene)
@@ -115,10 +123,12 @@ module _ (others : List Accepted → Type 0) (later : Marks → Marks → Type 0
   asked_by : (s t : Scene) (asked : Bool) → asked ≡ true → Rises s.desk t.desk → By s asked t
   asked_by s t asked e r = omega (arith, r, ap counted e)
 
-  turn_rises : (s : Scene) (t : Turn) → IsTurn others later home s t → By s (is_request t.message) t.after
+  turn_rises : (s : Scene) (t : Turn) → IsTurn others later home s t
+      → By s (is_request t.message) t.after
   turn_rises s t (request r) =
       asked_by s t.after (is_request t.message) (ap (λ (k : ℕ). eqb k 0) r.kind)
-      (answers_rise r.noted.judged r.served.draft s r.noted.outcome r.noted.entry t.after r.served.answers)
+      (answers_rise r.noted.judged r.served.draft s r.noted.outcome r.noted.entry t.after
+      r.served.answers)
   turn_rises s t (locate l) =
       kept_by s t.after (is_request t.message) (not_request t.message 3 l.kind (omega arith)) l.kept
   turn_rises s t (cancel c) =
@@ -126,7 +136,8 @@ module _ (others : List Accepted → Type 0) (later : Marks → Marks → Type 0
 
 module _ (others : List Accepted → Type 0) (later : Marks → Marks → Type 0) where
   -- from one stage to the next
-  pub message-spends : (s : Stage) (message reply : List ℕ) (u : Stage) → ServesMessage others later s message reply u
+  pub message-spends : (s : Stage) (message reply : List ℕ) (u : Stage)
+      → ServesMessage others later s message reply u
       → number u.scene.desk ≤ number s.scene.desk + cond (is_request message) 1 0
   message-spends s message reply u h =
       turn_rises others later s.home s.scene (turn_of message h.noted reply u.scene) h.leads.run.0

@@ -26,18 +26,20 @@ HasCode (Call x c) = Unit {0}
 module _ (others : List Accepted → Type 0) (later : Marks → Marks → Type 0) where
   -- The Request is judged and served at this scene; this is noted of it, and these bytes are its reply. Where it spells
   -- no call, the minor code that it is told is a ulong.
-  pub record ServesHead (home : Address) (order : Order) (minor : ℕ) (head : Request) (body : At) (s : Scene)
-      (e : Entry) (reply : List ℕ) (u : Scene) : Type 0 where
+  pub record ServesHead (home : Address) (order : Order) (minor : ℕ) (head : Request) (body : At)
+      (s : Scene) (e : Entry) (reply : List ℕ) (u : Scene) : Type 0 where
     pub noted : Noted
     pub asks : noted.judged ≡ judged s.world s.desk head.key head.operation body
-    pub served : Served others later home (reply_to order minor head) noted.judged s noted.outcome noted.entry reply u
-    pub no_call : NotesNoCall (request_class s.world s.desk head.key head.operation) noted.judged noted.entry
+    pub served : Served others later home (reply_to order minor head)
+        noted.judged s noted.outcome noted.entry reply u
+    pub no_call : NotesNoCall (request_class s.world s.desk head.key head.operation)
+        noted.judged noted.entry
     pub entry : noted.entry ≡ e
     pub code : FitsCode noted.judged noted.outcome
 
   -- and it is noted behind the journal; its body is octets, and its reply has fewer than 2^32 of them
-  pub record NotesHead (order : Order) (minor : ℕ) (head : Request) (body : At) (s : Stage) (reply : List ℕ)
-      (u : Stage) : Type 0 where
+  pub record NotesHead (order : Order) (minor : ℕ) (head : Request) (body : At) (s : Stage)
+      (reply : List ℕ) (u : Stage) : Type 0 where
     pub entry : Entry
     pub serves : ServesHead s.home order minor head body s.scene entry reply u.scene
     pub journal : u.journal ≡ s.journal ++ entry ∷ []

@@ -17,7 +17,8 @@ module _ (others : List Accepted → Type 0) (later : Marks → Marks → Type 0
   -- A session, whole: these messages were served, each where the one before has left everything, and this was noted of
   -- them; they are cut out of the bytes that were taken, and their answers were given; the headline holds of them; and
   -- what peers gave for them can be written.
-  pub record Serves (s u : Scene) (journal : List Entry) (end : End) (before after : Outside) : Type 0 where
+  pub record Serves (s u : Scene) (journal : List Entry) (end : End)
+      (before after : Outside) : Type 0 where
     pub turns : List Turn
     pub run : Run others later home s turns u
     pub noted : journal ≡ journal_of turns

@@ -27,7 +27,12 @@ stage_in seen room = stage room.home (scene_in seen room) room.journal
 
 -- a message that was served, what is noted of it, its answer, and how everything stands then
 abbrev pub turn_of : (message : List ℕ) → Option Noted → (reply : List ℕ) → Scene → Turn
-turn_of message noted reply after = record { message = message; request = noted; reply = reply; after = after }
+turn_of message noted reply after = record {
+  message = message;
+  request = noted;
+  reply = reply;
+  after = after;
+}
 
 module _ (others : List Accepted → Type 0) (later : Marks → Marks → Type 0) where
   -- These turns lead from one stage to the other: the journal grew by what is noted of them, and the address stays.

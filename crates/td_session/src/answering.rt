@@ -34,7 +34,8 @@ pub(crate) fn answer_message<B: Backend, J: Journal>(
     requires head { HasHead message.now head.now }
     requires numbers { room.old.desk.1 < 2 ^ 63 }
     ensures same { B.same backend.old backend.new }
-    ensures ok { OnOk result (ServesMessage B.others B.later (stage_in (B.seen backend.old) room.old)
+    ensures ok { OnOk result
+        (ServesMessage B.others B.later (stage_in (B.seen backend.old) room.old)
         message.now.bytes.now room.new.replies (stage_in (B.seen backend.new) room.new)) }
     ensures err { OnErr result
         (Stays (stage_in (B.seen backend.old) room.old) (stage_in (B.seen backend.new) room.new)) }
@@ -77,8 +78,8 @@ fn answer_locate<B: Backend>(
 )
     requires whole { IsMessage message.now }
     requires head { HasHead message.now (spelled.Locate id key) }
-    ensures located { ServesLocate (scene_of (B.seen backend.now) desk.old) (turn_of message.now.bytes.now None
-        replies.new (scene_of (B.seen backend.now) desk.old)) }
+    ensures located { ServesLocate (scene_of (B.seen backend.now) desk.old)
+        (turn_of message.now.bytes.now None replies.new (scene_of (B.seen backend.now) desk.old)) }
     ensures desk { desk.new ≡ desk.old }
 {
     let live = backend.find_object(desk, key).is_some();

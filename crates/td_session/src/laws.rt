@@ -15,7 +15,8 @@ use td_trader::Traders;
 /// nor the sink fails, the session serves all before the first that closes it, in order, and is closed, or
 /// it ends for want of memory.
 pub fn all_messages_are_served<T: Traders>()
-    ensures { (home : Address) (s u : Scene) (journal : List Entry) (end : End) (before after : Outside)
+    ensures { (home : Address) (s u : Scene) (journal : List Entry) (end : End)
+        (before after : Outside)
         → Serves T.others T.later home s u journal end before after
         → Completes T.others T.later home s u end before after }
 {}

@@ -36,8 +36,10 @@ pub(crate) fn answer_request<B: Backend, J: Journal>(
     requires version { minor ≤ NEWEST_MINOR }
     requires numbers { room.old.desk.1 < 2 ^ 63 }
     ensures same { B.same backend.old backend.new }
-    ensures ok { OnOk result (NotesHead B.others B.later order minor (asked_of head.now) head.now.body
-        (stage_in (B.seen backend.old) room.old) room.new.replies (stage_in (B.seen backend.new) room.new)) }
+    ensures ok { OnOk result
+        (NotesHead B.others B.later order minor (asked_of head.now) head.now.body
+        (stage_in (B.seen backend.old) room.old) room.new.replies
+        (stage_in (B.seen backend.new) room.new)) }
     ensures err { OnErr result
         (Stays (stage_in (B.seen backend.old) room.old) (stage_in (B.seen backend.new) room.new)) }
 {
@@ -81,8 +83,9 @@ fn serve_head<B: Backend>(
     requires home { IsAddress home.now }
     requires numbers { desk.old.1 < 2 ^ 63 }
     ensures same { B.same backend.old backend.new }
-    ensures serves { ServesHead B.others B.later home.now order minor (asked_of head.now) head.now.body
-        (scene_of (B.seen backend.old) desk.old) result replies.new (scene_of (B.seen backend.new) desk.new) }
+    ensures serves { ServesHead B.others B.later home.now order minor (asked_of head.now)
+        head.now.body (scene_of (B.seen backend.old) desk.old) result replies.new
+        (scene_of (B.seen backend.new) desk.new) }
 {
     let to = ReplyTo {
         order,

@@ -33,7 +33,12 @@ impl<J: Journal> Model for Room<J> {
 
     ghost coded = { Prim.hlevel (codes, code.the_row.coded, value.the_row.coded) };
 
-    ghost view = { λ r. record { home = r.home; desk = r.desk; journal = J.entries r.journal; replies = r.replies } };
+    ghost view = { λ r. record {
+      home = r.home;
+      desk = r.desk;
+      journal = J.entries r.journal;
+      replies = r.replies;
+    } };
 
     ghost invariant = { λ r. IsAddress r.home };
 }

@@ -42,15 +42,16 @@ pub fn answer_holding<T: Traders, P: Peers, G: SendsHeld, W: Words, J: Journal>(
     ensures held { G.reaches held.old held.new }
     ensures same_words { W.same words.old words.new }
     ensures ok { OnOk result (ServesMessage T.others T.later
-        (stage_in (backend_seen (T.world traders.old) (peers_seen (P.calls peers.old) (P.faults peers.old))
-        (W.word words.old)) room.old) message.now.bytes.now room.new.replies
-        (stage_in (backend_seen (T.world traders.new) (peers_seen (P.calls peers.new) (P.faults peers.new))
-        (W.word words.new)) room.new)) }
+        (stage_in (backend_seen (T.world traders.old)
+        (peers_seen (P.calls peers.old) (P.faults peers.old)) (W.word words.old)) room.old)
+        message.now.bytes.now room.new.replies
+        (stage_in (backend_seen (T.world traders.new)
+        (peers_seen (P.calls peers.new) (P.faults peers.new)) (W.word words.new)) room.new)) }
     ensures err { OnErr result (Stays
-        (stage_in (backend_seen (T.world traders.old) (peers_seen (P.calls peers.old) (P.faults peers.old))
-        (W.word words.old)) room.old)
-        (stage_in (backend_seen (T.world traders.new) (peers_seen (P.calls peers.new) (P.faults peers.new))
-        (W.word words.new)) room.new)) }
+        (stage_in (backend_seen (T.world traders.old)
+        (peers_seen (P.calls peers.old) (P.faults peers.old)) (W.word words.old)) room.old)
+        (stage_in (backend_seen (T.world traders.new)
+        (peers_seen (P.calls peers.new) (P.faults peers.new)) (W.word words.new)) room.new)) }
 {
     let mut sending = SendingPeers { peers, held };
     let answered = answer_sending(alloc, traders, room, &mut sending, words, message, head);
@@ -81,15 +82,18 @@ fn answer_sending<'p, 'h, T: Traders, P: Peers, G: SendsHeld, W: Words, J: Journ
     ensures same_words { W.same words.old words.new }
     ensures ok { OnOk result (ServesMessage T.others T.later
         (stage_in (backend_seen (T.world traders.old)
-        (peers_seen (P.calls sending.old.peers.now) (P.faults sending.old.peers.now)) (W.word words.old)) room.old)
-        message.now.bytes.now room.new.replies
+        (peers_seen (P.calls sending.old.peers.now) (P.faults sending.old.peers.now))
+        (W.word words.old)) room.old) message.now.bytes.now room.new.replies
         (stage_in (backend_seen (T.world traders.new)
-        (peers_seen (P.calls sending.new.peers.now) (P.faults sending.new.peers.now)) (W.word words.new)) room.new)) }
+        (peers_seen (P.calls sending.new.peers.now) (P.faults sending.new.peers.now))
+        (W.word words.new)) room.new)) }
     ensures err { OnErr result (Stays
         (stage_in (backend_seen (T.world traders.old)
-        (peers_seen (P.calls sending.old.peers.now) (P.faults sending.old.peers.now)) (W.word words.old)) room.old)
+        (peers_seen (P.calls sending.old.peers.now) (P.faults sending.old.peers.now))
+        (W.word words.old)) room.old)
         (stage_in (backend_seen (T.world traders.new)
-        (peers_seen (P.calls sending.new.peers.now) (P.faults sending.new.peers.now)) (W.word words.new)) room.new)) }
+        (peers_seen (P.calls sending.new.peers.now) (P.faults sending.new.peers.now))
+        (W.word words.new)) room.new)) }
 {
     answer_lent(alloc, traders, room, sending, words, message, head)
 }

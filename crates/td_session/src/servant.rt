@@ -33,30 +33,35 @@ pub(crate) struct TraderServant<'t, 'r, 'p, 'w, T, J: Journal, P, W> {
 impl<'t, 'r, 'p, 'w, T: Traders, J: Journal, P: Peers, W: Words> Servant
     for TraderServant<'t, 'r, 'p, 'w, T, J, P, W> {
     ghost serves = { λ s message reply u. ServesMessage T.others T.later
-        (stage_in (backend_seen (T.world s.traders.now) (peers_seen (P.calls s.peers.now) (P.faults s.peers.now))
-        (W.word s.words.now)) s.room.now) message reply
-        (stage_in (backend_seen (T.world u.traders.now) (peers_seen (P.calls u.peers.now) (P.faults u.peers.now))
-        (W.word u.words.now)) u.room.now) };
+        (stage_in (backend_seen (T.world s.traders.now)
+        (peers_seen (P.calls s.peers.now) (P.faults s.peers.now)) (W.word s.words.now)) s.room.now)
+        message reply (stage_in (backend_seen (T.world u.traders.now)
+        (peers_seen (P.calls u.peers.now) (P.faults u.peers.now)) (W.word u.words.now))
+        u.room.now) };
 
     ghost stays = { λ s u. Stays
-        (stage_in (backend_seen (T.world s.traders.now) (peers_seen (P.calls s.peers.now) (P.faults s.peers.now))
-        (W.word s.words.now)) s.room.now)
-        (stage_in (backend_seen (T.world u.traders.now) (peers_seen (P.calls u.peers.now) (P.faults u.peers.now))
-        (W.word u.words.now)) u.room.now) };
+        (stage_in (backend_seen (T.world s.traders.now)
+        (peers_seen (P.calls s.peers.now) (P.faults s.peers.now)) (W.word s.words.now)) s.room.now)
+        (stage_in (backend_seen (T.world u.traders.now)
+        (peers_seen (P.calls u.peers.now) (P.faults u.peers.now)) (W.word u.words.now))
+        u.room.now) };
 
-    ghost same = { λ a b. (a.traders.ghost_name ≡ b.traders.ghost_name) × (a.room.ghost_name ≡ b.room.ghost_name)
+    ghost same = { λ a b. (a.traders.ghost_name ≡ b.traders.ghost_name)
+        × (a.room.ghost_name ≡ b.room.ghost_name)
         × (a.peers.ghost_name ≡ b.peers.ghost_name) × (a.words.ghost_name ≡ b.words.ghost_name)
-        × T.same a.traders.now b.traders.now × P.same a.peers.now b.peers.now × W.same a.words.now b.words.now };
+        × T.same a.traders.now b.traders.now × P.same a.peers.now b.peers.now
+        × W.same a.words.now b.words.now };
 
     ghost told = { λ s. s.room.now.replies };
 
     ghost budget = { λ s. s.room.now.desk.1 };
 
     ghost spends = { λ s message reply u h. message-spends T.others T.later
-        (stage_in (backend_seen (T.world s.traders.now) (peers_seen (P.calls s.peers.now) (P.faults s.peers.now))
-        (W.word s.words.now)) s.room.now) message reply
-        (stage_in (backend_seen (T.world u.traders.now) (peers_seen (P.calls u.peers.now) (P.faults u.peers.now))
-        (W.word u.words.now)) u.room.now) h };
+        (stage_in (backend_seen (T.world s.traders.now)
+        (peers_seen (P.calls s.peers.now) (P.faults s.peers.now)) (W.word s.words.now)) s.room.now)
+        message reply (stage_in (backend_seen (T.world u.traders.now)
+        (peers_seen (P.calls u.peers.now) (P.faults u.peers.now)) (W.word u.words.now)) u.room.now)
+        h };
 
     ghost stays_itself = { λ _. refl };
 
@@ -121,15 +126,16 @@ pub(crate) fn answer_lent<T: Traders, J: Journal, P: Peers, W: Words>(
     ensures same_peers { P.same peers.old peers.new }
     ensures same_words { W.same words.old words.new }
     ensures ok { OnOk result (ServesMessage T.others T.later
-        (stage_in (backend_seen (T.world traders.old) (peers_seen (P.calls peers.old) (P.faults peers.old))
-        (W.word words.old)) room.old) message.now.bytes.now room.new.replies
-        (stage_in (backend_seen (T.world traders.new) (peers_seen (P.calls peers.new) (P.faults peers.new))
-        (W.word words.new)) room.new)) }
+        (stage_in (backend_seen (T.world traders.old)
+        (peers_seen (P.calls peers.old) (P.faults peers.old)) (W.word words.old)) room.old)
+        message.now.bytes.now room.new.replies
+        (stage_in (backend_seen (T.world traders.new)
+        (peers_seen (P.calls peers.new) (P.faults peers.new)) (W.word words.new)) room.new)) }
     ensures err { OnErr result (Stays
-        (stage_in (backend_seen (T.world traders.old) (peers_seen (P.calls peers.old) (P.faults peers.old))
-        (W.word words.old)) room.old)
-        (stage_in (backend_seen (T.world traders.new) (peers_seen (P.calls peers.new) (P.faults peers.new))
-        (W.word words.new)) room.new)) }
+        (stage_in (backend_seen (T.world traders.old)
+        (peers_seen (P.calls peers.old) (P.faults peers.old)) (W.word words.old)) room.old)
+        (stage_in (backend_seen (T.world traders.new)
+        (peers_seen (P.calls peers.new) (P.faults peers.new)) (W.word words.new)) room.new)) }
 {
     let mut backend = BackendRef {
         traders,

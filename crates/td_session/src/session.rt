@@ -36,22 +36,23 @@ pub fn serve_connection<T: Traders, S: Source, K: Sink, P: Peers, W: Words, J: J
     ensures same_peers { P.same peers.old peers.new }
     ensures same_words { W.same words.old words.new }
     ensures serves { Serves T.others T.later room.old.home
-        (scene_in (backend_seen (T.world traders.old) (peers_seen (P.calls peers.old) (P.faults peers.old))
-        (W.word words.old)) room.old)
-        (scene_in (backend_seen (T.world traders.new) (peers_seen (P.calls peers.new) (P.faults peers.new))
-        (W.word words.new)) room.new)
-        room.new.journal result
-        (outside (S.left source.old) (S.faults source.old) (K.written sink.old) (K.faults sink.old))
-        (outside (S.left source.new) (S.faults source.new) (K.written sink.new) (K.faults sink.new)) }
+        (scene_in (backend_seen (T.world traders.old)
+        (peers_seen (P.calls peers.old) (P.faults peers.old)) (W.word words.old)) room.old)
+        (scene_in (backend_seen (T.world traders.new)
+        (peers_seen (P.calls peers.new) (P.faults peers.new)) (W.word words.new)) room.new)
+        room.new.journal result (outside (S.left source.old) (S.faults source.old)
+        (K.written sink.old) (K.faults sink.old))
+        (outside (S.left source.new) (S.faults source.new) (K.written sink.new)
+        (K.faults sink.new)) }
     ensures faults { P.faults peers.old ≤ P.faults peers.new }
     ensures complete { Completes T.others T.later room.old.home
-        (scene_in (backend_seen (T.world traders.old) (peers_seen (P.calls peers.old) (P.faults peers.old))
-        (W.word words.old)) room.old)
-        (scene_in (backend_seen (T.world traders.new) (peers_seen (P.calls peers.new) (P.faults peers.new))
-        (W.word words.new)) room.new)
-        result
+        (scene_in (backend_seen (T.world traders.old)
+        (peers_seen (P.calls peers.old) (P.faults peers.old)) (W.word words.old)) room.old)
+        (scene_in (backend_seen (T.world traders.new)
+        (peers_seen (P.calls peers.new) (P.faults peers.new)) (W.word words.new)) room.new) result
         (outside (S.left source.old) (S.faults source.old) (K.written sink.old) (K.faults sink.old))
-        (outside (S.left source.new) (S.faults source.new) (K.written sink.new) (K.faults sink.new)) }
+        (outside (S.left source.new) (S.faults source.new) (K.written sink.new)
+        (K.faults sink.new)) }
 {
     serve_session(alloc, traders, room, source, sink, peers, words)
 }
@@ -71,13 +72,14 @@ fn serve_session<T: Traders, S: Source, K: Sink, P: Peers, W: Words, J: Journal>
     ensures same_peers { P.same peers.old peers.new }
     ensures same_words { W.same words.old words.new }
     ensures serves { Serves T.others T.later room.old.home
-        (scene_in (backend_seen (T.world traders.old) (peers_seen (P.calls peers.old) (P.faults peers.old))
-        (W.word words.old)) room.old)
-        (scene_in (backend_seen (T.world traders.new) (peers_seen (P.calls peers.new) (P.faults peers.new))
-        (W.word words.new)) room.new)
-        room.new.journal result
-        (outside (S.left source.old) (S.faults source.old) (K.written sink.old) (K.faults sink.old))
-        (outside (S.left source.new) (S.faults source.new) (K.written sink.new) (K.faults sink.new)) }
+        (scene_in (backend_seen (T.world traders.old)
+        (peers_seen (P.calls peers.old) (P.faults peers.old)) (W.word words.old)) room.old)
+        (scene_in (backend_seen (T.world traders.new)
+        (peers_seen (P.calls peers.new) (P.faults peers.new)) (W.word words.new)) room.new)
+        room.new.journal result (outside (S.left source.old) (S.faults source.old)
+        (K.written sink.old) (K.faults sink.old))
+        (outside (S.left source.new) (S.faults source.new) (K.written sink.new)
+        (K.faults sink.new)) }
 {
     let mut servant = TraderServant {
         traders,
@@ -123,7 +125,8 @@ fn serve_lent<'t, 'r, 'p, 'w, T: Traders, S: Source, K: Sink, P: Peers, W: Words
         (W.word servant.new.words.now)) servant.new.room.now)
         servant.new.room.now.journal result
         (outside (S.left source.old) (S.faults source.old) (K.written sink.old) (K.faults sink.old))
-        (outside (S.left source.new) (S.faults source.new) (K.written sink.new) (K.faults sink.new)) }
+        (outside (S.left source.new) (S.faults source.new) (K.written sink.new)
+        (K.faults sink.new)) }
 {
     let end = serve_stream(alloc, servant, source, sink);
     (*servant.peers).tell_gifts();

@@ -62,13 +62,13 @@ pub record Closes (opened : PlainTrader) (v : View) (closed : PlainTrader) : Typ
 
 -- A session over traders that others act on too: it began with this view of them and these random words, with no
 -- iterator kept and no peer called, and ended with this view.
-pub record ServesOver (others : List Accepted → Type 0) (later : Marks → Marks → Type 0) (home : Address)
-    (first : List View) (words : ℕ → ℕ) (journal : List Entry) (end : End) (before after : Outside) (last : List View)
-    : Type 0 where
+pub record ServesOver (others : List Accepted → Type 0) (later : Marks → Marks → Type 0)
+    (home : Address) (first : List View) (words : ℕ → ℕ) (journal : List Entry) (end : End)
+    (before after : Outside) (last : List View) : Type 0 where
   pub scene_after : Scene
   pub seen : scene_after.world ≡ last
-  pub serves : Serves others later home (scene first ([], 1) (peers_seen [] 0) words) scene_after journal end before
-      after
+  pub serves : Serves others later home (scene first ([], 1) (peers_seen [] 0) words)
+      scene_after journal end before after
 
 -- what is kept of a session: how it ended, and what was noted of its Requests
 pub record Kept : Type 0 where

@@ -38,22 +38,24 @@ abbrev pub opened_views : List PlainTrader → List View
 opened_views ts = map (λ (t : PlainTrader). view_of t [] []) ts
 
 -- The traders in the end are handed on: those that were opened, gone on from what was seen.
-pub record HandsOn {X : Type 0} (opened : List PlainTrader) (world : List View) (told told_after : Option (Told X))
-    : Type 0 where
+pub record HandsOn {X : Type 0} (opened : List PlainTrader) (world : List View)
+    (told told_after : Option (Told X)) : Type 0 where
   pub solo : Solo
   pub closes : Rows Closes opened world solo.traders.items
   pub handed_on : told_after ≡ option_map (with_closed {k = trading} solo) told
 
 -- Sessions were served from this stand on to the end, and then the traders handed on.
-pub record ServesFrom {X : Type 0} (outside_of : X → Outside) (seeded : X → Seeded) (opened : List PlainTrader)
-    (start : Stand X) (door_after : Option (Door X)) (told_after : Option (Told X)) : Type 0 where
+pub record ServesFrom {X : Type 0} (outside_of : X → Outside) (seeded : X → Seeded)
+    (opened : List PlainTrader) (start : Stand X) (door_after : Option (Door X))
+    (told_after : Option (Told X)) : Type 0 where
   pub end : Stand X
   pub whole : Whole outside_of seeded start end
   pub left : door_after ≡ end.door
   pub hands : HandsOn opened end.world end.told told_after
 
 -- where a server stands that was bound to its address
-abbrev pub beginning : {X : Type 0} → Address → List ℕ → List PlainTrader → Option (Door X) → Option (Told X) → Stand X
+abbrev pub beginning : {X : Type 0} → Address → List ℕ → List PlainTrader → Option (Door X)
+    → Option (Told X) → Stand X
 beginning home seed traders door told = record {
   given = home;
   seed = seed;
@@ -63,9 +65,9 @@ beginning home seed traders door told = record {
 }
 
 -- All sessions of a server over these traders, from the binding of its acceptor to the traders in the end.
-pub record ServesAll {X : Type 0} (outside_of : X → Outside) (seeded : X → Seeded) (home : Address) (seed : List ℕ)
-    (traders : List PlainTrader) (door : Option (Door X)) (told : Option (Told X)) (door_after : Option (Door X))
-    (told_after : Option (Told X)) : Type 0 where
+pub record ServesAll {X : Type 0} (outside_of : X → Outside) (seeded : X → Seeded) (home : Address)
+    (seed : List ℕ) (traders : List PlainTrader) (door : Option (Door X)) (told : Option (Told X))
+    (door_after : Option (Door X)) (told_after : Option (Told X)) : Type 0 where
   pub end : Stand X
   pub whole : Whole outside_of seeded (beginning home seed traders door told) end
   pub left : door_after ≡ end.door

@@ -11,7 +11,8 @@ use Rattle.td_trader.proofs.Growing.{writable-itself, writable-on}
 use Rattle.td_trader.specs.Worlds.{View}
 use Rattle.td_sessions.specs.Sessions.{Continues, Joins, as_trader, bare, trading}
 
-continue_on : (w u v : List View) → AllZip Continues w u → AllZip Continues u v → AllZip Continues w v
+continue_on : (w u v : List View) → AllZip Continues w u → AllZip Continues u v
+    → AllZip Continues w v
 continue_on [] [] [] p q = tt
 continue_on [] [] (z ∷ v) p q = absurd q
 continue_on [] (y ∷ u) v p q = absurd p
@@ -56,7 +57,8 @@ record Owned (before session after : List ℕ) : Type 0 where
   pub merged : after ≡ merge itself before session
   pub rises : Rises itself after
 
-owned_at : (w e u : List View) (k : ℕ) → Rows Joins w e u → Owned (own_at w k) (own_at e k) (own_at u k)
+owned_at : (w e u : List View) (k : ℕ) → Rows Joins w e u
+    → Owned (own_at w k) (own_at e k) (own_at u k)
 owned_at [] [] [] zero r = record { merged = refl; rises = tt }
 owned_at [] [] [] (suc k) r = record { merged = refl; rises = tt }
 owned_at [] [] (z ∷ u) k r = absurd r
@@ -73,18 +75,20 @@ own_after w e u k place r h =
     let o = owned_at w e u k r in
     in-merge itself place (own_at w k) (own_at e k) (subst (λ (l : List ℕ). In place l) o.merged h)
 
-own_stays : (w e u : List View) (k place : ℕ) → Rows Joins w e u → In place (own_at w k) ⊎ In place (own_at e k)
-    → In place (own_at u k)
+own_stays : (w e u : List View) (k place : ℕ) → Rows Joins w e u → In place (own_at w k)
+    ⊎ In place (own_at e k) → In place (own_at u k)
 own_stays w e u k place r h =
     let o = owned_at w e u k r in
-    subst (λ (l : List ℕ). In place l) (sym o.merged) (has-merge itself place (own_at w k) (own_at e k) h)
+    subst (λ (l : List ℕ). In place l) (sym o.merged)
+    (has-merge itself place (own_at w k) (own_at e k) h)
 
 -- and no place is both
-own_apart : (w e u : List View) (k place : ℕ) → Rows Joins w e u → In place (own_at w k) → In place (own_at e k)
-    → ⊥
+own_apart : (w e u : List View) (k place : ℕ) → Rows Joins w e u → In place (own_at w k)
+    → In place (own_at e k) → ⊥
 own_apart w e u k place r h i =
     let o = owned_at w e u k r in
-    merge-apart itself (own_at w k) (own_at e k) (subst (Rises itself) o.merged o.rises) place place h i refl
+    merge-apart itself (own_at w k) (own_at e k) (subst (Rises itself) o.merged o.rises)
+    place place h i refl
 
 -- so the kind has its laws
 pub trading_laws : Laws trading

@@ -52,7 +52,8 @@ pub trait Ended<V> {
     /// All sessions have ended.
     fn group(&mut self, solo: Solo)
         ensures same { same self.old self.new }
-        ensures told { told self.new ≡ option_map (with_closed {k = trading} solo) (told self.old) };
+        ensures told { told self.new ≡ option_map (with_closed {k = trading} solo)
+            (told self.old) };
 
     ghost same_on: { (a b c : Self) → same a b → same b c → same a c };
 }

@@ -72,7 +72,8 @@ where
 
     ghost told = { λ a. N.told a.ended.now };
 
-    ghost goes = { λ a b. (a.ended.ghost_name ≡ b.ended.ghost_name) × (b.group ≡ a.group) × (b.home ≡ a.home) };
+    ghost goes = { λ a b. (a.ended.ghost_name ≡ b.ended.ghost_name) × (b.group ≡ a.group)
+        × (b.home ≡ a.home) };
 
     ghost ready = { λ a. AreOpening a.group.now.cells.items a.passes.items × IsAddress a.home.now };
 

@@ -54,9 +54,9 @@ pub fn serve_group<
     requires address { IsAddress home.now }
     requires seed { length seed.now ≡ 32 }
     ensures serves { OnOk result (ServesAll
-        (λ v. outside (A.S.left v.source) (A.S.faults v.source) (A.K.written v.sink) (A.K.faults v.sink))
-        (λ v. A.W.word_after v.words) home.now seed.now solo.traders.items (A.told accept.old) (N.told ended.old)
-        (A.told accept.new) (N.told ended.new)) }
+        (λ v. outside (A.S.left v.source) (A.S.faults v.source) (A.K.written v.sink)
+        (A.K.faults v.sink)) (λ v. A.W.word_after v.words) home.now seed.now solo.traders.items
+        (A.told accept.old) (N.told ended.old) (A.told accept.new) (N.told ended.new)) }
     ensures handed { OnErr result (HandsSome (N.told ended.old) (N.told ended.new)) }
     ensures later { A.faults accept.old ≤ A.faults accept.new }
     ensures stops { IfErr result (λ why. StopsSo why (A.faults accept.old) (A.faults accept.new)) }
@@ -91,9 +91,8 @@ fn serve_bound<
     requires address { IsAddress home.now }
     requires seed { length seed.now ≡ 32 }
     ensures serves { OnOk result (ServesFrom
-        (λ v. outside (A.S.left v.source) (A.S.faults v.source) (A.K.written v.sink) (A.K.faults v.sink))
-        (λ v. A.W.word_after v.words) solo.traders.items
-        (record {
+        (λ v. outside (A.S.left v.source) (A.S.faults v.source) (A.K.written v.sink)
+        (A.K.faults v.sink)) (λ v. A.W.word_after v.words) solo.traders.items (record {
           given = home.now;
           seed = seed.now;
           door = A.told accept.old;
@@ -149,9 +148,8 @@ fn serve_opened<
     requires address { IsAddress home.now }
     requires seed { length seed.now ≡ 32 }
     ensures serves { OnOk result (ServesFrom
-        (λ v. outside (A.S.left v.source) (A.S.faults v.source) (A.K.written v.sink) (A.K.faults v.sink))
-        (λ v. A.W.word_after v.words) (map opened group.cells.items)
-        (record {
+        (λ v. outside (A.S.left v.source) (A.S.faults v.source) (A.K.written v.sink)
+        (A.K.faults v.sink)) (λ v. A.W.word_after v.words) (map opened group.cells.items) (record {
           given = home.now;
           seed = seed.now;
           door = A.told accept.old;
@@ -208,12 +206,12 @@ fn serve_visitors<
     requires address { IsAddress service.home.now }
     requires seed { length seed.now ≡ 32 }
     ensures same_ended { result.1.ended.ghost_name ≡ service.entry.ended.ghost_name }
-    ensures opening { OnOk result.0 (AreOpening service.entry.group.now.cells.items result.1.passes.items) }
+    ensures opening { OnOk result.0
+        (AreOpening service.entry.group.now.cells.items result.1.passes.items) }
     ensures met { OnOk result.0 (are_met result.1.passes.items ≡ true) }
     ensures whole { OnOk result.0 (Whole
-        (λ v. outside (A.S.left v.source) (A.S.faults v.source) (A.K.written v.sink) (A.K.faults v.sink))
-        (λ v. A.W.word_after v.words)
-        (record {
+        (λ v. outside (A.S.left v.source) (A.S.faults v.source) (A.K.written v.sink)
+        (A.K.faults v.sink)) (λ v. A.W.word_after v.words) (record {
           given = service.entry.home.now;
           seed = seed.now;
           door = A.told accept.old;
@@ -229,7 +227,8 @@ fn serve_visitors<
         })) }
     ensures handed { HandsSome (N.told service.entry.ended.now) (N.told result.1.ended.now) }
     ensures later { A.faults accept.old ≤ A.faults accept.new }
-    ensures stops { IfErr result.0 (λ why. StopsSo why (A.faults accept.old) (A.faults accept.new)) }
+    ensures stops { IfErr result.0 (λ why. StopsSo why (A.faults accept.old)
+        (A.faults accept.new)) }
 {
     serve_all(rt, alloc, seed, accept, gate, service)
 }

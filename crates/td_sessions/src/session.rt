@@ -75,13 +75,12 @@ fn serve_visitor<T: Traders, S: Source, K: Sink, L: Wire, W: Words, J: Journal>(
 ) -> End
     requires new { IsNew room.old }
     ensures same { T.same traders.old traders.new }
-    ensures serves { ServesOver T.others T.later room.old.home (T.world traders.old) (W.word visitor.old.words)
-        room.new.journal result
-        (outside (S.left visitor.old.source) (S.faults visitor.old.source) (K.written visitor.old.sink)
-        (K.faults visitor.old.sink))
-        (outside (S.left visitor.new.source) (S.faults visitor.new.source) (K.written visitor.new.sink)
-        (K.faults visitor.new.sink))
-        (T.world traders.new) }
+    ensures serves { ServesOver T.others T.later room.old.home (T.world traders.old)
+        (W.word visitor.old.words) room.new.journal result
+        (outside (S.left visitor.old.source) (S.faults visitor.old.source)
+        (K.written visitor.old.sink) (K.faults visitor.old.sink))
+        (outside (S.left visitor.new.source) (S.faults visitor.new.source)
+        (K.written visitor.new.sink) (K.faults visitor.new.sink)) (T.world traders.new) }
 {
     let mut peers = Caller::new(&mut visitor.wire);
     let end = serve_connection(

@@ -31,11 +31,14 @@ abbrev pub request_in : ℕ → Noted → SessionRequest
 request_in session request = record { session = session; request = request }
 
 -- of each session those of its run, in order, in the order in which the sessions were handed on
-abbrev pub all_requests : {X : Type 0} (outside_of : X → Outside) (seeded : X → Seeded) (visits : List (Visit X))
-    → Every (λ (v : Visit X). Serving outside_of seeded v.begun v.ended) visits → List SessionRequest
+abbrev pub all_requests : {X : Type 0} (outside_of : X → Outside) (seeded : X → Seeded)
+    (visits : List (Visit X))
+    → Every (λ (v : Visit X). Serving outside_of seeded v.begun v.ended) visits
+    → List SessionRequest
 all_requests outside_of seeded [] each = []
 all_requests outside_of seeded (v ∷ vs) each =
-    map (request_in v.begun.number) (noted_of each.0.serves.turns) ++ all_requests outside_of seeded vs each.1
+    map (request_in v.begun.number) (noted_of each.0.serves.turns)
+    ++ all_requests outside_of seeded vs each.1
 
 -- ---- an entry
 
@@ -54,7 +57,8 @@ abbrev pub MakesNone : (k place : ℕ) → SessionRequest → Type 0
 MakesNone k place p = In place (places_in k p.request) → ⊥
 
 -- one of the Requests has made the entry at this place of trader k, and no other is a change there
-pub record IsMadeOnce (history : List Accepted) (k place : ℕ) (all : List SessionRequest) : Type 0 where
+pub record IsMadeOnce (history : List Accepted) (k place : ℕ)
+    (all : List SessionRequest) : Type 0 where
   pub before : List SessionRequest
   pub one : SessionRequest
   pub rest : List SessionRequest
@@ -77,22 +81,24 @@ pub record IsKept (opened closed : List PlainTrader) (p : SessionRequest) : Type
 
 -- What came to the history of trader k since the opening is legal, and each entry is an accepted change of exactly one
 -- Request of exactly one session, at its point.
-pub record IsOfSessions (k : ℕ) (opened closed : PlainTrader) (all : List SessionRequest) : Type 0 where
+pub record IsOfSessions (k : ℕ) (opened closed : PlainTrader)
+    (all : List SessionRequest) : Type 0 where
   pub follows : Follows opened closed
   pub entries : (place : ℕ) → length opened.history ≤ place → place < length closed.history
       → IsMadeOnce closed.history k place all
 
 -- The traders as they were opened and as they are handed on, the entries of the journals that are handed on, each with
 -- the number of its session, and the Requests of all sessions.
-pub record AreOfSessions (opened closed : List PlainTrader) (journals : List (ℕ × Entry)) (all : List SessionRequest)
-    : Type 0 where
+pub record AreOfSessions (opened closed : List PlainTrader) (journals : List (ℕ × Entry))
+    (all : List SessionRequest) : Type 0 where
   pub count : length closed ≡ length opened
   -- the Requests are those that the journals have noted
   pub noted : journals ≡ map (λ (p : SessionRequest). (p.session, p.request.entry)) all
   pub each : (k : ℕ) (o c : PlainTrader) → slice_get opened k ≡ Some o → slice_get closed k ≡ Some c
       → IsOfSessions k o c all
   -- no accepted change is lost, or stands anywhere else
-  pub kept : Every (λ (p : SessionRequest). is_accepted p.request ≡ true → IsKept opened closed p) all
+  pub kept : Every (λ (p : SessionRequest). is_accepted p.request ≡ true → IsKept opened closed p)
+      all
 
 -- what a session has noted, with its number
 abbrev pub noted_by : {X : Type 0} → Visit X → List (ℕ × Entry)
@@ -101,8 +107,9 @@ noted_by v = map (λ (e : Entry). (v.begun.number, e)) v.ended.kept.journal
 -- so it is where a server has served its last visitor
 abbrev pub EntriesAreOfSessions : Type 0 → Type 0
 EntriesAreOfSessions X =
-    (outside_of : X → Outside) (seeded : X → Seeded) (home : Address) (seed : List ℕ) (traders : List PlainTrader)
-    (door door_after : Option (Door X)) (told told_after : Option (Told X))
+    (outside_of : X → Outside) (seeded : X → Seeded) (home : Address) (seed : List ℕ)
+    (traders : List PlainTrader) (door door_after : Option (Door X))
+    (told told_after : Option (Told X))
     (s : ServesAll outside_of seeded home seed traders door told door_after told_after)
     → AreOfSessions traders s.hands.solo.traders.items (flat_map noted_by s.whole.visits)
     (all_requests outside_of seeded s.whole.visits s.whole.each)

@@ -12,7 +12,8 @@ use Rattle.td_turns_laws.specs.Replies.{SpellsReplies}
 use Rattle.td_walk.specs.declared.trace.Address.{Address}
 
 -- of each session
-abbrev pub EachSpells : {X : Type 0} (outside_of : X → Outside) (seeded : X → Seeded) (visits : List (Visit X))
+abbrev pub EachSpells : {X : Type 0} (outside_of : X → Outside) (seeded : X → Seeded)
+    (visits : List (Visit X))
     → Every (λ (v : Visit X). Serving outside_of seeded v.begun v.ended) visits → Type 0
 EachSpells outside_of seeded [] each = Unit {0}
 EachSpells outside_of seeded (v ∷ vs) each =
@@ -21,7 +22,9 @@ EachSpells outside_of seeded (v ∷ vs) each =
 -- so it is where a server has served its last visitor, and the traders that it opened can be written
 abbrev pub SessionsSpellReplies : Type 0 → Type 0
 SessionsSpellReplies X =
-    (outside_of : X → Outside) (seeded : X → Seeded) (home : Address) (seed : List ℕ) (traders : List PlainTrader)
-    (door door_after : Option (Door X)) (told told_after : Option (Told X))
+    (outside_of : X → Outside) (seeded : X → Seeded) (home : Address) (seed : List ℕ)
+    (traders : List PlainTrader) (door door_after : Option (Door X))
+    (told told_after : Option (Told X))
     (s : ServesAll outside_of seeded home seed traders door told door_after told_after)
-    → AllByRecursion IsWritableTrader traders → EachSpells outside_of seeded s.whole.visits s.whole.each
+    → AllByRecursion IsWritableTrader traders
+    → EachSpells outside_of seeded s.whole.visits s.whole.each

@@ -21,7 +21,12 @@ use Rattle.td_shared_names.specs.declared.book.Reply.TheVariants as reply
 -- ---- what contexts may become
 
 pub goes_on_itself : (p : Past) → GoesOn p p
-goes_on_itself p = record { home = refl; more = []; history = sym (append-nil p.history); legal = tt }
+goes_on_itself p = record {
+  home = refl;
+  more = [];
+  history = sym (append-nil p.history);
+  legal = tt;
+}
 
 -- the store behind a history that goes on
 pub store_on : (p q : Past) (f : GoesOn p q) → store_of q ≡ after_all (store_of p) f.more
@@ -35,7 +40,8 @@ goes_on_more p q r f g = record {
   home = g.home ∙ f.home;
   more = f.more ++ g.more;
   history =
-      g.history ∙ ap (λ (h : List NameChange). h ++ g.more) f.history ∙ append_assoc p.history f.more g.more;
+      g.history ∙ ap (λ (h : List NameChange). h ++ g.more) f.history
+      ∙ append_assoc p.history f.more g.more;
   legal =
       legal_more (store_of p) f.more g.more f.legal
       (subst (λ (s : Store). LegalFrom s g.more) (store_on p q f) g.legal);
@@ -73,7 +79,8 @@ module _ (p : Past) (c : ℕ) (a : NameAct) where
       history = refl;
       legal = (accepted_there (store_of p) c a flag, tt);
     };
-    most = (let long = length-append p.history (change_at (store_of p) c a ∷ []) in omega (arith, long));
+    most = (let long = length-append p.history (change_at (store_of p) c a ∷ []) in omega
+        (arith, long));
   }
 
   noted_once : (flag : Bool) → is_accepted a (applied (store_of p) c a).1 ≡ flag
@@ -99,8 +106,10 @@ once p (act.Live c) (reply.Live live) q h = kept_once p q h.1
 pub acts_go_on : (p : Past) (a : Act) (r : Reply) (q : Past) → Acts p a r q → GoesOn p q
 acts_go_on p a r q h = (once p a r q h).goes_on
 
-pub acts_within : (p : Past) (a : Act) (r : Reply) (q : Past) → Acts p a r q → size_of q ≤ size_of p + 1
+pub acts_within : (p : Past) (a : Act) (r : Reply) (q : Past) → Acts p a r q
+    → size_of q ≤ size_of p + 1
 acts_within p a r q h = (once p a r q h).most
 
-pub makes_none : (p : Past) (a : Act) (r : Reply) (q : Past) → Acts p a r q → MarksOnce no_marks no_marks
+pub makes_none : (p : Past) (a : Act) (r : Reply) (q : Past) → Acts p a r q
+    → MarksOnce no_marks no_marks
 makes_none p a r q h = inl refl

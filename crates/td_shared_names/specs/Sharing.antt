@@ -55,7 +55,8 @@ module _ {A R : Type 0} {g : Ghosts Past A R} where
     pub same_cell : SameCell q p
     pub opening : IsOpening q
     pub met : (knowledge q).met ≡ slice_set (knowledge p).met ((knowledge t).number - 1) true
-    pub learned : Learns GoesOn size_of (λ _. no_marks) (meeting (knowledge p) (knowledge t)) (knowledge q)
+    pub learned : Learns GoesOn size_of (λ _. no_marks) (meeting (knowledge p) (knowledge t))
+        (knowledge q)
 
   -- ---- the end
 

@@ -81,9 +81,10 @@ impl<'a, R: Wait> Names for NamePass<'a, R> {
         ensures same { SamePass self.old.pass self.new.pass }
         ensures ok { IfOk result
             (λ r. Acts any_changes (seen_by self.old.pass) context act r (seen_by self.new.pass)) }
-        ensures err { OnErr result (Meanwhile any_changes (seen_by self.old.pass) (seen_by self.new.pass)) }
-        ensures turned { Turns (knowledge self.old.pass) (asked.Call context act) (told.Called result)
-            (knowledge self.new.pass) }
+        ensures err { OnErr result (Meanwhile any_changes (seen_by self.old.pass)
+            (seen_by self.new.pass)) }
+        ensures turned { Turns (knowledge self.old.pass) (asked.Call context act)
+            (told.Called result) (knowledge self.new.pass) }
         ensures once { (knowledge self.new.pass).turns ≡ (knowledge self.old.pass).turns + 1 }
     {
         match self.turn(Act::Call { context, act }) {
@@ -95,7 +96,8 @@ impl<'a, R: Wait> Names for NamePass<'a, R> {
     /// Makes one turn. Takes no memory.
     fn live(&mut self, context: u32) -> bool
         ensures same { SamePass self.old.pass self.new.pass }
-        ensures live { Looks any_changes (seen_by self.old.pass) context result (seen_by self.new.pass) }
+        ensures live { Looks any_changes (seen_by self.old.pass) context result
+            (seen_by self.new.pass) }
         ensures turned { Turns (knowledge self.old.pass) (asked.Live context) (told.Live result)
             (knowledge self.new.pass) }
         ensures once { (knowledge self.new.pass).turns ≡ (knowledge self.old.pass).turns + 1 }

@@ -95,7 +95,8 @@ impl SharedNames {
     pub fn close(self, pass: Pass<NameBook>) -> Result<Naming, (SharedNames, Pass<NameBook>)>
         requires { IsOpeningOf self.cell pass }
         ensures closed { IfOk result (λ n. IsClosed self.cell pass n) }
-        ensures err { IfErr result (λ r. (all_met (knowledge pass).met ≡ false) × (r ≡ (self, pass))) }
+        ensures err { IfErr result (λ r. (all_met (knowledge pass).met ≡ false)
+            × (r ≡ (self, pass))) }
     {
         if !self.cell.whole(&pass) {
             return Err((self, pass));

@@ -10,7 +10,8 @@ use Rattle.td_shown.specs.Offers.{described_lines, offers_lines}
 
 -- the offers that a query found, its limits and the count
 abbrev pub found_lines : List Offer → List (List ℕ) → List ℕ
-found_lines offers limits = offers_lines offers ++ (limits_line limits ++ total_line (length offers))
+found_lines offers limits = offers_lines offers
+    ++ (limits_line limits ++ total_line (length offers))
 
 -- a result of export, withdraw, describe, add_link, add_type, list_links or list_types; another one has no lines
 abbrev pub reply_lines : Reply → Option (List ℕ)

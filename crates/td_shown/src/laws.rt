@@ -9,5 +9,6 @@ ghost use Rattle.td_shown.specs.Values.{value_text};
 /// What is printed of a value that a text spells is that text.
 #[tactic(auto, using(crate::proofs::Spelled::value_back))]
 pub fn values_are_printed_as_they_are_written()
-    ensures { (type : ValueType) (text : List ℕ) (v : Value) → value_of type text ≡ Some v → value_text v ≡ text }
+    ensures { (type : ValueType) (text : List ℕ) (v : Value) → value_of type text ≡ Some v
+        → value_text v ≡ text }
 {}

@@ -69,7 +69,8 @@ pub(crate) fn put_described(
     reference: &Ior,
     properties: &[Property],
 ) -> Result<(), Memory>
-    ensures { OnOk result (out.new.items ≡ out.old.items ++ described_lines reference.now properties.now) }
+    ensures { OnOk result (out.new.items
+        ≡ out.old.items ++ described_lines reference.now properties.now) }
 {
     put(out, b"offer ")?;
     put_reference(alloc, out, reference)?;

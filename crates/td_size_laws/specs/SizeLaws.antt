@@ -27,7 +27,9 @@ pub record GivesBounded (q : Query) (offers : List Offer) : Type 0 where
   pub bounded : AllByRecursion IsBounded offers
   pub named_once : (offers ≡ []) ⊎ (desired_cause q.desired ≡ None)
 
-abbrev pub WalksGiveBoundedOffers : (others : List Accepted → Type 0) → (later : Marks → Marks → Type 0) → Type 0
+abbrev pub WalksGiveBoundedOffers : (others : List Accepted → Type 0)
+    → (later : Marks → Marks → Type 0) → Type 0
 WalksGiveBoundedOffers others later =
-    (home : Address) (s u : Course (List View)) (k : ℕ) (q : Query) (t : List TraceItem) (a : SubAnswer) (max_list : ℕ)
+    (home : Address) (s u : Course (List View)) (k : ℕ) (q : Query) (t : List TraceItem)
+    (a : SubAnswer) (max_list : ℕ)
     → Walks others later home s k q t (visit.Answered a max_list) u → GivesBounded q a.offers

@@ -17,12 +17,14 @@ use Rattle.td_stall.specs.declared.stall.Reply.{Reply}
 use Rattle.td_stall.specs.declared.stall.Reply.TheVariants as reply
 
 -- what a change whose values can be written answers and leaves
-pub record ChangesWritably (t : PlainTrader) (c : Change) (r : Result Outcome Memory) (u : PlainTrader) : Type 0 where
+pub record ChangesWritably (t : PlainTrader) (c : Change) (r : Result Outcome Memory)
+    (u : PlainTrader) : Type 0 where
   pub admitted : AdmitsChange c
   pub changes : ActsChange t c r u
 
 -- how a query begins at a trader with bounds, marks and offers as each has them, and what it leaves
-pub record StartsQuery (t : PlainTrader) (q : Query) (r : Result Begin Memory) (u : PlainTrader) : Type 0 where
+pub record StartsQuery (t : PlainTrader) (q : Query) (r : Result Begin Memory)
+    (u : PlainTrader) : Type 0 where
   pub bounds : AreBounds t.bounds
   pub marks : AreMarks t.marks
   pub limited : HasLimitedOffers (store_of t)

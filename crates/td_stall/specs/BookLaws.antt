@@ -20,7 +20,8 @@ use Rattle.td_stall.specs.MadeLaws.{act_makes}
 pub follows_itself : (t : PlainTrader) → FollowsWritably t t
 follows_itself t = writable-itself t
 
-pub follows_on : (t u v : PlainTrader) → FollowsWritably t u → FollowsWritably u v → FollowsWritably t v
+pub follows_on : (t u v : PlainTrader) → FollowsWritably t u → FollowsWritably u v
+    → FollowsWritably t v
 follows_on t u v p q = writable-on t u v p q
 
 pub grows : (t u : PlainTrader) → FollowsWritably t u → length t.history ≤ length u.history

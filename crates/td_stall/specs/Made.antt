@@ -11,4 +11,5 @@ pub record IsMadeAt (t : PlainTrader) (identifier : List ℕ) (value : ℕ) : Ty
 
 -- where the counter has risen, the last mark's identifier was made at this point, of the value before the counter
 abbrev pub MakesAt : (t u : PlainTrader) → Type 0
-MakesAt t u = t.marks.counter < u.marks.counter → IsMadeAt u (last_identifier u.marks.kept) (u.marks.counter - 1)
+MakesAt t u = t.marks.counter < u.marks.counter
+    → IsMadeAt u (last_identifier u.marks.kept) (u.marks.counter - 1)

@@ -44,8 +44,8 @@ makes-none s m = λ less. absurd (omega arith)
 
 module _ (s : Store) (m : Marks) where
   makes-named : AreKept m → (stated : Option (List ℕ))
-      → Makes s m (marked m (identified m s.attributes.request_id_stem stated).identifier (identified m
-      s.attributes.request_id_stem stated).counter)
+      → Makes s m (marked m (identified m s.attributes.request_id_stem stated).identifier
+      (identified m s.attributes.request_id_stem stated).counter)
   makes-named k (Some i) = λ less. absurd (omega arith)
   makes-named k None = λ less.
       let stem = s.attributes.request_id_stem in
@@ -70,13 +70,15 @@ module _ (bounds : Bounds) (s : Store) (point : ℕ) (m : Marks) (q : Query) whe
   unfolding after_begin
   makes-refused f = makes-none s m
 
-  makes-unless : bounds.begins ≤ 2 ^ 40 → AreMarks m → (cause : Cause) → refusal bounds m.count s q ≡ cause
-      → Makes s m (after_begin s m q (begin_unless cause s point m q))
+  makes-unless : bounds.begins ≤ 2 ^ 40 → AreMarks m → (cause : Cause) → refusal bounds m.count s q
+      ≡ cause → Makes s m (after_begin s m q (begin_unless cause s point m q))
   makes-unless most k (Some f) h = makes-refused f
   makes-unless most k None h =
-      makes-taken (left-over m k (has-room bounds m.count s q h most)) (begin_unless None s point m q)
+      makes-taken (left-over m k (has-room bounds m.count s q h most))
+      (begin_unless None s point m q)
 
-  makes-begun : bounds.begins ≤ 2 ^ 40 → AreMarks m → Makes s m (after_begin s m q (begin_of bounds s point m q))
+  makes-begun : bounds.begins ≤ 2 ^ 40 → AreMarks m
+      → Makes s m (after_begin s m q (begin_of bounds s point m q))
   unfolding begin_of
   makes-begun most k = makes-unless most k (refusal bounds m.count s q) refl
 
@@ -90,14 +92,18 @@ begun t q b k = λ less.
 
 same : (t u : PlainTrader) → u.marks ≡ t.marks → MakesAt t u
 same t u e = λ less.
-    let counters : u.marks.counter ≡ t.marks.counter = ap (λ (m : Marks). m.counter) e in absurd (omega arith)
+    let counters : u.marks.counter
+    ≡ t.marks.counter = ap (λ (m : Marks). m.counter) e in absurd (omega arith)
 
-starts : (t u : PlainTrader) (q : Query) (r : Result Begin Memory) → StartsQuery t q r u → MakesAt t u
+starts : (t u : PlainTrader) (q : Query) (r : Result Begin Memory) → StartsQuery t q r u
+    → MakesAt t u
 starts t u q (Ok b) h =
-    subst (MakesAt t) (sym (h.begins.1 ∙ ap (trader_after t q) h.begins.0)) (begun t q h.bounds h.marks)
+    subst (MakesAt t) (sym (h.begins.1 ∙ ap (trader_after t q) h.begins.0))
+    (begun t q h.bounds h.marks)
 starts t u q (Err e) h = same t u (ap (λ (x : PlainTrader). x.marks) h.begins)
 
-pub act_makes : (t : PlainTrader) (a : Act) (r : Reply) (u : PlainTrader) → Acts t a r u → MakesAt t u
+pub act_makes : (t : PlainTrader) (a : Act) (r : Reply) (u : PlainTrader) → Acts t a r u
+    → MakesAt t u
 act_makes t (act.Change c) (reply.Changed r) u h = same t u (change-once t u c r h.changes).marks
 act_makes t (act.Change c) (reply.Looked r) u h = absurd h
 act_makes t (act.Change c) (reply.Begun r) u h = absurd h

@@ -67,7 +67,8 @@ has_dynamic properties = list_any (λ p. is_dynamic p.value) properties
 
 -- offers with a dynamic property are left out unless these are used and supported
 abbrev pub passes_dynamic : Attributes → Stated → OfferRecord → Bool
-passes_dynamic a s o = (uses s.use_dynamic && a.supports_dynamic_properties) || not (has_dynamic o.properties)
+passes_dynamic a s o = (uses s.use_dynamic && a.supports_dynamic_properties)
+    || not (has_dynamic o.properties)
 
 -- the mode that a type gives a property, normal where it doesn't name it
 abbrev pub mode_in : Option PropStruct → PropertyMode
@@ -88,13 +89,15 @@ passes_modifiable types a s o =
 
 -- ---- all together
 
-abbrev pub is_candidate : List ServiceType → Attributes → Stated → (asked : List ℕ) → OfferRecord → Bool
+abbrev pub is_candidate : List ServiceType → Attributes → Stated → (asked : List ℕ) → OfferRecord
+    → Bool
 is_candidate types a s asked o =
-    ((has_asked_type types s asked o && passes_proxy a s o) && passes_dynamic a s o) && passes_modifiable types a s o
+    ((has_asked_type types s asked o && passes_proxy a s o) && passes_dynamic a s o)
+    && passes_modifiable types a s o
 
 -- the first so many of them, in the order of the offers
-abbrev pub candidates : List ServiceType → Attributes → Stated → (asked : List ℕ) → (count : ℕ) → List OfferRecord
-    → List OfferRecord
+abbrev pub candidates : List ServiceType → Attributes → Stated → (asked : List ℕ) → (count : ℕ)
+    → List OfferRecord → List OfferRecord
 candidates types a s asked count offers = take count (filter (is_candidate types a s asked) offers)
 
 -- ---- how much is read

@@ -34,7 +34,8 @@ scanner = codes "Scanner"
 abbrev pub number : PropertyMode → List ℕ → PropStruct
 number mode name = record { name = name; value_type = code.ULong; mode = mode }
 
-abbrev pub type : List ℕ → List PropStruct → (supers : List (List ℕ)) → (incarnation : ℕ) → ServiceType
+abbrev pub type : List ℕ → List PropStruct → (supers : List (List ℕ)) → (incarnation : ℕ)
+    → ServiceType
 type name props supers incarnation = record {
   name = name;
   if_name = [];
@@ -45,7 +46,8 @@ type name props supers incarnation = record {
 }
 
 abbrev pub device_type : ServiceType
-device_type = type device (number Readonly (codes "Serial") ∷ number Normal (codes "Queue") ∷ []) [] 1
+device_type = type device (number Readonly (codes "Serial") ∷ number Normal (codes "Queue") ∷ [])
+    [] 1
 
 abbrev pub printer_type : (incarnation : ℕ) → ServiceType
 printer_type incarnation = type printer [] (device ∷ []) incarnation
@@ -72,7 +74,8 @@ abbrev pub member : TypeCode → Member
 member c = record { name = []; code = c }
 
 abbrev pub dynamic_code : TypeCode
-dynamic_code = code.Struct dynamic_id [] (member (code.ObjRef [] []) ∷ member code.Code ∷ member code.AnyCode ∷ [])
+dynamic_code = code.Struct dynamic_id [] (member (code.ObjRef [] []) ∷ member code.Code
+    ∷ member code.AnyCode ∷ [])
 
 abbrev pub nobody : Ior
 nobody = record { id = []; profiles = [] }
@@ -86,7 +89,8 @@ evaluated name = record {
   name = name;
   value = record {
     code = dynamic_code;
-    value = value.Struct (value.ObjRef nobody ∷ value.Code code.ULong ∷ value.AnyValue nothing_more ∷ []);
+    value = value.Struct (value.ObjRef nobody ∷ value.Code code.ULong ∷ value.AnyValue nothing_more
+        ∷ []);
   };
 }
 
@@ -101,7 +105,10 @@ offer n name incarnation properties = record {
 }
 
 abbrev pub proxied : OfferRecord → OfferRecord
-proxied o = record o { proxy = Some (record { if_match_all = false; recipe = codes "$*"; policies = [] }) }
+proxied o = record o {
+  proxy = Some
+      (record { if_match_all = false; recipe = codes "$*"; policies = [] });
+}
 
 abbrev pub serial : Property
 serial = given (codes "Serial")

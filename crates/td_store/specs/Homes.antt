@@ -43,10 +43,13 @@ pub record Homes (value : ℕ → Option OfferRecord) (chain : ℕ → List ℕ)
     (chains : ℕ → Option ℕ) : Type 0 where
   pub numbered : AllByRecursion (IsHome value) numbers
   pub sorted : IsStrictlySortedBy nat_cmp (keys_of numbers)
-  pub homed : (p : ℕ) (o : OfferRecord) → value p ≡ Some o → lookup (is_at (nat_cmp o.number)) numbers ≡ Some p
-  pub of_types : (i : ℕ) → offers_on value (places_of chain (chains i)) ≡ filter (is_of i) (offers_at value numbers)
+  pub homed : (p : ℕ) (o : OfferRecord) → value p ≡ Some o
+      → lookup (is_at (nat_cmp o.number)) numbers ≡ Some p
+  pub of_types : (i : ℕ) → offers_on value (places_of chain (chains i))
+      ≡ filter (is_of i) (offers_at value numbers)
   pub of_kinds : (proxies : Bool)
-      → offers_on value (chain (kind_chain proxies)) ≡ filter (is_of_kind proxies) (offers_at value numbers)
+      → offers_on value (chain (kind_chain proxies))
+      ≡ filter (is_of_kind proxies) (offers_at value numbers)
 
 -- the chains of the kinds are there, and each incarnation's is another one
 pub record AreChains (chains : ℕ → Option ℕ) (count : ℕ) : Type 0 where

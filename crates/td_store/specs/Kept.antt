@@ -33,7 +33,8 @@ module _ {T : Type 0} where
     pub small : length slots < 2 ^ 32
     pub few : count < 2 ^ 32
     pub past : (k : ℕ) → count < k → rings k ≡ []
-    pub free : (p : ℕ) → is_in (3 * p + 1) (rings 0) ≡ (nat_lt p (length slots) && not (has slots p))
+    pub free : (p : ℕ) → is_in (3 * p + 1) (rings 0)
+        ≡ (nat_lt p (length slots) && not (has slots p))
     pub second_free : (p : ℕ) → is_in (3 * p + 2) (rings 0) ≡ false
     pub first_off : (p k : ℕ) → has slots p ≡ false → 0 < k → is_in (3 * p + 1) (rings k) ≡ false
     pub second_off : (p k : ℕ) → has slots p ≡ false → is_in (3 * p + 2) (rings k) ≡ false

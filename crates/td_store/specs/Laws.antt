@@ -6,7 +6,8 @@ use Rattle.td_store.specs.Candidates.{belongs, has_dynamic}
 use Rattle.td_store.specs.declared.record.OfferRecord.{OfferRecord}
 
 -- the offer belongs to a type, and this conforms to the asked one
-pub record HasConformingType (types : List ServiceType) (asked : List ℕ) (o : OfferRecord) : Type 0 where
+pub record HasConformingType (types : List ServiceType) (asked : List ℕ)
+    (o : OfferRecord) : Type 0 where
   pub present : IsTrue (belongs types o)
   pub conforming : IsTrue (conforms types o.service_type asked)
 

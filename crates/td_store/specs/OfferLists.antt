@@ -21,7 +21,8 @@ without_offer number offers = filter (λ o. not (is_numbered number o)) offers
 
 -- the offers, with these properties of that number's
 abbrev pub changed_offer : ℕ → List Property → OfferRecord → OfferRecord
-changed_offer number properties o = if is_numbered number o then record o { properties = properties } else o
+changed_offer number properties o = if is_numbered number o then record o
+    { properties = properties } else o
 
 abbrev pub with_properties : ℕ → List Property → List OfferRecord → List OfferRecord
 with_properties number properties offers = map (changed_offer number properties) offers

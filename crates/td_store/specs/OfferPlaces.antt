@@ -7,7 +7,8 @@ use Rattle.td_store.specs.declared.record.OfferRecord.{OfferRecord}
 -- the slab, with other properties of the offer at a place, if there is one
 abbrev pub changed_at : Slab OfferRecord → ℕ → List Property → Option OfferRecord → Slab OfferRecord
 changed_at slab place properties None = slab
-changed_at slab place properties (Some o) = with_value slab place (record o { properties = properties })
+changed_at slab place properties (Some o) = with_value slab place
+    (record o { properties = properties })
 
 abbrev pub with_changed : Slab OfferRecord → ℕ → List Property → Slab OfferRecord
 with_changed slab place properties = changed_at slab place properties (value_at slab.slots place)

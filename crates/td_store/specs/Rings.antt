@@ -40,7 +40,8 @@ with_last e x rings k = cond (k == e) (rings k ++ x ∷ []) (rings k)
 
 -- the rings with both links of a place, each at the end of one
 abbrev pub entered : (place first second : ℕ) → (ℕ → List ℕ) → ℕ → List ℕ
-entered place first second rings = with_last second (3 * place + 2) (with_last first (3 * place + 1) rings)
+entered place first second rings = with_last second (3 * place + 2)
+    (with_last first (3 * place + 1) rings)
 
 -- the rings without a link
 abbrev pub left : ℕ → (ℕ → List ℕ) → ℕ → List ℕ
@@ -72,7 +73,8 @@ Linked js = (rings : ℕ → List ℕ) × Fits js rings
 pub ring_is_no_link : (k y : ℕ) → 3 * k ≡ y → IsLink y → ⊥
 ring_is_no_link k y e l = omega arith
 
-pub same_path : (f : ℕ → ℕ) (from k : ℕ) (xs ys : List ℕ) → Path f from xs (3 * k) → Path f from ys (3 * k) → xs ≡ ys
+pub same_path : (f : ℕ → ℕ) (from k : ℕ) (xs ys : List ℕ) → Path f from xs (3 * k)
+    → Path f from ys (3 * k) → xs ≡ ys
 same_path f from k [] [] p q = refl
 same_path f from k [] (y ∷ ys) p q = absurd (ring_is_no_link k y (sym p ∙ q.0) q.1.0)
 same_path f from k (x ∷ xs) [] p q = absurd (ring_is_no_link k x (sym q ∙ p.0) p.1.0)
@@ -97,5 +99,6 @@ Linked-prop js l m =
     (fun_ext (λ k. same_path (after js) (3 * k) k (l.0 k) (m.0 k) (l.1.paths k) (m.1.paths k)))
 
 -- and so they are any family that fits
-pub rings_are : (js : List Joint) (l : Linked js) (rings : ℕ → List ℕ) → Fits js rings → (k : ℕ) → l.0 k ≡ rings k
+pub rings_are : (js : List Joint) (l : Linked js) (rings : ℕ → List ℕ) → Fits js rings → (k : ℕ)
+    → l.0 k ≡ rings k
 rings_are js l rings f k = ap (λ (z : Linked js). z.0 k) (Linked-prop js l (rings, f))

@@ -23,9 +23,12 @@ only (Some i) = i ∷ []
 
 -- the incarnations of the types whose offers are looked at
 abbrev pub searched : List ServiceType → (exact : Bool) → (asked : List ℕ) → List ℕ
-searched types exact asked = if exact then only (incarnation_of types asked) else subtypes types asked
+searched types exact asked = if exact then only (incarnation_of types asked)
+    else subtypes types asked
 
 -- these are the offers by rising number, and those of each incarnation stand on its chain
-pub record AreChained (slab : Slab OfferRecord) (chains : BTreeMap ℕ ℕ) (offers : List OfferRecord) : Type 0 where
+pub record AreChained (slab : Slab OfferRecord) (chains : BTreeMap ℕ ℕ)
+    (offers : List OfferRecord) : Type 0 where
   pub rise : NumbersRise offers
-  pub each : (i : ℕ) → values_on slab.slots (places_on slab.chains (get nat_cmp chains i)) ≡ filter (is_of i) offers
+  pub each : (i : ℕ) → values_on slab.slots (places_on slab.chains (get nat_cmp chains i))
+      ≡ filter (is_of i) offers

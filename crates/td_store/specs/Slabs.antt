@@ -36,7 +36,8 @@ first_of (x ∷ xs) = Some x
 
 -- wherever the place stands on the chain, this is the place after it
 abbrev pub IsNext : List ℕ → ℕ → Option ℕ → Type 0
-IsNext chain place next = (front back : List ℕ) → chain ≡ front ++ place ∷ back → next ≡ first_of back
+IsNext chain place next = (front back : List ℕ) → chain ≡ front ++ place ∷ back
+    → next ≡ first_of back
 
 -- the chain; past the last one, an empty one
 abbrev pub chain_of : List (List ℕ) → ℕ → List ℕ
@@ -59,19 +60,22 @@ module _ {T : Type 0} where
   pub record Puts (old new : Slab T) (first second : ℕ) (given : T) (place : ℕ) : Type 0 where
     pub unused : value_at old.slots place ≡ None
     pub value : value_at new.slots place ≡ Some given
-    pub others : (other : ℕ) → other == place ≡ false → value_at new.slots other ≡ value_at old.slots other
+    pub others : (other : ℕ) → other == place ≡ false → value_at new.slots other
+        ≡ value_at old.slots other
     pub reused : 0 < old.spare → place < length old.slots
     pub spare : new.spare ≡ old.spare - 1
     pub held : held new.slots ≡ held old.slots + 1
     pub count : length new.chains ≡ length old.chains
     pub absent : (c : ℕ) → is_in place (chain_of old.chains c) ≡ false
     pub chains : (c : ℕ) → chain_of new.chains c
-        ≡ cond ((c == first) || (c == second)) (chain_of old.chains c ++ place ∷ []) (chain_of old.chains c)
+        ≡ cond ((c == first) || (c == second)) (chain_of old.chains c ++ place ∷ [])
+        (chain_of old.chains c)
 
   -- the place has no value any more, and no chain has the place
   pub record Takes (old new : Slab T) (place : ℕ) : Type 0 where
     pub value : value_at new.slots place ≡ None
-    pub others : (other : ℕ) → other == place ≡ false → value_at new.slots other ≡ value_at old.slots other
+    pub others : (other : ℕ) → other == place ≡ false → value_at new.slots other
+        ≡ value_at old.slots other
     pub spare : new.spare ≡ old.spare + 1
     pub held : held old.slots ≡ held new.slots + 1
     pub chains : new.chains ≡ map (without place) old.chains

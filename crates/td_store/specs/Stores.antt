@@ -24,7 +24,11 @@ use Rattle.td_store.specs.declared.store.Store.{Store}
 
 -- an offer as its exporter sees it
 abbrev pub offer_info_of : OfferRecord → OfferInfo
-offer_info_of o = record { reference = o.reference; service_type = o.service_type; properties = o.properties }
+offer_info_of o = record {
+  reference = o.reference;
+  service_type = o.service_type;
+  properties = o.properties;
+}
 
 abbrev pub AdmitsProxy : Option ProxyPart → Type 0
 AdmitsProxy None = Unit {0}
@@ -67,7 +71,8 @@ most_bytes = 1048576
 
 -- the encoded bytes of an offer: its reference and its properties, big-endian from place 0
 abbrev pub offer_bytes : OfferRecord → ℕ
-offer_bytes o = length (offer.format.writes (record { reference = o.reference; properties = o.properties }) Big 0)
+offer_bytes o = length (offer.format.writes
+    (record { reference = o.reference; properties = o.properties }) Big 0)
 
 -- an offer that a store may hold
 pub record IsOffer (o : OfferRecord) : Type 0 where

@@ -14,6 +14,7 @@ abbrev pub places_on : List (List ℕ) → Option ℕ → List ℕ
 places_on chains chain = places_of (chain_of chains) chain
 
 -- the values on the chains of these incarnations, chain by chain
-abbrev pub values_of : {T : Type 0} → List (Option T) → List (List ℕ) → BTreeMap ℕ ℕ → List ℕ → List T
+abbrev pub values_of : {T : Type 0} → List (Option T) → List (List ℕ) → BTreeMap ℕ ℕ → List ℕ
+    → List T
 values_of slots chains at incarnations =
     flat_map (λ i. values_on slots (places_on chains (get nat_cmp at i))) incarnations

@@ -27,8 +27,10 @@ pub(crate) fn gather<'a, T, L: Ledger>(
     steps: &mut Steps<L>,
 ) -> Result<(), Memory>
     ensures ok { OnOk result (map (λ r. r.now) into.new.items
-        ≡ map (λ r. r.now) into.old.items ++ values_on slab.now.slots (chain_of slab.now.chains chain)) }
-    ensures steps { steps.new ≤ steps.old + 1 + length (values_on slab.now.slots (chain_of slab.now.chains chain)) }
+        ≡ map (λ r. r.now) into.old.items
+        ++ values_on slab.now.slots (chain_of slab.now.chains chain)) }
+    ensures steps { steps.new
+        ≤ steps.old + 1 + length (values_on slab.now.slots (chain_of slab.now.chains chain)) }
 {
     let mut next = slab.head(chain, steps);
     while let Some(place) = next {
@@ -62,8 +64,10 @@ fn gather_from<'a, T, L: Ledger>(
     steps: &mut Steps<L>,
 ) -> Result<(), Memory>
     ensures ok { OnOk result (map (λ r. r.now) into.new.items
-        ≡ map (λ r. r.now) into.old.items ++ values_on slab.now.slots (places_on slab.now.chains chain)) }
-    ensures steps { steps.new ≤ steps.old + 1 + length (values_on slab.now.slots (places_on slab.now.chains chain)) }
+        ≡ map (λ r. r.now) into.old.items
+        ++ values_on slab.now.slots (places_on slab.now.chains chain)) }
+    ensures steps { steps.new
+        ≤ steps.old + 1 + length (values_on slab.now.slots (places_on slab.now.chains chain)) }
 {
     match chain {
         None => Ok(()),
@@ -85,7 +89,8 @@ pub(crate) fn gather_all<'a, T, L: Ledger>(
     steps: &mut Steps<L>,
 ) -> Result<(), Memory>
     ensures ok { OnOk result (map (λ r. r.now) into.new.items
-        ≡ map (λ r. r.now) into.old.items ++ values_of slab.now.slots slab.now.chains chains.now incarnations.now) }
+        ≡ map (λ r. r.now) into.old.items
+        ++ values_of slab.now.slots slab.now.chains chains.now incarnations.now) }
     ensures steps { steps.new ≤ steps.old + length incarnations.now
         + length (values_of slab.now.slots slab.now.chains chains.now incarnations.now) }
 {
@@ -106,7 +111,8 @@ pub(crate) fn numbers_on(
     chain: u32,
 ) -> Result<List<u32>, Memory>
     ensures { IfOk result
-        (λ numbers. numbers ≡ map (λ o. o.number) (values_on slab.now.slots (chain_of slab.now.chains chain))) }
+        (λ numbers. numbers ≡ map (λ o. o.number)
+        (values_on slab.now.slots (chain_of slab.now.chains chain))) }
 {
     counted_numbers::<Brand>(alloc, slab, chain, Blank::new(1))
 }
@@ -121,7 +127,8 @@ fn counted_numbers<L: Ledger>(
     requires parts { blank.parts ≡ L.parts }
     requires one { L.parts ≡ 1 }
     ensures { IfOk result
-        (λ numbers. numbers ≡ map (λ o. o.number) (values_on slab.now.slots (chain_of slab.now.chains chain))) }
+        (λ numbers. numbers ≡ map (λ o. o.number)
+        (values_on slab.now.slots (chain_of slab.now.chains chain))) }
 {
     let mut steps = Steps::<L>::new(blank);
     let mut offers = Vec::new(alloc);

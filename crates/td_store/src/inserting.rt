@@ -80,7 +80,8 @@ pub(crate) fn put_offer(
     requires room { held slab.old.slots < 2 ^ 32 - 1 }
     requires above { AllByRecursion (λ e. e.0 < offer.number) numbers.old.entries }
     requires ordered { IsOrdered nat_cmp numbers.old }
-    ensures put { OnOk result (IsPut slab.old slab.new of_type of_kind offer numbers.old.entries numbers.new.entries) }
+    ensures put { OnOk result
+        (IsPut slab.old slab.new of_type of_kind offer numbers.old.entries numbers.new.entries) }
     ensures ordered { IsOrdered nat_cmp numbers.new }
     ensures as_before { OnErr result (IsAsBefore slab.old slab.new) }
     ensures numbers { OnErr result (numbers.new.entries ≡ numbers.old.entries) }

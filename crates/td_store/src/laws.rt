@@ -32,9 +32,11 @@ pub fn candidates_conform()
 /// Where no policy is stated and no offer is a proxy offer or has a dynamic property, a query searches
 /// each offer whose type conforms.
 pub fn plain_offers_are_searched()
-    ensures { (types : List ServiceType) (a : Attributes) (asked : List ℕ) (offers : List OfferRecord)
+    ensures { (types : List ServiceType) (a : Attributes) (asked : List ℕ)
+        (offers : List OfferRecord)
         → AllByRecursion IsPlain offers →
-        candidates types a nothing asked (length offers) offers ≡ filter (has_conforming_type types asked) offers }
+        candidates types a nothing asked (length offers) offers
+        ≡ filter (has_conforming_type types asked) offers }
 {}
 
 /// The numbers of offers rise: of none, and after each call.
@@ -44,13 +46,14 @@ pub fn numbers_rise()
         AllByRecursion (λ x. x.number < o.number) offers → NumbersRise (offers ++ o ∷ []) }
     ensures remove { (offers : List OfferRecord) (number : ℕ) → NumbersRise offers
         → NumbersRise (without_offer number offers) }
-    ensures modify { (offers : List OfferRecord) (number : ℕ) (properties : List Property) → NumbersRise offers →
-        NumbersRise (with_properties number properties offers) }
+    ensures modify { (offers : List OfferRecord) (number : ℕ) (properties : List Property)
+        → NumbersRise offers → NumbersRise (with_properties number properties offers) }
 {}
 
 /// An offer that is removed is gone, and every other number leads to the same offer as before.
 pub fn removing_leaves_the_others()
-    ensures gone { (offers : List OfferRecord) (number : ℕ) → offer_of (without_offer number offers) number ≡ None }
+    ensures gone { (offers : List OfferRecord) (number : ℕ)
+        → offer_of (without_offer number offers) number ≡ None }
     ensures others { (offers : List OfferRecord) (number other : ℕ) → (other ≡ number → ⊥) →
         offer_of (without_offer number offers) other ≡ offer_of offers other }
 {}
@@ -65,15 +68,16 @@ pub fn stores_stay_valid()
     ensures remove { (s : Store) (number : ℕ) → IsStore s
         → IsStore (record s { offers = without_offer number s.offers }) }
     ensures modify { (s : Store) (number : ℕ) (properties : List Property) → IsStore s →
-        ((o : OfferRecord) → offer_of s.offers number ≡ Some o → IsOffer (record o { properties = properties })) →
-        IsStore (record s { offers = with_properties number properties s.offers }) }
-    ensures add_link { (s : Store) (l : LinkRecord) → IsStore s → AdmitsLink l → link_of s.links l.name ≡ None
-        → length s.links < most_links →
-        IsStore (record s { links = s.links ++ l ∷ [] }) }
+        ((o : OfferRecord) → offer_of s.offers number ≡ Some o
+        → IsOffer (record o { properties = properties }))
+        → IsStore (record s { offers = with_properties number properties s.offers }) }
+    ensures add_link { (s : Store) (l : LinkRecord) → IsStore s → AdmitsLink l
+        → link_of s.links l.name ≡ None → length s.links < most_links
+        → IsStore (record s { links = s.links ++ l ∷ [] }) }
     ensures remove_link { (s : Store) (name : List ℕ) → IsStore s
         → IsStore (record s { links = without_link name s.links }) }
-    ensures set_rules { (s : Store) (name : List ℕ) (def_pass_on limiting : FollowOption) → IsStore s
-        → IsStore (record s { links = map (ruled name def_pass_on limiting) s.links }) }
+    ensures set_rules { (s : Store) (name : List ℕ) (def_pass_on limiting : FollowOption)
+        → IsStore s → IsStore (record s { links = map (ruled name def_pass_on limiting) s.links }) }
 {}
 
 /// Worked examples over the types Device, Printer below it, and Scanner, with six offers: 1 is of Device,
@@ -94,7 +98,8 @@ pub fn worked_examples()
     ensures no_dynamic { found types usual (dynamic_used false) device 9 ≡ 1 ∷ 2 ∷ 3 ∷ 5 ∷ [] }
     ensures dynamic_unsupported { found types (record usual { supports_dynamic_properties = false }) nothing device 9
         ≡ 1 ∷ 2 ∷ 3 ∷ 5 ∷ [] }
-    ensures modifiable { found types usual (modifiable_used true) device 9 ≡ 1 ∷ 2 ∷ 3 ∷ 4 ∷ 5 ∷ [] }
+    ensures modifiable { found types usual (modifiable_used true) device 9 ≡ 1 ∷ 2 ∷ 3 ∷ 4 ∷ 5
+        ∷ [] }
     ensures no_modifiable { found types usual (modifiable_used false) device 9 ≡ 1 ∷ 2 ∷ 3 ∷ [] }
     ensures modifiable_unsupported { found types (record usual { supports_modifiable_properties = false })
         (modifiable_used false) device 9

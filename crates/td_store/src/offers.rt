@@ -232,7 +232,8 @@ impl Offers {
     ///
     /// `Memory` for want of memory alone.
     pub fn ids(&self, alloc: Global, proxies: bool) -> Result<List<u32>, Memory>
-        ensures { IfOk result (λ numbers. numbers ≡ map (λ o. o.number) (filter (is_of_kind proxies) self.now)) }
+        ensures { IfOk result (λ numbers. numbers
+            ≡ map (λ o. o.number) (filter (is_of_kind proxies) self.now)) }
     {
         numbers_on(alloc, &self.slab, self.chain_of_kind(proxies))
     }

@@ -70,7 +70,8 @@ pub(crate) fn conforming<'a, L: Ledger>(
     ensures ok { (offers : Row an_offer) → AreChained slab.now chains.now offers →
         IfOk result (λ v. map (λ o. o.now) v.items ≡ filter (is_among incarnations.now) offers) }
     ensures steps { (offers : Row an_offer) → AreChained slab.now chains.now offers →
-        steps.new ≤ steps.old + length incarnations.now + length (filter (is_among incarnations.now) offers) }
+        steps.new ≤ steps.old + length incarnations.now
+        + length (filter (is_among incarnations.now) offers) }
 {
     let mut found = Vec::new(alloc);
     gather_all(slab, chains, incarnations, &mut found, steps)?;
@@ -92,7 +93,8 @@ pub(crate) fn candidates(
     count: u32,
     offers: &[&OfferRecord],
 ) -> Result<List<OfferRecord>, Memory>
-    ensures { IfOk result (λ found. found ≡ candidates types.now.types attributes.now stated.now asked.now count
+    ensures { IfOk result (λ found. found
+        ≡ candidates types.now.types attributes.now stated.now asked.now count
         (map (λ r. r.now) offers.now)) }
 {
     let mut found = List::new(alloc);

@@ -39,8 +39,8 @@ impl<T> Model for Slab<T> {
 
     ghost view = { λ s. slab_of (map value_of s.values.items) s.rings.linked.0 s.count };
 
-    ghost invariant = { λ s. IsSlab (map value_of s.values.items) s.rings.linked.0 (length s.rings.joints.items)
-        s.count };
+    ghost invariant = { λ s. IsSlab (map value_of s.values.items) s.rings.linked.0
+        (length s.rings.joints.items) s.count };
 }
 
 impl<T> Slab<T> {
@@ -71,7 +71,8 @@ impl<T> Slab<T> {
     pub fn add_chain(&mut self) -> Result<u32, Memory>
         requires few { length self.old.chains < 2 ^ 32 - 1 }
         ensures ok { IfOk result (λ c. c ≡ length self.old.chains) }
-        ensures added { OnOk result (self.new ≡ record self.old { chains = self.old.chains ++ [] ∷ [] }) }
+        ensures added { OnOk result (self.new
+            ≡ record self.old { chains = self.old.chains ++ [] ∷ [] }) }
         ensures err { OnErr result (self.new ≡ self.old) }
     {
         let chain = self.count;
@@ -122,7 +123,8 @@ impl<T> Slab<T> {
     /// Takes the value at a place away, and the place off its chains. Takes no memory.
     pub fn take(&mut self, place: u32) -> Option<T>
         ensures value { result ≡ value_at self.old.slots place }
-        ensures none { MatchOption result (self.new ≡ self.old) (λ _. Takes self.old self.new place) }
+        ensures none { MatchOption result (self.new ≡ self.old)
+            (λ _. Takes self.old self.new place) }
     {
         let place = place as usize;
         if place >= self.values.len() {
@@ -157,8 +159,10 @@ impl<T> Slab<T> {
         steps: &mut Steps<L>,
     ) -> Option<(&T, Option<u32>)>
         ensures found { is_some result ≡ is_in place (chain_of self.now.chains chain) }
-        ensures value { OnSome result (option_map (λ r. r.0.now) result ≡ value_at self.now.slots place) }
-        ensures next { MatchOption result ⊤ (λ r. IsNext (chain_of self.now.chains chain) place r.1) }
+        ensures value { OnSome result (option_map (λ r. r.0.now) result
+            ≡ value_at self.now.slots place) }
+        ensures next { MatchOption result ⊤
+            (λ r. IsNext (chain_of self.now.chains chain) place r.1) }
         ensures step { steps.new ≡ steps.old + 1 }
     {
         steps.add();
@@ -259,7 +263,8 @@ fn enter(rings: &mut Rings, place: usize, first: usize, second: usize)
     requires first_off { (k : ℕ) → is_in (3 * place + 1) (rings.old.linked.0 k) ≡ false }
     requires second_off { (k : ℕ) → is_in (3 * place + 2) (rings.old.linked.0 k) ≡ false }
     ensures len { length rings.new.joints.items ≡ length rings.old.joints.items }
-    ensures rings { (k : ℕ) → rings.new.linked.0 k ≡ entered place first second rings.old.linked.0 k }
+    ensures rings { (k : ℕ) → rings.new.linked.0 k
+        ≡ entered place first second rings.old.linked.0 k }
 {
     let link = 3 * place + 1;
     rings.append(link, first);
@@ -291,7 +296,8 @@ fn next_on(rings: &Rings, ring: usize, place: usize) -> Option<Option<u32>>
     requires apart { is_in (3 * place + 1) (rings.now.linked.0 ring) ≡ true →
         is_in (3 * place + 2) (rings.now.linked.0 ring) ≡ false }
     ensures found { is_some result ≡ is_in place (map place_of (rings.now.linked.0 ring)) }
-    ensures next { MatchOption result ⊤ (λ next. IsNext (map place_of (rings.now.linked.0 ring)) place next) }
+    ensures next { MatchOption result ⊤
+        (λ next. IsNext (map place_of (rings.now.linked.0 ring)) place next) }
 {
     let link = 3 * place + 1;
     if rings.is_on(link, ring) {
@@ -319,13 +325,16 @@ fn put_new<T>(
     requires small { length values.old.items < 2 ^ 32 - 1 }
     requires first { 3 * first < length rings.old.joints.items }
     requires second { 3 * second < length rings.old.joints.items }
-    requires first_off { (k : ℕ) → is_in (3 * length values.old.items + 1) (rings.old.linked.0 k) ≡ false }
-    requires second_off { (k : ℕ) → is_in (3 * length values.old.items + 2) (rings.old.linked.0 k) ≡ false }
+    requires first_off { (k : ℕ) → is_in (3 * length values.old.items + 1) (rings.old.linked.0 k)
+        ≡ false }
+    requires second_off { (k : ℕ) → is_in (3 * length values.old.items + 2) (rings.old.linked.0 k)
+        ≡ false }
     ensures place { IfOk result (λ place. place ≡ length values.old.items) }
     ensures slots { OnOk result (values.new.items ≡ values.old.items ++ Slot.Occupied value ∷ []) }
     ensures rings { OnOk result ((k : ℕ) → rings.new.linked.0 k
         ≡ entered (length values.old.items) first second rings.old.linked.0 k) }
-    ensures grown { OnOk result (3 * (length values.old.items + 1) ≤ length rings.new.joints.items) }
+    ensures grown { OnOk result (3 * (length values.old.items + 1)
+        ≤ length rings.new.joints.items) }
     ensures len { GrowsFor (length values.old.items + 1) (length rings.old.joints.items)
         (length rings.new.joints.items) }
     ensures err_slots { OnErr result (values.new.items ≡ values.old.items) }

@@ -41,5 +41,6 @@ module _ {V : Type 0} (serves : V → List ℕ → List ℕ → V → Type 0) (s
   -- so it is wherever the source is such messages and none of the outside failed
   abbrev pub Completes : V → V → End → Outside → Outside → Type 0
   Completes s u end before after =
-      (stream : List ℕ) (messages : List (List ℕ)) → before.left ≡ Some stream → IsServable stream messages
+      (stream : List ℕ) (messages : List (List ℕ)) → before.left ≡ Some stream
+      → IsServable stream messages
       → NoneFailed before after → IsComplete s u end before after messages

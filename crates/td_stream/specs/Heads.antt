@@ -36,7 +36,12 @@ IsLocateRequest m = m.kind ≡ LOCATE_REQUEST
 -- ---- its head
 
 abbrev pub asked_of : RequestHead → AskedOf
-asked_of h = record { id = h.id; answered = h.answered; key = h.key.now; operation = h.operation.now }
+asked_of h = record {
+  id = h.id;
+  answered = h.answered;
+  key = h.key.now;
+  operation = h.operation.now;
+}
 
 -- the message is of this type, and has this head
 abbrev pub HasHead : Raw → Head → Type 0

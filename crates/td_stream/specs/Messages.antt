@@ -38,7 +38,8 @@ behind message = behind_header (order_of message) message
 
 -- a CloseConnection or a MessageError
 abbrev pub is_closing : List ℕ → Bool
-is_closing message = nat_eq (kind_of message) CLOSE_CONNECTION || nat_eq (kind_of message) MESSAGE_ERROR
+is_closing message = nat_eq (kind_of message) CLOSE_CONNECTION
+    || nat_eq (kind_of message) MESSAGE_ERROR
 
 -- a whole message that may be sent to a server, with its head in the grammar
 pub record IsForServer (message : List ℕ) : Type 0 where

@@ -11,7 +11,12 @@ pub record Outbound : Type 0 where
   pub failed : Bool
 
 abbrev pub outbound : Option (List ℕ) → ℕ → List ℕ → Bool → Outbound
-outbound written writes held failed = record { written = written; writes = writes; held = held; failed = failed }
+outbound written writes held failed = record {
+  written = written;
+  writes = writes;
+  held = held;
+  failed = failed;
+}
 
 -- these bytes came behind what was held, and a front of both was written
 pub record Sends (bytes : List ℕ) (a b : Outbound) : Type 0 where

@@ -19,38 +19,43 @@ moves_none a false = sends_none a
 pub puts-none : (a : Outbound) → Puts [] a a
 puts-none a = record { moves = moves_none a a.failed; later = omega arith }
 
-sends_then : (a b c : Outbound) (xs ys : List ℕ) → Sends xs a b → Sends ys b c → Sends (xs ++ ys) a c
+sends_then : (a b c : Outbound) (xs ys : List ℕ) → Sends xs a b → Sends ys b c
+    → Sends (xs ++ ys) a c
 sends_then a b c xs ys p q = record {
   sent = p.sent ++ q.sent;
   gave = Appends-trans a.written b.written c.written p.sent q.sent p.gave q.gave;
   rest =
-      append_assoc p.sent q.sent c.held ∙ ap (λ l. p.sent ++ l) q.rest ∙ sym (append_assoc p.sent b.held ys)
-      ∙ ap (λ l. l ++ ys) p.rest ∙ append_assoc a.held xs ys;
+      append_assoc p.sent q.sent c.held ∙ ap (λ l. p.sent ++ l) q.rest
+      ∙ sym (append_assoc p.sent b.held ys) ∙ ap (λ l. l ++ ys) p.rest ∙ append_assoc a.held xs ys;
 }
 
-sends_misses : (a b c : Outbound) (xs ys : List ℕ) → Sends xs a b → Misses ys b c → a.writes ≤ b.writes
-    → Misses (xs ++ ys) a c
+sends_misses : (a b c : Outbound) (xs ys : List ℕ) → Sends xs a b → Misses ys b c
+    → a.writes ≤ b.writes → Misses (xs ++ ys) a c
 sends_misses a b c xs ys p q later =
     let whole : p.sent ++ (b.held ++ ys) ≡ a.held ++ (xs ++ ys) =
     sym (append_assoc p.sent b.held ys) ∙ ap (λ l. l ++ ys) p.rest ∙ append_assoc a.held xs ys in
     let size : length (p.sent ++ (b.held ++ ys)) ≡ length p.sent + length (b.held ++ ys) =
     length-append p.sent (b.held ++ ys) in
-    let front : p.sent ++ take q.sent (b.held ++ ys) ≡ take (length p.sent + q.sent) (a.held ++ (xs ++ ys)) =
+    let front : p.sent ++ take q.sent (b.held ++ ys)
+    ≡ take (length p.sent + q.sent) (a.held ++ (xs ++ ys)) =
     sym (take-append-add p.sent (b.held ++ ys) q.sent) ∙ ap (take (length p.sent + q.sent)) whole in
     record {
       sent = length p.sent + q.sent;
       short = let short = q.short in omega (arith, size, ap (length {A = ℕ}) whole);
       gave =
           subst (λ l. Appends a.written c.written l) front
-          (Appends-trans a.written b.written c.written p.sent (take q.sent (b.held ++ ys)) p.gave q.gave);
-      rose = let rose : Rose b.writes c.writes = q.rose in let r : Rose a.writes c.writes = omega arith in r;
+          (Appends-trans a.written b.written c.written p.sent (take q.sent (b.held ++ ys))
+          p.gave q.gave);
+      rose = let rose : Rose b.writes c.writes = q.rose in let r : Rose a.writes c.writes = omega
+          arith in r;
     }
 
 misses_stays : (a b c : Outbound) (xs ys : List ℕ) → Misses xs a b → Appends b.written c.written []
     → c.writes ≡ b.writes → Misses (xs ++ ys) a c
 misses_stays a b c xs ys p gave same =
     let longer : a.held ++ (xs ++ ys) ≡ (a.held ++ xs) ++ ys = sym (append_assoc a.held xs ys) in
-    let size : length ((a.held ++ xs) ++ ys) ≡ length (a.held ++ xs) + length ys = length-append (a.held ++ xs) ys in
+    let size : length ((a.held ++ xs) ++ ys) ≡ length (a.held ++ xs)
+    + length ys = length-append (a.held ++ xs) ys in
     let front : take p.sent (a.held ++ xs) ++ [] ≡ take p.sent (a.held ++ (xs ++ ys)) =
     append-nil (take p.sent (a.held ++ xs))
     ∙ sym (take-append-le p.sent (a.held ++ xs) ys (let short = p.short in omega arith))
@@ -64,8 +69,8 @@ misses_stays a b c xs ys p gave same =
       rose = rw same p.rose;
     }
 
-moves_then : (a b c : Outbound) (p q r : Bool) (xs ys : List ℕ) → Moves p q xs a b → Moves q r ys b c
-    → a.writes ≤ b.writes → Moves p r (xs ++ ys) a c
+moves_then : (a b c : Outbound) (p q r : Bool) (xs ys : List ℕ) → Moves p q xs a b
+    → Moves q r ys b c → a.writes ≤ b.writes → Moves p r (xs ++ ys) a c
 moves_then a b c false false false xs ys m n later = sends_then a b c xs ys m n
 moves_then a b c false false true xs ys m n later = sends_misses a b c xs ys m n later
 moves_then a b c false true true xs ys m n later = misses_stays a b c xs ys m n.0 n.1
@@ -76,7 +81,8 @@ moves_then a b c true true false xs ys m n later = absurd n
 moves_then a b c true false r xs ys m n later = absurd m
 
 -- one after the other
-pub puts-then : (xs ys : List ℕ) (a b c : Outbound) → Puts xs a b → Puts ys b c → Puts (xs ++ ys) a c
+pub puts-then : (xs ys : List ℕ) (a b c : Outbound) → Puts xs a b → Puts ys b c
+    → Puts (xs ++ ys) a c
 puts-then xs ys a b c p q = record {
   moves = moves_then a b c a.failed b.failed c.failed xs ys p.moves q.moves p.later;
   later = let l = p.later in let m = q.later in omega arith;

@@ -9,4 +9,9 @@ pub record Outside : Type 0 where
   pub writes : ℕ
 
 abbrev pub outside : Option (List ℕ) → ℕ → Option (List ℕ) → ℕ → Outside
-outside left reads written writes = record { left = left; reads = reads; written = written; writes = writes }
+outside left reads written writes = record {
+  left = left;
+  reads = reads;
+  written = written;
+  writes = writes;
+}

@@ -12,25 +12,30 @@ pub record Comes (most : ℕ) (left0 left1 : Option (List ℕ)) (bytes : List �
   pub within : length bytes ≤ most
 
 -- A read of a piece of at most so many bytes, which went into the stream where memory was found.
-abbrev pub Brings : Piece → (most : ℕ) → (left0 left1 : Option (List ℕ)) → (reads0 reads1 : ℕ) → Stream → Stream
-    → Type 0
+abbrev pub Brings : Piece → (most : ℕ) → (left0 left1 : Option (List ℕ)) → (reads0 reads1 : ℕ)
+    → Stream → Stream → Type 0
 Brings (Came count) most left0 left1 reads0 reads1 old new =
     (bytes : List ℕ) × Comes most left0 left1 bytes × (length bytes ≡ count) × (0 < count)
     × (new ≡ record old { rest = old.rest ++ bytes })
-Brings Ended most left0 left1 reads0 reads1 old new = Consumes left0 left1 [] × IsAtEnd left1 × (new ≡ old)
-Brings Failed most left0 left1 reads0 reads1 old new = Consumes left0 left1 [] × Rose reads0 reads1 × (new ≡ old)
-Brings Memory most left0 left1 reads0 reads1 old new = (bytes : List ℕ) × Comes most left0 left1 bytes × (new ≡ old)
+Brings Ended most left0 left1 reads0 reads1 old new = Consumes left0 left1 [] × IsAtEnd left1
+    × (new ≡ old)
+Brings Failed most left0 left1 reads0 reads1 old new = Consumes left0 left1 [] × Rose reads0 reads1
+    × (new ≡ old)
+Brings Memory most left0 left1 reads0 reads1 old new = (bytes : List ℕ)
+    × Comes most left0 left1 bytes × (new ≡ old)
 
 -- A whole piece was written, or a front of it that isn't all, with a count of faults that rose.
-pub record WritesAll {E : Type 0} (written0 written1 : Option (List ℕ)) (writes0 writes1 : ℕ) (piece : List ℕ)
-    (result : Result (Unit {0}) E) : Type 0 where
+pub record WritesAll {E : Type 0} (written0 written1 : Option (List ℕ)) (writes0 writes1 : ℕ)
+    (piece : List ℕ) (result : Result (Unit {0}) E) : Type 0 where
   pub whole : OnOk result (Appends written0 written1 piece)
-  pub front : OnErr result ((sent : ℕ) × (sent < length piece) × Appends written0 written1 (take sent piece))
+  pub front : OnErr result ((sent : ℕ) × (sent < length piece)
+      × Appends written0 written1 (take sent piece))
   pub later : writes0 ≤ writes1
   pub rose : OnErr result (Rose writes0 writes1)
 
 -- A piece was written, or a front of it with a count of faults that rose.
-pub record Writes (piece : List ℕ) (written0 written1 : Option (List ℕ)) (writes0 writes1 : ℕ) : Type 0 where
+pub record Writes (piece : List ℕ) (written0 written1 : Option (List ℕ))
+    (writes0 writes1 : ℕ) : Type 0 where
   pub sent : ℕ
   pub gave : Appends written0 written1 (take sent piece)
   pub whole : (sent ≡ length piece) ⊎ Rose writes0 writes1

@@ -92,7 +92,8 @@ Continues None old at new = GoesOn old at new
 Continues (Some end) old at new = Ends end old at new
 
 -- these messages were answered, up to where the stream goes on or ends
-pub record Advances (exchanges : List Exchange) (result : Option End) (old new : Stand) : Type 0 where
+pub record Advances (exchanges : List Exchange) (result : Option End)
+    (old new : Stand) : Type 0 where
   pub at : Stand
   pub moves : Moves exchanges old at
   pub goes : Continues result old at new

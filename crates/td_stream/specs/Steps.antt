@@ -43,7 +43,8 @@ cancel_step (Err fault) = breaks (broken_head fault)
 -- and LocateReply are for clients
 unfoldable pub step_of : List ℕ → Step
 step_of message =
-    if nat_eq (kind_of message) REQUEST then request_step (request_at (minor_of message) (behind message))
+    if nat_eq (kind_of message) REQUEST then request_step
+    (request_at (minor_of message) (behind message))
     else if nat_eq (kind_of message) CANCEL_REQUEST then cancel_step (cancel_at (behind message))
     else if nat_eq (kind_of message) LOCATE_REQUEST then locate_step (locate_at (behind message))
     else if nat_eq (kind_of message) REPLY then breaks NotForServer

@@ -23,7 +23,8 @@ request_limit = 1000000
 
 -- Behind bytes that were taken before, more were taken. In front of them all stand the messages that were
 -- served, one after the other, and the rest behind them. These bytes were given.
-pub record Runs (exchanges : List Exchange) (before after : Outside) (held taken rest given : List ℕ) : Type 0 where
+pub record Runs (exchanges : List Exchange) (before after : Outside)
+    (held taken rest given : List ℕ) : Type 0 where
   pub took : Consumes before.left after.left taken
   pub cut : Fronts message_limit (held ++ taken) (messages_of exchanges) rest
   pub gave : Appends before.written after.written given
@@ -42,7 +43,8 @@ IsServed rest = (n : ℕ) → first_at message_limit rest ≡ Ok (Some n) → �
 
 -- The input ended where no message had begun, or the message in front closes the stream.
 abbrev pub ClosesAt : Outside → ℕ → List ℕ → Type 0
-ClosesAt after count rest = ((count < bytes_limit) × (rest ≡ []) × IsAtEnd after.left) ⊎ Meets rest closes
+ClosesAt after count rest = ((count < bytes_limit) × (rest ≡ []) × IsAtEnd after.left)
+    ⊎ Meets rest closes
 
 -- The header in front is bad, or the message in front can't be served.
 abbrev pub BreaksAt : ℕ → List ℕ → Cause → Type 0
@@ -66,7 +68,8 @@ pub record ReadFails (before after : Outside) (count : ℕ) (rest : List ℕ) : 
 
 -- The end comes for its reason: so many bytes were taken and so many Requests served, and this rest is left.
 abbrev pub HasReason : End → Outside → Outside → (count requests : ℕ) → List ℕ → Type 0
-HasReason Closed before after count requests rest = (requests < request_limit) × ClosesAt after count rest
+HasReason Closed before after count requests rest = (requests < request_limit)
+    × ClosesAt after count rest
 HasReason (Broken place cause) before after count requests rest =
     (requests < request_limit) × (place + length rest ≡ count) × BreaksAt count rest cause
 HasReason (Truncated place) before after count requests rest =
@@ -92,7 +95,8 @@ pub record IsFront (replies given : List ℕ) : Type 0 where
 
 -- what was given of the answers by this end
 abbrev pub Gives : End → Outside → Outside → List Exchange → (given : List ℕ) → Type 0
-Gives (Broken place cause) before after exchanges given = SendsError before after (output exchanges) given
+Gives (Broken place cause) before after exchanges given = SendsError before after (output exchanges)
+    given
 Gives WriteFault before after exchanges given = IsFront (output exchanges) given
 Gives Closed before after exchanges given = given ≡ output exchanges
 Gives (Truncated place) before after exchanges given = given ≡ output exchanges
@@ -113,7 +117,8 @@ pub record Finishes (exchanges : List Exchange) (end : End) (before after : Outs
   pub runs : Runs exchanges before after held taken rest given
   pub bytes : count + length taken ≤ bytes_limit
   pub few : requests_before + requests exchanges ≤ request_limit
-  pub reason : HasReason end before after (count + length taken) (requests_before + requests exchanges) rest
+  pub reason : HasReason end before after (count + length taken)
+      (requests_before + requests exchanges) rest
   pub gives : Gives end before after exchanges given
 
 module _ {V : Type 0} (serves : V → List ℕ → List ℕ → V → Type 0) (stays : V → V → Type 0) where

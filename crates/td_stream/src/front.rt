@@ -45,10 +45,10 @@ pub(crate) fn serve_front<'k, V: Servant, K: Sink>(
     ensures same { V.same servant.old servant.new }
     ensures same_sink { outbox.new.sink.ghost_name ≡ outbox.old.sink.ghost_name }
     ensures finds { Finds V.serves V.stays result framer.old.rest servant.old servant.new
-        (outbound (K.written outbox.old.sink.now) (K.faults outbox.old.sink.now) outbox.old.held.items
-        outbox.old.failed)
-        (outbound (K.written outbox.new.sink.now) (K.faults outbox.new.sink.now) outbox.new.held.items
-        outbox.new.failed) }
+        (outbound (K.written outbox.old.sink.now)
+        (K.faults outbox.old.sink.now) outbox.old.held.items outbox.old.failed)
+        (outbound (K.written outbox.new.sink.now)
+        (K.faults outbox.new.sink.now) outbox.new.held.items outbox.new.failed) }
     ensures framer { framer.new ≡ framer.old }
 {
     match framer.next_message() {
@@ -69,11 +69,11 @@ fn respond<'k, V: Servant, K: Sink>(
     requires room { V.budget servant.old < 2 ^ 63 }
     ensures same { V.same servant.old servant.new }
     ensures same_sink { outbox.new.sink.ghost_name ≡ outbox.old.sink.ghost_name }
-    ensures responds { Responds V.serves V.stays result message.now.bytes.now servant.old servant.new
-        (outbound (K.written outbox.old.sink.now) (K.faults outbox.old.sink.now) outbox.old.held.items
-        outbox.old.failed)
-        (outbound (K.written outbox.new.sink.now) (K.faults outbox.new.sink.now) outbox.new.held.items
-        outbox.new.failed) }
+    ensures responds { Responds V.serves V.stays result message.now.bytes.now servant.old
+        servant.new (outbound (K.written outbox.old.sink.now)
+        (K.faults outbox.old.sink.now) outbox.old.held.items outbox.old.failed)
+        (outbound (K.written outbox.new.sink.now)
+        (K.faults outbox.new.sink.now) outbox.new.held.items outbox.new.failed) }
 {
     match judge(message) {
         Asked::Close => Front::Closes,
@@ -96,11 +96,11 @@ fn answer<'k, V: Servant, K: Sink>(
     requires room { V.budget servant.old < 2 ^ 63 }
     ensures same { V.same servant.old servant.new }
     ensures same_sink { outbox.new.sink.ghost_name ≡ outbox.old.sink.ghost_name }
-    ensures responds { Responds V.serves V.stays result message.now.bytes.now servant.old servant.new
-        (outbound (K.written outbox.old.sink.now) (K.faults outbox.old.sink.now) outbox.old.held.items
-        outbox.old.failed)
-        (outbound (K.written outbox.new.sink.now) (K.faults outbox.new.sink.now) outbox.new.held.items
-        outbox.new.failed) }
+    ensures responds { Responds V.serves V.stays result message.now.bytes.now servant.old
+        servant.new (outbound (K.written outbox.old.sink.now)
+        (K.faults outbox.old.sink.now) outbox.old.held.items outbox.old.failed)
+        (outbound (K.written outbox.new.sink.now)
+        (K.faults outbox.new.sink.now) outbox.new.held.items outbox.new.failed) }
 {
     match servant.answer(alloc, message, head, outbox) {
         Err(_) => Front::Full,

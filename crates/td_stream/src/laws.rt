@@ -11,6 +11,7 @@ use crate::servant::Servant;
 /// the sink fails, all before the first that closes the stream are answered, in order, and it is closed, or it
 /// ends for want of memory.
 pub fn all_messages_are_answered<V: Servant>()
-    ensures { (s u : V) (end : End) (before after : Outside) → Streams V.serves V.stays s u end before after
+    ensures { (s u : V) (end : End) (before after : Outside)
+        → Streams V.serves V.stays s u end before after
         → Completes V.serves V.stays s u end before after }
 {}

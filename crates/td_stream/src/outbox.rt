@@ -90,8 +90,9 @@ impl<'k, K: Sink> Outbox<'k, K> {
     /// Writes an error where nothing is held, as far as the sink takes it.
     pub(crate) fn write_error(&mut self, error: &[u8])
         ensures same { self.new.sink.ghost_name ≡ self.old.sink.ghost_name }
-        ensures written { Writes error.now (K.written self.old.sink.now) (K.written self.new.sink.now)
-            (K.faults self.old.sink.now) (K.faults self.new.sink.now) }
+        ensures written { Writes error.now (K.written self.old.sink.now)
+            (K.written self.new.sink.now) (K.faults self.old.sink.now)
+            (K.faults self.new.sink.now) }
     {
         self.failed = write_all(self.sink, error).is_err();
     }

@@ -26,8 +26,8 @@ pub(crate) enum Piece {
 pub(crate) fn take_piece<S: Source>(framer: &mut Framer, source: &mut S, most: u64) -> Piece
     requires some { 0 < most }
     requires fits { framer.old.start + (length framer.old.rest + most) < 2 ^ 64 }
-    ensures brings { Brings result most (S.left source.old) (S.left source.new) (S.faults source.old)
-        (S.faults source.new) framer.old framer.new }
+    ensures brings { Brings result most (S.left source.old) (S.left source.new)
+        (S.faults source.old) (S.faults source.new) framer.old framer.new }
     ensures later { S.faults source.old ≤ S.faults source.new }
 {
     let mut buffer = [0u8; READ_SIZE];
@@ -48,8 +48,8 @@ pub(crate) fn take_piece<S: Source>(framer: &mut Framer, source: &mut S, most: u
 ///
 /// The sink's fault; a front of the piece is then written.
 pub(crate) fn write_all<K: Sink>(sink: &mut K, piece: &[u8]) -> Result<(), Failed>
-    ensures { WritesAll (K.written sink.old) (K.written sink.new) (K.faults sink.old) (K.faults sink.new) piece.now
-        result }
+    ensures { WritesAll (K.written sink.old) (K.written sink.new) (K.faults sink.old)
+        (K.faults sink.new) piece.now result }
 {
     let mut sent = 0;
     while sent < piece.len() {

@@ -73,12 +73,14 @@ impl Transport {
         ensures same { V.same servant.old servant.new }
         ensures same_sink { outbox.new.sink.ghost_name ≡ outbox.old.sink.ghost_name }
         ensures proceeds { Proceeds V.serves V.stays servant.old servant.new
-            (stand (S.left source.old) (S.faults source.old) self.old.framer.rest self.old.taken self.old.requests
-            (outbound (K.written outbox.old.sink.now) (K.faults outbox.old.sink.now) outbox.old.held.items
-            outbox.old.failed))
-            (stand (S.left source.new) (S.faults source.new) self.new.framer.rest self.new.taken self.new.requests
-            (outbound (K.written outbox.new.sink.now) (K.faults outbox.new.sink.now) outbox.new.held.items
-            outbox.new.failed)) result }
+            (stand (S.left source.old)
+            (S.faults source.old) self.old.framer.rest self.old.taken self.old.requests
+            (outbound (K.written outbox.old.sink.now)
+            (K.faults outbox.old.sink.now) outbox.old.held.items outbox.old.failed))
+            (stand (S.left source.new)
+            (S.faults source.new) self.new.framer.rest self.new.taken self.new.requests
+            (outbound (K.written outbox.new.sink.now)
+            (K.faults outbox.new.sink.now) outbox.new.held.items outbox.new.failed)) result }
     {
         if self.requests == REQUEST_LIMIT {
             return Some(finish(outbox, End::Long));
@@ -111,12 +113,14 @@ impl Transport {
         requires open { self.old.requests < 1000000 }
         ensures same_sink { outbox.new.sink.ghost_name ≡ outbox.old.sink.ghost_name }
         ensures takes { Advances [] result
-            (stand (S.left source.old) (S.faults source.old) self.old.framer.rest self.old.taken self.old.requests
-            (outbound (K.written outbox.old.sink.now) (K.faults outbox.old.sink.now) outbox.old.held.items
-            outbox.old.failed))
-            (stand (S.left source.new) (S.faults source.new) self.new.framer.rest self.new.taken self.new.requests
-            (outbound (K.written outbox.new.sink.now) (K.faults outbox.new.sink.now) outbox.new.held.items
-            outbox.new.failed)) }
+            (stand (S.left source.old)
+            (S.faults source.old) self.old.framer.rest self.old.taken self.old.requests
+            (outbound (K.written outbox.old.sink.now)
+            (K.faults outbox.old.sink.now) outbox.old.held.items outbox.old.failed))
+            (stand (S.left source.new)
+            (S.faults source.new) self.new.framer.rest self.new.taken self.new.requests
+            (outbound (K.written outbox.new.sink.now)
+            (K.faults outbox.new.sink.now) outbox.new.held.items outbox.new.failed)) }
     {
         outbox.send();
         if outbox.has_failed() {
@@ -151,10 +155,10 @@ impl Transport {
     fn end_at_bad_header<'k, K: Sink>(&self, outbox: &mut Outbox<'k, K>, fault: FrameFault) -> End
         ensures same_sink { outbox.new.sink.ghost_name ≡ outbox.old.sink.ghost_name }
         ensures ends { EndsAtBad self.now.framer.start self.now.taken fault result
-            (outbound (K.written outbox.old.sink.now) (K.faults outbox.old.sink.now) outbox.old.held.items
-            outbox.old.failed)
-            (outbound (K.written outbox.new.sink.now) (K.faults outbox.new.sink.now) outbox.new.held.items
-            outbox.new.failed) }
+            (outbound (K.written outbox.old.sink.now)
+            (K.faults outbox.old.sink.now) outbox.old.held.items outbox.old.failed)
+            (outbound (K.written outbox.new.sink.now)
+            (K.faults outbox.new.sink.now) outbox.new.held.items outbox.new.failed) }
     {
         if self.taken == BYTES_LIMIT {
             return finish(outbox, End::Long);
@@ -166,10 +170,10 @@ impl Transport {
     fn break_off<'k, K: Sink>(&self, outbox: &mut Outbox<'k, K>, cause: Cause) -> End
         ensures same_sink { outbox.new.sink.ghost_name ≡ outbox.old.sink.ghost_name }
         ensures breaks { BreaksOff self.now.framer.start cause result
-            (outbound (K.written outbox.old.sink.now) (K.faults outbox.old.sink.now) outbox.old.held.items
-            outbox.old.failed)
-            (outbound (K.written outbox.new.sink.now) (K.faults outbox.new.sink.now) outbox.new.held.items
-            outbox.new.failed) }
+            (outbound (K.written outbox.old.sink.now)
+            (K.faults outbox.old.sink.now) outbox.old.held.items outbox.old.failed)
+            (outbound (K.written outbox.new.sink.now)
+            (K.faults outbox.new.sink.now) outbox.new.held.items outbox.new.failed) }
     {
         outbox.send();
         if outbox.has_failed() {
@@ -184,10 +188,10 @@ impl Transport {
 fn finish<'k, K: Sink>(outbox: &mut Outbox<'k, K>, end: End) -> End
     ensures same_sink { outbox.new.sink.ghost_name ≡ outbox.old.sink.ghost_name }
     ensures sends { SendsAll
-        (outbound (K.written outbox.old.sink.now) (K.faults outbox.old.sink.now) outbox.old.held.items
-        outbox.old.failed)
-        (outbound (K.written outbox.new.sink.now) (K.faults outbox.new.sink.now) outbox.new.held.items
-        outbox.new.failed) }
+        (outbound (K.written outbox.old.sink.now)
+        (K.faults outbox.old.sink.now) outbox.old.held.items outbox.old.failed)
+        (outbound (K.written outbox.new.sink.now)
+        (K.faults outbox.new.sink.now) outbox.new.held.items outbox.new.failed) }
     ensures end { result ≡ (if outbox.new.failed then WriteFault else end) }
 {
     outbox.send();
@@ -227,10 +231,12 @@ pub fn serve_stream<V: Servant, S: Source, K: Sink>(
     ensures same { V.same servant.old servant.new }
     ensures streams { Streams V.serves V.stays servant.old servant.new result
         (outside (S.left source.old) (S.faults source.old) (K.written sink.old) (K.faults sink.old))
-        (outside (S.left source.new) (S.faults source.new) (K.written sink.new) (K.faults sink.new)) }
+        (outside (S.left source.new) (S.faults source.new) (K.written sink.new)
+        (K.faults sink.new)) }
     ensures complete { Completes V.serves V.stays servant.old servant.new result
         (outside (S.left source.old) (S.faults source.old) (K.written sink.old) (K.faults sink.old))
-        (outside (S.left source.new) (S.faults source.new) (K.written sink.new) (K.faults sink.new)) }
+        (outside (S.left source.new) (S.faults source.new) (K.written sink.new)
+        (K.faults sink.new)) }
 {
     serve_whole(alloc, servant, source, sink)
 }
@@ -246,7 +252,8 @@ fn serve_whole<V: Servant, S: Source, K: Sink>(
     ensures same { V.same servant.old servant.new }
     ensures streams { Streams V.serves V.stays servant.old servant.new result
         (outside (S.left source.old) (S.faults source.old) (K.written sink.old) (K.faults sink.old))
-        (outside (S.left source.new) (S.faults source.new) (K.written sink.new) (K.faults sink.new)) }
+        (outside (S.left source.new) (S.faults source.new) (K.written sink.new)
+        (K.faults sink.new)) }
 {
     let mut outbox = Outbox::new(alloc, sink);
     let end = serve_all(alloc, servant, source, &mut outbox);

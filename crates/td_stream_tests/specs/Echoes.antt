@@ -21,7 +21,8 @@ pub record EchoesRequest (message reply : List ℕ) : Type 0 where
   pub body : At
   pub kind : kind_of message ≡ REQUEST
   pub read : request_at (minor_of message) (behind message) ≡ Ok (head, body)
-  pub told : reply ≡ (if head.answered then echo_of (order_of message) (minor_of message) head body else [])
+  pub told : reply ≡ (if head.answered then echo_of (order_of message)
+      (minor_of message) head body else [])
 
 -- each key is that of an object: OBJECT_HERE (1)
 pub record EchoesLocate (message reply : List ℕ) : Type 0 where

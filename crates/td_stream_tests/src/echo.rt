@@ -89,7 +89,8 @@ fn write_echo(reply: &mut Writer, minor: u8, request: &RequestHead<'_>) -> Resul
 fn write_here(reply: &mut Writer, minor: u8, id: u32) -> Result<(), Memory>
     requires empty { reply.old.bytes ≡ [] }
     requires minor { minor ≤ NEWEST_MINOR }
-    ensures { OnOk result (reply.new.bytes ≡ sealed reply.old.order (locate_reply_written reply.old.order minor id 1)) }
+    ensures { OnOk result (reply.new.bytes
+        ≡ sealed reply.old.order (locate_reply_written reply.old.order minor id 1)) }
 {
     write_locate_reply(reply, minor, id, 1)?;
     seal(reply);
@@ -100,7 +101,8 @@ fn write_here(reply: &mut Writer, minor: u8, id: u32) -> Result<(), Memory>
 pub fn serve_echo<S: Source, K: Sink>(alloc: Global, source: &mut S, sink: &mut K) -> End
     ensures { EchoesAll result
         (outside (S.left source.old) (S.faults source.old) (K.written sink.old) (K.faults sink.old))
-        (outside (S.left source.new) (S.faults source.new) (K.written sink.new) (K.faults sink.new)) }
+        (outside (S.left source.new) (S.faults source.new) (K.written sink.new)
+        (K.faults sink.new)) }
 {
     let mut echo = Echo::new(alloc);
     serve_stream(alloc, &mut echo, source, sink)

@@ -13,7 +13,8 @@ use td_out::{Failed, Sink};
 ///
 /// `Failed` only where the sink failed; the front of the text that it had taken is written.
 pub fn write_all<E: Sink>(sink: &mut E, text: &[u8]) -> Result<(), Failed>
-    ensures tells { Tells text.now (E.written sink.old) (E.written sink.new) (E.faults sink.old) (E.faults sink.new) }
+    ensures tells { Tells text.now (E.written sink.old) (E.written sink.new) (E.faults sink.old)
+        (E.faults sink.new) }
     ensures whole { OnOk result (Appends (E.written sink.old) (E.written sink.new) text.now) }
     ensures failed { OnErr result (Rose (E.faults sink.old) (E.faults sink.new)) }
 {

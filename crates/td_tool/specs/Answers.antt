@@ -30,4 +30,5 @@ IsRefusal words refusal.Form = (asked_of words ≡ None) × (refusals words ≡ 
 -- clap has no kind to refuse the words by where they ask for something
 abbrev pub IsAnswer : List Text → Result Wanted Refusal → Type 0
 IsAnswer words r =
-    MatchResult r (λ w. (asked_of words ≡ Some (asked_by w)) × (refusals words ≡ [])) (IsRefusal words)
+    MatchResult r (λ w. (asked_of words ≡ Some (asked_by w)) × (refusals words ≡ []))
+    (IsRefusal words)

@@ -76,12 +76,13 @@ is_exact (exact ∷ cs) = true
 -- ---- the words, and what they ask for
 
 pub data Spells : List Text → Asked → Type 0 where
-  of_query : (choices : List Choice) (reference service constraint preference : Text) (names : List Text)
+  of_query : (choices : List Choice) (reference service constraint preference : Text)
+      (names : List Text)
       → once [] choices ≡ true → list_all is_plain_choice choices ≡ true
-      → is_plain reference ≡ true → is_plain service ≡ true → is_plain constraint ≡ true → is_plain preference ≡ true
-      → list_all is_plain names ≡ true
-      → Spells (codes "query" ∷ (option_words choices ++ (reference ∷ service ∷ constraint ∷ preference ∷ names)))
-      (query (record {
+      → is_plain reference ≡ true → is_plain service ≡ true → is_plain constraint ≡ true
+      → is_plain preference ≡ true → list_all is_plain names ≡ true
+      → Spells (codes "query" ∷ (option_words choices
+      ++ (reference ∷ service ∷ constraint ∷ preference ∷ names))) (query (record {
         reference = reference;
         service = service;
         constraint = constraint;
@@ -97,14 +98,19 @@ pub data Spells : List Text → Asked → Type 0 where
       → is_plain reference ≡ true → is_plain service ≡ true → is_plain object ≡ true
       → list_all is_plain properties ≡ true
       → Spells (codes "export" ∷ reference ∷ service ∷ object ∷ properties)
-      (export (record { reference = reference; service = service; object = object; properties = properties }))
+      (export (record {
+        reference = reference;
+        service = service;
+        object = object;
+        properties = properties;
+      }))
   of_withdraw : (reference number : Text) → is_plain reference ≡ true → is_plain number ≡ true
       → Spells (codes "withdraw" ∷ reference ∷ number ∷ []) (withdraw reference number)
   of_describe : (reference number : Text) → is_plain reference ≡ true → is_plain number ≡ true
       → Spells (codes "describe" ∷ reference ∷ number ∷ []) (describe reference number)
   of_link : (reference name target def_pass_on limiting : Text)
-      → is_plain reference ≡ true → is_plain name ≡ true → is_plain target ≡ true → is_plain def_pass_on ≡ true
-      → is_plain limiting ≡ true
+      → is_plain reference ≡ true → is_plain name ≡ true → is_plain target ≡ true
+      → is_plain def_pass_on ≡ true → is_plain limiting ≡ true
       → Spells (codes "link" ∷ reference ∷ name ∷ target ∷ def_pass_on ∷ limiting ∷ [])
       (link (record {
         reference = reference;
@@ -113,9 +119,17 @@ pub data Spells : List Text → Asked → Type 0 where
         def_pass_on = def_pass_on;
         limiting = limiting;
       }))
-  of_links : (reference : Text) → is_plain reference ≡ true → Spells (codes "links" ∷ reference ∷ []) (links reference)
-  of_types : (reference : Text) → is_plain reference ≡ true → Spells (codes "types" ∷ reference ∷ []) (types reference)
+  of_links : (reference : Text) → is_plain reference ≡ true
+      → Spells (codes "links" ∷ reference ∷ []) (links reference)
+  of_types : (reference : Text) → is_plain reference ≡ true
+      → Spells (codes "types" ∷ reference ∷ []) (types reference)
   of_addtype : (reference name interface : Text) (items : List Text)
-      → is_plain reference ≡ true → is_plain name ≡ true → is_plain interface ≡ true → list_all is_plain items ≡ true
+      → is_plain reference ≡ true → is_plain name ≡ true → is_plain interface ≡ true
+      → list_all is_plain items ≡ true
       → Spells (codes "addtype" ∷ reference ∷ name ∷ interface ∷ items)
-      (addtype (record { reference = reference; name = name; interface = interface; items = items }))
+      (addtype (record {
+        reference = reference;
+        name = name;
+        interface = interface;
+        items = items;
+      }))

@@ -15,7 +15,8 @@ says_true o = option_map_or (λ t. bytes_eq t (codes "true")) o false
 
 abbrev pub read_query : List Row → Option AskedQuery
 read_query rows =
-    option_and_then (λ reference. option_and_then (λ service. option_and_then (λ constraint. option_map (λ preference.
+    option_and_then (λ reference.
+    option_and_then (λ service. option_and_then (λ constraint. option_map (λ preference.
     record {
       reference = reference;
       service = service;
@@ -28,8 +29,8 @@ read_query rows =
       id = first_of (codes "id") rows;
       exact = says_true (first_of (codes "exact") rows);
     })
-    (first_of (codes "preference") rows)) (first_of (codes "constraint") rows)) (first_of (codes "type") rows))
-    (first_of (codes "ref") rows)
+    (first_of (codes "preference") rows)) (first_of (codes "constraint") rows))
+    (first_of (codes "type") rows)) (first_of (codes "ref") rows)
 
 abbrev pub read_export : List Row → Option AskedExport
 read_export rows =
@@ -43,26 +44,28 @@ read_export rows =
 
 abbrev pub read_withdraw : List Row → Option Asked
 read_withdraw rows =
-    option_and_then (λ reference. option_map (λ number. withdraw reference number) (first_of (codes "id") rows))
-    (first_of (codes "ref") rows)
+    option_and_then (λ reference. option_map (λ number. withdraw reference number)
+    (first_of (codes "id") rows)) (first_of (codes "ref") rows)
 
 abbrev pub read_describe : List Row → Option Asked
 read_describe rows =
-    option_and_then (λ reference. option_map (λ number. describe reference number) (first_of (codes "id") rows))
-    (first_of (codes "ref") rows)
+    option_and_then (λ reference. option_map (λ number. describe reference number)
+    (first_of (codes "id") rows)) (first_of (codes "ref") rows)
 
 abbrev pub read_link : List Row → Option Asked
 read_link rows =
-    option_and_then (λ reference. option_and_then (λ name. option_and_then (λ target. option_and_then (λ def_pass_on.
-    option_map (λ limiting. link (record {
+    option_and_then (λ reference.
+    option_and_then (λ name.
+    option_and_then (λ target.
+    option_and_then (λ def_pass_on. option_map (λ limiting. link (record {
       reference = reference;
       name = name;
       target = target;
       def_pass_on = def_pass_on;
       limiting = limiting;
     }))
-    (first_of (codes "limit") rows)) (first_of (codes "def") rows)) (first_of (codes "target") rows))
-    (first_of (codes "name") rows)) (first_of (codes "ref") rows)
+    (first_of (codes "limit") rows)) (first_of (codes "def") rows))
+    (first_of (codes "target") rows)) (first_of (codes "name") rows)) (first_of (codes "ref") rows)
 
 abbrev pub read_links : List Row → Option Asked
 read_links rows = option_map (λ reference. links reference) (first_of (codes "ref") rows)
@@ -78,7 +81,8 @@ read_addtype rows =
       interface = interface;
       items = unwrap_or (all_of (codes "item") rows) [];
     })
-    (first_of (codes "interface") rows)) (first_of (codes "name") rows)) (first_of (codes "ref") rows)
+    (first_of (codes "interface") rows)) (first_of (codes "name") rows))
+    (first_of (codes "ref") rows)
 
 -- ---- by the subcommand's name
 

@@ -8,7 +8,8 @@ use Rattle.td_tool.specs.Tool.{types_app, addtype_app}
 -- the first word is a subcommand's name
 abbrev pub top_app : App
 top_app =
-    on_top (λ s. record s { no_binary_name = true; subcommand_required = true }) (new_app (codes "tradecli"))
+    on_top (λ s. record s { no_binary_name = true; subcommand_required = true })
+    (new_app (codes "tradecli"))
 
 abbrev pub offers_app : App
 offers_app = with_subcommand (with_subcommand top_app query_app.top) export_app.top

@@ -19,7 +19,8 @@ fixed id = record (new_rule id) { required = true; action = Some Set }
 
 -- words that come any number of times
 abbrev pub many : Text → Rule
-many id = record (new_rule id) { range = Some (record { start_inclusive = 0; end_inclusive = usize_max }) }
+many id = record (new_rule id)
+    { range = Some (record { start_inclusive = 0; end_inclusive = usize_max }) }
 
 -- `--name VALUE`
 abbrev pub valued : Text → Rule
@@ -34,14 +35,14 @@ flag id = record (new_rule id) { long = Some id; action = Some SetTrue }
 abbrev pub with_options : App → App
 with_options a =
     with_rule (with_rule (with_rule (with_rule (with_rule a
-    (valued (codes "how-many"))) (valued (codes "hops"))) (valued (codes "follow"))) (valued (codes "id")))
-    (flag (codes "exact"))
+    (valued (codes "how-many"))) (valued (codes "hops"))) (valued (codes "follow")))
+    (valued (codes "id"))) (flag (codes "exact"))
 
 abbrev pub with_places : App → App
 with_places a =
     with_rule (with_rule (with_rule (with_rule (with_rule a
-    (fixed (codes "ref"))) (fixed (codes "type"))) (fixed (codes "constraint"))) (fixed (codes "preference")))
-    (many (codes "name"))
+    (fixed (codes "ref"))) (fixed (codes "type"))) (fixed (codes "constraint")))
+    (fixed (codes "preference"))) (many (codes "name"))
 
 abbrev pub query_app : App
 query_app = with_places (with_options (new_app (codes "query")))
@@ -49,13 +50,16 @@ query_app = with_places (with_options (new_app (codes "query")))
 abbrev pub export_app : App
 export_app =
     with_rule (with_rule (with_rule (with_rule (new_app (codes "export"))
-    (fixed (codes "ref"))) (fixed (codes "type"))) (fixed (codes "object"))) (many (codes "property"))
+    (fixed (codes "ref"))) (fixed (codes "type"))) (fixed (codes "object")))
+    (many (codes "property"))
 
 abbrev pub withdraw_app : App
-withdraw_app = with_rule (with_rule (new_app (codes "withdraw")) (fixed (codes "ref"))) (fixed (codes "id"))
+withdraw_app = with_rule (with_rule (new_app (codes "withdraw")) (fixed (codes "ref")))
+    (fixed (codes "id"))
 
 abbrev pub describe_app : App
-describe_app = with_rule (with_rule (new_app (codes "describe")) (fixed (codes "ref"))) (fixed (codes "id"))
+describe_app = with_rule (with_rule (new_app (codes "describe")) (fixed (codes "ref")))
+    (fixed (codes "id"))
 
 abbrev pub link_app : App
 link_app =
@@ -72,4 +76,5 @@ types_app = with_rule (new_app (codes "types")) (fixed (codes "ref"))
 abbrev pub addtype_app : App
 addtype_app =
     with_rule (with_rule (with_rule (with_rule (new_app (codes "addtype"))
-    (fixed (codes "ref"))) (fixed (codes "name"))) (fixed (codes "interface"))) (many (codes "item"))
+    (fixed (codes "ref"))) (fixed (codes "name"))) (fixed (codes "interface")))
+    (many (codes "item"))

@@ -50,7 +50,8 @@ pub fn ask<'a>(alloc: Global, words: &'a [String]) -> Result<Wanted<'a>, Refusal
 
 /// What clap reads of the words.
 fn parse<'a>(alloc: Global, words: &'a [String]) -> Result<ArgMatches<'a>, Refusal>
-    ensures ok { IfOk result (λ m. read_matches (subcommand_rows_of m) ≡ asked_of (map string_bytes words.now)) }
+    ensures ok { IfOk result (λ m. read_matches (subcommand_rows_of m)
+        ≡ asked_of (map string_bytes words.now)) }
     ensures taken { OnOk result (refusals (map string_bytes words.now) ≡ []) }
     ensures err { IfErr result (IsRefusal (map string_bytes words.now)) }
 {

@@ -22,6 +22,6 @@ pub use wanted::{ExportWords, LinkWords, QueryWords, TypeWords, Wanted};
 /// Of words in the documented form clap makes what they ask for, or it has no memory.
 #[tactic(auto, using(crate::proofs::Law::reads))]
 pub fn documented_words_are_read()
-    ensures { (words : List (List ℕ)) (asked : Asked) → Spells words asked → length words ≤ usize_max
-        → (is_taken words ≡ true) × (asked_of words ≡ Some asked) }
+    ensures { (words : List (List ℕ)) (asked : Asked) → Spells words asked
+        → length words ≤ usize_max → (is_taken words ≡ true) × (asked_of words ≡ Some asked) }
 {}

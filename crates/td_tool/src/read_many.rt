@@ -30,7 +30,8 @@ fn read_query<'a>(
     alloc: Global,
     matches: &ArgMatches<'a>,
 ) -> Result<Option<QueryWords<'a>>, AllocError>
-    ensures { IfOk result (λ q. option_map asked_query q ≡ read_query (rows_of (found_of matches.now))) }
+    ensures { IfOk result (λ q. option_map asked_query q
+        ≡ read_query (rows_of (found_of matches.now))) }
 {
     let Some(reference) = value(matches, "ref") else {
         return Ok(None);
@@ -63,7 +64,8 @@ fn read_export<'a>(
     alloc: Global,
     matches: &ArgMatches<'a>,
 ) -> Result<Option<ExportWords<'a>>, AllocError>
-    ensures { IfOk result (λ e. option_map asked_export e ≡ read_export (rows_of (found_of matches.now))) }
+    ensures { IfOk result (λ e. option_map asked_export e
+        ≡ read_export (rows_of (found_of matches.now))) }
 {
     let Some(reference) = value(matches, "ref") else {
         return Ok(None);
@@ -87,7 +89,8 @@ fn read_addtype<'a>(
     alloc: Global,
     matches: &ArgMatches<'a>,
 ) -> Result<Option<TypeWords<'a>>, AllocError>
-    ensures { IfOk result (λ t. option_map asked_type t ≡ read_addtype (rows_of (found_of matches.now))) }
+    ensures { IfOk result (λ t. option_map asked_type t
+        ≡ read_addtype (rows_of (found_of matches.now))) }
 {
     let Some(reference) = value(matches, "ref") else {
         return Ok(None);
@@ -112,7 +115,8 @@ fn read_named<'a>(
     name: &str,
     matches: &ArgMatches<'a>,
 ) -> Result<Option<Wanted<'a>>, AllocError>
-    ensures { IfOk result (λ w. option_map asked_by w ≡ read_named name.now (rows_of (found_of matches.now))) }
+    ensures { IfOk result (λ w. option_map asked_by w
+        ≡ read_named name.now (rows_of (found_of matches.now))) }
 {
     if name == "query" {
         match read_query(alloc, matches)? {
@@ -139,7 +143,8 @@ pub(crate) fn read_matches<'a>(
     alloc: Global,
     matches: &ArgMatches<'a>,
 ) -> Result<Option<Wanted<'a>>, AllocError>
-    ensures { IfOk result (λ w. option_map asked_by w ≡ read_matches (subcommand_rows_of matches.now)) }
+    ensures { IfOk result (λ w. option_map asked_by w
+        ≡ read_matches (subcommand_rows_of matches.now)) }
 {
     match matches.subcommand() {
         Some((name, inner)) => read_named(alloc, name, inner),

@@ -29,7 +29,8 @@ AdmitsChange (change.Modify id deleted changed) =
 AdmitsChange (change.WithdrawUsingConstraint service_type constraint) =
     (text & text).format.admits (service_type, constraint)
 AdmitsChange (change.AddLink name target def_pass_on limiting register) =
-    (text & reference & follow_option & follow_option).format.admits (name, (target, (def_pass_on, limiting)))
+    (text & reference & follow_option & follow_option).format.admits
+    (name, (target, (def_pass_on, limiting)))
     × AdmitsRegister register
 AdmitsChange (change.RemoveLink name) = text.format.admits name
 AdmitsChange (change.ModifyLink name def_pass_on limiting) =
@@ -44,7 +45,8 @@ AdmitsChange (change.SetTruth attribute value) = boolean.format.admits value
 AdmitsChange (change.SetNumber attribute value) = ulong.format.admits value
 AdmitsChange (change.SetFollow attribute value) = follow_option.format.admits value
 AdmitsChange (change.SetRequestIdStem value) = Unit {0}
-AdmitsChange (change.AddType name if_name props super_types) = AreWritable name if_name props super_types
+AdmitsChange (change.AddType name if_name props super_types) = AreWritable name if_name props
+    super_types
 AdmitsChange (change.RemoveType name) = text.format.admits name
 AdmitsChange (change.MaskType name) = text.format.admits name
 AdmitsChange (change.UnmaskType name) = text.format.admits name

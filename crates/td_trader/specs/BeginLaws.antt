@@ -27,7 +27,8 @@ QueriesBegin =
 
 -- no other than a search marks
 abbrev pub OnlySearchesMark : Type 0
-OnlySearchesMark = (s : Store) (m : Marks) (q : Query) (b : Begin) → is_search b ≡ false → after_begin s m q b ≡ m
+OnlySearchesMark = (s : Store) (m : Marks) (q : Query) (b : Begin) → is_search b ≡ false
+    → after_begin s m q b ≡ m
 
 -- one mark more, of the identifier and with the number that the query is served with
 pub record IsMarkedOnce (m : Marks) (l : Local) (after : Marks) : Type 0 where
@@ -46,7 +47,8 @@ SearchesMarkOnce =
 -- an identifier that is remembered isn't marked
 abbrev pub RememberedIsNotMarked : Type 0
 RememberedIsNotMarked =
-    (bounds : Bounds) (s : Store) (point : ℕ) (m : Marks) (q : Query) (l : Local) (identifier : List ℕ) (number : ℕ)
+    (bounds : Bounds) (s : Store) (point : ℕ) (m : Marks) (q : Query) (l : Local)
+    (identifier : List ℕ) (number : ℕ)
     → AreKept m → begin_of bounds s point m q ≡ Search l → l.identifier ≡ Some identifier
     → Holds m identifier number → ⊥
 
@@ -67,12 +69,14 @@ pub record IsServed (s : Store) (point : ℕ) (q : Query) (l : Local) : Type 0 w
   pub preference : l.preference ≡ (parts_of q).preference
 
 -- a search has the store's candidates and its links
-pub record IsSearched (s : Store) (point mark : ℕ) (identifier : List ℕ) (q : Query) (l : Local) : Type 0 where
+pub record IsSearched (s : Store) (point mark : ℕ) (identifier : List ℕ) (q : Query)
+    (l : Local) : Type 0 where
   pub mark_is : l.mark ≡ mark
   pub identified : l.identifier ≡ Some identifier
   pub path : l.path ≡ None
   pub candidates_are : l.candidates
-      ≡ candidates s.types.types s.attributes l.stated q.service_type l.effective.search_card s.offers
+      ≡ candidates s.types.types s.attributes l.stated q.service_type l.effective.search_card
+      s.offers
   pub links : l.links ≡ s.links
   pub served : IsServed s point q l
 
@@ -82,7 +86,8 @@ SearchesAreServed =
     → IsSearched s point mark identifier q (local_of s point mark identifier q)
 
 -- a query that is passed on has no mark, no candidates and no links
-pub record IsPassedOn (s : Store) (point : ℕ) (link : LinkRecord) (q : Query) (l : Local) : Type 0 where
+pub record IsPassedOn (s : Store) (point : ℕ) (link : LinkRecord) (q : Query)
+    (l : Local) : Type 0 where
   pub mark_is : l.mark ≡ 0
   pub identified : l.identifier ≡ l.stated.request_id
   pub path : l.path ≡ Some link
@@ -92,4 +97,5 @@ pub record IsPassedOn (s : Store) (point : ℕ) (link : LinkRecord) (q : Query) 
 
 abbrev pub PathsAreServed : Type 0
 PathsAreServed =
-    (s : Store) (point : ℕ) (link : LinkRecord) (q : Query) → IsPassedOn s point link q (path_of s point link q)
+    (s : Store) (point : ℕ) (link : LinkRecord) (q : Query)
+    → IsPassedOn s point link q (path_of s point link q)

@@ -39,7 +39,8 @@ repeated_in m stated = option_and_then (remembered m) stated.request_id
 -- where no path leads away: a repeat of what is remembered, else a search with the next mark
 abbrev pub begin_here : Store → (point : ℕ) → Marks → Query → Option ℕ → Begin
 begin_here s point m q (Some number) = Repeat number
-begin_here s point m q None = Search (local_of s point (m.count + 1) (searched_under s m q).identifier q)
+begin_here s point m q None = Search
+    (local_of s point (m.count + 1) (searched_under s m q).identifier q)
 
 abbrev pub begin_along : Store → (point : ℕ) → Marks → Query → Option LinkRecord → Begin
 begin_along s point m q (Some link) = Path (path_of s point link q)
@@ -58,25 +59,29 @@ unfoldable pub after_begin : Store → Marks → Query → Begin → Marks
 after_begin s m q (Refused o) = m
 after_begin s m q (Repeat number) = m
 after_begin s m q (Path l) = m
-after_begin s m q (Search l) = marked m (searched_under s m q).identifier (searched_under s m q).counter
+after_begin s m q (Search l) = marked m (searched_under s m q).identifier
+    (searched_under s m q).counter
 
 -- ---- what each way to begin says
 
 -- refused for the first cause
-pub record IsRefused (bounds : Bounds) (s : Store) (m : Marks) (q : Query) (o : Outcome) : Type 0 where
+pub record IsRefused (bounds : Bounds) (s : Store) (m : Marks) (q : Query)
+    (o : Outcome) : Type 0 where
   pub cause : Refusal
   pub first : refusal bounds m.count s q ≡ Some cause
   pub told : o ≡ refused cause
 
 -- passed on over a link
-pub record IsPassed (bounds : Bounds) (s : Store) (point : ℕ) (m : Marks) (q : Query) (l : Local) : Type 0 where
+pub record IsPassed (bounds : Bounds) (s : Store) (point : ℕ) (m : Marks) (q : Query)
+    (l : Local) : Type 0 where
   pub taken : refusal bounds m.count s q ≡ None
   pub link : LinkRecord
   pub path : path_link s.links (parts_of q).stated ≡ Some link
   pub served : l ≡ path_of s point link q
 
 -- a repeat of the mark of this number
-pub record IsRepeat (bounds : Bounds) (s : Store) (m : Marks) (q : Query) (number : ℕ) : Type 0 where
+pub record IsRepeat (bounds : Bounds) (s : Store) (m : Marks) (q : Query)
+    (number : ℕ) : Type 0 where
   pub taken : refusal bounds m.count s q ≡ None
   pub path : path_link s.links (parts_of q).stated ≡ None
   pub identifier : List ℕ
@@ -84,7 +89,8 @@ pub record IsRepeat (bounds : Bounds) (s : Store) (m : Marks) (q : Query) (numbe
   pub held : Holds m identifier number
 
 -- searched under an identifier that isn't remembered, with the next mark
-pub record IsSearch (bounds : Bounds) (s : Store) (point : ℕ) (m : Marks) (q : Query) (l : Local) : Type 0 where
+pub record IsSearch (bounds : Bounds) (s : Store) (point : ℕ) (m : Marks) (q : Query)
+    (l : Local) : Type 0 where
   pub taken : refusal bounds m.count s q ≡ None
   pub path : path_link s.links (parts_of q).stated ≡ None
   pub fresh : (number : ℕ) → Holds m (searched_under s m q).identifier number → ⊥

@@ -48,7 +48,8 @@ pub record IsCacheOf (s : Store) (c : Cache) : Type 0 where
   pub search : IfSome c.search (IsSearchAt s)
 
 -- a search that is kept is one for this type by these policies, of so many offers
-pub record IsSearchFor (c : CachedSearch) (u : Uses) (service_type : List ℕ) (count : ℕ) : Type 0 where
+pub record IsSearchFor (c : CachedSearch) (u : Uses) (service_type : List ℕ)
+    (count : ℕ) : Type 0 where
   pub same_uses : c.uses ≡ u
   pub same_type : c.service_type ≡ service_type
   pub same_count : c.count ≡ count

@@ -53,7 +53,10 @@ outcome_of t c = (applied_after t.bounds t.opening t.history c).outcome
 
 -- The trader behind a change with this outcome: an accepted one is the last entry then, in the room that was reserved.
 abbrev pub after_outcome : PlainTrader → Change → Outcome → PlainTrader
-after_outcome t c (Done told) = record t { history = noted t.history c (Done told); reserved = false }
+after_outcome t c (Done told) = record t {
+  history = noted t.history c (Done told);
+  reserved = false;
+}
 after_outcome t c (User e) = t
 after_outcome t c (System kind minor completion) = t
 

@@ -78,7 +78,8 @@ parts_cause q =
 
 abbrev pub names_cause : (before : List (List ℕ)) → List (List ℕ) → Cause
 names_cause before [] = None
-names_cause before (name ∷ names) = name_cause before name otherwise names_cause (name ∷ before) names
+names_cause before (name ∷ names) = name_cause before name otherwise names_cause (name ∷ before)
+    names
 
 abbrev pub desired_cause : SpecifiedProps → Cause
 desired_cause desired.None = None
@@ -102,7 +103,8 @@ start_policy policies = find (λ p. bytes_eq p.name (codes "starting_trader")) p
 -- Where no link has the first name, the policy may not stand there.
 abbrev pub link_cause : List Policy → Option LinkRecord → Cause
 link_cause policies (Some l) = None
-link_cause policies None = option_map (λ p. Raised (user.InvalidPolicyValue p)) (start_policy policies)
+link_cause policies None = option_map (λ p. Raised (user.InvalidPolicyValue p))
+    (start_policy policies)
 
 abbrev pub start_cause : List LinkRecord → List Policy → (first : Option (List ℕ)) → Cause
 start_cause links policies None = None
@@ -143,6 +145,6 @@ pub record RefusesStart (policies : List Policy) (cause : Cause) : Type 0 where
 -- a path whose first name no link has is refused
 abbrev pub UnknownStartsAreRefused : Type 0
 UnknownStartsAreRefused =
-    (links : List LinkRecord) (policies : List Policy) (s : Stated) (name : List ℕ) → stated policies ≡ Ok s
-    → first_name s ≡ Some name → link_of links name ≡ None
+    (links : List LinkRecord) (policies : List Policy) (s : Stated) (name : List ℕ)
+    → stated policies ≡ Ok s → first_name s ≡ Some name → link_of links name ≡ None
     → RefusesStart policies (start_cause links policies (first_name s))

@@ -17,7 +17,13 @@ abbrev pub three : Bounds
 three = record { ring = 2; changes = 1000000; begins = 3 }
 
 abbrev pub link_b : LinkRecord
-link_b = record { name = codes "b"; target = nil; register = nil; def_pass_on = IfNoLocal; limiting = Always }
+link_b = record {
+  name = codes "b";
+  target = nil;
+  register = nil;
+  def_pass_on = IfNoLocal;
+  limiting = Always;
+}
 
 abbrev pub printers : Store
 printers = record opening { links = link_b ∷ [] }

@@ -31,7 +31,8 @@ bare_local s point identifier q = record {
 -- the offers that a query searches whose policies state this
 abbrev pub candidates_of : Store → Query → Stated → List OfferRecord
 candidates_of s q stated =
-    candidates s.types.types s.attributes stated q.service_type (effective_of stated s.attributes).search_card s.offers
+    candidates s.types.types s.attributes stated q.service_type
+    (effective_of stated s.attributes).search_card s.offers
 
 -- searched here, with this mark
 unfoldable pub local_of : Store → (point mark : ℕ) → (identifier : List ℕ) → Query → Local
@@ -43,7 +44,8 @@ local_of s point mark identifier q = record (bare_local s point (Some identifier
 
 -- passed on over this link
 unfoldable pub path_of : Store → (point : ℕ) → LinkRecord → Query → Local
-path_of s point link q = record (bare_local s point (parts_of q).stated.request_id q) { path = Some link }
+path_of s point link q = record (bare_local s point (parts_of q).stated.request_id q)
+    { path = Some link }
 
 -- the query with what the trader serves it with
 abbrev pub copies_of : Store → Query → Stated → Copies

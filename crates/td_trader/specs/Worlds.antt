@@ -89,7 +89,10 @@ after_others v between marks = record v { history = v.history ++ between; marks 
 
 -- one's own change had this outcome
 abbrev pub after_own : View → Change → Outcome → View
-after_own v c (Done told) = record v { history = noted v.history c (Done told); own = v.own ++ length v.history ∷ [] }
+after_own v c (Done told) = record v {
+  history = noted v.history c (Done told);
+  own = v.own ++ length v.history ∷ [];
+}
 after_own v c (User e) = v
 after_own v c (System kind minor completion) = v
 
@@ -99,7 +102,10 @@ number_between b c = cond (nat_lt b.count c.count) (c.count ∷ []) []
 
 -- one's own query has left these marks
 abbrev pub after_begin : View → Marks → View
-after_begin v marks = record v { marks = marks; own_marks = v.own_marks ++ number_between v.marks marks }
+after_begin v marks = record v {
+  marks = marks;
+  own_marks = v.own_marks ++ number_between v.marks marks;
+}
 
 -- ---- what a call may do
 
@@ -116,14 +122,16 @@ module _ (others : List Accepted → Type 0) (later : Marks → Marks → Type 0
     pub seen_is : seen ≡ after_others view between marks
 
   -- The outcome is the change's at what is seen then, and an accepted change stands at the end.
-  pub record Changes (w : List View) (k : ℕ) (c : Change) (o : Outcome) (u : List View) : Type 0 where
+  pub record Changes (w : List View) (k : ℕ) (c : Change) (o : Outcome)
+      (u : List View) : Type 0 where
     pub seen : View
     pub meanwhile : Meanwhile w k seen
     pub outcome : o ≡ (applied_after seen.bounds seen.opening seen.history c).outcome
     pub world : u ≡ with_view w k (after_own seen c o)
 
   -- The answer is the look's at the store that is seen then.
-  pub record Looks (w : List View) (k : ℕ) (l : Look) (a : Outcome × ℕ) (u : List View) : Type 0 where
+  pub record Looks (w : List View) (k : ℕ) (l : Look) (a : Outcome × ℕ)
+      (u : List View) : Type 0 where
     pub seen : View
     pub meanwhile : Meanwhile w k seen
     pub answer : a ≡ seek (store_seen seen) l

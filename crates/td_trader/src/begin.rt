@@ -280,7 +280,8 @@ fn local_under(
 ) -> Result<Boxed<Local>, Memory>
     requires parts { parts ≡ parts_of query.now }
     requires cache { IsCacheOf store.now cache.old }
-    ensures served { IfOk result (λ l. l ≡ local_of store.now point mark made.now.identifier query.now) }
+    ensures served { IfOk result (λ l. l
+        ≡ local_of store.now point mark made.now.identifier query.now) }
     ensures cache { IsCacheOf store.now cache.new }
 {
     match made.identifier.copy(alloc) {

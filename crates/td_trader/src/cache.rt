@@ -197,7 +197,12 @@ fn cached_search(
     found: &Shared<List<OfferRecord>>,
 ) -> Result<CachedSearch, Memory>
     ensures { IfOk result (λ search.
-        search ≡ record { service_type = service_type.now; uses = uses; count = count; offers = found.now }) }
+        search ≡ record {
+          service_type = service_type.now;
+          uses = uses;
+          count = count;
+          offers = found.now;
+        }) }
 {
     let (service_type, offers) = copy_two(alloc, service_type, found)?;
     Ok(CachedSearch {
@@ -216,7 +221,8 @@ pub(crate) fn search_to_keep(
     count: u32,
     found: &Shared<List<OfferRecord>>,
 ) -> Option<CachedSearch>
-    ensures { (s : Kept) → found.now ≡ searched_by s uses service_type.now count → IfSome result (IsSearchAt s) }
+    ensures { (s : Kept) → found.now ≡ searched_by s uses service_type.now count
+        → IfSome result (IsSearchAt s) }
 {
     match cached_search(alloc, uses, service_type, count, found) {
         Ok(search) => Some(search),

@@ -21,9 +21,11 @@ ghost use Rattle.td_trader.specs.declared.begin.Begin.{Begin};
 /// An accepted change is the entry at the point where it was made, and a refused one leaves the trader as it
 /// was. The history stays legal, and the store behind it is the one that the change leaves.
 pub fn changes_are_recorded()
-    ensures accepted { (t : PlainTrader) (c : Change) (told : Reply) → Legal t.bounds t.opening t.history →
-        outcome_of t c ≡ outcome.Done told → StandsAt (after_change t c).history (length t.history) c told }
-    ensures refused { (t : PlainTrader) (c : Change) → is_done (outcome_of t c) ≡ false → after_change t c ≡ t }
+    ensures accepted { (t : PlainTrader) (c : Change) (told : Reply)
+        → Legal t.bounds t.opening t.history → outcome_of t c ≡ outcome.Done told
+        → StandsAt (after_change t c).history (length t.history) c told }
+    ensures refused { (t : PlainTrader) (c : Change) → is_done (outcome_of t c) ≡ false
+        → after_change t c ≡ t }
     ensures legal { (t : PlainTrader) (c : Change) → Legal t.bounds t.opening t.history →
         Legal t.bounds t.opening (after_change t c).history }
     ensures store { (t : PlainTrader) (c : Change) → Legal t.bounds t.opening t.history →
@@ -36,9 +38,10 @@ pub fn changes_are_recorded()
 pub fn acts_follow()
     ensures itself { (t : PlainTrader) → Follows t t }
     ensures on { (t u v : PlainTrader) → Follows t u → Follows u v → Follows t v }
-    ensures change { (t u : PlainTrader) (c : Change) (r : Result Outcome Memory) → ActsChange t c r u → ActsOnce t u }
-    ensures look { (t u : PlainTrader) (l : Look) (r : Result (Outcome × ℕ) Memory) → ActsLook t l r u
-        → ActsOnce t u }
+    ensures change { (t u : PlainTrader) (c : Change) (r : Result Outcome Memory)
+        → ActsChange t c r u → ActsOnce t u }
+    ensures look { (t u : PlainTrader) (l : Look) (r : Result (Outcome × ℕ) Memory)
+        → ActsLook t l r u → ActsOnce t u }
     ensures begin { (t u : PlainTrader) (q : Query) (r : Result Begin Memory) → AreBounds t.bounds
         → AreMarks t.marks → ActsBegin t q r u → BeginsOnce t u }
 {}
@@ -47,11 +50,12 @@ pub fn acts_follow()
 /// change can be written.
 pub fn acts_follow_writably()
     ensures itself { (t : PlainTrader) → FollowsWritably t t }
-    ensures on { (t u v : PlainTrader) → FollowsWritably t u → FollowsWritably u v → FollowsWritably t v }
-    ensures change { (t u : PlainTrader) (c : Change) (r : Result Outcome Memory) → AdmitsChange c → ActsChange t c r u
-        → FollowsWritably t u }
-    ensures look { (t u : PlainTrader) (l : Look) (r : Result (Outcome × ℕ) Memory) → ActsLook t l r u
-        → FollowsWritably t u }
+    ensures on { (t u v : PlainTrader) → FollowsWritably t u → FollowsWritably u v
+        → FollowsWritably t v }
+    ensures change { (t u : PlainTrader) (c : Change) (r : Result Outcome Memory) → AdmitsChange c
+        → ActsChange t c r u → FollowsWritably t u }
+    ensures look { (t u : PlainTrader) (l : Look) (r : Result (Outcome × ℕ) Memory)
+        → ActsLook t l r u → FollowsWritably t u }
     ensures begin { (t u : PlainTrader) (q : Query) (r : Result Begin Memory) → AreBounds t.bounds
         → AreMarks t.marks → ActsBegin t q r u → FollowsWritably t u }
 {}

@@ -39,7 +39,8 @@ pub(crate) fn search_cached(
 ) -> Result<Boxed<Local>, Memory>
     requires parts { parts ≡ parts_of query.now }
     requires cache { IsCacheOf store.now cache.old }
-    ensures served { IfOk result (λ local. local ≡ local_of store.now point mark identifier query.now) }
+    ensures served { IfOk result (λ local. local
+        ≡ local_of store.now point mark identifier query.now) }
     ensures cache { IsCacheOf store.now cache.new }
 {
     match copy_searched(alloc, store, cache, query, &parts.stated) {
@@ -173,7 +174,10 @@ fn bare_local(
     identifier: Option<Octets>,
 ) -> Local
     ensures { (s : Kept) (q : Asked) → parts ≡ parts_of q → copies ≡ copies_of s q parts.stated →
-        result ≡ record (bare_local s point identifier q) { candidates = searched.candidates; links = searched.links } }
+        result ≡ record (bare_local s point identifier q) {
+          candidates = searched.candidates;
+          links = searched.links;
+        } }
 {
     Local {
         point,
@@ -225,7 +229,10 @@ fn copy_searched(
     ensures copied { IfOk result (λ copied. copied
         ≡ (
           copies_of store.now query.now stated.now,
-          record { candidates = candidates_of store.now query.now stated.now; links = store.now.links },
+          record {
+            candidates = candidates_of store.now query.now stated.now;
+            links = store.now.links;
+          },
         )) }
     ensures cache { IsCacheOf store.now cache.new }
 {
@@ -274,8 +281,9 @@ fn share_candidates(
     count: u32,
 ) -> Result<Shared<List<OfferRecord>>, Memory>
     requires { IfSome kept.old (IsSearchAt store.now) }
-    ensures found { IfOk result (λ found. found ≡ candidates store.now.types.types store.now.attributes stated.now
-        query.now.service_type count store.now.offers) }
+    ensures found { IfOk result (λ found. found
+        ≡ candidates store.now.types.types store.now.attributes stated.now query.now.service_type
+        count store.now.offers) }
     ensures kept { IfSome kept.new (IsSearchAt store.now) }
 {
     let uses = uses_of(stated);
@@ -298,8 +306,9 @@ fn candidates_of(
     stated: &Stated,
     count: u32,
 ) -> Result<List<OfferRecord>, Memory>
-    ensures { IfOk result (λ found. found ≡ candidates store.now.types.types store.now.attributes stated.now
-        query.now.service_type count store.now.offers) }
+    ensures { IfOk result (λ found. found
+        ≡ candidates store.now.types.types store.now.attributes stated.now query.now.service_type
+        count store.now.offers) }
 {
     counted_candidates::<Brand>(alloc, store, query, stated, count, Blank::new(1))
 }
@@ -315,8 +324,9 @@ fn counted_candidates<L: Ledger>(
     requires name { blank.name ≡ L.name }
     requires parts { blank.parts ≡ L.parts }
     requires one { L.parts ≡ 1 }
-    ensures { IfOk result (λ found. found ≡ candidates store.now.types.types store.now.attributes stated.now
-        query.now.service_type count store.now.offers) }
+    ensures { IfOk result (λ found. found
+        ≡ candidates store.now.types.types store.now.attributes stated.now query.now.service_type
+        count store.now.offers) }
 {
     let mut steps = Steps::<L>::new(blank);
     store.offers.candidates(

@@ -52,7 +52,8 @@ pub fn judge(
     store: &Store,
     query: &Query,
 ) -> Result<Parts, Fault>
-    ensures { Reads (refusal bounds.now count store.now query.now) (λ parts. parts ≡ parts_of query.now) result }
+    ensures { Reads (refusal bounds.now count store.now query.now)
+        (λ parts. parts ≡ parts_of query.now) result }
 {
     check_type(alloc, &store.types, &query.service_type)?;
     let parts = read_parts(alloc, query)?;
@@ -103,9 +104,9 @@ fn read_parts(alloc: Global, query: &Query) -> Result<Parts, Fault>
 }
 
 fn read_preferred_and_stated(alloc: Global, query: &Query) -> Result<(Preference, Stated), Fault>
-    ensures { Reads (given (preferred_in query.now.preference) no_more otherwise given (stated_in query.now.policies)
-        no_more)
-        (λ p. (p.0 ≡ (parts_of query.now).preference) × (p.1 ≡ (parts_of query.now).stated)) result }
+    ensures { Reads (given (preferred_in query.now.preference) no_more otherwise given
+        (stated_in query.now.policies) no_more) (λ p. (p.0 ≡ (parts_of query.now).preference)
+        × (p.1 ≡ (parts_of query.now).stated)) result }
 {
     let preference = read_preferred(alloc, &query.preference)?;
     match read_stated(alloc, &query.policies) {
@@ -142,7 +143,8 @@ fn illegal_constraint(alloc: Global, text: &Text) -> Fault
 
 /// The preference of a text.
 fn read_preferred(alloc: Global, text: &Text) -> Result<Preference, Fault>
-    ensures { MatchResult result (λ p. preferred_in text.now ≡ Ok p) (IsAbsent (preferred_in text.now)) }
+    ensures { MatchResult result (λ p. preferred_in text.now ≡ Ok p)
+        (IsAbsent (preferred_in text.now)) }
 {
     match read_preference(alloc, text.as_slice()) {
         Ok(preference) => Ok(preference),
@@ -165,7 +167,8 @@ fn illegal_preference(alloc: Global, text: &Text) -> Fault
 
 /// What the policies state.
 fn read_stated(alloc: Global, policies: &List<Policy>) -> Result<Stated, Fault>
-    ensures { MatchResult result (λ s. stated_in policies.now ≡ Ok s) (IsAbsent (stated_in policies.now)) }
+    ensures { MatchResult result (λ s. stated_in policies.now ≡ Ok s)
+        (IsAbsent (stated_in policies.now)) }
 {
     match read_policies(alloc, policies) {
         Ok(stated) => Ok(stated),

@@ -12,8 +12,8 @@ ghost use Rattle.td_register.specs.declared.refusal.Refusal.TheVariants as refus
 
 /// The store at a point stays as it is however the history goes on.
 pub fn points_stay()
-    ensures { (opening : Store) (history more : List Accepted) (point : ℕ) → point ≤ length history →
-        at opening (history ++ more) point ≡ at opening history point }
+    ensures { (opening : Store) (history more : List Accepted) (point : ℕ) → point ≤ length history
+        → at opening (history ++ more) point ≡ at opening history point }
 {}
 
 /// The policies of a query that isn't refused can be read.
@@ -45,5 +45,6 @@ pub fn worked_queries()
         ≡ Some (refused.Raised (user.IllegalPropertyName (codes "2x"))) }
     ensures start { judged 3 (asks printer [] (path (codes "c") ∷ []) (codes "Cost" ∷ []))
         ≡ Some (refused.Raised (user.InvalidPolicyValue (path (codes "c")))) }
-    ensures limit { judged 3 (asks printer [] (path (codes "b") ∷ []) (codes "Cost" ∷ [])) ≡ Some refused.Limit }
+    ensures limit { judged 3 (asks printer [] (path (codes "b") ∷ []) (codes "Cost" ∷ []))
+        ≡ Some refused.Limit }
 {}

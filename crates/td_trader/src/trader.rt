@@ -81,8 +81,10 @@ impl Model for Trader {
       reserved = t.reserved;
     } };
 
-    ghost invariant = { λ t. AreBounds t.bounds × IsKept t.bounds t.opening.value t.store t.history.items
-        × HasRoom t.reserved (vec_len t.history) (vec_capacity t.history) × HasShortReplies t.opening.value
+    ghost invariant = { λ t. AreBounds t.bounds
+        × IsKept t.bounds t.opening.value t.store t.history.items
+        × HasRoom t.reserved (vec_len t.history) (vec_capacity t.history)
+        × HasShortReplies t.opening.value
         × HasLimitedOffers t.opening.value × IsCacheOf t.store t.cache };
 }
 
@@ -269,8 +271,8 @@ fn record_change(
     requires numbered { AreNumbered store.old }
     requires cache { IsCacheOf store.old cache.old }
     requires room { HasRoom reserved.old (vec_len history.old) (vec_capacity history.old) }
-    ensures records { Records c store.old store.new history.old.items history.new.items reserved.old reserved.new
-        result }
+    ensures records { Records c store.old store.new history.old.items history.new.items reserved.old
+        reserved.new result }
     ensures room { HasRoom reserved.new (vec_len history.new) (vec_capacity history.new) }
     ensures free { reserved.old ≡ true → is_free c ≡ true → IsOk result }
     ensures cache { IsCacheOf store.new cache.new }

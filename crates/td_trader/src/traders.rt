@@ -48,8 +48,10 @@ pub trait Traders {
         // Its values can be written, as those of a call that was read.
         requires admitted { AdmitsChange c }
         ensures same { same self.old self.new }
-        ensures ok { IfOk result (λ o. Changes others later (world self.old) trader c o (world self.new)) }
-        ensures err { OnErr result (Watches others later (world self.old) trader (world self.new)) };
+        ensures ok { IfOk result
+            (λ o. Changes others later (world self.old) trader c o (world self.new)) }
+        ensures err { OnErr result
+            (Watches others later (world self.old) trader (world self.new)) };
 
     /// What a look is answered with, and the trader's max_list.
     ///
@@ -59,8 +61,10 @@ pub trait Traders {
     fn look(&mut self, trader: usize, l: &Look) -> Result<(Outcome, u32), Memory>
         requires { trader < length (world self.old) }
         ensures same { same self.old self.new }
-        ensures ok { IfOk result (λ a. Looks others later (world self.old) trader l.now a (world self.new)) }
-        ensures err { OnErr result (Watches others later (world self.old) trader (world self.new)) };
+        ensures ok { IfOk result
+            (λ a. Looks others later (world self.old) trader l.now a (world self.new)) }
+        ensures err { OnErr result
+            (Watches others later (world self.old) trader (world self.new)) };
 
     /// How a query begins at a trader. Where it is searched there it is marked.
     ///
@@ -70,8 +74,10 @@ pub trait Traders {
     fn begin(&mut self, trader: usize, q: &Query) -> Result<Begin, Memory>
         requires { trader < length (world self.old) }
         ensures same { same self.old self.new }
-        ensures ok { IfOk result (λ b. Begun others later (world self.old) trader q.now b (world self.new)) }
-        ensures err { OnErr result (Watches others later (world self.old) trader (world self.new)) };
+        ensures ok { IfOk result
+            (λ b. Begun others later (world self.old) trader q.now b (world self.new)) }
+        ensures err { OnErr result
+            (Watches others later (world self.old) trader (world self.new)) };
 
     /// How many changes are seen. Takes no memory.
     fn point(&self, trader: usize) -> u64

@@ -21,7 +21,8 @@ pub data IsReached : PlainTrader → Type 0 where
       → IsReached (opened name opening bounds)
   by_change : (t : PlainTrader) (c : Change) → IsReached t → IsReached (after_change t c)
   by_reserving : (t : PlainTrader) → IsReached t → IsReached (record t { reserved = true })
-  by_query : (t : PlainTrader) (q : Query) → IsReached t → IsReached (after_begin t q (begin_at t q))
+  by_query : (t : PlainTrader) (q : Query) → IsReached t
+      → IsReached (after_begin t q (begin_at t q))
 
 -- each trader of a list is
 abbrev pub AreReached : List PlainTrader → Type 0
@@ -55,12 +56,14 @@ pub record IsSearchAt (t : PlainTrader) (q : Query) (l : Local) : Type 0 where
 
 abbrev pub ReachedTradersSearch : Type 0
 ReachedTradersSearch =
-    (t : PlainTrader) (q : Query) (l : Local) → IsReached t → begin_at t q ≡ Search l → IsSearchAt t q l
+    (t : PlainTrader) (q : Query) (l : Local) → IsReached t → begin_at t q ≡ Search l
+    → IsSearchAt t q l
 
 -- marks only grow later
 abbrev pub ReachedMarksGrowLater : Type 0
 ReachedMarksGrowLater =
-    (t : PlainTrader) (q : Query) → IsReached t → Later t.marks (after_begin t q (begin_at t q)).marks
+    (t : PlainTrader) (q : Query) → IsReached t
+    → Later t.marks (after_begin t q (begin_at t q)).marks
 
 -- ---- two searches of one trader, the one before the other
 
@@ -70,13 +73,18 @@ ReachedMarksGrowLater =
 -- under one identifier: the numbers of their marks differ by more than the trader remembers
 abbrev pub SearchesOfOneIdentifierAreFar : Type 0
 SearchesOfOneIdentifierAreFar =
-    (t u : PlainTrader) (p q : Query) (k l : Local) (identifier : List ℕ) → AreBounds t.bounds → AreMarks t.marks
-    → AreMarks u.marks → begin_at t p ≡ Search k → Follows (after_begin t p (Search k)) u → begin_at u q ≡ Search l
-    → k.identifier ≡ Some identifier → l.identifier ≡ Some identifier → k.mark + t.marks.ring < l.mark
+    (t u : PlainTrader) (p q : Query) (k l : Local) (identifier : List ℕ) → AreBounds t.bounds
+    → AreMarks t.marks
+    → AreMarks u.marks → begin_at t p ≡ Search k → Follows (after_begin t p (Search k)) u
+    → begin_at u q ≡ Search l
+    → k.identifier ≡ Some identifier → l.identifier ≡ Some identifier → k.mark + t.marks.ring
+    < l.mark
 
 -- of queries that state no identifier: those that are made differ, also where the stem was set to another between
 abbrev pub SearchesAreMadeApart : Type 0
 SearchesAreMadeApart =
-    (t u : PlainTrader) (p q : Query) (k l : Local) → AreBounds t.bounds → AreMarks t.marks → AreMarks u.marks
+    (t u : PlainTrader) (p q : Query) (k l : Local) → AreBounds t.bounds → AreMarks t.marks
+    → AreMarks u.marks
     → begin_at t p ≡ Search k → Follows (after_begin t p (Search k)) u → begin_at u q ≡ Search l
-    → (parts_of p).stated.request_id ≡ None → (parts_of q).stated.request_id ≡ None → k.identifier ≡ l.identifier → ⊥
+    → (parts_of p).stated.request_id ≡ None → (parts_of q).stated.request_id ≡ None
+    → k.identifier ≡ l.identifier → ⊥

@@ -64,7 +64,8 @@ pub record IsWritten (c : Change) (a : Applied) : Type 0 where
   pub store : IsWritableStore a.store
 
 abbrev pub ChangesStayWritable : Type 0
-ChangesStayWritable = (s : Store) (c : Change) → IsWritableStore s → AdmitsChange c → IsWritten c (apply s c)
+ChangesStayWritable = (s : Store) (c : Change) → IsWritableStore s → AdmitsChange c
+    → IsWritten c (apply s c)
 
 abbrev pub CountedChangesStayWritable : Type 0
 CountedChangesStayWritable =
@@ -73,13 +74,14 @@ CountedChangesStayWritable =
 
 abbrev pub LooksAreWritable : Type 0
 LooksAreWritable =
-    (s : Store) (l : Look) → IsWritableStore s → AdmitsLook l → AdmitsOutcome (look_operation l) (seen s l)
+    (s : Store) (l : Look) → IsWritableStore s → AdmitsLook l
+    → AdmitsOutcome (look_operation l) (seen s l)
 
 -- from a store that can be written on, each store that a history leads to can be
 abbrev pub HistoriesStayWritable : Type 0
 HistoriesStayWritable =
-    (opening : Store) (history : List Accepted) (point : ℕ) → IsWritableStore opening → AreAdmitted history
-    → IsWritableStore (at opening history point)
+    (opening : Store) (history : List Accepted) (point : ℕ) → IsWritableStore opening
+    → AreAdmitted history → IsWritableStore (at opening history point)
 
 -- an entry's reply, as one of its change's operation
 abbrev pub IsReplyWritten : Accepted → Type 0
@@ -88,5 +90,5 @@ IsReplyWritten e = AdmitsOutcome (change_operation e.change) (Done e.reply)
 -- and so can each reply of a legal one
 abbrev pub RepliesAreWritable : Type 0
 RepliesAreWritable =
-    (bounds : Bounds) (count : ℕ) (s : Store) (history : List Accepted) → IsWritableStore s → AreAdmitted history
-    → LegalFrom bounds count s history → AllByRecursion IsReplyWritten history
+    (bounds : Bounds) (count : ℕ) (s : Store) (history : List Accepted) → IsWritableStore s
+    → AreAdmitted history → LegalFrom bounds count s history → AllByRecursion IsReplyWritten history

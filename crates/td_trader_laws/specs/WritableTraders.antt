@@ -31,7 +31,8 @@ abbrev pub TradersStoresAreWritable : Type 0
 TradersStoresAreWritable = (t : PlainTrader) → IsWritableTrader t → IsWritableStore (store_of t)
 
 abbrev pub TradersChangeWritably : Type 0
-TradersChangeWritably = (t : PlainTrader) (c : Change) → IsWritableTrader t → AdmitsChange c → AnswersWritably t c
+TradersChangeWritably = (t : PlainTrader) (c : Change) → IsWritableTrader t → AdmitsChange c
+    → AnswersWritably t c
 
 abbrev pub TradersLookWritably : Type 0
 TradersLookWritably =
@@ -41,7 +42,8 @@ TradersLookWritably =
 -- the beginning of a query leaves such a trader
 abbrev pub TradersBeginWritably : Type 0
 TradersBeginWritably =
-    (t : PlainTrader) (q : Query) → IsWritableTrader t → IsWritableTrader (after_begin t q (begin_at t q))
+    (t : PlainTrader) (q : Query) → IsWritableTrader t
+    → IsWritableTrader (after_begin t q (begin_at t q))
 
 -- a query that is refused is told an outcome that can be written, whatever the trader
 abbrev pub TradersRefuseWritably : Type 0
@@ -57,4 +59,5 @@ pub record IsWritableSearch (l : Local) : Type 0 where
 
 abbrev pub TradersSearchWritably : Type 0
 TradersSearchWritably =
-    (t : PlainTrader) (q : Query) (l : Local) → IsWritableTrader t → begin_at t q ≡ Search l → IsWritableSearch l
+    (t : PlainTrader) (q : Query) (l : Local) → IsWritableTrader t → begin_at t q ≡ Search l
+    → IsWritableSearch l

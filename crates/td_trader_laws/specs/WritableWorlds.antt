@@ -49,7 +49,8 @@ module _ (others : List Accepted → Type 0) (later : Marks → Marks → Type 0
   abbrev pub WorldsLookWritably : Type 0
   WorldsLookWritably =
       (w u : List View) (k : ℕ) (l : Look) (a : Outcome × ℕ) → IsWritableWorld w
-      → AdmitsLook l → Looks others later w k l a u → AdmitsOutcome (look_operation l) a.0 × IsWritableWorld u
+      → AdmitsLook l → Looks others later w k l a u → AdmitsOutcome (look_operation l) a.0
+      × IsWritableWorld u
 
   abbrev pub WorldsBeginWritably : Type 0
   WorldsBeginWritably =

@@ -53,7 +53,8 @@ asked q = record {
   judged = Call lookup (call.Query q);
   outcome = Done Nothing;
   entry = Walk (record {
-    items = item.Search 0 4 7 ∷ item.Repeat 1 9 2 ∷ item.Search 0 4 8 ∷ item.Leave ∷ item.Leave ∷ [];
+    items = item.Search 0 4 7 ∷ item.Repeat 1 9 2 ∷ item.Search 0 4 8 ∷ item.Leave ∷ item.Leave
+        ∷ [];
   });
 }
 
@@ -96,7 +97,7 @@ two_turns s =
     ∷ []
 
 -- the first is ignored, the second is answered, and everything stays as it was
-pub record WorkedRun (others : List Accepted → Type 0) (later : Marks → Marks → Type 0) (home : Address) (s : Scene)
-    : Type 0 where
+pub record WorkedRun (others : List Accepted → Type 0) (later : Marks → Marks → Type 0)
+    (home : Address) (s : Scene) : Type 0 where
   pub run : Run others later home s (two_turns s) s
   pub told : output (exchanges_of (two_turns s)) ≡ unknown

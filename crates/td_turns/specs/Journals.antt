@@ -67,9 +67,11 @@ pub data Makes : Judged → Entry → (trader point : ℕ) → Change → Type 0
   changing : (x : Object) (c : Change) (point : ℕ)
       → Makes (Call x (call.Change c)) (Point x.trader point) x.trader point c
   linking : (x : Object) (l : AddLink) (point : ℕ) (register : Option Ior)
-      → Makes (Call x (call.AddLink l)) (Point x.trader point) x.trader point (link_change l register)
+      → Makes (Call x (call.AddLink l)) (Point x.trader point) x.trader point
+      (link_change l register)
   asking : (x : Object) (l : AddLink) (point : ℕ) (gave : Gave)
-      → Makes (Call x (call.AddLink l)) (Asked x.trader point gave) x.trader point (link_change l (register_given gave))
+      → Makes (Call x (call.AddLink l)) (Asked x.trader point gave) x.trader point
+      (link_change l (register_given gave))
 
 -- ---- of all Requests of a run, in order
 

@@ -66,7 +66,8 @@ module _ (others : List Accepted → Type 0) (later : Marks → Marks → Type 0
   abbrev pub PointsRise : Type 0
   PointsRise =
       (home : Address) (s u : Scene) (ts : List Turn) → Run others later home s ts u → (k : ℕ)
-      → Rises (length (history_at s.world k)) (all_served_at k (noted_of ts)) (length (history_at u.world k))
+      → Rises (length (history_at s.world k)) (all_served_at k (noted_of ts))
+      (length (history_at u.world k))
 
   -- the places of one's own changes are those of the accepted ones, in order
   abbrev pub OwnPlacesAreAccepted : Type 0
@@ -77,8 +78,9 @@ module _ (others : List Accepted → Type 0) (later : Marks → Marks → Type 0
   -- each accepted change stands at its point, and later points of its trader are above it
   abbrev pub AcceptedStand : Type 0
   AcceptedStand =
-      (home : Address) (s u : Scene) (ts : List Turn) → Run others later home s ts u → (before rest : List Noted)
-      (n : Noted) → noted_of ts ≡ before ++ n ∷ rest → is_accepted n ≡ true → Stands u.world n rest
+      (home : Address) (s u : Scene) (ts : List Turn) → Run others later home s ts u
+      → (before rest : List Noted) (n : Noted) → noted_of ts ≡ before ++ n ∷ rest
+      → is_accepted n ≡ true → Stands u.world n rest
 
   -- one's own marks are those of the searches in the traces, in order
   abbrev pub OwnMarksAreSearches : Type 0
@@ -89,7 +91,8 @@ module _ (others : List Accepted → Type 0) (later : Marks → Marks → Type 0
   -- what is seen of the traders grows and stays legal
   abbrev pub SeenStaysLegal : Type 0
   SeenStaysLegal =
-      (home : Address) (s u : Scene) (ts : List Turn) → Run others later home s ts u → StaysLegal s.world u.world
+      (home : Address) (s u : Scene) (ts : List Turn) → Run others later home s ts u
+      → StaysLegal s.world u.world
 
   -- what the entries show of peers is, in order, what the calls gave that were made of them; at each that failed the
   -- count of faults rose
@@ -101,43 +104,46 @@ module _ (others : List Accepted → Type 0) (later : Marks → Marks → Type 0
   -- the random words that are drawn are the next ones
   abbrev pub WordsAreDrawn : Type 0
   WordsAreDrawn =
-      (home : Address) (s u : Scene) (ts : List Turn) → Run others later home s ts u → DrawsOn s.words u.words
+      (home : Address) (s u : Scene) (ts : List Turn) → Run others later home s ts u
+      → DrawsOn s.words u.words
 
   -- ---- of a Request
 
   -- what its entry shows of peers is what the calls gave that were made of them in it, with the count of faults
   abbrev pub RequestsShowPeers : Type 0
   RequestsShowPeers =
-      (home : Address) (s : Scene) (t : Turn) (n : Noted) → IsTurn others later home s t → t.request ≡ Some n
-      → Gives s.peers (gave_in n.entry) t.after.peers
+      (home : Address) (s : Scene) (t : Turn) (n : Noted) → IsTurn others later home s t
+      → t.request ≡ Some n → Gives s.peers (gave_in n.entry) t.after.peers
 
   -- one that is refused with another exception than NO_MEMORY changes nothing
   abbrev pub RefusedChangeNothing : Type 0
   RefusedChangeNothing =
-      (home : Address) (s : Scene) (t : Turn) (n : Noted) → IsTurn others later home s t → t.request ≡ Some n
-      → is_refusal n.outcome ≡ true → KeepsAll s t.after
+      (home : Address) (s : Scene) (t : Turn) (n : Noted) → IsTurn others later home s t
+      → t.request ≡ Some n → is_refusal n.outcome ≡ true → KeepsAll s t.after
 
   -- one that is answered with NO_MEMORY changes nothing, but that a query may have made the marks that its trace shows
   abbrev pub WantingChangeNothing : Type 0
   WantingChangeNothing =
-      (home : Address) (s : Scene) (t : Turn) (n : Noted) → IsTurn others later home s t → t.request ≡ Some n
+      (home : Address) (s : Scene) (t : Turn) (n : Noted) → IsTurn others later home s t
+      → t.request ≡ Some n
       → wants_memory n.outcome ≡ true → Keeps s (λ k. marks_in k n.entry) t.after
 
   -- a query that is answered otherwise than with NO_MEMORY is answered with what a walk from its trader on comes to,
   -- and this walk is noted
   abbrev pub QueriesAreWalks : Type 0
   QueriesAreWalks =
-      (home : Address) (s : Scene) (t : Turn) (n : Noted) (x : Object) (q : Query) → IsTurn others later home s t
+      (home : Address) (s : Scene) (t : Turn) (n : Noted) (x : Object) (q : Query)
+      → IsTurn others later home s t
       → t.request ≡ Some n → n.judged ≡ Call x (call.Query q) → wants_memory n.outcome ≡ false
       → (draft : Draft) × QueryComes others later home s x.trader q draft n.outcome n.entry t.after
 
   -- a query is noted with the beginning of a walk from its trader on, whatever it is answered with
   abbrev pub QueriesBeginWalks : Type 0
   QueriesBeginWalks =
-      (home : Address) (s : Scene) (t : Turn) (n : Noted) (x : Object) (q : Query) → IsTurn others later home s t
-      → t.request ≡ Some n → n.judged ≡ Call x (call.Query q)
-      → WalksSoFar others later home (course s.world s.words s.peers.calls) x.trader q (items_of n.entry)
-      (course t.after.world t.after.words t.after.peers.calls)
+      (home : Address) (s : Scene) (t : Turn) (n : Noted) (x : Object) (q : Query)
+      → IsTurn others later home s t → t.request ≡ Some n → n.judged ≡ Call x (call.Query q)
+      → WalksSoFar others later home (course s.world s.words s.peers.calls) x.trader q
+      (items_of n.entry) (course t.after.world t.after.words t.after.peers.calls)
 
 -- ---- of a group that a session has alone
 
@@ -151,5 +157,5 @@ pub record GrowsByOwn (w u : List View) (k : ℕ) (ns : List Noted) : Type 0 whe
 abbrev pub AloneGrowsByOwn : Type 0
 AloneGrowsByOwn =
     (home : Address) (s u : Scene) (ts : List Turn) (before after : List PlainTrader)
-    → Run nothing unchanged home s ts u → s.world ≡ map solo_view before → u.world ≡ map solo_view after → (k : ℕ)
-    → GrowsByOwn s.world u.world k (noted_of ts)
+    → Run nothing unchanged home s ts u → s.world ≡ map solo_view before
+    → u.world ≡ map solo_view after → (k : ℕ) → GrowsByOwn s.world u.world k (noted_of ts)

@@ -60,7 +60,8 @@ pub record ServesLocate (s : Scene) (t : Turn) : Type 0 where
   pub kind : kind_of t.message ≡ LOCATE_REQUEST
   pub read : locate_at (behind t.message) ≡ Ok (id, key)
   pub request : t.request ≡ None
-  pub told : t.reply ≡ locate_reply (order_of t.message) (minor_of t.message) id (is_live s.world s.desk key)
+  pub told : t.reply ≡ locate_reply (order_of t.message)
+      (minor_of t.message) id (is_live s.world s.desk key)
   pub kept : t.after ≡ s
 
 -- nothing is answered, nothing changes, and nothing is noted
@@ -74,8 +75,8 @@ pub record ServesCancel (s : Scene) (t : Turn) : Type 0 where
 
 -- A Request is judged at how everything stands, and served as it asks. Its body is octets, its reply has fewer than 2^32
 -- of them, and where it spells no call, the minor code that it is told is a ulong.
-pub record ServesRequest (others : List Accepted → Type 0) (later : Marks → Marks → Type 0) (home : Address)
-    (s : Scene) (t : Turn) : Type 0 where
+pub record ServesRequest (others : List Accepted → Type 0) (later : Marks → Marks → Type 0)
+    (home : Address) (s : Scene) (t : Turn) : Type 0 where
   pub head : Request
   pub body : At
   pub kind : kind_of t.message ≡ REQUEST
@@ -83,25 +84,27 @@ pub record ServesRequest (others : List Accepted → Type 0) (later : Marks → 
   pub noted : Noted
   pub request : t.request ≡ Some noted
   pub asks : noted.judged ≡ judged s.world s.desk head.key head.operation body
-  pub served : Served others later home (reply_to (order_of t.message) (minor_of t.message) head) noted.judged s
-      noted.outcome noted.entry t.reply t.after
-  pub no_call : NotesNoCall (request_class s.world s.desk head.key head.operation) noted.judged noted.entry
+  pub served : Served others later home (reply_to (order_of t.message) (minor_of t.message) head)
+      noted.judged s noted.outcome noted.entry t.reply t.after
+  pub no_call : NotesNoCall (request_class s.world s.desk head.key head.operation)
+      noted.judged noted.entry
   pub octets : AreOctets body.rest
   pub short : length t.reply < 2 ^ 32
   pub code : FitsCode noted.judged noted.outcome
 
 -- the message is served
-pub data IsTurn (others : List Accepted → Type 0) (later : Marks → Marks → Type 0) (home : Address) (s : Scene)
-    (t : Turn) : Type 0 where
+pub data IsTurn (others : List Accepted → Type 0) (later : Marks → Marks → Type 0) (home : Address)
+    (s : Scene) (t : Turn) : Type 0 where
   request : ServesRequest others later home s t → IsTurn others later home s t
   locate : ServesLocate s t → IsTurn others later home s t
   cancel : ServesCancel s t → IsTurn others later home s t
 
 -- each message is served where the one before has left everything
-abbrev pub Run : (others : List Accepted → Type 0) → (later : Marks → Marks → Type 0) → (home : Address) → Scene
-    → List Turn → Scene → Type 0
+abbrev pub Run : (others : List Accepted → Type 0) → (later : Marks → Marks → Type 0)
+    → (home : Address) → Scene → List Turn → Scene → Type 0
 Run others later home s [] u = u ≡ s
-Run others later home s (t ∷ ts) u = IsTurn others later home s t × Run others later home t.after ts u
+Run others later home s (t ∷ ts) u = IsTurn others later home s t
+    × Run others later home t.after ts u
 
 -- ---- what is told of a run
 

@@ -44,7 +44,8 @@ to_five = record { order = Big; minor = 0; id = 5; answered = true }
 -- that Reply, which ends with this octet
 abbrev pub is_one_told : (octet : ℕ) → List ℕ
 is_one_told octet =
-    71 ∷ 73 ∷ 79 ∷ 80 ∷ 1 ∷ 0 ∷ 0 ∷ 1 ∷ 0 ∷ 0 ∷ 0 ∷ 13 ∷ 0 ∷ 0 ∷ 0 ∷ 0 ∷ 0 ∷ 0 ∷ 0 ∷ 5 ∷ 0 ∷ 0 ∷ 0 ∷ 0 ∷ octet ∷ []
+    71 ∷ 73 ∷ 79 ∷ 80 ∷ 1 ∷ 0 ∷ 0 ∷ 1 ∷ 0 ∷ 0 ∷ 0 ∷ 13 ∷ 0 ∷ 0 ∷ 0 ∷ 0 ∷ 0 ∷ 0 ∷ 0 ∷ 5 ∷ 0 ∷ 0 ∷ 0
+    ∷ 0 ∷ octet ∷ []
 
 pub record WorkedSpelling : Type 0 where
   pub truth : SpellsOutcome shape.Truth (Done (Truth true)) Big 24 (1 ∷ [])
@@ -52,10 +53,12 @@ pub record WorkedSpelling : Type 0 where
   -- a number is no truth, whatever its bytes
   pub no_number : (b : List ℕ) → SpellsOutcome shape.Truth (Done (Number 1)) Big 24 b → ⊥
   pub refusal : SpellsOutcome shape.Truth bad_operation Big 24 (bad_operation_told 1)
-  pub no_other_completion : SpellsOutcome shape.Truth bad_operation Big 24 (bad_operation_told 2) → ⊥
+  pub no_other_completion : SpellsOutcome shape.Truth bad_operation Big 24 (bad_operation_told 2)
+      → ⊥
   -- a Request that spells no call is told an exception, and no result
   pub no_call : SpellsAnswer (Refused bad_operation) bad_operation Big 24 (bad_operation_told 1)
-  pub no_result : (b : List ℕ) → SpellsAnswer (Refused bad_operation) (Done (Truth true)) Big 24 b → ⊥
+  pub no_result : (b : List ℕ) → SpellsAnswer (Refused bad_operation) (Done (Truth true)) Big 24 b
+      → ⊥
   -- its minor code is a ulong
   pub last_code : FitsCode (Refused (marshal (2 ^ 32 - 1))) (marshal (2 ^ 32 - 1))
   pub no_code : FitsCode (Refused (marshal (2 ^ 32))) (marshal (2 ^ 32)) → ⊥

@@ -42,11 +42,11 @@ module _ (others : List Accepted → Type 0) (later : Marks → Marks → Type 0
   -- each Request has an outcome that can be written, and what it leaves can be written again
   abbrev pub OutcomesAreWritable : Type 0
   OutcomesAreWritable =
-      (home : Address) (s u : Scene) (ts : List Turn) → BeginsWritably s ts → Run others later home s ts u
-      → AllByRecursion IsAnswered (noted_of ts) × IsWritableScene u
+      (home : Address) (s u : Scene) (ts : List Turn) → BeginsWritably s ts
+      → Run others later home s ts u → AllByRecursion IsAnswered (noted_of ts) × IsWritableScene u
 
   -- each reply spells it
   abbrev pub RepliesSpell : Type 0
   RepliesSpell =
-      (home : Address) (s u : Scene) (ts : List Turn) → BeginsWritably s ts → Run others later home s ts u
-      → SpellsReplies ts
+      (home : Address) (s u : Scene) (ts : List Turn) → BeginsWritably s ts
+      → Run others later home s ts u → SpellsReplies ts

@@ -41,11 +41,13 @@ shape_asked x c = (row (operation_in c)).result
 abbrev pub AdmitsShaped : Shape → Outcome → Type 0
 AdmitsShaped which (Done r) = (shape_of r ≡ which) × (results (shape_of r)).format.admits r
 AdmitsShaped which (User e) = (row_of e).members.format.admits e
-AdmitsShaped which (System kind minor completion) = ulong.format.admits minor × ulong.format.admits completion
+AdmitsShaped which (System kind minor completion) = ulong.format.admits minor
+    × ulong.format.admits completion
 
 -- a system exception whose codes are ulongs
 abbrev pub AdmitsSystem : Outcome → Type 0
-AdmitsSystem (System kind minor completion) = ulong.format.admits minor × ulong.format.admits completion
+AdmitsSystem (System kind minor completion) = ulong.format.admits minor
+    × ulong.format.admits completion
 AdmitsSystem other = ⊥
 
 -- Of a call an outcome of its shape. A Request that spells no call is told a system exception.
@@ -67,7 +69,8 @@ SpellsSystem other order place b = ⊥
 -- a result of this shape, or an exception: a user exception is its repository id, and then its members
 abbrev pub SpellsOutcome : Shape → Outcome → Order → ℕ → List ℕ → Type 0
 SpellsOutcome which (Done r) order place b = (results which).format.spells order place r b
-SpellsOutcome which (User e) order place b = (text & (row_of e).members).format.spells order place (user_id e, e) b
+SpellsOutcome which (User e) order place b = (text & (row_of e).members).format.spells order place
+    (user_id e, e) b
 SpellsOutcome which (System kind minor completion) order place b =
     SpellsSystem (System kind minor completion) order place b
 
@@ -78,7 +81,8 @@ SpellsAnswer (Refused r) o order place b = SpellsSystem o order place b
 -- the bytes are a Reply to the Request of this id, under the outcome's status, whose body spells the outcome
 pub record IsSpelled (to : ReplyTo) (n : Noted) (bytes : List ℕ) : Type 0 where
   pub body : List ℕ
-  pub reply : bytes ≡ sealed to.order (reply_start to.order to.minor to.id (outcome_status n.outcome) ++ body)
+  pub reply : bytes ≡ sealed to.order
+      (reply_start to.order to.minor to.id (outcome_status n.outcome) ++ body)
   pub spells : SpellsAnswer n.judged n.outcome to.order
       (length (reply_start to.order to.minor to.id (outcome_status n.outcome))) body
 

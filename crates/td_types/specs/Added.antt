@@ -12,8 +12,8 @@ use Rattle.td_types.specs.declared.fault.TypesFault.{TypesFault}
 use Rattle.td_types.specs.declared.fault.TypesFault.TheVariants.{User, Full, Memory}
 use Rattle.td_types.specs.declared.reply.TypesReply.TheVariants as reply
 
-abbrev pub entry_of : (incarnation : ℕ) (name if_name : List ℕ) → List PropStruct → List (List ℕ) → List PropStruct
-    → List (List ℕ) → Entry
+abbrev pub entry_of : (incarnation : ℕ) (name if_name : List ℕ) → List PropStruct → List (List ℕ)
+    → List PropStruct → List (List ℕ) → Entry
 entry_of incarnation name if_name props supers full above =
     record {
       service_type =
@@ -33,21 +33,26 @@ abbrev pub described_bytes : Entry → ℕ
 described_bytes e = length (type_struct.format.writes (kept_description e) Big 0)
 
 -- the entry of these parts, whose full description is short enough
-abbrev pub IsMeasured : (incarnation : ℕ) (name if_name : List ℕ) → List PropStruct → List (List ℕ) → List PropStruct
-    → List (List ℕ) → Result Entry TypesFault → Type 0
+abbrev pub IsMeasured : (incarnation : ℕ) (name if_name : List ℕ) → List PropStruct → List (List ℕ)
+    → List PropStruct → List (List ℕ) → Result Entry TypesFault → Type 0
 IsMeasured incarnation name if_name props supers full above (Ok e) =
-    (e ≡ entry_of incarnation name if_name props supers full above) × (described_bytes e ≤ most_bytes)
+    (e ≡ entry_of incarnation name if_name props supers full above)
+    × (described_bytes e ≤ most_bytes)
 IsMeasured incarnation name if_name props supers full above (Err (User f)) = ⊥
 IsMeasured incarnation name if_name props supers full above (Err Full) =
     most_bytes < described_bytes (entry_of incarnation name if_name props supers full above)
 IsMeasured incarnation name if_name props supers full above (Err Memory) = Unit {0}
 
 -- the answer with the new entry, which is kept beside the others; or the refusal
-abbrev pub IsPrepared : List Entry → Declared → (last : ℕ) (name if_name : List ℕ) → List PropStruct → List (List ℕ)
-    → Result Entry TypesFault → Type 0
+abbrev pub IsPrepared : List Entry → Declared → (last : ℕ) (name if_name : List ℕ) → List PropStruct
+    → List (List ℕ) → Result Entry TypesFault → Type 0
 IsPrepared entries interfaces last name if_name props supers (Ok e) =
     (add_type (repository entries interfaces last) name if_name props supers
-    ≡ Ok (reply.Added e.service_type.incarnation, with_type (repository entries interfaces last) (kept e)))
+    ≡ Ok (
+      reply.Added e.service_type.incarnation,
+      with_type (repository entries interfaces last)
+          (kept e),
+    ))
     × AreEntries (entries ++ e ∷ []) interfaces e.service_type.incarnation
     × (has_type (map kept entries) e.service_type.name ≡ false)
 IsPrepared entries interfaces last name if_name props supers (Err (User f)) =

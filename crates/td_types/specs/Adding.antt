@@ -16,7 +16,8 @@ use Rattle.td_types.specs.declared.fault.RepoFault.{RepoFault}
 use Rattle.td_types.specs.declared.fault.RepoFault.TheVariants as fault
 
 -- the type that would be added
-abbrev pub new_type : Repository → (name if_name : List ℕ) → List PropStruct → List (List ℕ) → ServiceType
+abbrev pub new_type : Repository → (name if_name : List ℕ) → List PropStruct → List (List ℕ)
+    → ServiceType
 new_type r name if_name props supers = record {
   name = name;
   if_name = if_name;
@@ -55,21 +56,22 @@ property_fault before (p ∷ ps) =
 -- ---- supertypes
 
 -- no type's name, or the name of one before it, or one whose interface the new type's doesn't conform to
-abbrev pub base_fault : Repository → (name if_name : List ℕ) → (before : List (List ℕ)) → (super : List ℕ)
-    → Option ServiceType → Option RepoFault
+abbrev pub base_fault : Repository → (name if_name : List ℕ) → (before : List (List ℕ))
+    → (super : List ℕ) → Option ServiceType → Option RepoFault
 base_fault r name if_name before super None = Some (fault.UnknownServiceType super)
 base_fault r name if_name before super (Some base) =
     if is_among super before then Some (fault.DuplicateServiceTypeName super)
     else if interface_conforms r.interfaces if_name base.if_name then None
     else Some (fault.InterfaceTypeMismatch super base.if_name name if_name)
 
-abbrev pub super_fault : Repository → (name if_name : List ℕ) → (before : List (List ℕ)) → List ℕ → Option RepoFault
+abbrev pub super_fault : Repository → (name if_name : List ℕ) → (before : List (List ℕ)) → List ℕ
+    → Option RepoFault
 super_fault r name if_name before super =
     if word_name super then base_fault r name if_name before super (type_named r.types super)
     else Some (fault.IllegalServiceType super)
 
-abbrev pub supers_fault : Repository → (name if_name : List ℕ) → (before : List (List ℕ)) → List (List ℕ)
-    → Option RepoFault
+abbrev pub supers_fault : Repository → (name if_name : List ℕ) → (before : List (List ℕ))
+    → List (List ℕ) → Option RepoFault
 supers_fault r name if_name before [] = None
 supers_fault r name if_name before (s ∷ ss) =
     or_else (super_fault r name if_name before s) (supers_fault r name if_name (s ∷ before) ss)
@@ -89,7 +91,8 @@ definitions type own props = map (λ p. record { type = type; property = p; own 
 -- is at least the supertype's.
 abbrev pub agree : Definition → PropStruct → Bool
 agree earlier p =
-    same earlier.property.value_type p.value_type && (not earlier.own || is_at_least earlier.property.mode p.mode)
+    same earlier.property.value_type p.value_type
+    && (not earlier.own || is_at_least earlier.property.mode p.mode)
 
 -- against the earlier definition of the name, if there is one
 abbrev pub conflict : Option Definition → Definition → Option RepoFault
@@ -109,7 +112,8 @@ redefinition earlier (d ∷ ds) =
 
 -- of each supertype in order its full properties in order
 abbrev pub inherited_definitions : Repository → List (List ℕ) → List Definition
-inherited_definitions r supers = flat_map (λ s. definitions s false (full_properties r.types s)) supers
+inherited_definitions r supers = flat_map (λ s. definitions s false (full_properties r.types s))
+    supers
 
 -- ---- limits
 

@@ -29,16 +29,21 @@ unless (Some f) comes = refuse f
 
 -- ---- adding
 
-abbrev pub add_fault : Repository → (name if_name : List ℕ) → List PropStruct → List (List ℕ) → Option RepoFault
+abbrev pub add_fault : Repository → (name if_name : List ℕ) → List PropStruct → List (List ℕ)
+    → Option RepoFault
 add_fault r name if_name props supers =
-    or_else (name_fault r name) (or_else (property_fault [] props) (or_else (supers_fault r name if_name [] supers)
+    or_else (name_fault r name)
+    (or_else (property_fault [] props)
+    (or_else (supers_fault r name if_name [] supers)
     (redefinition (definitions name true props) (inherited_definitions r supers))))
 
-unfoldable pub add_type : Repository → (name if_name : List ℕ) → List PropStruct → List (List ℕ) → Comes
+unfoldable pub add_type : Repository → (name if_name : List ℕ) → List PropStruct → List (List ℕ)
+    → Comes
 add_type r name if_name props supers =
     let t = new_type r name if_name props supers in
     unless (add_fault r name if_name props supers)
-    (if passes_limit (with_type r t) t then Err Full else Ok (reply.Added t.incarnation, with_type r t))
+    (if passes_limit (with_type r t) t then Err Full else Ok
+    (reply.Added t.incarnation, with_type r t))
 
 -- ---- a type by its name
 
@@ -49,7 +54,8 @@ act_on (Some t) name act = act t
 -- what is done with the type of that name
 abbrev pub known : Repository → List ℕ → (ServiceType → Comes) → Comes
 known r name act =
-    if word_name name then act_on (type_named r.types name) name act else refuse (fault.IllegalServiceType name)
+    if word_name name then act_on (type_named r.types name) name act else refuse
+    (fault.IllegalServiceType name)
 
 unfoldable pub describe_type : Repository → List ℕ → Comes
 describe_type r name = known r name λ t. Ok (reply.Described (description t), r)
@@ -80,11 +86,13 @@ set_mask r name masked = record r {
 
 unfoldable pub mask_type : Repository → List ℕ → Comes
 mask_type r name =
-    known r name λ t. if t.masked then refuse (fault.AlreadyMasked name) else Ok (reply.Masked, set_mask r name true)
+    known r name λ t. if t.masked then refuse (fault.AlreadyMasked name) else Ok
+    (reply.Masked, set_mask r name true)
 
 unfoldable pub unmask_type : Repository → List ℕ → Comes
 unmask_type r name =
-    known r name λ t. if t.masked then Ok (reply.Unmasked, set_mask r name false) else refuse (fault.NotMasked name)
+    known r name λ t. if t.masked then Ok (reply.Unmasked, set_mask r name false) else refuse
+    (fault.NotMasked name)
 
 -- ---- listing
 

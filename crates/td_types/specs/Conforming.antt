@@ -34,7 +34,8 @@ once met (name ∷ names) = once (add_once met name) names
 -- are listed from the youngest on, so that a type's supertypes stand behind it.
 abbrev pub walk : List ServiceType → List ℕ → List (List ℕ)
 walk [] name = []
-walk (t ∷ older) name = if is_named name t then flat_map (λ s. s ∷ walk older s) t.supers else walk older name
+walk (t ∷ older) name = if is_named name t then flat_map (λ s. s ∷ walk older s)
+    t.supers else walk older name
 
 -- all supertypes, declared ones and theirs, in the order in which a depth-first walk first meets them
 unfoldable pub ancestors : List ServiceType → List ℕ → List (List ℕ)

@@ -19,4 +19,7 @@ description t = record {
 -- all its properties and all its supertypes; the type is one of these
 abbrev pub full_description : List ServiceType → ServiceType → TypeStruct
 full_description types t =
-    record (description t) { props = full_properties types t.name; super_types = ancestors types t.name }
+    record (description t) {
+      props = full_properties types t.name;
+      super_types = ancestors types t.name;
+    }

@@ -18,9 +18,11 @@ IsMore full (Err Full) = most_properties < length full
 IsMore full (Err Memory) = Unit {0}
 
 -- so many are now there that what is later comes to what all came to before
-abbrev pub IsMoreBy : (inherited old new further later : List PropStruct) → Result (Unit {0}) TypesFault → Type 0
+abbrev pub IsMoreBy : (inherited old new further later : List PropStruct)
+    → Result (Unit {0}) TypesFault → Type 0
 IsMoreBy inherited old new further later (Ok _) =
     (extended inherited new later ≡ extended inherited old further) × (length new ≤ most_properties)
 IsMoreBy inherited old new further later (Err (User f)) = ⊥
-IsMoreBy inherited old new further later (Err Full) = most_properties < length (extended inherited old further)
+IsMoreBy inherited old new further later (Err Full) = most_properties
+    < length (extended inherited old further)
 IsMoreBy inherited old new further later (Err Memory) = Unit {0}

@@ -8,7 +8,8 @@ use Rattle.td_types.specs.Repository.{Declared}
 
 -- whether some declared base of an interface passes a test
 abbrev pub some_base : Declared → List ℕ → (List ℕ → Bool) → Bool
-some_base declared id test = list_any (λ entry. bytes_eq entry.0 id && list_any test entry.1) declared
+some_base declared id test = list_any (λ entry. bytes_eq entry.0 id && list_any test entry.1)
+    declared
 
 -- whether one interface is a declared base of another
 abbrev pub is_base : Declared → List ℕ → List ℕ → Bool
@@ -17,7 +18,8 @@ is_base declared id base = some_base declared id (bytes_eq base)
 -- from the first id, over these and no others, to the last one: each a declared base of the one before
 abbrev pub IsChain : Declared → List ℕ → List (List ℕ) → List ℕ → Type 0
 IsChain declared first [] last = first ≡ last
-IsChain declared first (next ∷ ids) last = IsTrue (is_base declared first next) × IsChain declared next ids last
+IsChain declared first (next ∷ ids) last = IsTrue (is_base declared first next)
+    × IsChain declared next ids last
 
 -- there is a list of ids from the first to the last in which each is a declared base of the one before
 abbrev pub LeadsTo : Declared → List ℕ → List ℕ → Type 0
@@ -37,4 +39,5 @@ leads_within (suc steps) declared first last =
 -- the same as a test: no more steps are needed than there are declarations
 unfoldable pub interface_conforms : Declared → List ℕ → List ℕ → Bool
 interface_conforms declared sub base =
-    nat_eq (length sub) 0 || nat_eq (length base) 0 || leads_within (length declared) declared sub base
+    nat_eq (length sub) 0 || nat_eq (length base) 0
+    || leads_within (length declared) declared sub base

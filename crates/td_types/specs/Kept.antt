@@ -23,7 +23,11 @@ is_below base e = bytes_eq e.service_type.name base || is_among base e.ancestors
 
 -- the repository of these entries
 abbrev pub repository : List Entry → Declared → ℕ → Repository
-repository entries interfaces last = record { types = map kept entries; interfaces = interfaces; last = last }
+repository entries interfaces last = record {
+  types = map kept entries;
+  interfaces = interfaces;
+  last = last;
+}
 
 -- the entry keeps what its type has among these types
 pub record IsKept (types : List ServiceType) (e : Entry) : Type 0 where

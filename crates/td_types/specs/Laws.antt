@@ -35,7 +35,8 @@ pub record Removes (name : List ℕ) (before after : Repository) : Type 0 where
   pub valid : IsRepository after
   pub gone : has_type after.types name ≡ false
   pub remaining : after.types ≡ other_types name before.types
-  pub types : (other : List ℕ) → (other ≡ name → ⊥) → type_named after.types other ≡ type_named before.types other
+  pub types : (other : List ℕ) → (other ≡ name → ⊥) → type_named after.types other
+      ≡ type_named before.types other
   pub others : (other : List ℕ) → (other ≡ name → ⊥) → IsSameOf other before.types after.types
   pub interfaces : after.interfaces ≡ before.interfaces
   pub last : after.last ≡ before.last
@@ -48,7 +49,8 @@ pub record SetsMask (name : List ℕ) (masked : Bool) (before after : Repository
   pub had : mask_of before.types name ≡ Some (not masked)
   pub has : mask_of after.types name ≡ Some masked
   pub all : map unmasked after.types ≡ map unmasked before.types
-  pub types : (other : List ℕ) → (other ≡ name → ⊥) → type_named after.types other ≡ type_named before.types other
+  pub types : (other : List ℕ) → (other ≡ name → ⊥) → type_named after.types other
+      ≡ type_named before.types other
   pub supertypes : (other : List ℕ) → IsSameOf other before.types after.types
   pub interfaces : after.interfaces ≡ before.interfaces
   pub last : after.last ≡ before.last
@@ -64,7 +66,8 @@ pub record IsOldestSubType (r : Repository) (name : List ℕ) (sub : ServiceType
   pub conforming : IsTrue (conforms r.types sub.name name)
   pub other : sub.name ≡ name → ⊥
   pub oldest : AllByRecursion
-      (λ t. (t.name ≡ name → ⊥) → IsTrue (conforms r.types t.name name) → sub.incarnation ≤ t.incarnation) r.types
+      (λ t. (t.name ≡ name → ⊥) → IsTrue (conforms r.types t.name name) → sub.incarnation
+      ≤ t.incarnation) r.types
 
 -- a property of the other's name that demands at least what the other does
 abbrev pub is_as_strong : PropStruct → PropStruct → Bool

@@ -9,7 +9,8 @@ unmarked (mark ∷ marks) = cond mark 0 1 + unmarked marks
 
 -- what is queued is marked
 abbrev pub AreMarked : List Bool → List ℕ → Type 0
-AreMarked marks queue = (i : ℕ) → i < length queue → IsTrue (is_marked marks (slice_index_or queue i 0))
+AreMarked marks queue = (i : ℕ) → i < length queue
+    → IsTrue (is_marked marks (slice_index_or queue i 0))
 
 -- what is marked is queued
 abbrev pub AreQueued : List Bool → List ℕ → Type 0
@@ -17,8 +18,8 @@ AreQueued marks queue = (place : ℕ) → IsTrue (is_marked marks place) → IsT
 
 -- From marks and a queue to others by marking these places: those that weren't marked stand at the end of the
 -- queue, and nothing else has changed.
-pub record Marks (places : List ℕ) (marks : List Bool) (queue : List ℕ) (marked : List Bool) (queued : List ℕ) : Type
-    0 where
+pub record Marks (places : List ℕ) (marks : List Bool) (queue : List ℕ) (marked : List Bool)
+    (queued : List ℕ) : Type 0 where
   pub count : length marked ≡ length marks
   pub kept : (place : ℕ) → IsTrue (is_marked marks place) → IsTrue (is_marked marked place)
   pub all : (place : ℕ) → IsTrue (is_in place places) → IsTrue (is_marked marked place)

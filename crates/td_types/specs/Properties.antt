@@ -23,12 +23,14 @@ property_named props name = find (is_called name) props
 -- the join of the modes that these give a name
 abbrev pub joined_mode : List PropStruct → List ℕ → PropertyMode
 joined_mode [] name = Normal
-joined_mode (p ∷ ps) name = if is_called name p then join p.mode (joined_mode ps name) else joined_mode ps name
+joined_mode (p ∷ ps) name = if is_called name p then join p.mode (joined_mode ps name)
+    else joined_mode ps name
 
 -- those that a type's own properties leave over, each name once, with the first's value type
 abbrev pub newcomers : (own inherited : List PropStruct) → List PropStruct
 newcomers own [] = []
-newcomers own (p ∷ ps) = if has_property own p.name then newcomers own ps else p ∷ newcomers (p ∷ own) ps
+newcomers own (p ∷ ps) = if has_property own p.name then newcomers own ps else p
+    ∷ newcomers (p ∷ own) ps
 
 -- with the mode that all of these together demand
 abbrev pub strengthened : List PropStruct → PropStruct → PropStruct
@@ -44,7 +46,8 @@ with_inherited own inherited = own ++ map (strengthened inherited) (newcomers ow
 abbrev pub full : List ServiceType → List ℕ → List PropStruct
 full [] name = []
 full (t ∷ older) name =
-    if is_named name t then with_inherited t.props (flat_map (full older) t.supers) else full older name
+    if is_named name t then with_inherited t.props (flat_map (full older) t.supers)
+    else full older name
 
 unfoldable pub full_properties : List ServiceType → List ℕ → List PropStruct
 full_properties types name = full (reverse types) name

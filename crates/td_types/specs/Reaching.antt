@@ -54,11 +54,11 @@ AreWithin links places = (place : ℕ) → IsTrue (is_in place places) → place
 pub record IsLeast (links : List (List ℕ)) (starts : List ℕ) (marks : List Bool) : Type 0 where
   pub count : length marks ≡ length links
   pub holds_starts : (place : ℕ) → IsTrue (is_in place starts) → IsTrue (is_marked marks place)
-  pub closed : (from to : ℕ) → IsTrue (is_marked marks from) → IsTrue (is_in to (links_at links from))
-      → IsTrue (is_marked marks to)
+  pub closed : (from to : ℕ) → IsTrue (is_marked marks from)
+      → IsTrue (is_in to (links_at links from)) → IsTrue (is_marked marks to)
   pub least : (test : ℕ → Bool) → ((place : ℕ) → IsTrue (is_in place starts) → IsTrue (test place))
-      → ((from to : ℕ) → IsTrue (test from) → IsTrue (is_in to (links_at links from)) → IsTrue (test to)) → (place : ℕ)
-      → IsTrue (is_marked marks place) → IsTrue (test place)
+      → ((from to : ℕ) → IsTrue (test from) → IsTrue (is_in to (links_at links from))
+      → IsTrue (test to)) → (place : ℕ) → IsTrue (is_marked marks place) → IsTrue (test place)
 
 -- ---- the table
 
@@ -66,13 +66,15 @@ pub record IsLeast (links : List (List ℕ)) (starts : List ℕ) (marks : List B
 abbrev pub named : Declared → List Bool → List ℕ → Bool
 named [] marks base = false
 named (entry ∷ declared) [] base = false
-named (entry ∷ declared) (mark ∷ marks) base = (mark && is_among base entry.1) || named declared marks base
+named (entry ∷ declared) (mark ∷ marks) base = (mark && is_among base entry.1)
+    || named declared marks base
 
 -- by these marks an interface leads where it does
 pub record Reaches (declared : Declared) (id : List ℕ) (marks : List Bool) : Type 0 where
   pub count : length marks ≡ length declared
   pub leads : (last : List ℕ)
-      → leads_within (length declared) declared id last ≡ (bytes_eq id last || named declared marks last)
+      → leads_within (length declared) declared id last
+      ≡ (bytes_eq id last || named declared marks last)
 
 -- the marks of each declaration's interface
 pub record AllReach (declared : Declared) (reached : List (List Bool)) : Type 0 where

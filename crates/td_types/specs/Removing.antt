@@ -7,7 +7,8 @@ use Rattle.td_types.specs.Repository.{is_named, is_among}
 
 -- the first other entry that has this name among its ancestors
 abbrev pub sub_entry : List Entry → List ℕ → Option Entry
-sub_entry entries name = find (λ e. not (is_named name (kept e)) && is_among name e.ancestors) entries
+sub_entry entries name = find (λ e. not (is_named name (kept e)) && is_among name e.ancestors)
+    entries
 
 -- the entries that have other names
 abbrev pub without_entry : List Entry → List ℕ → List Entry
@@ -16,7 +17,8 @@ without_entry entries name = filter (λ e. not (is_named name (kept e))) entries
 -- the entries, with the mask of this name set so
 abbrev pub masked_entry : List ℕ → Bool → Entry → Entry
 masked_entry name masked e =
-    if is_named name (kept e) then record e { service_type = record e.service_type { masked = masked } } else e
+    if is_named name (kept e) then record e
+    { service_type = record e.service_type { masked = masked } } else e
 
 abbrev pub with_mask : List Entry → List ℕ → Bool → List Entry
 with_mask entries name masked = map (masked_entry name masked) entries

@@ -65,7 +65,8 @@ top (t ∷ older) = t.incarnation
 pub data Founded : List ServiceType → Type 0 where
   none : Founded []
   more : (t : ServiceType) (older : List ServiceType) → IsFalse (has_type older t.name)
-      → All (λ s. IsTrue (has_type older s)) t.supers → top older < t.incarnation → Founded older → Founded (t ∷ older)
+      → All (λ s. IsTrue (has_type older s)) t.supers → top older < t.incarnation → Founded older
+      → Founded (t ∷ older)
 
 pub record IsRepository (r : Repository) : Type 0 where
   pub founded : Founded (reverse r.types)

@@ -20,7 +20,8 @@ entry_or_unknown (Some e) name = Ok e
 -- the entry of that name, or why there is none
 abbrev pub sought : List Entry → List ℕ → Result Entry RepoFault
 sought entries name =
-    if word_name name then entry_or_unknown (entry_named entries name) name else Err (fault.IllegalServiceType name)
+    if word_name name then entry_or_unknown (entry_named entries name) name else Err
+    (fault.IllegalServiceType name)
 
 -- refused for this cause, or for want of memory, which is wanted for a refusal alone
 abbrev pub IsRefused : {X : Type 0} → Result X RepoFault → TypesFault → Type 0

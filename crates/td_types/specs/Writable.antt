@@ -40,7 +40,8 @@ pub record IsWritable (r : Repository) : Type 0 where
 -- the parameters of add_type, as they stand in a request
 abbrev pub AreWritable : (name if_name : List ℕ) → List PropStruct → List (List ℕ) → Type 0
 AreWritable name if_name props supers =
-    (text & text & sequence prop_struct & sequence text).format.admits (name, (if_name, (props, supers)))
+    (text & text & sequence prop_struct & sequence text).format.admits
+    (name, (if_name, (props, supers)))
 
 -- a reply, whose members the result of the operation has
 abbrev pub IsWritableReply : TypesReply → Type 0
@@ -62,8 +63,10 @@ IsWritableFault (fault.DuplicateServiceTypeName name) = text.format.admits name
 IsWritableFault (fault.InterfaceTypeMismatch base base_if derived derived_if) =
     (text & text & text & text).format.admits (base, (base_if, (derived, derived_if)))
 IsWritableFault (fault.ValueTypeRedefinition type_1 definition_1 type_2 definition_2) =
-    (text & prop_struct & text & prop_struct).format.admits (type_1, (definition_1, (type_2, definition_2)))
-IsWritableFault (fault.HasSubTypes the_type sub_type) = (text & text).format.admits (the_type, sub_type)
+    (text & prop_struct & text & prop_struct).format.admits
+    (type_1, (definition_1, (type_2, definition_2)))
+IsWritableFault (fault.HasSubTypes the_type sub_type) = (text & text).format.admits
+    (the_type, sub_type)
 IsWritableFault (fault.AlreadyMasked name) = text.format.admits name
 IsWritableFault (fault.NotMasked name) = text.format.admits name
 

@@ -46,7 +46,8 @@ impl Types {
         props: List<PropStruct>,
         supers: List<Text>,
     ) -> Result<TypesReply, TypesFault>
-        ensures answer { Answers (add_type self.old name if_name props supers) self.old self.new result }
+        ensures answer { Answers (add_type self.old name if_name props supers)
+            self.old self.new result }
         ensures valid { IsRepository self.new }
     {
         let entry = prepared(
@@ -141,7 +142,8 @@ fn judged<'a>(
     supers: &[Text],
 ) -> Result<List<&'a Entry>, TypesFault>
     requires { AreKept entries.now }
-    ensures { Judges (add_fault (repository entries.now interfaces.now 0) name.now if_name.now props.now supers.now)
+    ensures { Judges (add_fault (repository entries.now interfaces.now 0)
+        name.now if_name.now props.now supers.now)
         (λ bases. AreBases entries.now supers.now (map (λ b. b.now) bases)) result }
 {
     check_name(alloc, entries, name)?;

@@ -24,7 +24,8 @@ pub(crate) fn bases_of<'a>(
     if_name: &Text,
     supers: &[Text],
 ) -> Result<List<&'a Entry>, TypesFault>
-    ensures { Judges (supers_fault (repository entries.now interfaces.now 0) name.now if_name.now [] supers.now)
+    ensures { Judges (supers_fault (repository entries.now interfaces.now 0)
+        name.now if_name.now [] supers.now)
         (λ bases. AreBases entries.now supers.now (map (λ b. b.now) bases)) result }
 {
     let mut bases = List::new(alloc);
@@ -53,7 +54,8 @@ fn mismatch(
     if_name: &Text,
 ) -> Result<RepoFault, Memory>
     ensures { IfOk result (λ f.
-        f ≡ fault.InterfaceTypeMismatch base_name.now base.now.service_type.if_name name.now if_name.now) }
+        f ≡ fault.InterfaceTypeMismatch base_name.now base.now.service_type.if_name name.now
+        if_name.now) }
 {
     let (base_service, (base_if, (derived_service, derived_if))) = copy_four(
         alloc,

@@ -33,7 +33,8 @@ impl Types {
     pub fn subtypes(&self, base: &Text) -> Result<List<u64>, Memory>
         ensures answer { IfOk result (λ numbers. numbers ≡ subtypes self.now.types base.now) }
         ensures rising { IfOk result (Rises 0) }
-        ensures unknown { has_type self.now.types base.now ≡ false → IfOk result (λ numbers. numbers ≡ []) }
+        ensures unknown { has_type self.now.types base.now ≡ false
+            → IfOk result (λ numbers. numbers ≡ []) }
     {
         below(self.alloc, self.entries.as_slice(), base.as_slice())
     }

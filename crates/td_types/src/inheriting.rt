@@ -86,7 +86,8 @@ fn strengthened(
     bases: &[&Entry],
     property: &PropStruct,
 ) -> Result<PropStruct, Memory>
-    ensures { IfOk result (λ p. p ≡ strengthened (inherited (map (λ b. b.now) bases.now)) property.now) }
+    ensures { IfOk result (λ p. p
+        ≡ strengthened (inherited (map (λ b. b.now) bases.now)) property.now) }
 {
     Ok(PropStruct {
         name: property.name.copy(alloc)?,

@@ -35,7 +35,8 @@ pub fn types_conform()
     ensures reflexive { (types : List ServiceType) (name : List ℕ) →
         IsTrue (has_type types name) → IsTrue (conforms types name name) }
     ensures transitive { (r : Repository) (a b c : List ℕ) → IsRepository r →
-        IsTrue (conforms r.types a b) → IsTrue (conforms r.types b c) → IsTrue (conforms r.types a c) }
+        IsTrue (conforms r.types a b) → IsTrue (conforms r.types b c)
+        → IsTrue (conforms r.types a c) }
 {}
 
 /// An accepted removal takes the type of that name and leaves all others as they were, in their
@@ -62,9 +63,9 @@ pub fn masks_change_nothing_else()
 /// A new type's incarnation is above all that were given before, those of removed types too, since a
 /// removal leaves the last incarnation as it was.
 pub fn incarnations_are_new()
-    ensures { (r after : Repository) (name if_name : List ℕ) (props : List PropStruct) (supers : List (List ℕ)) →
-        (told : TypesReply) → IsRepository r →
-        add_type r name if_name props supers ≡ Ok (told, after) → IsNewest r after told }
+    ensures { (r after : Repository) (name if_name : List ℕ) (props : List PropStruct)
+        (supers : List (List ℕ)) → (told : TypesReply) → IsRepository r
+        → add_type r name if_name props supers ≡ Ok (told, after) → IsNewest r after told }
 {}
 
 /// Types are listed by rising incarnation.
@@ -76,19 +77,20 @@ pub fn listing_rises()
 /// Each full property of a supertype is among a new type's full properties, with a mode that is at
 /// least the supertype's.
 pub fn supertypes_modes_hold()
-    ensures { (r after : Repository) (name if_name : List ℕ) (props : List PropStruct) (supers : List (List ℕ)) →
-        (told : TypesReply) → add_type r name if_name props supers ≡ Ok (told, after) →
-        (super : List ℕ) → IsTrue (is_among super supers) →
-        AreAsStrong (full_properties after.types name) (full_properties r.types super) }
+    ensures { (r after : Repository) (name if_name : List ℕ) (props : List PropStruct)
+        (supers : List (List ℕ)) → (told : TypesReply) → add_type r name if_name props supers
+        ≡ Ok (told, after) → (super : List ℕ) → IsTrue (is_among super supers)
+        → AreAsStrong (full_properties after.types name) (full_properties r.types super) }
 {}
 
 /// A repository without types can be written. A call whose parameters can be written leaves one that
 /// can be written so, and what it answers can be written: the reply, or the exception's members.
 pub fn types_stay_writable()
-    ensures new { (interfaces : Declared) → IsWritable (record { types = []; interfaces = interfaces; last = 0 }) }
-    ensures add { (r : Repository) (name if_name : List ℕ) (props : List PropStruct) (supers : List (List ℕ)) →
-        IsWritable r → AreWritable name if_name props supers →
-        StaysWritable (add_type r name if_name props supers) }
+    ensures new { (interfaces : Declared)
+        → IsWritable (record { types = []; interfaces = interfaces; last = 0 }) }
+    ensures add { (r : Repository) (name if_name : List ℕ) (props : List PropStruct)
+        (supers : List (List ℕ)) → IsWritable r → AreWritable name if_name props supers
+        → StaysWritable (add_type r name if_name props supers) }
     ensures remove { (r : Repository) (name : List ℕ) → IsRepository r → IsWritable r →
         text.format.admits name → StaysWritable (remove_type r name) }
     ensures mask { (r : Repository) (name : List ℕ) → IsWritable r → text.format.admits name →
@@ -97,9 +99,10 @@ pub fn types_stay_writable()
         StaysWritable (unmask_type r name) }
     ensures describe { (r : Repository) (name : List ℕ) → IsWritable r → text.format.admits name →
         StaysWritable (describe_type r name) }
-    ensures fully_describe { (r : Repository) (name : List ℕ) → IsWritable r → text.format.admits name →
-        StaysWritable (fully_describe_type r name) }
-    ensures list { (r : Repository) (since : Option ℕ) → IsWritable r → StaysWritable (list_types r since) }
+    ensures fully_describe { (r : Repository) (name : List ℕ) → IsWritable r
+        → text.format.admits name → StaysWritable (fully_describe_type r name) }
+    ensures list { (r : Repository) (since : Option ℕ) → IsWritable r
+        → StaysWritable (list_types r since) }
     ensures properties { (r : Repository) (name : List ℕ) → IsWritable r →
         (sequence prop_struct).format.admits (full_properties r.types name) }
 {}
@@ -107,12 +110,13 @@ pub fn types_stay_writable()
 /// As they are defined, the calls come to an answer, an exception or the limit: want of memory is the
 /// code's alone.
 pub fn calls_come_to_no_want_of_memory()
-    ensures add { (r : Repository) (name if_name : List ℕ) (props : List PropStruct) (supers : List (List ℕ)) →
-        add_type r name if_name props supers ≡ Err memory → ⊥ }
+    ensures add { (r : Repository) (name if_name : List ℕ) (props : List PropStruct)
+        (supers : List (List ℕ)) → add_type r name if_name props supers ≡ Err memory → ⊥ }
     ensures remove { (r : Repository) (name : List ℕ) → remove_type r name ≡ Err memory → ⊥ }
     ensures mask { (r : Repository) (name : List ℕ) → mask_type r name ≡ Err memory → ⊥ }
     ensures unmask { (r : Repository) (name : List ℕ) → unmask_type r name ≡ Err memory → ⊥ }
     ensures describe { (r : Repository) (name : List ℕ) → describe_type r name ≡ Err memory → ⊥ }
-    ensures fully_describe { (r : Repository) (name : List ℕ) → fully_describe_type r name ≡ Err memory → ⊥ }
+    ensures fully_describe { (r : Repository) (name : List ℕ) → fully_describe_type r name
+        ≡ Err memory → ⊥ }
     ensures list { (r : Repository) (since : Option ℕ) → list_types r since ≡ Err memory → ⊥ }
 {}

@@ -43,7 +43,8 @@ impl Types {
 ///
 /// `Memory` for want of memory alone.
 fn listed(alloc: Global, entries: &[Entry], since: Option<u64>) -> Result<List<Text>, Memory>
-    ensures { IfOk result (λ names. names ≡ map (λ t. t.name) (filter (is_listed since) (map kept entries.now))) }
+    ensures { IfOk result (λ names. names
+        ≡ map (λ t. t.name) (filter (is_listed since) (map kept entries.now))) }
 {
     let mut names = List::new(alloc);
     for entry in entries {

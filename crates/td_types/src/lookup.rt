@@ -20,7 +20,8 @@ impl Types {
     /// The repository id of the interface of the type of a name. Takes no memory.
     pub fn interface_of(&self, name: &[u8]) -> Option<&Text>
         ensures { MatchOption result (type_named self.now.types name.now ≡ None)
-            (λ i. (t : ServiceType) × (type_named self.now.types name.now ≡ Some t) × (t.if_name ≡ i.now)) }
+            (λ i. (t : ServiceType) × (type_named self.now.types name.now ≡ Some t)
+            × (t.if_name ≡ i.now)) }
     {
         let entry = self.entries.get(name)?;
         Some(&entry.service_type.if_name)
@@ -48,7 +49,8 @@ impl Types {
     /// The property of a name among all properties of a type, with its value type and its mode. Takes
     /// no memory.
     pub fn full_property(&self, type_name: &[u8], name: &[u8]) -> Option<&PropStruct>
-        ensures { option_copied result ≡ property_named (full_properties self.now.types type_name.now) name.now }
+        ensures { option_copied result
+            ≡ property_named (full_properties self.now.types type_name.now) name.now }
     {
         property_named(self.full_properties(type_name), name)
     }

@@ -36,7 +36,8 @@ pub(crate) fn reach(
 /// Marks those of the places that aren't marked yet, and queues them.
 fn mark_each(marks: &mut Vec<bool>, queue: &mut Vec<usize>, places: &[usize]) -> Result<(), Memory>
     requires { (place : ℕ) → IsTrue (is_in place places.now) → place < length marks.old.items }
-    ensures { OnOk result (Marks places.now marks.old.items queue.old.items marks.new.items queue.new.items) }
+    ensures { OnOk result (Marks places.now marks.old.items queue.old.items marks.new.items
+        queue.new.items) }
 {
     for place in places {
         if !marks[*place] {

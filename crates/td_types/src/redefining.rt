@@ -125,7 +125,8 @@ fn boxed_copies(
 
 /// Refuses a definition that doesn't agree with the first of its name.
 fn check_agreement(alloc: Global, earlier: Given<'_>, given: Given<'_>) -> Result<(), TypesFault>
-    ensures { Judges (conflict (Some (stated earlier.entry)) (stated given.entry)) (λ _. Unit {0}) result }
+    ensures { Judges (conflict (Some (stated earlier.entry)) (stated given.entry))
+        (λ _. Unit {0}) result }
 {
     if agree(alloc, earlier, given.property)? {
         return Ok(());
@@ -161,7 +162,8 @@ fn first<'a>(
     firsts: &mut BTreeMap<&'a [u8], Given<'a>>,
     given: Given<'a>,
 ) -> Result<Option<Given<'a>>, Memory>
-    ensures earlier { IfOk result (λ e. option_map stated e ≡ first_at firsts.old given.entry.property.now.name) }
+    ensures earlier { IfOk result (λ e. option_map stated e
+        ≡ first_at firsts.old given.entry.property.now.name) }
     ensures kept { OnOk result ((name : List ℕ) → first_at firsts.new name
         ≡ option_or (first_at firsts.old name) (cond (bytes_eq given.entry.property.now.name name)
         (Some (stated given.entry)) None)) }

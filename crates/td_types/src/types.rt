@@ -54,7 +54,8 @@ impl Types {
     ///
     /// `Memory` for want of memory alone.
     pub fn new(alloc: Global, interfaces: List<(Text, List<Text>)>) -> Result<Types, Memory>
-        ensures empty { IfOk result (λ t. t ≡ record { types = []; interfaces = interfaces; last = 0 }) }
+        ensures empty { IfOk result (λ t. t
+            ≡ record { types = []; interfaces = interfaces; last = 0 }) }
         ensures valid { IfOk result IsRepository }
     {
         let interfaces = Interfaces::new(alloc, interfaces)?;

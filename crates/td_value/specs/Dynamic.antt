@@ -24,4 +24,5 @@ dynamic_kinds = number_of kind.ObjRef ∷ number_of kind.Code ∷ number_of kind
 -- a structure of that id with an object reference, a TypeCode and an any
 abbrev pub dynamic_shape : Shape → Bool
 dynamic_shape s =
-    nat_eq s.kind (number_of kind.Struct) && (pointwise nat_eq s.id dynamic_id && has_kinds dynamic_kinds s.inner)
+    nat_eq s.kind (number_of kind.Struct)
+    && (pointwise nat_eq s.id dynamic_id && has_kinds dynamic_kinds s.inner)

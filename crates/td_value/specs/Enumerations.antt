@@ -19,9 +19,8 @@ follow_option_number follow_option_value.Always = 2
 
 abbrev pub follow_option : Sound ValueFault FollowOption
 follow_option =
-    enumeration (follow_option_value.LocalOnly ∷ follow_option_value.IfNoLocal ∷ follow_option_value.Always ∷ [])
-    follow_option_number
-    (elim [
+    enumeration (follow_option_value.LocalOnly ∷ follow_option_value.IfNoLocal
+    ∷ follow_option_value.Always ∷ []) follow_option_number (elim [
       | follow_option_value.LocalOnly ↦ refl
       | follow_option_value.IfNoLocal ↦ refl
       | follow_option_value.Always ↦ refl
@@ -35,10 +34,13 @@ how_many_props_number how_many_props_value.All = 2
 
 abbrev pub how_many_props : Sound ValueFault HowManyProps
 how_many_props =
-    enumeration (how_many_props_value.None ∷ how_many_props_value.Some ∷ how_many_props_value.All ∷ [])
-    how_many_props_number
-    (elim [ how_many_props_value.None ↦ refl | how_many_props_value.Some ↦ refl | how_many_props_value.All ↦ refl ])
-    refl
+    enumeration (how_many_props_value.None ∷ how_many_props_value.Some ∷ how_many_props_value.All
+    ∷ []) how_many_props_number
+    (elim [
+      | how_many_props_value.None ↦ refl
+      | how_many_props_value.Some ↦ refl
+      | how_many_props_value.All ↦ refl
+    ]) refl
 
 abbrev pub property_mode_number : PropertyMode → ℕ
 property_mode_number property_mode_value.Normal = 0
@@ -48,10 +50,9 @@ property_mode_number property_mode_value.MandatoryReadonly = 3
 
 abbrev pub property_mode : Sound ValueFault PropertyMode
 property_mode =
-    enumeration (property_mode_value.Normal ∷ property_mode_value.Readonly ∷ property_mode_value.Mandatory
-    ∷ property_mode_value.MandatoryReadonly ∷ [])
-    property_mode_number
-    (elim [
+    enumeration (property_mode_value.Normal ∷ property_mode_value.Readonly
+    ∷ property_mode_value.Mandatory ∷ property_mode_value.MandatoryReadonly ∷ [])
+    property_mode_number (elim [
       | property_mode_value.Normal ↦ refl
       | property_mode_value.Readonly ↦ refl
       | property_mode_value.Mandatory ↦ refl

@@ -62,8 +62,8 @@ link_info = structure
       def_pass_on_follow_rule = p.1.1.0;
       limiting_follow_rule = p.1.1.1;
     })
-    (λ x. (x.target, (x.target_reg, (x.def_pass_on_follow_rule, x.limiting_follow_rule)))) (λ _. refl) (λ _. refl)
-    (reference & reference & follow_option & follow_option)
+    (λ x. (x.target, (x.target_reg, (x.def_pass_on_follow_rule, x.limiting_follow_rule))))
+    (λ _. refl) (λ _. refl) (reference & reference & follow_option & follow_option)
 
 abbrev pub proxy_info : Sound ValueFault ProxyInfo
 proxy_info = structure
@@ -75,15 +75,26 @@ proxy_info = structure
       recipe = p.1.1.1.1.0;
       policies_to_pass_on = p.1.1.1.1.1;
     })
-    (λ x. (x.service_type, (x.target, (x.properties, (x.if_match_all, (x.recipe, x.policies_to_pass_on)))))) (λ _. refl)
-    (λ _. refl)
+    (λ x. (
+      x.service_type,
+      (
+        x.target,
+        (x.properties, (x.if_match_all, (x.recipe, x.policies_to_pass_on))),
+      ),
+    )) (λ _. refl) (λ _. refl)
     (text & reference & sequence property & boolean & text & sequence policy)
 
 abbrev pub type_struct : Sound ValueFault TypeStruct
 type_struct = structure
-    (λ p. record { if_name = p.0; props = p.1.0; super_types = p.1.1.0; masked = p.1.1.1.0; incarnation = p.1.1.1.1 })
-    (λ x. (x.if_name, (x.props, (x.super_types, (x.masked, x.incarnation))))) (λ _. refl) (λ _. refl)
-    (text & sequence prop_struct & sequence text & boolean & incarnation_number)
+    (λ p. record {
+      if_name = p.0;
+      props = p.1.0;
+      super_types = p.1.1.0;
+      masked = p.1.1.1.0;
+      incarnation = p.1.1.1.1;
+    })
+    (λ x. (x.if_name, (x.props, (x.super_types, (x.masked, x.incarnation))))) (λ _. refl)
+    (λ _. refl) (text & sequence prop_struct & sequence text & boolean & incarnation_number)
 
 abbrev pub dynamic_prop : Sound ValueFault DynamicProp
 dynamic_prop = structure

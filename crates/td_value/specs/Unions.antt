@@ -22,8 +22,8 @@ props_tag props.All = how_many.All
 abbrev pub props_under : HowManyProps → Arm ValueFault HowManyProps SpecifiedProps props_tag
 props_under how_many.None = bare_arm props.None
 props_under how_many.Some =
-    arm how_many.Some (λ names. props.Some names) (elim [ props.Some names ↦ Some names | _ ↦ None ]) (λ _. refl)
-    (λ _. refl) (sequence text)
+    arm how_many.Some (λ names. props.Some names)
+    (elim [ props.Some names ↦ Some names | _ ↦ None ]) (λ _. refl) (λ _. refl) (sequence text)
 props_under how_many.All = bare_arm props.All
 
 abbrev pub specified_props : Sound ValueFault SpecifiedProps
@@ -38,8 +38,9 @@ types_tag (types.Since i) = listed.Since
 abbrev pub types_under : ListOption → Arm ValueFault ListOption SpecifiedServiceTypes types_tag
 types_under listed.All = bare_arm types.All
 types_under listed.Since =
-    arm listed.Since (λ i. types.Since i) (elim [ types.Since i ↦ Some i | _ ↦ None ]) (λ _. refl) (λ _. refl)
-    incarnation_number
+    arm listed.Since (λ i. types.Since i) (elim [ types.Since i ↦ Some i | _ ↦ None ]) (λ _. refl)
+    (λ _. refl) incarnation_number
 
 abbrev pub specified_types : Sound ValueFault SpecifiedServiceTypes
-specified_types = union list_option types_tag types_under (elim [ listed.All ↦ refl | listed.Since ↦ refl ])
+specified_types = union list_option types_tag types_under
+    (elim [ listed.All ↦ refl | listed.Since ↦ refl ])

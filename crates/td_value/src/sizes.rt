@@ -30,7 +30,8 @@ pub fn offer_size(
     properties: &List<Property>,
 ) -> Result<usize, Memory>
     ensures { IfOk result (λ n.
-        n ≡ length (offer.format.writes (record { reference = reference.now; properties = properties.now }) Big 0)) }
+        n ≡ length (offer.format.writes
+        (record { reference = reference.now; properties = properties.now }) Big 0)) }
 {
     let mut w = Writer::new(alloc, Order::Big);
     put_two(alloc, &mut w, reference, properties)?;

@@ -53,22 +53,31 @@ abbrev pub searched_up_to : Local → List OfferRecord → (tried : ℕ) → Lis
     List StepAnswer → Scan
 searched_up_to l [] tried found made answers = record { tried = tried; made = made; found = found }
 searched_up_to l (o ∷ os) tried found made answers =
-    if nat_le l.effective.match_card (length found) then record { tried = tried; made = made; found = found }
-    else comes_to (tried_on l o made answers) (λ r. searched_up_to l os (tried + 1) (found ++ r.0) [] r.1)
+    if nat_le l.effective.match_card (length found) then record {
+      tried = tried;
+      made = made;
+      found = found;
+    }
+    else comes_to (tried_on l o made answers)
+    (λ r. searched_up_to l os (tried + 1) (found ++ r.0) [] r.1)
     (record { tried = tried; made = made_trying l o made answers; found = found })
 
-abbrev pub made_completing : SpecifiedProps → OfferRecord → List Evaluation → List StepAnswer → List Evaluation
+abbrev pub made_completing : SpecifiedProps → OfferRecord → List Evaluation → List StepAnswer
+    → List Evaluation
 made_completing desired o made answers =
-    if is_ordinary o then made_up_to o.properties made (desired_names desired o.properties) answers else made
+    if is_ordinary o then made_up_to o.properties made (desired_names desired o.properties)
+    answers else made
 
 -- where the evaluation of desired properties stops, and which offers are complete before
-abbrev pub completed_up_to : SpecifiedProps → (before : List Found) → List Found → List StepAnswer → Completion
+abbrev pub completed_up_to : SpecifiedProps → (before : List Found) → List Found → List StepAnswer
+    → Completion
 completed_up_to desired before [] answers = record { waiting = []; complete = before }
 completed_up_to desired before (f ∷ fs) answers =
     comes_to (completed desired f.offer f.made answers)
     (λ r. completed_up_to desired (before ++ record { offer = f.offer; made = r.0 } ∷ []) fs r.1)
     (record {
-      waiting = record { offer = f.offer; made = made_completing desired f.offer f.made answers } ∷ fs;
+      waiting = record { offer = f.offer; made = made_completing desired f.offer f.made answers }
+          ∷ fs;
       complete = before;
     })
 
@@ -101,14 +110,15 @@ abbrev pub behind : List SubAnswer → Reads (List SubAnswer) → Reads (List Su
 behind given r = r >>= λ s. Ok (given ++ s.0, s.1)
 
 -- So many of the steps have their answers: whatever comes behind these, from there the steps that are left are taken.
-abbrev pub GoesOn : (first : Option ℕ) → (all : List Step) → List StepAnswer → (given : ℕ) → (wanted : Option ℕ)
-    → (left : List Step) → Type 0
+abbrev pub GoesOn : (first : Option ℕ) → (all : List Step) → List StepAnswer → (given : ℕ)
+    → (wanted : Option ℕ) → (left : List Step) → Type 0
 GoesOn first all answers given wanted left =
     (rest : List StepAnswer) → forwarded first all (take given answers ++ rest)
     ≡ behind (given_by given answers) (forwarded wanted left rest)
 
 -- So far a search has come.
-pub record IsPlaceInSearch (l : Local) (found : List Found) (answers : List StepAnswer) (others : Others) : Type 0 where
+pub record IsPlaceInSearch (l : Local) (found : List Found) (answers : List StepAnswer)
+    (others : Others) : Type 0 where
   pub offers : others.offers ≤ length found
   pub links : others.links ≤ length l.links
   pub given : others.given ≤ length answers
@@ -163,29 +173,33 @@ wanted_by None l found = first_wanted l found
 wanted_by (Some link) l found = None
 
 -- with these steps all answers are read, or a question stands to which there is none
-abbrev pub Forwards : (first : Option ℕ) → List Step → List StepAnswer → (given : ℕ) → Option Next → Type 0
+abbrev pub Forwards : (first : Option ℕ) → List Step → List StepAnswer → (given : ℕ) → Option Next
+    → Type 0
 Forwards first all answers given question =
     Tells (forwarded first all answers) question (given_by given answers) (drop given answers)
 
-abbrev pub ForwardsBy : Option LinkRecord → Local → List Found → List StepAnswer → (given : ℕ) → Option Next → Type 0
+abbrev pub ForwardsBy : Option LinkRecord → Local → List Found → List StepAnswer → (given : ℕ)
+    → Option Next → Type 0
 ForwardsBy path l found answers given question =
     Forwards (wanted_by path l found) (steps_by path l found) answers given question
 
 -- the offers come to a question that has no answer, or all are passed by
 abbrev pub CallsTo : Local → List Found → List StepAnswer → Others → Option Next → Type 0
 CallsTo l found answers others None = others.offers ≡ length found
-CallsTo l found answers others (Some question) = forwarded (first_wanted l found) (steps l found) answers ≡ Err question
+CallsTo l found answers others (Some question) = forwarded (first_wanted l found)
+    (steps l found) answers ≡ Err question
 
 -- once the candidates were searched
-abbrev pub completed_on : Option LinkRecord → Local → (complete : List Found) → (waiting : List Found) →
-    List StepAnswer → Reads Gathered
+abbrev pub completed_on : Option LinkRecord → Local → (complete : List Found)
+    → (waiting : List Found) → List StepAnswer → Reads Gathered
 completed_on path l complete waiting answers =
     all_completed l.query.desired complete waiting answers
     >>= λ r. gathered r.0 r.1 (wanted_by path l r.0) (steps_by path l r.0)
 
 abbrev pub searching_on : Option LinkRecord → Local → Scan → List StepAnswer → Reads Gathered
 searching_on path l s answers =
-    searched_on l (drop s.tried l.candidates) s.found s.made answers >>= λ r. completed_on path l [] r.0 r.1
+    searched_on l (drop s.tried l.candidates) s.found s.made answers >>= λ r.
+    completed_on path l [] r.0 r.1
 
 abbrev pub resumed_by : Option LinkRecord → Local → Progress → List StepAnswer → Reads Gathered
 resumed_by path l p answers =
@@ -216,7 +230,8 @@ pub record AsksOthers (l : Local) (answers : List StepAnswer) (p : Progress) : T
 pub record Stands (l : Local) (answers : List StepAnswer) (p : Progress) : Type 0 where
   pub within : p.read ≤ length answers
   pub tries : p.scan.tried ≤ length l.candidates
-  pub goes_on : (rest : List StepAnswer) → visit_of l (take p.read answers ++ rest) ≡ resumed l p rest
+  pub goes_on : (rest : List StepAnswer) → visit_of l (take p.read answers ++ rest)
+      ≡ resumed l p rest
   pub asks : p.completed ≡ true → AsksOthers l answers p
 
 -- ---- the end
@@ -227,7 +242,10 @@ answers_left answers p = drop p.read answers
 -- the visit is at its end, and this is what it comes to
 abbrev pub gathering : List StepAnswer → Progress → Gathered
 gathering answers p =
-    record { found = p.completion.complete; given = given_by p.others.given (answers_left answers p) }
+    record {
+      found = p.completion.complete;
+      given = given_by p.others.given (answers_left answers p);
+    }
 
 pub record IsEnd (l : Local) (answers : List StepAnswer) (p : Progress) : Type 0 where
   pub within : p.read + p.others.given ≤ length answers

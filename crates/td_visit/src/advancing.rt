@@ -81,7 +81,8 @@ fn search_on(
 ) -> Result<Option<Next>, Memory>
     requires { Stands local.now answers.now progress.old }
     ensures stands { OnOk result (Stands local.now answers.now progress.new) }
-    ensures comes { IfOk result (λ question. SearchesTo local.now answers.now progress.new question) }
+    ensures comes { IfOk result
+        (λ question. SearchesTo local.now answers.now progress.new question) }
 {
     if progress.searched {
         return Ok(None);
@@ -128,7 +129,8 @@ fn complete_on(
     requires stands { Stands local.now answers.now progress.old }
     requires searched { progress.old.searched ≡ true }
     ensures stands { OnOk result (Stands local.now answers.now progress.new) }
-    ensures comes { IfOk result (λ question. CompletesTo local.now answers.now progress.new question) }
+    ensures comes { IfOk result
+        (λ question. CompletesTo local.now answers.now progress.new question) }
 {
     if progress.completed {
         return Ok(None);

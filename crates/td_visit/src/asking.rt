@@ -241,7 +241,8 @@ fn call_proxies(
 ) -> Result<Option<Next>, Memory>
     requires { IsPlaceInSearch local.now found.now answers.now others.old }
     ensures place { OnOk result (IsPlaceInSearch local.now found.now answers.now others.new) }
-    ensures calls { IfOk result (λ question. CallsTo local.now found.now answers.now others.new question) }
+    ensures calls { IfOk result
+        (λ question. CallsTo local.now found.now answers.now others.new question) }
 {
     let (_passed, matched) = found.split_at(others.offers);
     for one in matched {
@@ -274,7 +275,8 @@ fn ask_others(
     requires { IsPlaceInSearch local.now found.now answers.now others.old }
     ensures place { OnOk result (IsPlaceInSearch local.now found.now answers.now others.new) }
     ensures asks { IfOk result (λ question.
-        Forwards (first_wanted local.now found.now) (steps local.now found.now) answers.now others.new.given question) }
+        Forwards (first_wanted local.now found.now)
+        (steps local.now found.now) answers.now others.new.given question) }
 {
     let called = call_proxies(alloc, local, found, answers, others)?;
     if called.is_some() {

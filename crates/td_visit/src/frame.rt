@@ -106,7 +106,11 @@ impl Frame {
     #[tactic(auto, using(crate::proofs::Progressed::take_steps))]
     pub fn take(&mut self, answer: StepAnswer) -> Result<(), Memory>
         ensures ok { OnOk result
-            (self.new ≡ record { local = self.old.local; answers = self.old.answers ++ answer ∷ [] }) }
+            (self.new ≡ record {
+              local = self.old.local;
+              answers = self.old.answers ++ answer
+                  ∷ [];
+            }) }
         ensures err { OnErr result (self.new ≡ self.old) }
     {
         self.answers.push(answer)
@@ -121,7 +125,8 @@ impl Frame {
     pub fn finish<W: Words>(self, alloc: Global, words: &mut W) -> Result<SubAnswer, Memory>
         requires { next_of self.local self.answers ≡ Done }
         ensures answer { IfOk result (λ a. IsAnswer self.local self.answers (W.word words.old) a) }
-        ensures drawn { OnOk result (HasDrawn self.local self.answers (W.word words.old) (W.word words.new)) }
+        ensures drawn { OnOk result (HasDrawn self.local self.answers (W.word words.old)
+            (W.word words.new)) }
         ensures kept { OnErr result ((k : ℕ) → W.word words.new k ≡ W.word words.old k) }
         ensures seeding { W.last_seeding words.new ≡ W.last_seeding words.old }
         ensures same { W.same words.old words.new }

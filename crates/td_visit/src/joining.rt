@@ -21,7 +21,10 @@ use td_walk::{Evaluation, Found, Gathered, SubAnswer, resolved};
 #[tactic(auto, using(crate::proofs::Resolved::without_dynamic))]
 fn resolve(alloc: Global, made: &[Evaluation], offer: &mut Offer) -> Result<(), Memory>
     ensures { OnOk result (offer.new
-        ≡ record { reference = offer.old.reference; properties = resolved made.now offer.old.properties }) }
+        ≡ record {
+          reference = offer.old.reference;
+          properties = resolved made.now offer.old.properties;
+        }) }
 {
     if !has_dynamic(offer.properties.as_slice()) {
         return Ok(());

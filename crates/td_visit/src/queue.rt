@@ -30,7 +30,8 @@ impl<T> Model for Queue<T> {
 #[tactic(auto, using(crate::proofs::Reversed::twice))]
 fn put_last_first<T>(items: &mut Vec<T>, reversed: &mut bool)
     ensures reversed { reversed.new ≡ true }
-    ensures same { reverse items.new.items ≡ cond reversed.old (reverse items.old.items) items.old.items }
+    ensures same { reverse items.new.items
+        ≡ cond reversed.old (reverse items.old.items) items.old.items }
 {
     if !*reversed {
         items.reverse();
@@ -75,7 +76,8 @@ impl<T> Queue<T> {
     /// Takes the first element away.
     #[tactic(auto, using(crate::proofs::Reversed::last_first))]
     pub(crate) fn pop_front(&mut self) -> Option<T>
-        ensures { MatchOption result ((self.old ≡ []) × (self.new ≡ [])) (λ first. self.old ≡ first ∷ self.new) }
+        ensures { MatchOption result ((self.old ≡ []) × (self.new ≡ []))
+            (λ first. self.old ≡ first ∷ self.new) }
     {
         put_last_first(&mut self.items, &mut self.reversed);
         self.items.pop()

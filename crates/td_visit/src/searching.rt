@@ -50,7 +50,8 @@ fn is_matching(
     made: &[Evaluation],
     properties: &List<Property>,
 ) -> Result<bool, Memory>
-    ensures { IfOk result (λ holds. holds ≡ matching (resolved made.now properties.now) constraint.now) }
+    ensures { IfOk result (λ holds. holds
+        ≡ matching (resolved made.now properties.now) constraint.now) }
 {
     if !has_dynamic(properties.as_slice()) {
         return matches(constraint, properties);
@@ -66,7 +67,8 @@ fn add_found(
     made: List<Evaluation>,
     found: &mut List<Found>,
 ) -> Result<(), Memory>
-    ensures { OnOk result (found.new ≡ found.old ++ record { offer = offer.now; made = made } ∷ []) }
+    ensures { OnOk result (found.new ≡ found.old ++ record { offer = offer.now; made = made }
+        ∷ []) }
 {
     let offer = offer.copy(alloc)?;
     found.push(Found { offer, made })
@@ -124,8 +126,8 @@ fn try_candidate(
 ) -> Result<Option<Next>, Memory>
     requires { names.now ≡ names_asked local.now.constraint local.now.preference }
     ensures told { IfOk result (λ question.
-        TellsMore (tried_on local.now offer.now made.old left.old.answers.now) question found.old found.new
-        left.new.answers.now) }
+        TellsMore (tried_on local.now offer.now made.old left.old.answers.now)
+        question found.old found.new left.new.answers.now) }
     ensures kept { IfOk result (λ question. Kept question found.old found.new) }
     ensures stopped { OnOk result
         (made.new ≡ made_trying local.now offer.now made.old left.old.answers.now) }
@@ -164,11 +166,12 @@ pub(crate) fn search(
 ) -> Result<Option<Next>, Memory>
     requires { scan.old.tried ≤ length local.now.candidates }
     ensures told { IfOk result (λ question.
-        Tells (searched_on local.now (drop scan.old.tried local.now.candidates) scan.old.found scan.old.made
-        left.old.answers.now) question scan.new.found left.new.answers.now) }
+        Tells (searched_on local.now (drop scan.old.tried local.now.candidates)
+        scan.old.found scan.old.made left.old.answers.now)
+        question scan.new.found left.new.answers.now) }
     ensures stopped { OnOk result
-        (scan.new ≡ searched_up_to local.now (drop scan.old.tried local.now.candidates) scan.old.tried
-        scan.old.found scan.old.made left.old.answers.now) }
+        (scan.new ≡ searched_up_to local.now (drop scan.old.tried local.now.candidates)
+        scan.old.tried scan.old.found scan.old.made left.old.answers.now) }
 {
     let names = names_asked(alloc, &local.constraint, &local.preference)?;
     let most = local.effective.match_card as usize;
@@ -203,7 +206,8 @@ fn complete(
     left: &mut Left<'_>,
 ) -> Result<Option<Next>, Memory>
     ensures told { IfOk result (λ question.
-        Tells (completed desired.now offer.now made.old left.old.answers.now) question made.new left.new.answers.now) }
+        Tells (completed desired.now offer.now made.old left.old.answers.now)
+        question made.new left.new.answers.now) }
     ensures stopped { OnOk result
         (made.new ≡ made_completing desired.now offer.now made.old left.old.answers.now) }
 {
@@ -252,8 +256,8 @@ fn complete_each(
     left: &mut Left<'_>,
 ) -> Result<Option<Next>, Memory>
     ensures told { IfOk result (λ question.
-        Tells (all_completed desired.now completion.old.complete completion.old.waiting left.old.answers.now) question
-        completion.new.complete left.new.answers.now) }
+        Tells (all_completed desired.now completion.old.complete completion.old.waiting
+        left.old.answers.now) question completion.new.complete left.new.answers.now) }
     ensures stopped { OnOk result
         (completion.new ≡ completed_up_to desired.now completion.old.complete completion.old.waiting
         left.old.answers.now) }
@@ -285,8 +289,8 @@ pub(crate) fn complete_all(
     left: &mut Left<'_>,
 ) -> Result<Option<Next>, Memory>
     ensures told { IfOk result (λ question.
-        Tells (all_completed desired.now completion.old.complete completion.old.waiting left.old.answers.now) question
-        completion.new.complete left.new.answers.now) }
+        Tells (all_completed desired.now completion.old.complete completion.old.waiting
+        left.old.answers.now) question completion.new.complete left.new.answers.now) }
     ensures stopped { OnOk result
         (completion.new ≡ completed_up_to desired.now completion.old.complete completion.old.waiting
         left.old.answers.now) }

@@ -14,7 +14,10 @@ use Rattle.td_walk.specs.declared.found.Found.{Found}
 use Rattle.td_walk.specs.declared.gathering.Gathered.{Gathered}
 
 abbrev pub offer_of : Found → Offer
-offer_of f = record { reference = f.offer.reference; properties = resolved f.made f.offer.properties }
+offer_of f = record {
+  reference = f.offer.reference;
+  properties = resolved f.made f.offer.properties;
+}
 
 -- the ordinary offers that matched, as resolved
 abbrev pub own_offers : List Found → List Offer

@@ -51,8 +51,8 @@ card_policy offers = policy number (codes "return_card") offers
 
 -- Over a link, and to a proxy offer's trader: the path is taken out, one hop is taken, a rule is stated where there is
 -- one, the identifier is the search's, and where so many offers are still wanted, no more are to be returned.
-abbrev pub replaced : (hops : ℕ) → Option FollowOption → (identifier : Option (List ℕ)) → (wanted : Option ℕ)
-    → List Policy → List Policy
+abbrev pub replaced : (hops : ℕ) → Option FollowOption → (identifier : Option (List ℕ))
+    → (wanted : Option ℕ) → List Policy → List Policy
 replaced hops follow identifier wanted ps =
     with_optional (option_map card_policy wanted)
     (with_optional (option_map identifier_policy identifier)
@@ -92,7 +92,8 @@ states_less measure (Some earlier) later = is_less (measure earlier) (measure la
 abbrev pub stands : (limited : Bool) → List Policy → Policy → Bool
 stands limited ps p =
     if is_named (codes "request_id") p then true
-    else if is_named (codes "hop_count") p then states_less number_in (policy_named ps (codes "hop_count")) p
+    else if is_named (codes "hop_count") p then states_less number_in
+    (policy_named ps (codes "hop_count")) p
     else if is_named (codes "link_follow_rule") p then
     states_less follow_in (policy_named ps (codes "link_follow_rule")) p
     else if limited && is_named (codes "return_card") p then

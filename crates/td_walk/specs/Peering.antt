@@ -23,7 +23,8 @@ pub data PeerCall : Type 0 where
   -- query of a Lookup
   Querying : (target : Ior) → Query → PeerCall
   -- evalDP of a DynamicPropEval
-  Evaluating : (evaluator : Ior) → (name : List ℕ) → (returned : TypeCode) → (extra : Any) → PeerCall
+  Evaluating : (evaluator : Ior) → (name : List ℕ) → (returned : TypeCode) → (extra : Any)
+      → PeerCall
   -- the attribute register_if of a Lookup
   RegisterOf : (lookup : Ior) → PeerCall
   -- resolve of a Register
@@ -51,8 +52,8 @@ exchange given call (Err fault.Memory) = []
 exchange given call (Err f) = record { call = call; gave = Failed f } ∷ []
 
 -- The call is noted with what it gave. The count of faults never falls, and a fault comes only where it rose.
-pub record IsNoted {X : Type 0} (given : X → Given) (call : PeerCall) (before after : List Exchange) (faults now : ℕ)
-    (r : Result X PeerFault) : Type 0 where
+pub record IsNoted {X : Type 0} (given : X → Given) (call : PeerCall) (before after : List Exchange)
+    (faults now : ℕ) (r : Result X PeerFault) : Type 0 where
   pub calls : after ≡ before ++ exchange given call r
   pub later : faults ≤ now
   pub cause : IfErr r (λ f. Unless (is_memory f) (Rose faults now))

@@ -29,7 +29,8 @@ members_in (c.Value::Struct members) = members
 members_in l = []
 
 abbrev pub dynamic_from : Option Ior → Option TypeCode → Option Any → Option DynamicProp
-dynamic_from (Some r) (Some t) (Some a) = Some (record { eval_if = r; returned_type = t; extra_info = a })
+dynamic_from (Some r) (Some t)
+    (Some a) = Some (record { eval_if = r; returned_type = t; extra_info = a })
 dynamic_from r t a = None
 
 -- the evaluator, the type of the values that it returns, and what it is handed
@@ -54,11 +55,13 @@ longest_value = 16384
 
 -- of the returned type, and not too long from place 0 on
 unfoldable pub may_stand : DynamicProp → Any → Bool
-may_stand d a = same a.code d.returned_type && nat_le (length (any_value.format.writes a Big 0)) longest_value
+may_stand d a = same a.code d.returned_type
+    && nat_le (length (any_value.format.writes a Big 0)) longest_value
 
 -- the value that an answer gives: one whose evaluator can be reached
 unfoldable pub value_from : DynamicProp → StepAnswer → Option Any
-value_from d (answer.Evaluated a) = if is_some (iiop_of d.eval_if) && may_stand d a then Some a else None
+value_from d (answer.Evaluated a) = if is_some (iiop_of d.eval_if)
+    && may_stand d a then Some a else None
 value_from d other = None
 
 -- ---- resolved properties
@@ -73,10 +76,12 @@ is_evaluated made name = is_some (evaluation_of made name)
 -- a dynamic property's value is what its evaluation gave
 abbrev pub resolved_value : List Evaluation → Property → Option Any
 resolved_value made p =
-    if is_dynamic p.value then option_and_then (λ e. e.value) (evaluation_of made p.name) else Some p.value
+    if is_dynamic p.value then option_and_then (λ e. e.value)
+    (evaluation_of made p.name) else Some p.value
 
 abbrev pub resolved_property : List Evaluation → Property → Option Property
-resolved_property made p = option_map (λ v. record { name = p.name; value = v }) (resolved_value made p)
+resolved_property made p = option_map (λ v. record { name = p.name; value = v })
+    (resolved_value made p)
 
 -- the properties after these evaluations; a dynamic one without a value is absent
 unfoldable pub resolved : List Evaluation → List Property → List Property

@@ -70,7 +70,8 @@ given_from-cases (Failed f) = refl
 
 abbrev given_code : Coded SubAnswer → Coded Any → Coded Ior → Coded PeerFault → Coded Given
 given_code answer any ior fault =
-    code_by GivenCases (coded⊎ answer (coded⊎ any (coded⊎ ior fault))) given_cases given_from given_from-cases
+    code_by GivenCases (coded⊎ answer (coded⊎ any (coded⊎ ior fault)))
+    given_cases given_from given_from-cases
 
 -- ---- a call, and what it gave
 
@@ -83,7 +84,7 @@ exchange_by of_call of_given =
     (λ p. record { call = p.0; gave = p.1 })
     (λ _. refl)
 
-abbrev pub exchange_code : Coded Ior → Coded Query → Coded TypeCode → Coded Any → Coded SubAnswer → Coded PeerFault
-    → Coded Exchange
+abbrev pub exchange_code : Coded Ior → Coded Query → Coded TypeCode → Coded Any → Coded SubAnswer
+    → Coded PeerFault → Coded Exchange
 exchange_code ior query code any answer fault =
     exchange_by (call_code ior query code any) (given_code answer any ior fault)

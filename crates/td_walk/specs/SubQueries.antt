@@ -67,7 +67,8 @@ keeps_order other = false
 
 -- So many, once these are gathered. Where the offers get another order, all that there are.
 abbrev pub wanted_behind : Local → (gathered : ℕ) → Option ℕ
-wanted_behind l gathered = if keeps_order l.preference then Some (l.effective.return_card - gathered) else None
+wanted_behind l gathered = if keeps_order l.preference then Some
+    (l.effective.return_card - gathered) else None
 
 -- enough offers are there
 abbrev pub is_full : (wanted : Option ℕ) → Bool
@@ -80,8 +81,8 @@ is_full (Some (suc n)) = false
 unfoldable pub link_query : Local → (wanted : Option ℕ) → LinkRecord → Query
 link_query l wanted link =
     passed l l.query.constraint
-    (replaced l.effective.hops (Some (pass_on l.stated l.attributes link.limiting link.def_pass_on)) l.identifier
-    wanted l.query.policies)
+    (replaced l.effective.hops (Some (pass_on l.stated l.attributes link.limiting link.def_pass_on))
+    l.identifier wanted l.query.policies)
 
 -- a link's rule lets it be followed
 abbrev pub lets_follow : (local_match : Bool) → FollowOption → Bool
@@ -95,19 +96,23 @@ has_hops l = nat_lt 0 l.effective.hops
 
 -- a link is followed where there are hops, and its rule lets it
 abbrev pub follows : Local → (local_match : Bool) → LinkRecord → Bool
-follows l local_match link = has_hops l && lets_follow local_match (follow l.stated l.attributes link.limiting)
+follows l local_match link = has_hops l
+    && lets_follow local_match (follow l.stated l.attributes link.limiting)
 
 -- and while offers are wanted
-unfoldable pub link_step : Local → (wanted : Option ℕ) → (local_match : Bool) → LinkRecord → Option Next
+unfoldable pub link_step : Local → (wanted : Option ℕ) → (local_match : Bool) → LinkRecord
+    → Option Next
 link_step l wanted local_match link =
-    if not (is_full wanted) && follows l local_match link then Some (Forward link.target (link_query l wanted link))
+    if not (is_full wanted) && follows l local_match link then Some
+    (Forward link.target (link_query l wanted link))
     else None
 
 -- ---- to a proxy offer's trader
 
 -- what the recipe makes of the importer's constraint and the offer's properties as they were exported
 unfoldable pub expanded : (constraint : List ℕ) → OfferRecord → ProxyPart → Option (List ℕ)
-expanded constraint o part = option_and_then (expansion constraint o.properties) (recipe_of part.recipe)
+expanded constraint o part = option_and_then (expansion constraint o.properties)
+    (recipe_of part.recipe)
 
 -- the rule that is passed on where one is stated
 abbrev pub stated_rule : Option FollowOption → (maximum : FollowOption) → Option FollowOption
@@ -117,13 +122,14 @@ unfoldable pub proxy_query : Local → (wanted : Option ℕ) → ProxyPart → (
 proxy_query l wanted part constraint =
     passed l constraint
     (with_all_passed (is_some wanted) part.policies
-    (replaced l.effective.hops (stated_rule l.stated.follow l.attributes.max_follow_policy) l.identifier wanted
-    l.query.policies))
+    (replaced l.effective.hops (stated_rule l.stated.follow l.attributes.max_follow_policy)
+    l.identifier wanted l.query.policies))
 
 abbrev pub call_of : Local → (wanted : Option ℕ) → OfferRecord → ProxyPart → Option Next
 call_of l wanted o part =
     if not (is_full wanted) && has_hops l then
-    option_map (λ text. Forward o.reference (proxy_query l wanted part text)) (expanded l.query.constraint o part)
+    option_map (λ text. Forward o.reference (proxy_query l wanted part text))
+    (expanded l.query.constraint o part)
     else None
 
 -- a proxy offer that matched is called while offers are wanted, where there are hops and its recipe expands

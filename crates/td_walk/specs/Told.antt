@@ -9,14 +9,16 @@ use Rattle.td_walk.specs.declared.answer.StepAnswer.{StepAnswer}
 use Rattle.td_walk.specs.declared.evaluation.Evaluation.{Evaluation}
 
 -- the question to which there is no answer, or what came of the answers with those that are left
-abbrev pub Tells : {X : Type 0} → Reads X → Option Next → (new : X) → (left : List StepAnswer) → Type 0
+abbrev pub Tells : {X : Type 0} → Reads X → Option Next → (new : X) → (left : List StepAnswer)
+    → Type 0
 Tells reads None new left = reads ≡ Ok (new, left)
 Tells reads (Some question) new left = reads ≡ Err question
 
 -- the same, where what came of the answers is added behind the old
-abbrev pub TellsMore : {X : Type 0} → Reads (List X) → Option Next → (old new : List X) → (left : List StepAnswer)
-    → Type 0
-TellsMore reads question old new left = Tells (reads >>= λ r. Ok (old ++ r.0, r.1)) question new left
+abbrev pub TellsMore : {X : Type 0} → Reads (List X) → Option Next → (old new : List X)
+    → (left : List StepAnswer) → Type 0
+TellsMore reads question old new left = Tells (reads >>= λ r. Ok (old ++ r.0, r.1))
+    question new left
 
 -- nothing is changed where a question stands
 abbrev pub Kept : {X : Type 0} → Option Next → (old new : X) → Type 0
@@ -34,4 +36,5 @@ comes_to (Err question) f stopped = stopped
 abbrev pub made_up_to : List Property → List Evaluation → Names → List StepAnswer → List Evaluation
 made_up_to properties made [] answers = made
 made_up_to properties made (name ∷ names) answers =
-    comes_to (evaluated_name properties made name answers) (λ r. made_up_to properties r.0 names r.1) made
+    comes_to (evaluated_name properties made name answers)
+    (λ r. made_up_to properties r.0 names r.1) made

@@ -44,8 +44,8 @@ abbrev pub evaluation : (name : List ℕ) → DynamicProp → StepAnswer → Eva
 evaluation name d a = record { name = name; value = value_from d a }
 
 -- a dynamic property is evaluated
-abbrev pub evaluated_property : List Evaluation → (name : List ℕ) → Option DynamicProp → List StepAnswer
-    → Reads (List Evaluation)
+abbrev pub evaluated_property : List Evaluation → (name : List ℕ) → Option DynamicProp
+    → List StepAnswer → Reads (List Evaluation)
 evaluated_property made name None answers = Ok (made, answers)
 evaluated_property made name (Some d) answers =
     ask (question_on name d) answers >>= λ r. Ok (made ++ evaluation name d r.0 ∷ [], r.1)
@@ -58,7 +58,8 @@ evaluated_name properties made name answers =
     else evaluated_property made name (dynamic_named properties name) answers
 
 -- the dynamic properties of these names, in this order, behind those that were made
-abbrev pub evaluated : List Property → List Evaluation → Names → List StepAnswer → Reads (List Evaluation)
+abbrev pub evaluated : List Property → List Evaluation → Names → List StepAnswer
+    → Reads (List Evaluation)
 evaluated properties made [] answers = Ok (made, answers)
 evaluated properties made (name ∷ names) answers =
     evaluated_name properties made name answers >>= λ r. evaluated properties r.0 names r.1
@@ -72,7 +73,8 @@ matches_all (Some part) = part.if_match_all
 -- the offer, where the constraint holds of what its evaluations made of its properties
 abbrev pub if_matching : Local → OfferRecord → List Evaluation → List Found
 if_matching l o made =
-    if matching (resolved made o.properties) l.constraint then record { offer = o; made = made } ∷ [] else []
+    if matching (resolved made o.properties) l.constraint then record { offer = o; made = made }
+    ∷ [] else []
 
 -- what the constraint mentions is evaluated, and then what the preference does; a proxy offer with if_match_all matches
 -- without
@@ -100,13 +102,15 @@ abbrev pub is_ordinary : OfferRecord → Bool
 is_ordinary o = is_none o.proxy
 
 -- of an ordinary offer the desired dynamic properties are evaluated that aren't yet
-abbrev pub completed : SpecifiedProps → OfferRecord → List Evaluation → List StepAnswer → Reads (List Evaluation)
+abbrev pub completed : SpecifiedProps → OfferRecord → List Evaluation → List StepAnswer
+    → Reads (List Evaluation)
 completed desired o made answers =
     if is_ordinary o then evaluated o.properties made (desired_names desired o.properties) answers
     else Ok (made, answers)
 
 -- one after the other, behind those that are done
-abbrev pub all_completed : SpecifiedProps → (before : List Found) → List Found → List StepAnswer → Reads (List Found)
+abbrev pub all_completed : SpecifiedProps → (before : List Found) → List Found → List StepAnswer
+    → Reads (List Found)
 all_completed desired before [] answers = Ok (before, answers)
 all_completed desired before (f ∷ fs) answers =
     completed desired f.offer f.made answers
@@ -130,7 +134,8 @@ less (Some n) a = Some (n - length a.offers)
 
 -- one step, and then the next ones
 abbrev pub stepped : Option Next → (asked : SubAnswer → List StepAnswer → Reads (List SubAnswer))
-    → (skipped : List StepAnswer → Reads (List SubAnswer)) → List StepAnswer → Reads (List SubAnswer)
+    → (skipped : List StepAnswer → Reads (List SubAnswer)) → List StepAnswer
+    → Reads (List SubAnswer)
 stepped None asked skipped answers = skipped answers
 stepped (Some question) asked skipped answers =
     ask question answers
@@ -147,7 +152,8 @@ forwarded wanted (step ∷ steps) answers =
 unfoldable pub steps : Local → List Found → List Step
 steps l found =
     map (λ f wanted. proxy_step l wanted f.offer) found
-    ++ map (λ link wanted. link_step l wanted (list_any (λ f. is_ordinary f.offer) found) link) l.links
+    ++ map (λ link wanted. link_step l wanted (list_any (λ f. is_ordinary f.offer) found) link)
+    l.links
 
 -- how many ordinary offers matched
 abbrev pub count_ordinary : List Found → ℕ
@@ -156,7 +162,8 @@ count_ordinary found = count_by (λ f. is_ordinary f.offer) found
 -- ---- the visit
 
 -- what a visit comes to before it is ranked: the offers that matched, and the answers of others
-abbrev pub gathered : List Found → List StepAnswer → (wanted : Option ℕ) → List Step → Reads Gathered
+abbrev pub gathered : List Found → List StepAnswer → (wanted : Option ℕ) → List Step
+    → Reads Gathered
 gathered found answers wanted steps =
     forwarded wanted steps answers >>= λ r. Ok (record { found = found; given = r.0 }, r.1)
 

@@ -59,8 +59,8 @@ fn dynamic_from<'a>(
     returned: Option<&'a TypeCode>,
     extra: Option<&'a Any>,
 ) -> Option<Dynamic<'a>>
-    ensures { option_map lent result ≡ dynamic_from (option_copied evaluator.entry) (option_copied returned.entry)
-        (option_copied extra.entry) }
+    ensures { option_map lent result ≡ dynamic_from (option_copied evaluator.entry)
+        (option_copied returned.entry) (option_copied extra.entry) }
 {
     Some(Dynamic {
         evaluator: evaluator?,

@@ -39,8 +39,8 @@ fn evaluate(
     left: &mut Left<'_>,
 ) -> Result<Option<Next>, Memory>
     ensures told { IfOk result (λ question.
-        Tells (evaluated_property made.old name.now (Some (lent dynamic.entry)) left.old.answers.now) question made.new
-        left.new.answers.now) }
+        Tells (evaluated_property made.old name.now (Some (lent dynamic.entry))
+        left.old.answers.now) question made.new left.new.answers.now) }
     ensures kept { IfOk result (λ question. Kept question made.old made.new) }
 {
     let Some(answer) = left.read() else {
@@ -61,8 +61,8 @@ fn evaluate_name(
     left: &mut Left<'_>,
 ) -> Result<Option<Next>, Memory>
     ensures told { IfOk result (λ question.
-        Tells (evaluated_name properties.now made.old name.now left.old.answers.now) question made.new
-        left.new.answers.now) }
+        Tells (evaluated_name properties.now made.old name.now left.old.answers.now)
+        question made.new left.new.answers.now) }
     ensures kept { IfOk result (λ question. Kept question made.old made.new) }
 {
     if is_evaluated(made.as_slice(), name.as_slice()) {
@@ -113,10 +113,11 @@ pub fn evaluate_each(
     left: &mut Left<'_>,
 ) -> Result<Option<Next>, Memory>
     ensures told { IfOk result (λ question.
-        Tells (evaluated properties.now made.old (map (λ p. p.name) properties.now) left.old.answers.now) question
-        made.new left.new.answers.now) }
+        Tells (evaluated properties.now made.old (map (λ p. p.name) properties.now)
+        left.old.answers.now) question made.new left.new.answers.now) }
     ensures stopped { OnOk result
-        (made.new ≡ made_up_to properties.now made.old (map (λ p. p.name) properties.now) left.old.answers.now) }
+        (made.new ≡ made_up_to properties.now made.old (map (λ p. p.name) properties.now)
+        left.old.answers.now) }
 {
     for property in properties {
         let question = evaluate_name(alloc, properties, made, &property.name, left)?;

@@ -68,7 +68,8 @@ fn put_follow(
     policies: &mut Vec<Policy>,
     follow: Option<FollowOption>,
 ) -> Result<(), Memory>
-    ensures { OnOk result (policies.new.items ≡ with_optional (option_map follow_policy follow) policies.old.items) }
+    ensures { OnOk result (policies.new.items
+        ≡ with_optional (option_map follow_policy follow) policies.old.items) }
 {
     match follow {
         None => Ok(()),
@@ -82,7 +83,8 @@ fn put_identifier(
     identifier: &Option<Octets>,
 ) -> Result<(), Memory>
     ensures { OnOk result
-        (policies.new.items ≡ with_optional (option_map identifier_policy identifier.now) policies.old.items) }
+        (policies.new.items ≡ with_optional (option_map identifier_policy identifier.now)
+        policies.old.items) }
 {
     match identifier {
         None => Ok(()),
@@ -94,7 +96,8 @@ fn put_identifier(
 }
 
 fn put_card(alloc: Global, policies: &mut Vec<Policy>, wanted: Option<u32>) -> Result<(), Memory>
-    ensures { OnOk result (policies.new.items ≡ with_optional (option_map card_policy wanted) policies.old.items) }
+    ensures { OnOk result (policies.new.items
+        ≡ with_optional (option_map card_policy wanted) policies.old.items) }
 {
     match wanted {
         None => Ok(()),
@@ -117,7 +120,8 @@ pub(crate) fn replaced(
     wanted: Option<u32>,
     policies: &[Policy],
 ) -> Result<Vec<Policy>, Memory>
-    ensures { IfOk result (λ passed. passed.items ≡ replaced hops follow identifier.now wanted policies.now) }
+    ensures { IfOk result (λ passed. passed.items
+        ≡ replaced hops follow identifier.now wanted policies.now) }
 {
     let mut passed = copies_without(alloc, policies, b"starting_trader")?;
     put(
@@ -211,7 +215,8 @@ fn policy_named<'a>(policies: &'a [Policy], name: &[u8]) -> Option<&'a Policy>
 
 /// Whether a hop count stands that is less than this policy's.
 fn has_fewer_hops(policies: &[Policy], policy: &Policy) -> bool
-    ensures { result ≡ states_less number_in (policy_named policies.now (codes "hop_count")) policy.now }
+    ensures { result ≡ states_less number_in (policy_named policies.now (codes "hop_count"))
+        policy.now }
 {
     match policy_named(policies, b"hop_count") {
         None => false,
@@ -221,7 +226,8 @@ fn has_fewer_hops(policies: &[Policy], policy: &Policy) -> bool
 
 /// Whether fewer offers are wanted than this policy states.
 fn wants_fewer(policies: &[Policy], policy: &Policy) -> bool
-    ensures { result ≡ states_less number_in (policy_named policies.now (codes "return_card")) policy.now }
+    ensures { result ≡ states_less number_in (policy_named policies.now (codes "return_card"))
+        policy.now }
 {
     match policy_named(policies, b"return_card") {
         None => false,
@@ -232,7 +238,8 @@ fn wants_fewer(policies: &[Policy], policy: &Policy) -> bool
 /// Whether a rule stands that permits less than this policy's.
 fn follows_less(alloc: Global, policies: &[Policy], policy: &Policy) -> Result<bool, Memory>
     ensures { IfOk result (λ less.
-        less ≡ states_less follow_in (policy_named policies.now (codes "link_follow_rule")) policy.now) }
+        less ≡ states_less follow_in (policy_named policies.now (codes "link_follow_rule"))
+        policy.now) }
 {
     match policy_named(policies, b"link_follow_rule") {
         None => Ok(false),
@@ -288,7 +295,8 @@ pub(crate) fn put_all_passed(
     policies: &mut Vec<Policy>,
     passed: &[Policy],
 ) -> Result<(), Memory>
-    ensures { OnOk result (policies.new.items ≡ with_all_passed limited passed.now policies.old.items) }
+    ensures { OnOk result (policies.new.items
+        ≡ with_all_passed limited passed.now policies.old.items) }
 {
     for policy in passed {
         put_passed(alloc, limited, policies, policy)?;

@@ -30,8 +30,8 @@ pub trait Peers {
     /// `Wire`, `Grammar` and `Exception` only where the count of faults rose; `Memory` for want of memory.
     fn query(&mut self, alloc: Global, target: &Ior, q: &Query) -> Result<SubAnswer, PeerFault>
         ensures same { same self.old self.new }
-        ensures noted { IsNoted (λ a. Answered a) (Querying target.now q.now) (calls self.old) (calls self.new)
-            (faults self.old) (faults self.new) result }
+        ensures noted { IsNoted (λ a. Answered a) (Querying target.now q.now) (calls self.old)
+            (calls self.new) (faults self.old) (faults self.new) result }
         ensures small { IfOk result (λ a. HasSmallOffers a) };
 
     /// What an evaluator gives for a dynamic property.
@@ -48,8 +48,9 @@ pub trait Peers {
         extra: &Any,
     ) -> Result<Boxed<Any>, PeerFault>
         ensures same { same self.old self.new }
-        ensures noted { IsNoted (λ v. Evaluated v) (Evaluating evaluator.now name.now returned.now extra.now)
-            (calls self.old) (calls self.new) (faults self.old) (faults self.new) result };
+        ensures noted { IsNoted (λ v. Evaluated v)
+            (Evaluating evaluator.now name.now returned.now extra.now) (calls self.old)
+            (calls self.new) (faults self.old) (faults self.new) result };
 
     /// The register that a Lookup names: a reference that can be written.
     ///
@@ -58,8 +59,8 @@ pub trait Peers {
     /// As `query`.
     fn register_of(&mut self, alloc: Global, lookup: &Ior) -> Result<Ior, PeerFault>
         ensures same { same self.old self.new }
-        ensures noted { IsNoted (λ r. Referred r) (RegisterOf lookup.now) (calls self.old) (calls self.new)
-            (faults self.old) (faults self.new) result }
+        ensures noted { IsNoted (λ r. Referred r) (RegisterOf lookup.now) (calls self.old)
+            (calls self.new) (faults self.old) (faults self.new) result }
         ensures admitted { IfOk result (λ r. reference.format.admits r) };
 
     /// The register that links of these names lead to, one after the other, from a register on: a reference that can
@@ -75,8 +76,8 @@ pub trait Peers {
         name: &List<Text>,
     ) -> Result<Ior, PeerFault>
         ensures same { same self.old self.new }
-        ensures noted { IsNoted (λ r. Referred r) (Resolving register.now name.now) (calls self.old) (calls self.new)
-            (faults self.old) (faults self.new) result }
+        ensures noted { IsNoted (λ r. Referred r) (Resolving register.now name.now) (calls self.old)
+            (calls self.new) (faults self.old) (faults self.new) result }
         ensures admitted { IfOk result (λ r. reference.format.admits r) };
 
     /// What the calls gave can be written, each of it. This call does nothing.

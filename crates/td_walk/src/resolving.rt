@@ -24,7 +24,8 @@ pub(crate) fn is_evaluated(made: &[Evaluation], name: &[u8]) -> bool
 
 /// What an evaluation gave.
 fn given(evaluation: Option<&Evaluation>) -> Option<&Any>
-    ensures { option_copied result ≡ option_and_then (λ e. e.value) (option_copied evaluation.entry) }
+    ensures { option_copied result
+        ≡ option_and_then (λ e. e.value) (option_copied evaluation.entry) }
 {
     match evaluation {
         None => None,

@@ -20,8 +20,8 @@ abbrev pub Alone : (world : ℕ) → (trader : ℕ) → (next : ℕ) → Type 0
 Alone world trader next = next ≡ world
 
 -- the first query of all is asked of the first trader, and comes so far; so many queries began then
-abbrev pub ComesSoFar : Group → (inside : ℕ → Ior → Option ℕ) → (word : ℕ → ℕ) → List TraceItem → (begun : ℕ)
-    → List Exchange → Type 0
+abbrev pub ComesSoFar : Group → (inside : ℕ → Ior → Option ℕ) → (word : ℕ → ℕ) → List TraceItem
+    → (begun : ℕ) → List Exchange → Type 0
 ComesSoFar g inside word items begun calls =
     WalkBegins (BeginsIn g) Alone inside (course word 0 []) 0 asked items (course word begun calls)
 
@@ -29,19 +29,23 @@ pub record WorkedBeginnings (word : ℕ → ℕ) : Type 0 where
   -- nothing was done
   pub nothing_done : (g : Group) → ComesSoFar g nowhere word [] 0 []
   -- the search began
-  pub first_item : ComesSoFar (alike (Search (over Always []))) nowhere word (item.Search 0 0 1 ∷ []) 1 []
+  pub first_item : ComesSoFar (alike (Search (over Always []))) nowhere word
+      (item.Search 0 0 1 ∷ []) 1 []
   -- the trader outside had answered
-  pub without_leave : ComesSoFar (alike (Path along)) nowhere word (item.Path 0 0 ∷ item.Outside given_there ∷ []) 1
+  pub without_leave : ComesSoFar (alike (Path along)) nowhere word
+      (item.Path 0 0 ∷ item.Outside given_there ∷ []) 1
       (one_call (Querying elsewhere (path_query along)) (Replied given_there))
   -- the search of the second trader began, and neither has ended
   pub within : ComesSoFar (group (Search (over Always [])) (Search (search [] []))) at_second word
       (item.Search 0 0 1 ∷ item.Search 1 0 1 ∷ []) 2 []
   -- a refusal is whole
-  pub refusal : (o : Outcome) → ComesSoFar (alike (Refused 3 o)) nowhere word (item.Refused 0 3 ∷ []) 1 []
+  pub refusal : (o : Outcome)
+      → ComesSoFar (alike (Refused 3 o)) nowhere word (item.Refused 0 3 ∷ []) 1 []
   -- no repeat is shown where the query began with a search, and nothing else where it didn't begin
-  pub no_repeat : (l : Local) (inside : ℕ → Ior → Option ℕ) (trader point mark : ℕ) (more : List TraceItem)
-      (begun : ℕ) (calls : List Exchange)
-      → ComesSoFar (alike (Search l)) inside word (item.Repeat trader point mark ∷ more) begun calls → ⊥
+  pub no_repeat : (l : Local) (inside : ℕ → Ior → Option ℕ) (trader point mark : ℕ)
+      (more : List TraceItem) (begun : ℕ) (calls : List Exchange)
+      → ComesSoFar (alike (Search l)) inside word (item.Repeat trader point mark ∷ more) begun calls
+      → ⊥
   -- no walk begins with Leave
   pub no_leave : (g : Group) (inside : ℕ → Ior → Option ℕ) (more : List TraceItem) (begun : ℕ)
       (calls : List Exchange) → ComesSoFar g inside word (item.Leave ∷ more) begun calls → ⊥

@@ -15,31 +15,40 @@ use Rattle.td_walk_laws.specs.Walks.{Course, Opens, Start, Step, Walk, with_worl
 mutual
   -- The items are the beginning of a visit of the trader with this query, and of all that it goes on to: the query
   -- didn't begin there; or the visit is whole, as one that is refused or a repeat is; or it began, and went on so far.
-  pub data WalkBegins {World : Type 0} (Begins : World → (trader : ℕ) → Query → Start → World → Type 0)
-      (Watches : World → (trader : ℕ) → World → Type 0) (inside : World → (target : Ior) → Option ℕ)
-      : Course World → (trader : ℕ) → Query → List TraceItem → Course World → Type 0 where
+  pub data WalkBegins {World : Type 0}
+      (Begins : World → (trader : ℕ) → Query → Start → World → Type 0)
+      (Watches : World → (trader : ℕ) → World → Type 0)
+      (inside : World → (target : Ior) → Option ℕ) : Course World → (trader : ℕ) → Query
+      → List TraceItem → Course World → Type 0 where
     unbegun : {s : Course World} {k : ℕ} {q : Query} → WalkBegins Begins Watches inside s k q [] s
     watched : {s : Course World} {k : ℕ} {q : Query} {w : World} → Watches s.world k w
         → WalkBegins Begins Watches inside s k q [] (with_world s w)
-    whole : {s : Course World} {k : ℕ} {q : Query} {t : List TraceItem} {v : Visit} {u : Course World}
+    whole : {s : Course World} {k : ℕ} {q : Query} {t : List TraceItem} {v : Visit}
+        {u : Course World}
         → Walk Begins inside s k q t v u → WalkBegins Begins Watches inside s k q t u
-    unended : {s : Course World} {k : ℕ} {q : Query} {start : Start} {w : World} {l : Local} {head : TraceItem}
+    unended : {s : Course World} {k : ℕ} {q : Query} {start : Start} {w : World} {l : Local}
+        {head : TraceItem}
         {t : List TraceItem} {u : Course World} → Begins s.world k q start w → Opens k l start head
         → StepsBegin Begins Watches inside (with_world s w) l [] t u
         → WalkBegins Begins Watches inside s k q (head ∷ t) u
 
   -- From these answers on so many next questions were asked: none more; or one was answered, and others behind it; or
   -- one goes to a trader of the group, and the walk from there has begun so.
-  pub data StepsBegin {World : Type 0} (Begins : World → (trader : ℕ) → Query → Start → World → Type 0)
-      (Watches : World → (trader : ℕ) → World → Type 0) (inside : World → (target : Ior) → Option ℕ)
-      : Course World → Local → List StepAnswer → List TraceItem → Course World → Type 0 where
+  pub data StepsBegin {World : Type 0}
+      (Begins : World → (trader : ℕ) → Query → Start → World → Type 0)
+      (Watches : World → (trader : ℕ) → World → Type 0)
+      (inside : World → (target : Ior) → Option ℕ) : Course World → Local → List StepAnswer
+      → List TraceItem → Course World → Type 0 where
     no_more : {s : Course World} {l : Local} {answers : List StepAnswer}
         → StepsBegin Begins Watches inside s l answers [] s
-    one_more : {s : Course World} {l : Local} {answers : List StepAnswer} {t : List TraceItem} {r : StepAnswer}
-        {m : Course World} {ts : List TraceItem} {u : Course World} → Step Begins inside s (next_of l answers) t r m
+    one_more : {s : Course World} {l : Local} {answers : List StepAnswer} {t : List TraceItem}
+        {r : StepAnswer}
+        {m : Course World} {ts : List TraceItem} {u : Course World}
+        → Step Begins inside s (next_of l answers) t r m
         → StepsBegin Begins Watches inside m l (answers ++ r ∷ []) ts u
         → StepsBegin Begins Watches inside s l answers (t ++ ts) u
-    visiting : {s : Course World} {l : Local} {answers : List StepAnswer} {target : Ior} {q : Query} {k : ℕ}
+    visiting : {s : Course World} {l : Local} {answers : List StepAnswer} {target : Ior} {q : Query}
+        {k : ℕ}
         {t : List TraceItem} {u : Course World} → next_of l answers ≡ Forward target q
         → inside s.world target ≡ Some k → WalkBegins Begins Watches inside s k q t u
         → StepsBegin Begins Watches inside s l answers t u

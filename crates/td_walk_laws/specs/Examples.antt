@@ -118,23 +118,27 @@ pub record WorkedVisits : Type 0 where
   pub on_the_way : next_of along [] ≡ Forward elsewhere (path_query along)
   pub on_the_way_back : next_of along (Failed ∷ []) ≡ Done
   -- however many offers are to be returned
-  pub on_any_way : next_of (returning 0 along) [] ≡ Forward elsewhere (path_query (returning 0 along))
+  pub on_any_way : next_of (returning 0 along) []
+      ≡ Forward elsewhere (path_query (returning 0 along))
   -- where enough offers matched, nobody is asked, unless they get another order
   pub enough : next_of (returning 1 (over Always (plain ∷ []))) [] ≡ Done
   pub none_wanted : next_of (returning 0 (over Always [])) [] ≡ Done
   pub at_random : next_of (randomly (returning 1 (over Always (plain ∷ [])))) []
-      ≡ Forward elsewhere (link_query (randomly (returning 1 (over Always (plain ∷ [])))) None (link Always))
+      ≡ Forward elsewhere (link_query (randomly (returning 1 (over Always (plain ∷ [])))) None
+      (link Always))
 
 pub record WorkedProxies : Type 0 where
   -- a proxy offer comes before a link, and isn't a match of if_no_local; an empty constraint goes on as TRUE
   pub called : next_of (over IfNoLocal (proxy ∷ [])) []
-      ≡ Forward nobody (proxy_query (over IfNoLocal (proxy ∷ [])) (Some 1000) as_it_is (codes "TRUE"))
+      ≡ Forward nobody (proxy_query (over IfNoLocal (proxy ∷ []))
+      (Some 1000) as_it_is (codes "TRUE"))
   pub behind_it : next_of (over IfNoLocal (proxy ∷ [])) (Failed ∷ [])
       ≡ Forward elsewhere (link_query (over IfNoLocal (proxy ∷ [])) (Some 1000) (link IfNoLocal))
 
 pub record WorkedEvaluations : Type 0 where
   -- a desired property is evaluated
-  pub asked_for : next_of (search (queued ∷ []) []) [] ≡ Evaluate nobody (codes "Queue") code.ULong nothing_more
+  pub asked_for : next_of (search (queued ∷ []) []) []
+      ≡ Evaluate nobody (codes "Queue") code.ULong nothing_more
   pub failed : next_of (search (queued ∷ []) []) (Failed ∷ []) ≡ Done
 
 -- ---- properties
@@ -154,7 +158,8 @@ unreachable = record { eval_if = nobody; returned_type = code.ULong; extra_info 
 pub record WorkedResolving : Type 0 where
   -- a dynamic property that isn't evaluated, and one whose evaluation gave nothing, are absent
   pub not_evaluated : resolved [] queue_and_serial ≡ given (codes "Serial") ∷ []
-  pub without_value : resolved (under (codes "Queue") None ∷ []) queue_and_serial ≡ given (codes "Serial") ∷ []
+  pub without_value : resolved (under (codes "Queue") None ∷ []) queue_and_serial
+      ≡ given (codes "Serial") ∷ []
   -- a value stands in the property's place
   pub with_value : resolved (under (codes "Queue") (Some seven) ∷ []) queue_and_serial
       ≡ given (codes "Queue") ∷ given (codes "Serial") ∷ []
@@ -182,9 +187,11 @@ pub record WorkedAnswers (word : ℕ → ℕ) : Type 0 where
   pub both : IsAnswer (over Always (plain ∷ [])) (Offers given_there ∷ []) word
       (record { offers = here ∷ far ∷ []; limits = codes "hop_count" ∷ [] })
   -- the other trader gives none
-  pub failed : IsAnswer (over Always (plain ∷ [])) (Failed ∷ []) word (record { offers = here ∷ []; limits = [] })
+  pub failed : IsAnswer (over Always (plain ∷ []))
+      (Failed ∷ []) word (record { offers = here ∷ []; limits = [] })
   -- the answer is cut, where the other trader gives more than was wanted
   pub cut : IsAnswer (returning 2 (over Always (plain ∷ []))) (Offers more_given ∷ []) word
       (record { offers = here ∷ far ∷ []; limits = [] })
   -- and where enough matched, nobody is asked
-  pub enough : IsAnswer (returning 1 (over Always (plain ∷ []))) [] word (record { offers = here ∷ []; limits = [] })
+  pub enough : IsAnswer (returning 1 (over Always (plain ∷ []))) [] word
+      (record { offers = here ∷ []; limits = [] })

@@ -27,4 +27,5 @@ pub record WorkedFaults : Type 0 where
   -- it stands still at its last value
   pub last : CountsOver (unreached ∷ []) (2 ^ 64 - 1) (2 ^ 64 - 1)
   -- the items that show a call that failed
-  pub items : failures (item.Search 0 2 1 ∷ item.Outside given_there ∷ item.Failed fault.Wire ∷ item.Leave ∷ []) ≡ 1
+  pub items : failures (item.Search 0 2 1 ∷ item.Outside given_there ∷ item.Failed fault.Wire
+      ∷ item.Leave ∷ []) ≡ 1

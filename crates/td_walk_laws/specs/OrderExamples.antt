@@ -16,5 +16,7 @@ pub record WorkedOrder : Type 0 where
   pub not_again : dynamics queue_and_serial (codes "Queue" ∷ []) (codes "Queue" ∷ []) ≡ []
   -- a proxy offer's trader, and then the target of a link
   pub both : Asks (over IfNoLocal (proxy ∷ [])) []
-      (Forward nobody (proxy_query (over IfNoLocal (proxy ∷ [])) (Some 1000) as_it_is (codes "TRUE"))
-      ∷ Forward elsewhere (link_query (over IfNoLocal (proxy ∷ [])) (Some 1000) (link IfNoLocal)) ∷ []) (Failed ∷ Failed ∷ [])
+      (Forward nobody (proxy_query (over IfNoLocal (proxy ∷ []))
+      (Some 1000) as_it_is (codes "TRUE"))
+      ∷ Forward elsewhere (link_query (over IfNoLocal (proxy ∷ [])) (Some 1000) (link IfNoLocal))
+      ∷ []) (Failed ∷ Failed ∷ [])

@@ -20,8 +20,8 @@ pub data IsPassed (l : Local) : Ior → Query → Type 0 where
   over_link : (link : LinkRecord) (gathered : ℕ) → l.path ≡ None → has_hops l ≡ true
       → is_full (wanted_behind l gathered) ≡ false
       → IsPassed l link.target (link_query l (wanted_behind l gathered) link)
-  to_proxy : (o : OfferRecord) (part : ProxyPart) (constraint : List ℕ) (gathered : ℕ) → l.path ≡ None
-      → has_hops l ≡ true → is_full (wanted_behind l gathered) ≡ false
+  to_proxy : (o : OfferRecord) (part : ProxyPart) (constraint : List ℕ) (gathered : ℕ)
+      → l.path ≡ None → has_hops l ≡ true → is_full (wanted_behind l gathered) ≡ false
       → IsPassed l o.reference (proxy_query l (wanted_behind l gathered) part constraint)
   along_path : (link : LinkRecord) → l.path ≡ Some link → IsPassed l link.target (path_query l)
 
@@ -58,7 +58,8 @@ IsRead l = IsReadFor l.path l
 -- of a candidate the names that the constraint and the preference mention, the desired ones, and one call of a proxy
 abbrev pub questions_on : Local → OfferRecord → ℕ
 questions_on l o =
-    length (names_asked l.constraint l.preference) + length (desired_names l.query.desired o.properties) + 1
+    length (names_asked l.constraint l.preference)
+    + length (desired_names l.query.desired o.properties) + 1
 
 abbrev pub questions_on_all : Local → List OfferRecord → ℕ
 questions_on_all l [] = 0

@@ -25,9 +25,11 @@ use Rattle.td_walk.specs.declared.found.Found.{Found}
 -- ---- what a visit asks
 
 -- Behind the answers before, the visit asks these questions, one for each of the later answers, and no more.
-abbrev pub Asks : Local → (before : List StepAnswer) → List Next → (later : List StepAnswer) → Type 0
+abbrev pub Asks : Local → (before : List StepAnswer) → List Next → (later : List StepAnswer)
+    → Type 0
 Asks l before [] [] = next_of l before ≡ Done
-Asks l before (q ∷ qs) (a ∷ later) = (next_of l before ≡ q) × (q ≡ Done → ⊥) × Asks l (before ++ a ∷ []) qs later
+Asks l before (q ∷ qs) (a ∷ later) = (next_of l before ≡ q) × (q ≡ Done → ⊥)
+    × Asks l (before ++ a ∷ []) qs later
 Asks l before [] (a ∷ later) = ⊥
 Asks l before (q ∷ qs) [] = ⊥
 
@@ -41,7 +43,8 @@ abbrev pub is_among : (name : List ℕ) → Names → Bool
 is_among name names = list_any (λ other. bytes_eq other name) names
 
 -- a dynamic property is evaluated, and its name isn't asked for again
-abbrev pub with_dynamic : (name : List ℕ) → Option DynamicProp → (evaluated : Names) → (Names → Dynamics) → Dynamics
+abbrev pub with_dynamic : (name : List ℕ) → Option DynamicProp → (evaluated : Names)
+    → (Names → Dynamics) → Dynamics
 with_dynamic name None evaluated others = others evaluated
 with_dynamic name (Some d) evaluated others = (name, d) ∷ others (evaluated ++ name ∷ [])
 
@@ -50,7 +53,8 @@ abbrev pub dynamics : List Property → (evaluated : Names) → Names → Dynami
 dynamics properties evaluated [] = []
 dynamics properties evaluated (name ∷ names) =
     if is_among name evaluated then dynamics properties evaluated names
-    else with_dynamic name (dynamic_named properties name) evaluated (λ more. dynamics properties more names)
+    else with_dynamic name (dynamic_named properties name) evaluated
+    (λ more. dynamics properties more names)
 
 abbrev pub questions_on : Dynamics → List Next
 questions_on wanted = map (λ w. question_on w.0 w.1) wanted
@@ -67,23 +71,29 @@ evaluations (w ∷ ws) (a ∷ answers) = evaluation w.0 w.1 a ∷ evaluations ws
 -- if_match_all.
 abbrev pub to_be_tried : Local → OfferRecord → Dynamics
 to_be_tried l o =
-    if matches_all o.proxy then [] else dynamics o.properties [] (names_asked l.constraint l.preference)
+    if matches_all o.proxy then [] else dynamics o.properties []
+    (names_asked l.constraint l.preference)
 
 -- the candidate, where it matches by these answers
 abbrev pub matched : Local → OfferRecord → List StepAnswer → List Found
 matched l o answers =
-    if matches_all o.proxy || matching (resolved (evaluations (to_be_tried l o) answers) o.properties) l.constraint
+    if matches_all o.proxy || matching
+    (resolved (evaluations (to_be_tried l o) answers) o.properties) l.constraint
     then record { offer = o; made = evaluations (to_be_tried l o) answers } ∷ [] else []
 
 -- Candidates are tried one after the other, behind so many that matched, until match_card have matched: what is asked,
 -- the answers, and the candidates that match.
-pub data Tries (l : Local) : (count : ℕ) → List OfferRecord → List Next → List StepAnswer → List Found → Type 0 where
+pub data Tries (l : Local) : (count : ℕ) → List OfferRecord → List Next → List StepAnswer
+    → List Found → Type 0 where
   none_left : (count : ℕ) → Tries l count [] [] [] []
-  enough : (count : ℕ) (os : List OfferRecord) → l.effective.match_card ≤ count → Tries l count os [] [] []
-  tries : (count : ℕ) (o : OfferRecord) (os : List OfferRecord) (here later : List StepAnswer) (qs : List Next)
-      (found : List Found) → count < l.effective.match_card → length here ≡ length (to_be_tried l o)
+  enough : (count : ℕ) (os : List OfferRecord) → l.effective.match_card ≤ count
+      → Tries l count os [] [] []
+  tries : (count : ℕ) (o : OfferRecord) (os : List OfferRecord) (here later : List StepAnswer)
+      (qs : List Next) (found : List Found) → count < l.effective.match_card
+      → length here ≡ length (to_be_tried l o)
       → Tries l (count + length (matched l o here)) os qs later found
-      → Tries l count (o ∷ os) (questions_on (to_be_tried l o) ++ qs) (here ++ later) (matched l o here ++ found)
+      → Tries l count (o ∷ os) (questions_on (to_be_tried l o) ++ qs) (here ++ later)
+      (matched l o here ++ found)
 
 -- ---- offers that matched
 
@@ -94,7 +104,8 @@ names_of made = map (λ e. e.name) made
 abbrev pub to_be_completed : SpecifiedProps → Found → Dynamics
 to_be_completed desired f =
     if is_ordinary f.offer
-    then dynamics f.offer.properties (names_of f.made) (desired_names desired f.offer.properties) else []
+    then dynamics f.offer.properties (names_of f.made) (desired_names desired f.offer.properties)
+    else []
 
 abbrev pub completions : SpecifiedProps → List Found → List Next
 completions desired found = flat_map (λ f. questions_on (to_be_completed desired f)) found
@@ -107,16 +118,19 @@ proxy_calls l found = map (λ f wanted. proxy_step l wanted f.offer) found
 
 -- each link, in the order of adding
 abbrev pub link_calls : Local → List Found → List Step
-link_calls l found = map (λ link wanted. link_step l wanted (list_any (λ f. is_ordinary f.offer) found) link) l.links
+link_calls l found = map
+    (λ link wanted. link_step l wanted (list_any (λ f. is_ordinary f.offer) found) link) l.links
 
 -- Steps are taken one after the other: each one asks its question, if it has one where so many offers are still wanted,
 -- and each answer leaves as many fewer.
 pub data Calls : (wanted : Option ℕ) → List Step → List Next → List StepAnswer → Type 0 where
   no_step_left : (wanted : Option ℕ) → Calls wanted [] [] []
-  left_out : (wanted : Option ℕ) (step : Step) (steps : List Step) (qs : List Next) (answers : List StepAnswer)
+  left_out : (wanted : Option ℕ) (step : Step) (steps : List Step) (qs : List Next)
+      (answers : List StepAnswer)
       → step wanted ≡ None → Calls wanted steps qs answers → Calls wanted (step ∷ steps) qs answers
-  called : (wanted : Option ℕ) (step : Step) (steps : List Step) (qs : List Next) (answers : List StepAnswer)
-      (q : Next) (a : StepAnswer) → step wanted ≡ Some q → Calls (less wanted (sub_answer a)) steps qs answers
+  called : (wanted : Option ℕ) (step : Step) (steps : List Step) (qs : List Next)
+      (answers : List StepAnswer) (q : Next) (a : StepAnswer) → step wanted ≡ Some q
+      → Calls (less wanted (sub_answer a)) steps qs answers
       → Calls wanted (step ∷ steps) (q ∷ qs) (a ∷ answers)
 
 -- ---- the search
@@ -132,6 +146,7 @@ pub record IsInOrder (l : Local) (questions : List Next) (answers : List StepAns
   pub candidates : Tries l 0 l.candidates trials first found
   pub others : List Next
   pub given : List StepAnswer
-  pub calls : Calls (wanted_behind l (count_ordinary found)) (proxy_calls l found ++ link_calls l found) others given
+  pub calls : Calls (wanted_behind l (count_ordinary found))
+      (proxy_calls l found ++ link_calls l found) others given
   pub all : questions ≡ trials ++ (completions l.query.desired found ++ others)
   pub answered : answers ≡ first ++ (later ++ given)

@@ -10,18 +10,21 @@ use Rattle.td_walk_laws.specs.SearchOrder.{Asks}
 use Rattle.td_walk_laws.specs.Walks.{Course, Start, Step}
 
 -- The items are one step for each question, one behind the other, and these are the answers.
-pub data OneStepEach {World : Type 0} (Begins : World → (trader : ℕ) → Query → Start → World → Type 0)
-    (inside : World → (target : Ior) → Option ℕ) : Course World → List Next → List TraceItem → List StepAnswer
-    → Course World → Type 0 where
+pub data OneStepEach {World : Type 0}
+    (Begins : World → (trader : ℕ) → Query → Start → World → Type 0)
+    (inside : World → (target : Ior) → Option ℕ) : Course World → List Next → List TraceItem
+    → List StepAnswer → Course World → Type 0 where
   no_step : {s : Course World} → OneStepEach Begins inside s [] [] [] s
   one_step : {s : Course World} {q : Next} {qs : List Next} {t ts : List TraceItem} {r : StepAnswer}
       {rs : List StepAnswer} {m u : Course World} → Step Begins inside s q t r m
-      → OneStepEach Begins inside m qs ts rs u → OneStepEach Begins inside s (q ∷ qs) (t ++ ts) (r ∷ rs) u
+      → OneStepEach Begins inside m qs ts rs u
+      → OneStepEach Begins inside s (q ∷ qs) (t ++ ts) (r ∷ rs) u
 
 -- a visit's questions, each with its step
 pub record StepsBy {World : Type 0} (Begins : World → (trader : ℕ) → Query → Start → World → Type 0)
-    (inside : World → (target : Ior) → Option ℕ) (s : Course World) (l : Local) (before : List StepAnswer)
-    (items : List TraceItem) (all : List StepAnswer) (u : Course World) : Type 0 where
+    (inside : World → (target : Ior) → Option ℕ) (s : Course World) (l : Local)
+    (before : List StepAnswer) (items : List TraceItem) (all : List StepAnswer)
+    (u : Course World) : Type 0 where
   pub questions : List Next
   pub later : List StepAnswer
   pub answers : all ≡ before ++ later

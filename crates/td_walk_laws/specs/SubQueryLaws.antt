@@ -33,7 +33,8 @@ pub record OverALink (l : Local) (wanted : Option ℕ) (link : LinkRecord) (s : 
   pub rule : s.follow ≡ Some (pass_on l.stated l.attributes link.limiting link.def_pass_on)
   pub start : s.start ≡ None
   pub identifier : (id : List ℕ) → l.identifier ≡ Some id → s.request_id ≡ Some id
-  pub card : stated l.query.policies ≡ Ok l.stated → s.return_card ≡ in_its_place wanted l.stated.return_card
+  pub card : stated l.query.policies ≡ Ok l.stated
+      → s.return_card ≡ in_its_place wanted l.stated.return_card
   pub others : stated l.query.policies ≡ Ok l.stated → KeepsOthers l.stated s
 
 -- to a proxy offer's trader: at most one hop less, the search's identifier, and no more offers than are still wanted,
@@ -66,7 +67,8 @@ fewer_wanted (Some n) passed before = Some (fewer passed n)
 -- limited. A start elsewhere isn't passed on from the query.
 pub record WithPassed (l : Local) (wanted : Option ℕ) (passed s : Stated) : Type 0 where
   pub hops : s.hops ≡ Some (fewer passed.hops (l.effective.hops - 1))
-  pub rule : s.follow ≡ stricter passed.follow (stated_rule l.stated.follow l.attributes.max_follow_policy)
+  pub rule : s.follow ≡ stricter passed.follow
+      (stated_rule l.stated.follow l.attributes.max_follow_policy)
   pub start : s.start ≡ passed.start
   pub exact : s.exact ≡ in_its_place passed.exact l.stated.exact
   pub match_card : s.match_card ≡ in_its_place passed.match_card l.stated.match_card
@@ -99,12 +101,15 @@ abbrev pub CarriesIdentifier : (path : Option LinkRecord) → Local → Query �
 CarriesIdentifier None l sub = (id : List ℕ) → l.identifier ≡ Some id
     → policy_named sub.policies (codes "request_id") ≡ Some (identifier_policy id)
 CarriesIdentifier (Some link) l sub =
-    policy_named sub.policies (codes "request_id") ≡ policy_named l.query.policies (codes "request_id")
+    policy_named sub.policies (codes "request_id")
+    ≡ policy_named l.query.policies (codes "request_id")
 
 -- Where its policies can be read, a query that a search passes on states the search's identifier; and one along a path
 -- the identifier that the visit's own query states, where that one's policies can be read, or none where it states none.
 abbrev pub StatesIdentifier : (path : Option LinkRecord) → Local → Query → Type 0
 StatesIdentifier None l sub =
-    (id : List ℕ) (s : Stated) → l.identifier ≡ Some id → stated sub.policies ≡ Ok s → s.request_id ≡ Some id
+    (id : List ℕ) (s : Stated) → l.identifier ≡ Some id → stated sub.policies ≡ Ok s
+    → s.request_id ≡ Some id
 StatesIdentifier (Some link) l sub =
-    (own s : Stated) → stated l.query.policies ≡ Ok own → stated sub.policies ≡ Ok s → s.request_id ≡ own.request_id
+    (own s : Stated) → stated l.query.policies ≡ Ok own → stated sub.policies ≡ Ok s
+    → s.request_id ≡ own.request_id

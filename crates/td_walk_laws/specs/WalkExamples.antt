@@ -55,8 +55,8 @@ abbrev pub course : (word : ℕ → ℕ) → (world : ℕ) → List Exchange →
 course word world calls = record { world = world; words = word; calls = calls }
 
 -- the first query of all is asked of the first trader; so many queries began then, and these calls were made
-abbrev pub Comes : Group → (inside : ℕ → Ior → Option ℕ) → (word : ℕ → ℕ) → List TraceItem → Visit → (begun : ℕ)
-    → List Exchange → Type 0
+abbrev pub Comes : Group → (inside : ℕ → Ior → Option ℕ) → (word : ℕ → ℕ) → List TraceItem → Visit
+    → (begun : ℕ) → List Exchange → Type 0
 Comes g inside word items v begun calls =
     Walk (BeginsIn g) inside (course word 0 []) 0 asked items v (course word begun calls)
 
@@ -67,7 +67,10 @@ one_call call gave = record { call = call; gave = gave } ∷ []
 
 -- one offer with these properties
 abbrev pub offering : List Property → SubAnswer
-offering properties = record { offers = record { reference = nobody; properties = properties } ∷ []; limits = [] }
+offering properties = record {
+  offers = record { reference = nobody; properties = properties } ∷ [];
+  limits = [];
+}
 
 abbrev pub answers : SubAnswer → Visit
 answers a = visit.Answered a usual.max_list
@@ -79,12 +82,17 @@ told_by evaluator = record {
   name = codes "Queue";
   value = record {
     code = dynamic_code;
-    value = value.Struct (value.ObjRef evaluator ∷ value.Code code.ULong ∷ value.AnyValue nothing_more ∷ []);
+    value = value.Struct (value.ObjRef evaluator ∷ value.Code code.ULong
+        ∷ value.AnyValue nothing_more ∷ []);
   };
 }
 
 abbrev pub told : (evaluator : Ior) → DynamicProp
-told evaluator = record { eval_if = evaluator; returned_type = code.ULong; extra_info = nothing_more }
+told evaluator = record {
+  eval_if = evaluator;
+  returned_type = code.ULong;
+  extra_info = nothing_more;
+}
 
 abbrev pub over_queue : (evaluator : Ior) → Local
 over_queue evaluator = search (offer 3 printer 1 (told_by evaluator ∷ []) ∷ []) []
@@ -99,7 +107,8 @@ pub record WorkedWalks (word : ℕ → ℕ) : Type 0 where
   -- a query that is refused, and one whose identifier is remembered
   pub refusal : (o : Outcome)
       → Comes (alike (Refused 3 o)) nowhere word (item.Refused 0 3 ∷ []) (visit.Refused o) 1 []
-  pub repetition : Comes (alike (Repeat 3 7)) nowhere word (item.Repeat 0 3 7 ∷ []) (visit.Answered nothing 0) 1 []
+  pub repetition : Comes (alike (Repeat 3 7)) nowhere word (item.Repeat 0 3 7 ∷ [])
+      (visit.Answered nothing 0) 1 []
   -- along a path to a trader outside, whose answer it is
   pub on_the_way : Comes (alike (Path along)) nowhere word
       (item.Path 0 0 ∷ item.Outside given_there ∷ item.Leave ∷ []) (answers given_there) 1
@@ -110,11 +119,12 @@ pub record WorkedWalks (word : ℕ → ℕ) : Type 0 where
   -- over a link to a trader outside, which can't be reached: what matched here is left
   pub without_answer : Comes (alike (Search (over Always (plain ∷ [])))) nowhere word
       (item.Search 0 0 1 ∷ item.Failed fault.Wire ∷ item.Leave ∷ []) (answers (offering [])) 1
-      (one_call (Querying elsewhere (link_query (over Always (plain ∷ [])) (Some 999) (link Always))) (Missed fault.Wire))
+      (one_call (Querying elsewhere (link_query (over Always (plain ∷ [])) (Some 999)
+      (link Always))) (Missed fault.Wire))
   -- a desired property is evaluated, and its value stands in the offer
   pub evaluation : (e : Ior) (p : Iiop) (v : Any) → iiop_of e ≡ Some p → may_stand (told e) v ≡ true
-      → Comes (alike (Search (over_queue e))) nowhere word (item.Search 0 0 1 ∷ item.Evaluated v ∷ item.Leave ∷ [])
-      (answers (offering (queue v ∷ []))) 1 (one_call (evaluating e) (Valued v))
+      → Comes (alike (Search (over_queue e))) nowhere word (item.Search 0 0 1 ∷ item.Evaluated v
+      ∷ item.Leave ∷ []) (answers (offering (queue v ∷ []))) 1 (one_call (evaluating e) (Valued v))
   -- where its evaluation fails, and where its evaluator has no profile and isn't called, it is absent
   pub failed_evaluation : (e : Ior) (p : Iiop) → iiop_of e ≡ Some p
       → Comes (alike (Search (over_queue e))) nowhere word

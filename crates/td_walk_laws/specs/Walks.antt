@@ -59,8 +59,8 @@ answer_in (visit.Answered a max_list) = a
 answer_in (visit.Refused o) = nothing
 
 -- the visit ends with this answer: no question is left, and the ranking draws its words
-pub record Ends {World : Type 0} (s : Course World) (l : Local) (answers : List StepAnswer) (a : SubAnswer)
-    (u : Course World) : Type 0 where
+pub record Ends {World : Type 0} (s : Course World) (l : Local) (answers : List StepAnswer)
+    (a : SubAnswer) (u : Course World) : Type 0 where
   pub done : next_of l answers ≡ Done
   pub answer : IsAnswer l answers s.words a
   pub drawn : HasDrawn l answers s.words u.words
@@ -79,54 +79,67 @@ pub data Opens (trader : ℕ) (l : Local) : Start → TraceItem → Type 0 where
 mutual
   -- The trace is one visit of the trader with this query, and all that it goes on to; it comes to this.
   pub data Walk {World : Type 0} (Begins : World → (trader : ℕ) → Query → Start → World → Type 0)
-      (inside : World → (target : Ior) → Option ℕ) : Course World → (trader : ℕ) → Query → List TraceItem → Visit
-      → Course World → Type 0 where
+      (inside : World → (target : Ior) → Option ℕ) : Course World → (trader : ℕ) → Query
+      → List TraceItem → Visit → Course World → Type 0 where
     refused : {s : Course World} {k : ℕ} {q : Query} {point : ℕ} {o : Outcome} {w : World}
         → Begins s.world k q (Refused point o) w
         → Walk Begins inside s k q (item.Refused k point ∷ []) (visit.Refused o) (with_world s w)
     repeat : {s : Course World} {k : ℕ} {q : Query} {point mark : ℕ} {w : World}
         → Begins s.world k q (Repeat point mark) w
-        → Walk Begins inside s k q (item.Repeat k point mark ∷ []) (visit.Answered nothing 0) (with_world s w)
-    asking : {s : Course World} {k : ℕ} {q : Query} {start : Start} {w : World} {l : Local} {head : TraceItem}
-        {t : List TraceItem} {answers : List StepAnswer} {m : Course World} {a : SubAnswer} {u : Course World}
-        → Begins s.world k q start w → Opens k l start head → Steps Begins inside (with_world s w) l [] t answers m
-        → Ends m l answers a u
-        → Walk Begins inside s k q (head ∷ t ++ item.Leave ∷ []) (visit.Answered a l.attributes.max_list) u
+        → Walk Begins inside s k q (item.Repeat k point mark ∷ []) (visit.Answered nothing 0)
+        (with_world s w)
+    asking : {s : Course World} {k : ℕ} {q : Query} {start : Start} {w : World} {l : Local}
+        {head : TraceItem}
+        {t : List TraceItem} {answers : List StepAnswer} {m : Course World} {a : SubAnswer}
+        {u : Course World}
+        → Begins s.world k q start w → Opens k l start head
+        → Steps Begins inside (with_world s w) l [] t answers m → Ends m l answers a u
+        → Walk Begins inside s k q (head ∷ t ++ item.Leave ∷ [])
+        (visit.Answered a l.attributes.max_list) u
 
   -- From these answers on each next question is asked, until none is left.
   pub data Steps {World : Type 0} (Begins : World → (trader : ℕ) → Query → Start → World → Type 0)
-      (inside : World → (target : Ior) → Option ℕ) : Course World → Local → List StepAnswer → List TraceItem
-      → List StepAnswer → Course World → Type 0 where
+      (inside : World → (target : Ior) → Option ℕ) : Course World → Local → List StepAnswer
+      → List TraceItem → List StepAnswer → Course World → Type 0 where
     done : {s : Course World} {l : Local} {answers : List StepAnswer} → next_of l answers ≡ Done
         → Steps Begins inside s l answers [] answers s
-    asked : {s : Course World} {l : Local} {answers : List StepAnswer} {t : List TraceItem} {r : StepAnswer}
+    asked : {s : Course World} {l : Local} {answers : List StepAnswer} {t : List TraceItem}
+        {r : StepAnswer}
         {m : Course World} {ts : List TraceItem} {all : List StepAnswer} {u : Course World}
-        → Step Begins inside s (next_of l answers) t r m → Steps Begins inside m l (answers ++ r ∷ []) ts all u
+        → Step Begins inside s (next_of l answers) t r m
+        → Steps Begins inside m l (answers ++ r ∷ []) ts all u
         → Steps Begins inside s l answers (t ++ ts) all u
 
   -- One question, and its answer.
   pub data Step {World : Type 0} (Begins : World → (trader : ℕ) → Query → Start → World → Type 0)
-      (inside : World → (target : Ior) → Option ℕ) : Course World → Next → List TraceItem → StepAnswer
-      → Course World → Type 0 where
-    visited : {s : Course World} {target : Ior} {q : Query} {k : ℕ} {t : List TraceItem} {v : Visit} {u : Course World}
+      (inside : World → (target : Ior) → Option ℕ) : Course World → Next → List TraceItem
+      → StepAnswer → Course World → Type 0 where
+    visited : {s : Course World} {target : Ior} {q : Query} {k : ℕ} {t : List TraceItem} {v : Visit}
+        {u : Course World}
         → inside s.world target ≡ Some k → Walk Begins inside s k q t v u
         → Step Begins inside s (Forward target q) t (answer.Offers (answer_in v)) u
-    outside : {s : Course World} {target : Ior} {q : Query} {a : SubAnswer} → inside s.world target ≡ None
-        → HasSmallOffers a → Step Begins inside s (Forward target q) (item.Outside a ∷ []) (answer.Offers a)
-        (called s (Querying target q) (Replied a))
-    unanswered : {s : Course World} {target : Ior} {q : Query} {f : PeerFault} → inside s.world target ≡ None
-        → is_memory f ≡ false → Step Begins inside s (Forward target q) (item.Failed f ∷ []) answer.Failed
-        (called s (Querying target q) (Missed f))
-    evaluated : {s : Course World} {e : Ior} {name : List ℕ} {returned : TypeCode} {extra value : Any} {p : Iiop}
+    outside : {s : Course World} {target : Ior} {q : Query} {a : SubAnswer} → inside s.world target
+        ≡ None
+        → HasSmallOffers a → Step Begins inside s (Forward target q) (item.Outside a ∷ [])
+        (answer.Offers a) (called s (Querying target q) (Replied a))
+    unanswered : {s : Course World} {target : Ior} {q : Query} {f : PeerFault}
+        → inside s.world target ≡ None
+        → is_memory f ≡ false → Step Begins inside s (Forward target q)
+        (item.Failed f ∷ []) answer.Failed (called s (Querying target q) (Missed f))
+    evaluated : {s : Course World} {e : Ior} {name : List ℕ} {returned : TypeCode}
+        {extra value : Any} {p : Iiop}
         → iiop_of e ≡ Some p
-        → Step Begins inside s (Evaluate e name returned extra) (item.Evaluated value ∷ []) (answer.Evaluated value)
-        (called s (Evaluating e name returned extra) (Valued value))
-    unevaluated : {s : Course World} {e : Ior} {name : List ℕ} {returned : TypeCode} {extra : Any} {p : Iiop}
+        → Step Begins inside s (Evaluate e name returned extra) (item.Evaluated value ∷ [])
+        (answer.Evaluated value) (called s (Evaluating e name returned extra) (Valued value))
+    unevaluated : {s : Course World} {e : Ior} {name : List ℕ} {returned : TypeCode} {extra : Any}
+        {p : Iiop}
         {f : PeerFault} → iiop_of e ≡ Some p → is_memory f ≡ false
         → Step Begins inside s (Evaluate e name returned extra) (item.Failed f ∷ []) answer.Failed
         (called s (Evaluating e name returned extra) (Missed f))
-    unreachable : {s : Course World} {e : Ior} {name : List ℕ} {returned : TypeCode} {extra : Any} → iiop_of e ≡ None
-        → Step Begins inside s (Evaluate e name returned extra) (item.Unreachable ∷ []) answer.Failed s
+    unreachable : {s : Course World} {e : Ior} {name : List ℕ} {returned : TypeCode} {extra : Any}
+        → iiop_of e ≡ None
+        → Step Begins inside s (Evaluate e name returned extra)
+        (item.Unreachable ∷ []) answer.Failed s
 
 -- ---- what a trace shows of the calls
 

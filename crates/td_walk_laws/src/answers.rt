@@ -22,13 +22,14 @@ pub fn failed_steps_give_nothing()
         → joined (record { found = found; given = before ++ nothing_given ∷ after })
         ≡ joined (record { found = found; given = before ++ after }) }
     ensures limits { (over : List (List ℕ)) (before after : List SubAnswer)
-        → limits_applied over (before ++ nothing_given ∷ after) ≡ limits_applied over (before ++ after) }
+        → limits_applied over (before ++ nothing_given ∷ after)
+        ≡ limits_applied over (before ++ after) }
 {}
 
 /// The answers to a visit's questions and the random words determine its answer.
 pub fn answers_are_one()
-    ensures { (l : Local) (answers : List StepAnswer) (word : ℕ → ℕ) (a b : SubAnswer) → IsAnswer l answers word a
-        → IsAnswer l answers word b → a ≡ b }
+    ensures { (l : Local) (answers : List StepAnswer) (word : ℕ → ℕ) (a b : SubAnswer)
+        → IsAnswer l answers word a → IsAnswer l answers word b → a ≡ b }
 {
     arrangements_are_one();
 }

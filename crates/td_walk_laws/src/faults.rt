@@ -24,17 +24,19 @@ pub fn faults_are_counted()
     ensures register { (call : PeerCall) (before after : List Exchange) (faults now : ℕ)
         (r : Result Ior PeerFault) → IsNoted (λ x. Referred x) call before after faults now r
         → CountsFaults before after faults now }
-    ensures joined { (a b c : List Exchange) (first second third : ℕ) → CountsFaults a b first second
+    ensures joined { (a b c : List Exchange) (first second third : ℕ)
+        → CountsFaults a b first second
         → CountsFaults b c second third → CountsFaults a c first third }
-    ensures later { (before after : List Exchange) (faults now : ℕ) → CountsFaults before after faults now
-        → faults ≤ now }
+    ensures later { (before after : List Exchange) (faults now : ℕ)
+        → CountsFaults before after faults now → faults ≤ now }
 {}
 
 /// Where items show the calls, each item Failed is a call at which the count rose: behind the calls of the items in
 /// front of it, and before those of the items behind it. So it rose at least by the number of such items, or to its
 /// last value.
 pub fn failures_are_faults()
-    ensures at_each { (front back : List TraceItem) (f : PeerFault) (before after : List Exchange) (faults now : ℕ)
+    ensures at_each { (front back : List TraceItem) (f : PeerFault) (before after : List Exchange)
+        (faults now : ℕ)
         → Shows (front ++ Failed f ∷ back) before after → CountsFaults before after faults now
         → RoseBetween front back faults now }
     ensures in_all { (items : List TraceItem) (before after : List Exchange) (faults now : ℕ)

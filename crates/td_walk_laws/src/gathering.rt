@@ -14,12 +14,12 @@ ghost use Rattle.td_walk.specs.declared.found.Found.{Found};
 /// Once enough offers are there, no link is followed and no proxy offer's trader is called. So a search at which enough
 /// ordinary offers matched asks nobody, where the offers are in the order in which they are gathered.
 pub fn full_visits_ask_nobody()
-    ensures links { (l : Local) (wanted : Option ℕ) (local_match : Bool) (link : LinkRecord) → is_full wanted ≡ true
-        → link_step l wanted local_match link ≡ None }
+    ensures links { (l : Local) (wanted : Option ℕ) (local_match : Bool) (link : LinkRecord)
+        → is_full wanted ≡ true → link_step l wanted local_match link ≡ None }
     ensures proxies { (l : Local) (wanted : Option ℕ) (o : OfferRecord) → is_full wanted ≡ true
         → proxy_step l wanted o ≡ None }
-    ensures visit { (l : Local) (found : List Found) (answers : List StepAnswer) → keeps_order l.preference ≡ true
-        → l.effective.return_card ≤ count_ordinary found
+    ensures visit { (l : Local) (found : List Found) (answers : List StepAnswer)
+        → keeps_order l.preference ≡ true → l.effective.return_card ≤ count_ordinary found
         → gathered found answers (wanted_behind l (count_ordinary found)) (steps l found)
         ≡ Ok (record { found = found; given = [] }, answers) }
 {}
@@ -27,9 +27,11 @@ pub fn full_visits_ask_nobody()
 /// What other traders would give once enough offers are there is cut from the answer, where the offers are in the order
 /// in which they are gathered: so it isn't asked for.
 pub fn asking_on_would_be_cut()
-    ensures { (l : Local) (found : List Found) (given more : List SubAnswer) (word : ℕ → ℕ) (a b : SubAnswer)
+    ensures { (l : Local) (found : List Found) (given more : List SubAnswer) (word : ℕ → ℕ)
+        (a b : SubAnswer)
         → keeps_order l.preference ≡ true
         → l.effective.return_card ≤ length (joined (record { found = found; given = given }))
         → IsRankedAnswer l (record { found = found; given = given }) word a
-        → IsRankedAnswer l (record { found = found; given = given ++ more }) word b → b.offers ≡ a.offers }
+        → IsRankedAnswer l (record { found = found; given = given ++ more }) word b
+        → b.offers ≡ a.offers }
 {}

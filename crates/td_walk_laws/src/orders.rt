@@ -25,13 +25,15 @@ pub fn searches_ask_in_order()
 /// Along a path one question is asked, of the target of its first name's link.
 pub fn paths_ask_once()
     ensures { (l : Local) (link : LinkRecord) (questions : List Next) (answers : List StepAnswer)
-        → l.path ≡ Some link → Asks l [] questions answers → questions ≡ Forward link.target (path_query l) ∷ [] }
+        → l.path ≡ Some link → Asks l [] questions answers
+        → questions ≡ Forward link.target (path_query l) ∷ [] }
 {}
 
 /// What stands in a walk between the item with which a search or a path begins and its Leave is one step for each of
 /// these questions, in this order.
 pub fn walks_step_in_order()
-    ensures { (group : Group) (inside : ℕ → Ior → Option ℕ) (s u : Course ℕ) (l : Local) (items : List TraceItem)
-        (answers : List StepAnswer) → Steps (BeginsIn group) inside s l [] items answers u
+    ensures { (group : Group) (inside : ℕ → Ior → Option ℕ) (s u : Course ℕ) (l : Local)
+        (items : List TraceItem) (answers : List StepAnswer)
+        → Steps (BeginsIn group) inside s l [] items answers u
         → StepsBy (BeginsIn group) inside s l [] items answers u }
 {}

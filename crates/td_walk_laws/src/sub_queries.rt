@@ -31,9 +31,11 @@ pub fn sub_queries_to_a_proxy()
 /// the identifier; of two hop counts and of two rules the lesser counts, and the fewer offers, where those that are
 /// wanted are limited.
 pub fn sub_queries_with_passed_policies()
-    ensures { (l : Local) (wanted : Option ℕ) (part : ProxyPart) (constraint : List ℕ) (passed s : Stated)
+    ensures { (l : Local) (wanted : Option ℕ) (part : ProxyPart) (constraint : List ℕ)
+        (passed s : Stated)
         → stated l.query.policies ≡ Ok l.stated → stated part.policies ≡ Ok passed
-        → stated (proxy_query l wanted part constraint).policies ≡ Ok s → WithPassed l wanted passed s }
+        → stated (proxy_query l wanted part constraint).policies ≡ Ok s
+        → WithPassed l wanted passed s }
 {}
 
 /// Along a path go the names that are left, and the other policies as they were stated.

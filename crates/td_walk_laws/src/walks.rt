@@ -42,7 +42,8 @@ pub fn identifiers_are_stated()
 
 /// A visit asks at most `turns_of` questions.
 pub fn visits_end()
-    ensures bound { (l : Local) (answers : List StepAnswer) → turns_of l ≤ length answers → next_of l answers ≡ Done }
+    ensures bound { (l : Local) (answers : List StepAnswer) → turns_of l ≤ length answers
+        → next_of l answers ≡ Done }
     ensures forward { (l : Local) (answers : List StepAnswer) (target : Ior) (sub : Query)
         → next_of l answers ≡ Forward target sub → length answers < turns_of l }
 {}
@@ -51,21 +52,23 @@ pub fn visits_end()
 /// the visit.
 #[tactic(auto, using(crate::proofs::Weights::falls_at_each))]
 pub fn walks_end()
-    ensures { (l : Local) (answers : List StepAnswer) (target : Ior) (sub : Query) (s : Stated) → IsRead l
-        → next_of l answers ≡ Forward target sub → stated sub.policies ≡ Ok s → weight_of s < reach_of l }
+    ensures { (l : Local) (answers : List StepAnswer) (target : Ior) (sub : Query) (s : Stated)
+        → IsRead l
+        → next_of l answers ≡ Forward target sub → stated sub.policies ≡ Ok s
+        → weight_of s < reach_of l }
 {}
 
 /// And a visit goes no farther than its query states.
 #[tactic(auto, using(crate::proofs::Weights::reaches_no_farther))]
 pub fn visits_reach_no_farther()
-    ensures { (l : Local) → l.effective ≡ effective_of l.stated l.attributes → l.attributes.max_hop_count ≤ 2 ^ 32
-        → reach_of l ≤ weight_of l.stated }
+    ensures { (l : Local) → l.effective ≡ effective_of l.stated l.attributes
+        → l.attributes.max_hop_count ≤ 2 ^ 32 → reach_of l ≤ weight_of l.stated }
 {}
 
 /// The items Outside, Evaluated and Failed of a walk are, in order, the calls that were made of peers in it and what
 /// each gave.
 pub fn walks_are_asked()
-    ensures { (group : Group) (inside : ℕ → Ior → Option ℕ) (s u : Course ℕ) (trader : ℕ) (q : Query)
-        (items : List TraceItem) (v : Visit) → Walk (BeginsIn group) inside s trader q items v u
-        → Shows items s.calls u.calls }
+    ensures { (group : Group) (inside : ℕ → Ior → Option ℕ) (s u : Course ℕ) (trader : ℕ)
+        (q : Query) (items : List TraceItem) (v : Visit)
+        → Walk (BeginsIn group) inside s trader q items v u → Shows items s.calls u.calls }
 {}

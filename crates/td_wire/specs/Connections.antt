@@ -68,21 +68,24 @@ left_of t = left_in t.current
 -- these bytes came off the front of what was left
 abbrev pub Gives : List ℕ → Option Traffic → Option Traffic → Type 0
 Gives piece None after = after ≡ None
-Gives piece (Some t) after = (rest : List ℕ) × (left_of t ≡ piece ++ rest) × (after ≡ Some (with_left rest t))
+Gives piece (Some t) after = (rest : List ℕ) × (left_of t ≡ piece ++ rest)
+    × (after ≡ Some (with_left rest t))
 
 -- a connection was made; where it failed, the one that stood may have ended
-pub record Connects {T E : Type 0} (host : List ℕ) (port : ℕ) (before after : Option Traffic) (result : Result T E)
-    : Type 0 where
+pub record Connects {T E : Type 0} (host : List ℕ) (port : ℕ) (before after : Option Traffic)
+    (result : Result T E) : Type 0 where
   pub ok : OnOk result (after ≡ option_map (opened host port) before)
   pub err : OnErr result ((after ≡ before) ⊎ (after ≡ option_map ended before))
 
 -- the first bytes of a piece were written
-pub record Writes {E : Type 0} (piece : List ℕ) (before after : Option Traffic) (result : Result ℕ E) : Type 0 where
+pub record Writes {E : Type 0} (piece : List ℕ) (before after : Option Traffic)
+    (result : Result ℕ E) : Type 0 where
   pub ok : IfOk result (λ n. after ≡ option_map (wrote (take n piece)) before)
   pub err : OnErr result (after ≡ before)
 
 -- bytes came off the front of what is left, and none only where there was no room or nothing left
-pub record Reads {E : Type 0} (filled : List ℕ) (before after : Option Traffic) (result : Result ℕ E) : Type 0 where
+pub record Reads {E : Type 0} (filled : List ℕ) (before after : Option Traffic)
+    (result : Result ℕ E) : Type 0 where
   pub bound : IfOk result (λ n. n ≤ length filled)
   pub ok : IfOk result (λ n. Gives (take n filled) before after)
   pub end : IfOk result (λ n. n ≡ 0 → 0 < length filled → IfSome before (λ t. left_of t ≡ []))

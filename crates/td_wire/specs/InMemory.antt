@@ -31,9 +31,11 @@ pub record Gave (n : ℕ) (old new : Option Connection) (before after : List ℕ
 -- ---- calls. Each fails where its number is among those that do
 
 -- a connection is refused for want of memory alone besides
-pub record Opens (host : List ℕ) (port : ℕ) (old new : Wired) (result : Result (Unit {0}) Failed) : Type 0 where
+pub record Opens (host : List ℕ) (port : ℕ) (old new : Wired)
+    (result : Result (Unit {0}) Failed) : Type 0 where
   pub fails_as_set : OnOk result (fails old.calls ≡ false)
-  pub made : OnOk result (new ≡ record { traffic = opened host port old.traffic; calls = counted old.calls })
+  pub made : OnOk result (new
+      ≡ record { traffic = opened host port old.traffic; calls = counted old.calls })
   pub refused : OnErr result (new ≡ record old { calls = failed old.calls })
 
 -- a write takes the whole piece; it is refused where no connection stands, and for want of memory alone besides
@@ -41,7 +43,8 @@ pub record Puts (piece : List ℕ) (old new : Wired) (result : Result ℕ Failed
   pub fails_as_set : OnOk result (fails old.calls ≡ false)
   pub stands : OnOk result (IsSome old.traffic.current)
   pub took : IfOk result (λ n. n ≡ length piece)
-  pub added : OnOk result (new ≡ record { traffic = wrote piece old.traffic; calls = counted old.calls })
+  pub added : OnOk result (new
+      ≡ record { traffic = wrote piece old.traffic; calls = counted old.calls })
   pub refused : OnErr result (new ≡ record old { calls = failed old.calls })
 
 -- a read is refused where no connection stands besides, and there alone
@@ -50,5 +53,8 @@ pub record Draws (old new : Wired) (before after : List ℕ) (result : Result �
   pub gave : IfOk result (λ n. n ≡ min (length (left_of old.traffic)) (length before))
   pub filled : IfOk result (λ n. after ≡ take n (left_of old.traffic) ++ drop n before)
   pub moved : IfOk result (λ n. new
-      ≡ record { traffic = with_left (drop n (left_of old.traffic)) old.traffic; calls = counted old.calls })
+      ≡ record {
+        traffic = with_left (drop n (left_of old.traffic)) old.traffic;
+        calls = counted old.calls;
+      })
   pub refused : OnErr result ((after ≡ before) × (new ≡ record old { calls = failed old.calls }))

@@ -95,7 +95,8 @@ fn copy_front(from: &[u8], into: &mut [u8]) -> usize
 
 /// What the connection that stands gives into this room; none where no connection stands.
 pub(crate) fn draw(current: &mut Option<Held>, into: &mut [u8]) -> Option<usize>
-    ensures none { IfNone result ((current.old ≡ None) × (current.new ≡ None) × (into.new ≡ into.old)) }
+    ensures none { IfNone result ((current.old ≡ None) × (current.new ≡ None)
+        × (into.new ≡ into.old)) }
     ensures gave { IfSome result (λ n. Gave n current.old current.new into.old into.new) }
 {
     match current {

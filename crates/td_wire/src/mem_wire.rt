@@ -70,7 +70,8 @@ impl MemWire {
     ///
     /// `Memory` for want of memory alone; nothing has changed then.
     fn open(&mut self, host: &[u8], port: u16) -> Result<(), Memory>
-        ensures ok { OnOk result (self.new ≡ record self.old { traffic = opened host.now port self.old.traffic }) }
+        ensures ok { OnOk result (self.new
+            ≡ record self.old { traffic = opened host.now port self.old.traffic }) }
         ensures err { OnErr result (self.new ≡ self.old) }
     {
         let host = Text::from_slice(self.alloc, host)?;
@@ -119,7 +120,8 @@ impl Wire for MemWire {
 
     fn connect(&mut self, host: &[u8], port: u16) -> Result<(), Failed>
         ensures same { Unit {0} }
-        ensures bytes { Connects host.now port (Some self.old.traffic) (Some self.new.traffic) result }
+        ensures bytes { Connects host.now port (Some self.old.traffic)
+            (Some self.new.traffic) result }
         ensures cause { HasCause self.old.calls.faults self.new.calls.faults result }
         ensures exact { Opens host.now port self.old self.new result }
     {

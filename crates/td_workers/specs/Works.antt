@@ -18,10 +18,12 @@ pub data Working {H J D : Type 0} (admits : H → ℕ → J → H → Type 0) (c
       → Working admits closes does here parts true m (n + 1) (out ++ (n + 1, job) ∷ []) k
       → Working admits closes does here parts true h n out k
   -- no more will come
-  closed : {h m k : H} {n : ℕ} {out : List (ℕ × J)} → closes h m → Working admits closes does here parts false m n out k
+  closed : {h m k : H} {n : ℕ} {out : List (ℕ × J)} → closes h m
+      → Working admits closes does here parts false m n out k
       → Working admits closes does here parts true h n out k
   -- one that was out was done
-  went : {more : Bool} {h m k : H} {n : ℕ} (before after : List (ℕ × J)) {number : ℕ} {job : J} {made : D}
+  went : {more : Bool} {h m k : H} {n : ℕ} (before after : List (ℕ × J)) {number : ℕ} {job : J}
+      {made : D}
       → does job made → (here made ≡ false → length before < 64) → (here made ≡ true → after ≡ [])
       → parts h number made m → Working admits closes does here parts more m n (before ++ after) k
       → Working admits closes does here parts more h n (before ++ (number, job) ∷ after) k
@@ -29,8 +31,9 @@ pub data Working {H J D : Type 0} (admits : H → ℕ → J → H → Type 0) (c
   over : {h : H} {n : ℕ} → Working admits closes does here parts false h n [] h
 
 -- a job was done by a thread of its own, and what was made of it taken back
-pub record Parted {H J D : Type 0} (Ready : H → Type 0) (Waits : H → J → Type 0) (does : J → D → Type 0)
-    (here : D → Bool) (parts : H → ℕ → D → H → Type 0) (h : H) (number : ℕ) (job : J) (u : H) : Type 0 where
+pub record Parted {H J D : Type 0} (Ready : H → Type 0) (Waits : H → J → Type 0)
+    (does : J → D → Type 0) (here : D → Bool) (parts : H → ℕ → D → H → Type 0) (h : H) (number : ℕ)
+    (job : J) (u : H) : Type 0 where
   pub made : D
   pub is_made : does job made
   pub elsewhere : here made ≡ false
@@ -40,9 +43,10 @@ pub record Parted {H J D : Type 0} (Ready : H → Type 0) (Waits : H → J → T
 
 -- The hall has gone on from h, where these jobs were out, to u, where the others are: what happens from there on
 -- happens from h on.
-pub record Moves {H J D : Type 0} (Ready : H → Type 0) (Waits : H → J → Type 0) (admits : H → ℕ → J → H → Type 0)
-    (closes : H → H → Type 0) (does : J → D → Type 0) (here : D → Bool) (parts : H → ℕ → D → H → Type 0) (h : H)
-    (out : List (ℕ × J)) (u : H) (left : List (ℕ × J)) : Type 0 where
+pub record Moves {H J D : Type 0} (Ready : H → Type 0) (Waits : H → J → Type 0)
+    (admits : H → ℕ → J → H → Type 0) (closes : H → H → Type 0) (does : J → D → Type 0)
+    (here : D → Bool) (parts : H → ℕ → D → H → Type 0) (h : H) (out : List (ℕ × J)) (u : H)
+    (left : List (ℕ × J)) : Type 0 where
   pub ready : Ready u
   pub stays : (j : J) → Waits h j → Waits u j
   pub waits : OfEach (Waits u) left
@@ -51,27 +55,30 @@ pub record Moves {H J D : Type 0} (Ready : H → Type 0) (Waits : H → J → Ty
       → Working admits closes does here parts more h n (out ++ others) k
 
 -- The same, where nothing has come behind the last of those that were out.
-pub record Placed {H J D : Type 0} (Ready : H → Type 0) (Waits : H → J → Type 0) (admits : H → ℕ → J → H → Type 0)
-    (closes : H → H → Type 0) (does : J → D → Type 0) (here : D → Bool) (parts : H → ℕ → D → H → Type 0) (h : H)
-    (out : List (ℕ × J)) (u : H) (left : List (ℕ × J)) : Type 0 where
+pub record Placed {H J D : Type 0} (Ready : H → Type 0) (Waits : H → J → Type 0)
+    (admits : H → ℕ → J → H → Type 0) (closes : H → H → Type 0) (does : J → D → Type 0)
+    (here : D → Bool) (parts : H → ℕ → D → H → Type 0) (h : H) (out : List (ℕ × J)) (u : H)
+    (left : List (ℕ × J)) : Type 0 where
   pub ready : Ready u
   pub waits : OfEach (Waits u) left
   pub leads : (more : Bool) (n : ℕ) (k : H) → Working admits closes does here parts more u n left k
       → Working admits closes does here parts more h n out k
 
 -- No more jobs will come, and the same ones are out.
-pub record Closed {H J : Type 0} (Ready : H → Type 0) (Waits : H → J → Type 0) (closes : H → H → Type 0) (h u : H)
-    (out left : List (ℕ × J)) : Type 0 where
+pub record Closed {H J : Type 0} (Ready : H → Type 0) (Waits : H → J → Type 0)
+    (closes : H → H → Type 0) (h u : H) (out left : List (ℕ × J)) : Type 0 where
   pub is_closed : closes h u
   pub ready : Ready u
   pub same : left ≡ out
   pub waits : OfEach (Waits u) left
 
 -- One more job has come, and has its place among those that are out, or was done.
-pub record Welcomed {H J D : Type 0} (Ready : H → Type 0) (Waits : H → J → Type 0) (admits : H → ℕ → J → H → Type 0)
-    (closes : H → H → Type 0) (does : J → D → Type 0) (here : D → Bool) (parts : H → ℕ → D → H → Type 0) (h : H)
-    (number : ℕ) (out : List (ℕ × J)) (u : H) (left : List (ℕ × J)) : Type 0 where
+pub record Welcomed {H J D : Type 0} (Ready : H → Type 0) (Waits : H → J → Type 0)
+    (admits : H → ℕ → J → H → Type 0) (closes : H → H → Type 0) (does : J → D → Type 0)
+    (here : D → Bool) (parts : H → ℕ → D → H → Type 0) (h : H) (number : ℕ) (out : List (ℕ × J))
+    (u : H) (left : List (ℕ × J)) : Type 0 where
   pub between : H
   pub job : J
   pub came_in : admits h number job between
-  pub placed : Placed Ready Waits admits closes does here parts between (out ++ (number, job) ∷ []) u left
+  pub placed : Placed Ready Waits admits closes does here parts between (out ++ (number, job) ∷ [])
+      u left

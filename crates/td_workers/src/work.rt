@@ -23,7 +23,8 @@ pub fn work_all<D: Send + Drop, J: Job<D> + Send + Drop, H: Hall<D, J> + Drop, R
     requires { H.ready hall }
     ensures goes { H.goes hall result.1 }
     ensures ready { OnOk result.0 (H.ready result.1) }
-    ensures worked { OnOk result.0 (Working H.admits H.closes J.does J.here H.parts true hall 0 [] result.1) }
+    ensures worked { OnOk result.0
+        (Working H.admits H.closes J.does J.here H.parts true hall 0 [] result.1) }
     ensures stops { IfErr result.0 (λ why. H.stops hall why result.1) }
 {
     let ended = AtomicU64::new(0);
@@ -34,7 +35,8 @@ pub fn work_all<D: Send + Drop, J: Job<D> + Send + Drop, H: Hall<D, J> + Drop, R
         move |scope| -> (Result<(), Stop>, H)
             requires { H.ready hall }
             ensures { H.goes hall result.1 × OnOk result.0 (H.ready result.1)
-                × OnOk result.0 (Working H.admits H.closes J.does J.here H.parts true hall 0 [] result.1)
+                × OnOk result.0 (Working H.admits H.closes J.does J.here H.parts true hall 0 []
+                result.1)
                 × IfErr result.0 (λ why. H.stops hall why result.1) }
         { work_within(rt, scope, alloc, bits, hall) },
     )
@@ -59,7 +61,8 @@ fn work_within<
     requires { H.ready hall }
     ensures goes { H.goes hall result.1 }
     ensures ready { OnOk result.0 (H.ready result.1) }
-    ensures worked { OnOk result.0 (Working H.admits H.closes J.does J.here H.parts true hall 0 [] result.1) }
+    ensures worked { OnOk result.0
+        (Working H.admits H.closes J.does J.here H.parts true hall 0 [] result.1) }
     ensures stops { IfErr result.0 (λ why. H.stops hall why result.1) }
 {
     let mut hall = hall;
@@ -88,7 +91,8 @@ fn take_in<
     requires none { vec_len working.old ≡ 0 }
     ensures goes { H.goes hall.old hall.new }
     ensures ready { OnOk result (H.ready hall.new) }
-    ensures worked { OnOk result (Working H.admits H.closes J.does J.here H.parts true hall.old 0 [] hall.new) }
+    ensures worked { OnOk result
+        (Working H.admits H.closes J.does J.here H.parts true hall.old 0 [] hall.new) }
     ensures stops { IfErr result (λ why. H.stops hall.old why hall.new) }
 {
     'accepting: for count in 0..u64::MAX {
@@ -169,9 +173,10 @@ fn seat<
         (map (λ w. (w.number, w.handle.promise.job.value)) working.old.items) }
     ensures few { vec_len working.new ≤ 64 }
     ensures goes { H.goes hall.old hall.new }
-    ensures placed { OnOk result (Placed H.ready H.waits H.admits H.closes J.does J.here H.parts hall.old
-        (map (λ w. (w.number, w.handle.promise.job.value)) working.old.items ++ (number, job) ∷ []) hall.new
-        (map (λ w. (w.number, w.handle.promise.job.value)) working.new.items)) }
+    ensures placed { OnOk result
+        (Placed H.ready H.waits H.admits H.closes J.does J.here H.parts hall.old
+        (map (λ w. (w.number, w.handle.promise.job.value)) working.old.items ++ (number, job) ∷ [])
+        hall.new (map (λ w. (w.number, w.handle.promise.job.value)) working.new.items)) }
     ensures stops { IfErr result (λ why. H.stops hall.old why hall.new) }
 {
     match reap(rt, ended.swap(0, Ordering::SeqCst), working, hall) {
@@ -196,7 +201,8 @@ fn reap<D: Drop, J: Job<D>, H: Hall<D, J>, R: Threads>(
         (map (λ w. (w.number, w.handle.promise.job.value)) working.old.items) }
     ensures few { vec_len working.new ≤ 64 }
     ensures goes { H.goes hall.old hall.new }
-    ensures moves { OnOk result (Moves H.ready H.waits H.admits H.closes J.does J.here H.parts hall.old
+    ensures moves { OnOk result
+        (Moves H.ready H.waits H.admits H.closes J.does J.here H.parts hall.old
         (map (λ w. (w.number, w.handle.promise.job.value)) working.old.items) hall.new
         (map (λ w. (w.number, w.handle.promise.job.value)) working.new.items)) }
     ensures stops { IfErr result (λ why. H.stops hall.old why hall.new) }
@@ -226,7 +232,8 @@ fn join_all<D: Drop, J: Job<D>, H: Hall<D, J>, R: Threads>(
     requires out { OfEach (H.waits hall.old)
         (map (λ w. (w.number, w.handle.promise.job.value)) working.old.items) }
     ensures goes { H.goes hall.old hall.new }
-    ensures moves { OnOk result (Moves H.ready H.waits H.admits H.closes J.does J.here H.parts hall.old
+    ensures moves { OnOk result
+        (Moves H.ready H.waits H.admits H.closes J.does J.here H.parts hall.old
         (map (λ w. (w.number, w.handle.promise.job.value)) working.old.items) hall.new []) }
     ensures stops { IfErr result (λ why. H.stops hall.old why hall.new) }
 {
@@ -253,7 +260,8 @@ fn part_at<D: Drop, J: Job<D>, H: Hall<D, J>, R: Threads>(
         (map (λ w. (w.number, w.handle.promise.job.value)) working.old.items) }
     ensures fewer { vec_len working.new + 1 ≡ vec_len working.old }
     ensures goes { H.goes hall.old hall.new }
-    ensures moves { OnOk result (Moves H.ready H.waits H.admits H.closes J.does J.here H.parts hall.old
+    ensures moves { OnOk result
+        (Moves H.ready H.waits H.admits H.closes J.does J.here H.parts hall.old
         (map (λ w. (w.number, w.handle.promise.job.value)) working.old.items) hall.new
         (map (λ w. (w.number, w.handle.promise.job.value)) working.new.items)) }
     ensures stops { IfErr result (λ why. H.stops hall.old why hall.new) }
@@ -278,9 +286,10 @@ fn place<'s, 'b: 's, E, D: Send + Drop + 's, J: Job<D> + Send + Drop + 's, H: Ha
         (map (λ w. (w.number, w.handle.promise.job.value)) working.old.items) }
     ensures few { vec_len working.new ≤ 64 }
     ensures goes { H.goes hall.old hall.new }
-    ensures placed { OnOk result (Placed H.ready H.waits H.admits H.closes J.does J.here H.parts hall.old
-        (map (λ w. (w.number, w.handle.promise.job.value)) working.old.items ++ (number, job) ∷ []) hall.new
-        (map (λ w. (w.number, w.handle.promise.job.value)) working.new.items)) }
+    ensures placed { OnOk result
+        (Placed H.ready H.waits H.admits H.closes J.does J.here H.parts hall.old
+        (map (λ w. (w.number, w.handle.promise.job.value)) working.old.items ++ (number, job) ∷ [])
+        hall.new (map (λ w. (w.number, w.handle.promise.job.value)) working.new.items)) }
     ensures stops { IfErr result (λ why. H.stops hall.old why hall.new) }
 {
     if working.reserve(1).is_err() {

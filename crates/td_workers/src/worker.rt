@@ -17,8 +17,8 @@ pub struct Asked<J> {
 }
 
 impl<D, J: Job<D>> Promise<Result<D, J>> for Asked<J> {
-    ghost kept_by = { λ p result. MatchResult result (λ made. J.does p.job.value made × J.here made ≡ false)
-        (λ job. job ≡ p.job.value) };
+    ghost kept_by = { λ p result. MatchResult result (λ made. J.does p.job.value made
+        × J.here made ≡ false) (λ job. job ≡ p.job.value) };
 }
 
 /// A worker that was started.
@@ -84,7 +84,8 @@ pub(crate) fn finish<D: Drop, J: Job<D>, H: Hall<D, J>, R: Threads>(
     requires ready { H.ready hall.old }
     requires came { H.waits hall.old worker.handle.promise.job.value }
     ensures goes { H.goes hall.old hall.new }
-    ensures parted { OnOk result (Parted H.ready H.waits J.does J.here H.parts hall.old worker.number
+    ensures parted { OnOk result
+        (Parted H.ready H.waits J.does J.here H.parts hall.old worker.number
         worker.handle.promise.job.value hall.new) }
     ensures stops { IfErr result (λ why. H.stops hall.old why hall.new) }
 {
