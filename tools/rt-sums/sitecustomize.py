@@ -1,9 +1,10 @@
-"""Has `rt` take the sum of each crate's files once where it sums a crate, for who starts it with this folder on
-PYTHONPATH (.ci/run and tools/build).
+"""Has `rt` take the sum of each crate's files once where it sums a crate, and find the crates below each once, for who
+starts it with this folder on PYTHONPATH (.ci/run and tools/build).
 
 A crate's sum is made of its files and of the sums of the crates that it stands on. Some kits take these anew for each
 way that leads down to a crate: for td_listen 367,158 times, reckoned at half an hour in which nothing is proved. The
-sums are the same, and so is all else that `rt` does.
+sums are the same, and so is all else that `rt` does. The crates below one are found anew by each way too: 30 seconds
+for each time that all crates are read.
 """
 
 import threading
@@ -31,10 +32,25 @@ def sum_once(crate_type):
     crate_type.stamp = stamp
 
 
+def find_once(crate_type):
+    """Finds the crates below a crate anew only where those that it names have changed."""
+    find_anew = crate_type.below
+
+    def below(crate):
+        deps, known = tuple(map(id, crate.deps)), getattr(crate, "known_below", None)
+        if known is None or known[0] != deps:
+            known = crate.known_below = deps, find_anew(crate)
+        return list(known[1])
+
+    crate_type.below = below
+
+
 def exec_module(loader, module):
     load(loader, module)
     if module.__name__ == "rtlib" and hasattr(getattr(module, "Crate", None), "stamp"):
         sum_once(module.Crate)
+        if hasattr(module.Crate, "below"):
+            find_once(module.Crate)
 
 
 SourceFileLoader.exec_module = exec_module
