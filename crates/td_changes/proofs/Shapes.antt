@@ -1,6 +1,8 @@
--- The shape of a TypeCode without parameters.
+-- The shape of a TypeCode without parameters, and that it is no graph.
+use Rattle.std.specs.Prelude.{None}
 use Rattle.std.proofs.Common.{◌≡◌, sym, ap, ◌∙◌}
-use Rattle.td_codes.specs.Same.{Shape, Entry, kind_shape, shape, shape_layer, any_layer, arm_layer, member_layer}
+use Rattle.td_codes.specs.Same.{Shape, Entry, kind_shape, graph_of, graph_in, shape, shape_layer, any_layer, arm_layer, member_layer}
+use Rattle.td_codes.specs.Layers.{code-boolean}
 use Rattle.td_codes.specs.Labels.{label_of_layer}
 use Rattle.td_codes.specs.declared.label.Label.{Label}
 use Rattle.td_codes.specs.declared.code.TypeCode.{fold-roll-TypeCode}
@@ -11,3 +13,6 @@ use Rattle.td_codes.specs.declared.kinds.CodeKind.TheVariants as kind
 pub shape-boolean : shape code.Boolean ≡ kind_shape kind.Boolean
 shape-boolean = ap shape (sym code.rolls-Boolean) ∙ fold-roll-TypeCode Shape Label Label Entry Entry shape_layer
     label_of_layer any_layer arm_layer member_layer c.TypeCode::Boolean
+
+pub graph-boolean : graph_of code.Boolean ≡ None
+graph-boolean = ap graph_in code-boolean

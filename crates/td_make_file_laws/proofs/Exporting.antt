@@ -4,6 +4,9 @@ use Rattle.std.proofs.Common.{if◌then◌else◌, List, [], ◌∷◌, ◌++◌
 use Rattle.std.proofs.Common.{arith, length-append}
 use Rattle.std.proofs.lemmas.Bool.{le-ltb, lt-leb}
 use Rattle.td_changes.specs.Applying.{comes_to}
+use Rattle.td_codes.specs.Layers.{code-ulong}
+use Rattle.td_codes.specs.Same.{graph_in, graph_of}
+use Rattle.td_codes.specs.declared.code.TypeCode.TheVariants as code
 use Rattle.td_codes.specs.declared.reference.Ior.{Ior}
 use Rattle.td_make.specs.Generated.{cost, offer_type}
 use Rattle.td_make_file_laws.proofs.Adding.{both_types}
@@ -60,9 +63,12 @@ demands_cause supported name demanded amount =
     properties_cause supported name demanded [] (costing amount ∷ [])
     otherwise missing_cause name (missing demanded (costing amount ∷ []))
 
+graph-ulong : graph_of code.ULong ≡ None
+graph-ulong = ap graph_in code-ulong
+
 value-free : (supported : Bool) (name : List ℕ) (amount : ℕ)
     → value_cause supported name (cost_demanded ∷ []) (costing amount) ≡ None
-value-free supported name amount = rw shape-ulong refl
+value-free supported name amount = rw shape-ulong (rw graph-ulong refl)
 
 demands-free : (supported : Bool) (name : List ℕ) (amount : ℕ)
     → demands_cause supported name (cost_demanded ∷ []) amount ≡ None

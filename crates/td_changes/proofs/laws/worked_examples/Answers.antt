@@ -7,7 +7,7 @@ use Rattle.td_changes.specs.Applying.{comes_to}
 use Rattle.td_register.specs.Registers.{export, withdraw, modify}
 use Rattle.td_admin.specs.Repositories.{mask_type}
 use Rattle.td_types.specs.Calls.{mask_type as mask}
-use Rattle.td_changes.proofs.Shapes.{shape-boolean}
+use Rattle.td_changes.proofs.Shapes.{shape-boolean, graph-boolean}
 use Rattle.td_changes.proofs.laws.worked_examples.Goals as goal
 
 pub returns-clause-masked : goal.returns-clause-masked
@@ -32,8 +32,8 @@ returns-clause-stem c = refl
 
 pub returns-clause-readonly : goal.returns-clause-readonly
 unfolding comes_to modify full_properties number_below
-returns-clause-readonly c = rw shape-boolean refl
+returns-clause-readonly c = rw shape-boolean (rw graph-boolean refl)
 
 pub returns-clause-unchanged : goal.returns-clause-unchanged
 unfolding comes_to modify full_properties number_below
-returns-clause-unchanged c = rw shape-boolean refl
+returns-clause-unchanged c = rw shape-boolean (rw graph-boolean refl)
