@@ -27,17 +27,17 @@ use Rattle.td_walk.specs.declared.trace.Visit.{Visit}
 
 -- ---- what comes next
 
-next-some : (c : ℕ) (o : Option CallState) (next : Next) → next_in c o ≡ Some next
+pub next-some : (c : ℕ) (o : Option CallState) (next : Next) → next_in c o ≡ Some next
     → (s : CallState) × (o ≡ Some s)
 next-some c None next e = absurd cc
 next-some c (Some s) next e = (s, refl)
 
-within : (calls : List Call) (c : ℕ) (s : CallState) → state_at calls c ≡ Some s → c < length calls
+pub within : (calls : List Call) (c : ℕ) (s : CallState) → state_at calls c ≡ Some s → c < length calls
 within [] c s e = absurd cc
 within (k ∷ calls) zero s e = omega arith
 within (k ∷ calls) (suc c) s e = let h = within calls c s e in omega (arith, h)
 
-next-is : (a b : Next) → ◌≡◌ {A = Option Next} (Some a) (Some b) → a ≡ b
+pub next-is : (a b : Next) → ◌≡◌ {A = Option Next} (Some a) (Some b) → a ≡ b
 next-is a b e = cc
 
 module _ (home : Address) (names : List (List ℕ)) where

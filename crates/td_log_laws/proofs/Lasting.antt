@@ -27,6 +27,7 @@ use Rattle.td_net.specs.declared.event.Event.TheVariants.{Change as Changed, Ask
 use Rattle.td_net.specs.declared.settling.Pending.{Pending}
 use Rattle.td_net.specs.declared.settling.Pending.TheVariants as pending
 use Rattle.td_ops.specs.declared.call.Query.{Query}
+use Rattle.td_ops.specs.declared.outcome.Outcome.{Outcome}
 use Rattle.td_policy.specs.Stated.{stated}
 use Rattle.td_policy.specs.declared.fault.PolicyFault.{PolicyFault}
 use Rattle.td_policy.specs.declared.stated.Stated.{Stated}
@@ -36,7 +37,7 @@ use Rattle.td_store.specs.Candidates.{is_candidate}
 use Rattle.td_store.specs.declared.local.Local.{Local}
 use Rattle.td_store.specs.declared.record.LinkRecord.{LinkRecord}
 use Rattle.td_trader.proofs.Taken.{taken_are_read}
-use Rattle.td_trader.specs.Beginning.{begin_along, begin_here, begin_of, begin_unless, repeated_in}
+use Rattle.td_trader.specs.Beginning.{IsRefused, begin_along, begin_here, begin_of, begin_unless, repeated_in}
 use Rattle.td_trader.specs.PlainTraders.{PlainTrader, begin_at, store_of}
 use Rattle.td_trader.specs.Queries.{parts_of, path_link, refusal}
 use Rattle.td_trader.specs.Serving.{local_of}
@@ -51,6 +52,7 @@ use Rattle.td_walk.specs.declared.answer.Next.{Next}
 use Rattle.td_walk.specs.declared.answer.Next.TheVariants.{Done, Evaluate, Forward}
 use Rattle.td_walk.specs.declared.answer.StepAnswer.{StepAnswer}
 use Rattle.td_walk.specs.declared.answer.StepAnswer.TheVariants as given
+use Rattle.td_walk.specs.declared.trace.Visit.{Visit}
 use Rattle.td_walk.specs.declared.trace.Visit.TheVariants as visit
 use Rattle.td_walk_laws.proofs.Passed.{over_a_link}
 use Rattle.td_walk_laws.specs.Reach.{turns_of}
@@ -167,12 +169,21 @@ pub record SparseLocal (l : Local) : Type 0 where
   pub candidates : ArePlain l.candidates
   pub links : length l.links ≤ 2
 
-abbrev SparseStage : Query → Stage → Type 0
+-- some trader refused the query so
+abbrev pub RefusedSo : Query → Outcome → Type 0
+RefusedSo q o = (bounds : Bounds) × (s : Store) × (m : Marks) × IsRefused bounds s m q o
+
+-- what a query has ended with
+abbrev pub EndedSo : Query → Visit → Type 0
+EndedSo q (visit.Refused o) = RefusedSo q o
+EndedSo q (visit.Answered a max_list) = Unit {0}
+
+abbrev pub SparseStage : Query → Stage → Type 0
 SparseStage q Sent = NoStart q
 SparseStage q Running = Unit {0}
 SparseStage q (Evaluating f) = ⊥
 SparseStage q (Waiting f d) = SparseLocal f.local
-SparseStage q (Ended v) = Unit {0}
+SparseStage q (Ended v) = EndedSo q v
 
 abbrev pub SparseCall : Call → Type 0
 SparseCall k = SparseStage k.query k.stage
@@ -320,7 +331,7 @@ module _ (most : ℕ) where
   -- ---- how a query begins
 
   abbrev BeginsSparsely : Query → Begin → Type 0
-  BeginsSparsely q (begin.Refused o) = Unit {0}
+  BeginsSparsely q (begin.Refused o) = RefusedSo q o
   BeginsSparsely q (begin.Repeat number) = Unit {0}
   BeginsSparsely q (begin.Search l) = SparseLocal l × (l.effective.hops ≤ hops_in q)
   BeginsSparsely q (begin.Path l) = ⊥
@@ -367,7 +378,8 @@ module _ (most : ℕ) where
 
   unless-sparse : (s : Store) (point : ℕ) (m : Marks) (q : Query) (bounds : Bounds) → IsSparse s → NoStart q
       → (cause : Cause) → refusal bounds m.count s q ≡ cause → BeginsSparsely q (begin_unless cause s point m q)
-  unless-sparse s point m q bounds h starts (Some f) e = tt
+  unless-sparse s point m q bounds h starts (Some f) e =
+      (bounds, s, m, record { cause = f; first = e; told = refl })
   unless-sparse s point m q bounds h starts None e =
       let read = taken_are_read bounds m.count s q e in
       along-sparse s point m q h starts read (path_link s.links (parts_of q).stated) (no-path s point m q h starts read)
@@ -397,7 +409,7 @@ module _ (most : ℕ) where
       let set = total-set w.calls c old ends is in
       let hand = unhanded-few k.handed in
       let least = sent-least (hops_in k.query) in
-      (record { traders = h.traders; calls = call-set w c ends h tt }, omega (arith, set, hand, least, room))
+      (record { traders = h.traders; calls = call-set w c ends h b }, omega (arith, set, hand, least, room))
   begun-lasts w c k old (begin.Repeat number) h is room b =
       let ends : Call = record k { stage = Ended (visit.Answered nothing 0); drawn = w.drawn } in
       let set = total-set w.calls c old ends is in

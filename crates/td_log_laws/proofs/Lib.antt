@@ -6,7 +6,9 @@ pub mod Lasting
 pub mod Made
 pub mod Plain
 pub mod Readings
+pub mod Refusing
 pub mod Shortness
+pub mod Weighing
 pub mod Whole
 pub mod Worked
 pub mod Writing

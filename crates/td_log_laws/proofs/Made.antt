@@ -97,7 +97,7 @@ later-before c d (x ∷ asked) le h =
 
 -- ---- lengths
 
-told-append : (xs ys : List (List ℕ)) → length (lines_told (xs ++ ys)) ≡ length (lines_told xs) + length (lines_told ys)
+pub told-append : (xs ys : List (List ℕ)) → length (lines_told (xs ++ ys)) ≡ length (lines_told xs) + length (lines_told ys)
 told-append [] ys = omega arith
 told-append (x ∷ xs) ys =
     let later = told-append xs ys in

@@ -21,7 +21,7 @@ next-is : (a b : Next) → ◌≡◌ {A = Option Next} (Some a) (Some b) → a �
 next-is a b e = cc
 
 -- what comes next is no Ask
-next-quiet : (c : ℕ) (o : Option CallState) (next : Next) → next_in c o ≡ Some next → Quiet next.event
+pub next-quiet : (c : ℕ) (o : Option CallState) (next : Next) → next_in c o ≡ Some next → Quiet next.event
 next-quiet c (Some state.Sent) next e =
     subst (λ (n : Next). Quiet n.event)
     (next-is (record { event = event.Deliver c; line = deliver_line c }) next e) tt
@@ -48,7 +48,7 @@ follow-short root (goes {w = w} {u = u} {x = x} {lines = lines} next unended at 
     let others = rest.1 in
     (rest.0, omega (arith, one, others))
 
-drill-starts : NoStart drill_query
+pub drill-starts : NoStart drill_query
 drill-starts s e = let same : nothing ≡ s = cc in subst (λ (x : Stated). x.start ≡ None) same refl
 
 asks-short : (home : Address) {w y : World} {k : ℕ} {names lines : List (List ℕ)} → AsksAll home w k names lines y

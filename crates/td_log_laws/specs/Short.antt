@@ -1,5 +1,5 @@
--- How many lines a log has that was made.
-use Rattle.std.specs.Prelude.{◌≡◌, ℕ, ◌*◌, ◌≤◌, List, length, None}
+-- How long a log is that was made.
+use Rattle.std.specs.Prelude.{◌≡◌, ℕ, ◌*◌, ◌^◌, ◌<◌, ◌≤◌, List, length, None}
 use Rattle.std.specs.List.{AllByRecursion}
 use Rattle.td_audit.specs.Making.{IsLog}
 use Rattle.td_register.specs.Stores.{Store}
@@ -31,3 +31,11 @@ MadeLogsAreShort =
     (traders : List PlainTrader) (home : Address) (log : List ℕ)
     → AllByRecursion SparseTrader traders
     → (is : IsLog traders home log) → length is.lines ≤ 128 * length traders
+
+-- The log of at most 64 such traders has fewer than 2^32 bytes: a reply fits in a message, and the other lines are few
+-- and short.
+abbrev pub MadeLogsAreSmall : Type 0
+MadeLogsAreSmall =
+    (traders : List PlainTrader) (home : Address) (log : List ℕ)
+    → AllByRecursion SparseTrader traders → length traders ≤ 64
+    → IsLog traders home log → length log < 2 ^ 32

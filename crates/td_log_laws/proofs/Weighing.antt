@@ -1,0 +1,298 @@
+-- A log that was made of sparse traders has few bytes.
+use Rattle.std.proofs.Common.{◌≡◌, ℕ, zero, suc, ◌+◌, ◌-◌, ◌*◌, ◌^◌, ◌<◌, ◌≤◌, ◌&&◌, nat_le, Bool, true, List, [], ◌∷◌}
+use Rattle.std.proofs.Common.{◌++◌, length, map, min, slice_get, Option, None, Some, codes, refl, sym, ap, subst, ◌∙◌}
+use Rattle.std.proofs.Common.{arith, length-append}
+use Rattle.std.proofs.lemmas.Bool.{leb-true}
+use Rattle.std.proofs.lemmas.Fmt.{length-decimal-le}
+use Rattle.std.proofs.lemmas.List.{length-map}
+use Rattle.std.specs.Fmt.{decimal}
+use Rattle.std.specs.List.{list_all}
+use Rattle.hex.proofs.HexLemmas.{length-encode_with}
+use Rattle.hex.specs.Hex.{encode_lower, lower_digits}
+use Rattle.td_audit.specs.Making.{Answers, AsksAll, Follows, Next, answer_line, ask_line, deliver_line, ended, form}
+use Rattle.td_audit.specs.Making.{goes, innermost, lines_told, more, next_in, no_value_line, none, passes, reply_line}
+use Rattle.td_audit.specs.Making.{request_to}
+use Rattle.td_audit.specs.Replies.{begun, spelled}
+use Rattle.td_audit_laws.proofs.Roots.{HasQuery, Keeps, asked-keeps, query-fixed, run-keeps}
+use Rattle.td_audit_laws.proofs.Walks.{ended-call}
+use Rattle.td_cdr.specs.Names.{is_trader_byte, trader_name}
+use Rattle.td_cdr.specs.declared.order.Order.TheVariants.{Big}
+use Rattle.td_drill.specs.Drills.{drill_query}
+use Rattle.td_giop.proofs.ByField.{request_is}
+use Rattle.td_giop.proofs.Lengths.{reply_start_length, request_length}
+use Rattle.td_giop.specs.Written.{reply_start, request_size, request_start}
+use Rattle.td_ior.proofs.Numbers.{and-left, and-right}
+use Rattle.td_ior.specs.Keys.{written_key}
+use Rattle.td_iter.specs.Batches.{IsBatch}
+use Rattle.td_iter.specs.Heads.{offers_found}
+use Rattle.td_log_laws.proofs.Following.{next-is, next-some, within}
+use Rattle.td_log_laws.proofs.Growing.{two-more}
+use Rattle.td_log_laws.proofs.Lasting.{EndedSo, SparseCall, SparseStage, SparseWorld, asked-lasts, event-lasts}
+use Rattle.td_log_laws.proofs.Made.{told-append}
+use Rattle.td_log_laws.proofs.Refusing.{refused-brief}
+use Rattle.td_log_laws.proofs.Shortness.{drill-starts, made-short, next-quiet}
+use Rattle.td_log_laws.proofs.Whole.{asked, sealed-length}
+use Rattle.td_log_laws.specs.Short.{MadeLogsAreSmall}
+use Rattle.td_lookup.specs.Choosing.{chosen}
+use Rattle.td_lookup.specs.Querying.{first_offers}
+use Rattle.td_net.specs.Schedules.{over, then}
+use Rattle.td_net.specs.Worlds.{World, state_at, visit_at}
+use Rattle.td_net.specs.declared.event.CallState.{CallState}
+use Rattle.td_net.specs.declared.event.CallState.TheVariants as state
+use Rattle.td_net.specs.declared.event.Event.TheVariants as event
+use Rattle.td_objects.specs.References.{offer_iterator}
+use Rattle.td_ops.specs.Calls.{call_piece}
+use Rattle.td_ops.specs.Outcomes.{outcome_piece}
+use Rattle.td_ops.specs.declared.call.Query.{Query}
+use Rattle.td_ops.specs.declared.outcome.Outcome.{Outcome}
+use Rattle.td_trader.specs.PlainTraders.{PlainTrader}
+use Rattle.td_turns_laws.proofs.Parts.{each-at}
+use Rattle.td_value.specs.declared.key.Kind.TheVariants.{Lookup}
+use Rattle.td_value.specs.declared.structures.Offer.{Offer}
+use Rattle.td_walk.specs.declared.trace.Address.{Address}
+use Rattle.td_walk.specs.declared.trace.Visit.{Visit}
+use Rattle.td_walk.specs.declared.trace.Visit.TheVariants as visit
+
+-- ---- numbers
+
+digits-few : (c : ℕ) → c < 2 ^ 64 → length (decimal c) ≤ 20
+digits-few c h = length-decimal-le 20 c (omega arith) (omega (arith, h)) h
+
+-- all numbers below n
+abbrev each_below : (ℕ → Bool) → ℕ → Bool
+each_below f zero = true
+each_below f (suc n) = f 0 && each_below (λ k. f (suc k)) n
+
+below-at : (f : ℕ → Bool) (n k : ℕ) → each_below f n ≡ true → k < n → f k ≡ true
+below-at f zero k e low = absurd (let no : ⊥ = omega (arith, low) in no)
+below-at f (suc n) zero e low = and-left (f 0) (each_below (λ k. f (suc k)) n) e
+below-at f (suc n) (suc k) e low =
+    below-at (λ m. f (suc m)) n k (and-right (f 0) (each_below (λ m. f (suc m)) n) e) (omega (arith, low))
+
+-- ---- the line of an event
+
+next-small : (c : ℕ) → c < 2 ^ 64 → (o : Option CallState) (next : Next) → next_in c o ≡ Some next
+    → length next.line ≤ 28
+next-small c h (Some state.Sent) next e =
+    subst (λ (n : Next). length n.line ≤ 28)
+    (next-is (record { event = event.Deliver c; line = deliver_line c }) next e)
+    (omega (arith, digits-few c h, length-append (codes "deliver ") (decimal c)))
+next-small c h (Some state.Evaluating) next e =
+    subst (λ (n : Next). length n.line ≤ 28)
+    (next-is (record { event = event.Value c None; line = no_value_line c }) next e)
+    (omega (
+      arith,
+      digits-few c h,
+      length-append (codes "value ") (decimal c),
+      length-append (codes "value " ++ decimal c) (codes " -"),
+    ))
+next-small c h (Some state.Ended) next e =
+    subst (λ (n : Next). length n.line ≤ 28)
+    (next-is (record { event = event.Answer c; line = answer_line c }) next e)
+    (omega (arith, digits-few c h, length-append (codes "answer ") (decimal c)))
+next-small c h (Some state.Running) next e = absurd cc
+next-small c h (Some (state.Waiting d)) next e = absurd cc
+next-small c h None next e = absurd cc
+
+-- ---- the line of an Ask
+
+-- behind the head of a Request to a name of so many bytes, the parameters end soon
+abbrev ends_soon : ℕ → Bool
+ends_soon n = nat_le (request_size (n + 2) 5 + length (call_piece asked Big (request_size (n + 2) 5))) 300
+
+soon : each_below ends_soon 33 ≡ true
+soon = refl
+
+name-few : (name : List ℕ) → trader_name name ≡ true → length name ≤ 32
+name-few name e =
+    let counts = and-left (nat_le 1 (length name) && nat_le (length name) 32) (list_all is_trader_byte name) e in
+    leb-true (length name) 32 (and-right (nat_le 1 (length name)) (nat_le (length name) 32) counts)
+
+module _ (name : List ℕ) (named : trader_name name ≡ true) where
+  abbrev key : List ℕ
+  key = written_key (record { trader = name; kind = Lookup })
+
+  abbrev head : List ℕ
+  head = request_start Big 0 1 true key (codes "query")
+
+  head-length : length head ≡ request_size (length name + 2) 5
+  head-length =
+      ap (length {A = ℕ}) (sym (request_is Big 0 1 true key (codes "query")))
+      ∙ request_length Big 0 1 true key (codes "query")
+      ∙ ap (λ (n : ℕ). request_size n 5) (length-append name (47 ∷ 76 ∷ []))
+
+  request-small : length (request_to name) ≤ 300
+  request-small =
+      let few = name-few name named in
+      let place = request_size (length name + 2) 5 in
+      let fits = leb-true (place + length (call_piece asked Big place)) 300
+      (below-at ends_soon 33 (length name) soon (omega (arith, few))) in
+      let parameters : length (call_piece asked Big (length head)) ≡ length (call_piece asked Big place) =
+      ap (λ (p : ℕ). length (call_piece asked Big p)) head-length in
+      let both = length-append head (call_piece asked Big (length head)) in
+      omega (
+        arith,
+        fits,
+        head-length,
+        parameters,
+        both,
+        sealed-length Big (head ++ call_piece asked Big (length head)) (omega (arith, head-length, both)),
+      )
+
+  pub ask-small : length (ask_line name) ≤ 637
+  ask-small =
+      let few = name-few name named in
+      let hex = length-encode_with lower_digits (request_to name) in
+      omega (
+        arith,
+        few,
+        hex,
+        request-small,
+        length-append (codes "ask ") name,
+        length-append (codes "ask " ++ name) (codes " "),
+        length-append (codes "ask " ++ name ++ codes " ") (encode_lower (request_to name)),
+      )
+
+-- ---- the line of a reply
+
+-- a batch fits in a message
+answer-small : (home : Address) (name : List ℕ) (limits : List (List ℕ)) (offers : List Offer) (n count : ℕ)
+    → IsBatch (offers_found (offer_iterator home name 1) limits) offers (begun form) n count
+    → length (spelled form (first_offers home name 1 limits offers count)) ≤ 16777228
+answer-small home name limits offers n count batch =
+    let start = reply_start Big 0 1 0 in
+    let body = outcome_piece (first_offers home name 1 limits offers count) Big (length start) in
+    let fits : length start + length body ≤ 16777228 = batch.holds in
+    let front = reply_start_length Big 0 1 0 in
+    let both = length-append start body in
+    let whole = sealed-length Big (start ++ body) (omega (arith, front, both)) in
+    omega (arith, fits, both, whole)
+
+visit-small : (home : Address) (name : List ℕ) (q : Query) (v : Visit) (o : Outcome) → q ≡ drill_query → EndedSo q v
+    → Answers home name v o → length (spelled form o) ≤ 16777228
+visit-small home name q (visit.Refused r) o e so is =
+    subst (λ (x : Outcome). length (spelled form x) ≤ 16777228) (sym is)
+    (let brief = refused-brief q r e so in omega (arith, brief))
+visit-small home name q (visit.Answered a max_list) o e so is =
+    subst (λ (x : Outcome). length (spelled form x) ≤ 16777228) (sym is.2)
+    (answer-small home name a.limits (map (chosen drill_query.desired) a.offers) (min drill_query.how_many max_list)
+    is.0 is.1)
+
+reply-small : (c : ℕ) (o : Outcome) → c < 2 ^ 64 → length (spelled form o) ≤ 16777228
+    → length (reply_line c o) ≤ 33554483
+reply-small c o h few =
+    let hex = length-encode_with lower_digits (spelled form o) in
+    omega (
+      arith,
+      few,
+      hex,
+      digits-few c h,
+      length-append (codes "reply ") (decimal c),
+      length-append (codes "reply " ++ decimal c) (codes " "),
+      length-append (codes "reply " ++ decimal c ++ codes " ") (encode_lower (spelled form o)),
+    )
+
+-- ---- the lines between
+
+-- what holds behind so many lines
+record Holds (root : ℕ) (w : World) (n : ℕ) : Type 0 where
+  sparse : SparseWorld w
+  few : length w.calls ≤ 2 * n
+  kept : Keeps (HasQuery drill_query) root w.calls
+
+record Light (root : ℕ) (x : World) (n : ℕ) (lines : List (List ℕ)) (v : Visit) : Type 0 where
+  holds : Holds root x n
+  ends : visit_at x.calls root ≡ Some v
+  bytes : length (lines_told lines) ≤ 29 * length lines
+
+follow-light : (root : ℕ) {w x : World} {lines : List (List ℕ)} {v : Visit} → Follows root w lines v x → (n : ℕ)
+    → Holds root w n → n + length lines < 2 ^ 62 → Light root x (n + length lines) lines v
+follow-light root (ended {w = w} e) n h low = record {
+  holds = subst (Holds root w) (let same : n ≡ n + 0 = omega arith in same) h;
+  ends = e;
+  bytes = omega arith;
+}
+follow-light root (goes {w = w} {u = u} {x = x} {lines = lines} next open_yet at accepts later) n h low =
+    let c = innermost (length w.calls) w.calls root in
+    let there = next-some c (state_at w.calls c) next at in
+    let inside = within w.calls c there.0 there.1 in
+    let few = h.few in
+    let grows = two-more w u next.event accepts.becomes in
+    let left = event-lasts w u next.event (next-quiet c (state_at w.calls c) next at) h.sparse accepts.accepted
+    accepts.becomes in
+    let line = next-small c (omega (arith, inside, few, low)) (state_at w.calls c) next at in
+    let rest =
+    follow-light root later (n + 1)
+    (record {
+      sparse = left.0;
+      few = omega (arith, few, grows);
+      kept = run-keeps (HasQuery drill_query) (query-fixed drill_query) root w u (next.event ∷ []) h.kept
+          (then accepts.becomes over);
+    }) (omega (arith, low)) in
+    let others = rest.bytes in
+    let count : n + 1 + length lines ≡ n + length (next.line ∷ lines) = omega arith in
+    record {
+      holds = subst (Holds root x) count rest.holds;
+      ends = rest.ends;
+      bytes = omega (arith, line, others, length-append next.line (10 ∷ lines_told lines));
+    }
+
+-- ---- the reply behind them
+
+outcome-small : (home : Address) (name : List ℕ) (x : World) (c n : ℕ) (v : Visit) (o : Outcome) → Holds c x n
+    → visit_at x.calls c ≡ Some v → Answers home name v o → length (spelled form o) ≤ 16777228
+outcome-small home name x c n v o h ends answers =
+    let call = ended-call x.calls c v (slice_get x.calls c) refl ends in
+    let sparse : SparseStage call.call.query call.call.stage =
+    each-at SparseCall x.calls c call.call h.sparse.calls call.is in
+    let so : EndedSo call.call.query v = subst (SparseStage call.call.query) call.stage sparse in
+    visit-small home name call.call.query v o (h.kept.holds call.call call.is) so answers
+
+-- ---- all lines
+
+asks-light : (home : Address) {w y : World} {k : ℕ} {names lines : List (List ℕ)} → AsksAll home w k names lines y
+    → (n : ℕ) → SparseWorld w → length w.calls ≤ 2 * n → n + length lines < 2 ^ 62
+    → length (lines_told lines) ≤ 29 * length lines + 33555120 * length names
+asks-light home none n h few low = omega arith
+asks-light home (passes unnamed later) n h few low =
+    let rest = asks-light home later n h few low in omega (arith, rest)
+asks-light home (more {w = w} {u = u} {x = x} {n = k} {name = name} {names = names} {lines = lines} {others = others}
+    {v = v} o named request accepts follows answers octets later) n h few low =
+    let c = length w.calls in
+    let reply = reply_line c o in
+    let asked_one = asked-lasts w u k drill_query h drill-starts accepts.accepted accepts.becomes in
+    let grows = two-more w u (event.Ask k drill_query) accepts.becomes in
+    let lines-in = length-append lines (reply ∷ others) in
+    let followed =
+    follow-light c follows (n + 1)
+    (record {
+      sparse = asked_one.0;
+      few = omega (arith, few, grows);
+      kept = asked-keeps (HasQuery drill_query) (query-fixed drill_query) w u k drill_query refl accepts.accepted
+          accepts.becomes;
+    }) (omega (arith, low, lines-in)) in
+    let calls = followed.holds.few in
+    let rest =
+    asks-light home later (n + 1 + length lines + 1) followed.holds.sparse (omega (arith, calls))
+    (omega (arith, low, lines-in)) in
+    let ask-bytes = ask-small name named in
+    let between = followed.bytes in
+    let reply-bytes =
+    reply-small c o (omega (arith, few, low))
+    (outcome-small home name x c (n + 1 + length lines) v o followed.holds followed.ends answers) in
+    let front : length (lines_told (ask_line name ∷ lines ++ reply ∷ others))
+    ≡ length (ask_line name) + suc (length (lines_told (lines ++ reply ∷ others))) =
+    length-append (ask_line name) (10 ∷ lines_told (lines ++ reply ∷ others)) in
+    let middle = told-append lines (reply ∷ others) in
+    let behind : length (lines_told (reply ∷ others)) ≡ length reply + suc (length (lines_told others)) =
+    length-append reply (10 ∷ lines_told others) in
+    omega (arith, front, middle, behind, ask-bytes, between, reply-bytes, rest, lines-in)
+
+pub made-small : MadeLogsAreSmall
+made-small traders home log sparse most is =
+    let all : length log ≡ length (lines_told is.lines) = ap (length {A = ℕ}) is.told in
+    let short = made-short traders home log sparse is in
+    let each = length-map traders (λ (t : PlainTrader). t.name) in
+    let bytes = asks-light home is.asked 0 (record { traders = sparse; calls = tt }) (omega arith)
+    (omega (arith, short, most)) in
+    omega (arith, all, short, most, each, bytes)
