@@ -1,6 +1,13 @@
 -- What a file of octets opens: traders of distinct names whose values can be written, at an address.
-use Rattle.std.proofs.Common.{◌≡◌, ℕ, ◌≤◌, List, length, Option, Some, None, IfSome, Result, Ok, Err, refl, subst}
+use Rattle.std.proofs.Common.{◌≡◌, ◌⊎◌, ℕ, ◌^◌, ◌<◌, ◌≤◌, List, length, Option, Some, None, IfSome, Result, Ok, Err}
+use Rattle.std.proofs.Common.{refl, subst}
+use Rattle.td_audit.specs.Auditing.{AuditsOrWants}
+use Rattle.td_audit.specs.Making.{IsLog}
+use Rattle.td_audit.specs.declared.verdict.Verdict.{Verdict}
+use Rattle.td_audit.specs.declared.verdict.Verdict.TheVariants.{Yes, Memory}
+use Rattle.td_audit_laws.specs.Laws.{VerdictsAreOne}
 use Rattle.td_audit_run_laws.specs.Rings.{FilesLogsPass}
+use Rattle.td_cdr.specs.Lawful.{AreOctets}
 use Rattle.td_cdr.specs.Reading.{◌>>=◌}
 use Rattle.td_cdr.specs.Text.{HasNoNul}
 use Rattle.td_file.proofs.Rows.{apart}
@@ -13,7 +20,9 @@ use Rattle.td_lines.specs.Scripts.{script_of}
 use Rattle.td_lines.specs.declared.entry.Home.{Home}
 use Rattle.td_lines.specs.declared.entry.Refused.{Refused}
 use Rattle.td_lines.specs.declared.entry.Script.{Script}
-use Rattle.td_log_laws.proofs.Made.{made-pass}
+use Rattle.td_log.specs.Words.{lines_of}
+use Rattle.td_log_laws.proofs.Made.{made-pass, made-right}
+use Rattle.td_log_laws.specs.Made.{AreOpened}
 use Rattle.td_objects.specs.References.{IsAddress}
 use Rattle.td_trader.specs.PlainTraders.{PlainTrader}
 use Rattle.td_trader.specs.Solos.{AreDistinct}
@@ -56,8 +65,17 @@ placed text o e =
     let h : IsSound s = sound text in
     with-home s s.home o h.distinct (sound-home s.home h.host h.short h.minor) e
 
+files-opened : (text : List ℕ) (o : Opening) → AreOctets text → opening_of text ≡ Ok o → AreOpened o.traders
+files-opened text o octets opens =
+    record { distinct = (placed text o opens).0; writable = files-open-writable text o octets opens }
+
 pub files-pass : FilesLogsPass
 files-pass text log o octets opens is short =
-    let at = placed text o opens in
-    made-pass o.traders o.home log
-    (record { distinct = at.0; writable = files-open-writable text o octets opens }) at.1 is short
+    made-pass o.traders o.home log (files-opened text o octets opens) (placed text o opens).1 is short
+
+-- the verdict on it
+pub files-right : VerdictsAreOne → (text log : List ℕ) (o : Opening) (v : Verdict) → AreOctets text
+    → opening_of text ≡ Ok o → IsLog o.traders o.home log → length log < 2 ^ 32
+    → AuditsOrWants o.traders o.home log v → (v ≡ Yes (length (lines_of log))) ⊎ (v ≡ Memory)
+files-right one text log o v octets opens is short audit =
+    made-right one o.traders o.home log v (files-opened text o octets opens) (placed text o opens).1 is short audit

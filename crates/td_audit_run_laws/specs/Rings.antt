@@ -1,8 +1,9 @@
 -- What an audit says of a log that was made.
-use Rattle.std.specs.Prelude.{◌≡◌, ℕ, ◌*◌, ◌^◌, ◌<◌, ◌≤◌, List, [], ◌∷◌, codes, length, Option, Some, Ok}
-use Rattle.td_audit.specs.Auditing.{Audits}
+use Rattle.std.specs.Prelude.{◌≡◌, ◌⊎◌, ℕ, ◌*◌, ◌^◌, ◌<◌, ◌≤◌, List, [], ◌∷◌, codes, length, Option, Some, Ok}
+use Rattle.td_audit.specs.Auditing.{Audits, AuditsOrWants}
 use Rattle.td_audit.specs.Making.{IsLog}
-use Rattle.td_audit.specs.declared.verdict.Verdict.TheVariants.{Yes}
+use Rattle.td_audit.specs.declared.verdict.Verdict.{Verdict}
+use Rattle.td_audit.specs.declared.verdict.Verdict.TheVariants.{Yes, Memory as Wanted}
 use Rattle.td_audit_run.specs.Audits.{Runs, yes_line}
 use Rattle.td_audit_run.specs.Printing.{Cut, Whole}
 use Rattle.td_audit_run.specs.Status.{status_of}
@@ -70,3 +71,17 @@ abbrev pub RingLogsAreShort : Type 0
 RingLogsAreShort =
     (count : ℕ) (o : Opening) (log : List ℕ) → 1 ≤ count → count ≤ 64 → opening_of (generated count)
     ≡ Ok o → (is : IsLog o.traders o.home log) → length is.lines ≤ 128 * count
+
+-- fewer than 2^32 bytes
+abbrev pub RingLogsAreSmall : Type 0
+RingLogsAreSmall =
+    (count : ℕ) (o : Opening) (log : List ℕ) → 1 ≤ count → count ≤ 64 → opening_of (generated count)
+    ≡ Ok o → IsLog o.traders o.home log → length log < 2 ^ 32
+
+-- So the verdict on it is that each line passes, or memory is wanted.
+abbrev pub RingLogsAreRight : Type 0
+RingLogsAreRight =
+    (count : ℕ) (o : Opening) (log : List ℕ) (v : Verdict) → 1 ≤ count → count ≤ 64
+    → opening_of (generated count) ≡ Ok o → IsLog o.traders o.home log
+    → AuditsOrWants o.traders o.home log v
+    → (v ≡ Yes (length (lines_of log))) ⊎ (v ≡ Wanted)

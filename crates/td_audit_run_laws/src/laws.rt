@@ -1,6 +1,7 @@
 //! What the commands on logs make of what each other prints.
 
-ghost use Rattle.td_audit_run_laws.specs.Rings.{FilesLogsPass, RingLogsAreShort, RingLogsPass};
+ghost use Rattle.td_audit_run_laws.specs.Rings.{FilesLogsPass, RingLogsAreRight, RingLogsAreShort, RingLogsAreSmall};
+ghost use Rattle.td_audit_run_laws.specs.Rings.{RingLogsPass};
 
 use td_audit_laws::verdicts_are_one;
 
@@ -15,10 +16,14 @@ pub fn made_logs_are_audited()
     td_make_file_laws::generated_files_open();
 }
 
-/// The log of a ring of 1 to 64 traders has 128 lines at most for each of them.
+/// The log of a ring of 1 to 64 traders has 128 lines at most for each of them, and fewer than 2^32 bytes. So the
+/// verdict on it is that each line passes, or memory is wanted.
 pub fn ring_logs_are_short()
-    ensures { RingLogsAreShort }
+    ensures lines { RingLogsAreShort }
+    ensures bytes { RingLogsAreSmall }
+    ensures right { RingLogsAreRight }
 {
+    verdicts_are_one();
     td_make_laws::generated_files_are_read();
     td_make_file_laws::generated_files_open();
 }
