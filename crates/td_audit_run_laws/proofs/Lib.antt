@@ -3,3 +3,4 @@ pub mod Filed
 pub mod Generating
 pub mod Ringing
 pub mod Sparse
+pub mod Worked

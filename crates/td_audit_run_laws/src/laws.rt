@@ -1,5 +1,6 @@
 //! What the commands on logs make of what each other prints.
 
+ghost use Rattle.td_audit_run_laws.specs.Examples.{WorkedCommands};
 ghost use Rattle.td_audit_run_laws.specs.Rings.{FilesLogsPass, RingLogsAreRight, RingLogsAreShort, RingLogsAreSmall};
 ghost use Rattle.td_audit_run_laws.specs.Rings.{RingLogsPass};
 
@@ -27,3 +28,8 @@ pub fn ring_logs_are_short()
     td_make_laws::generated_files_are_read();
     td_make_file_laws::generated_files_open();
 }
+
+/// Worked examples: which words are a command on logs, what it prints, and how it ends; an empty log passes.
+pub fn worked_commands()
+    ensures { WorkedCommands }
+{}

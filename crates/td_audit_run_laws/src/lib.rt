@@ -4,4 +4,4 @@
 
 mod laws;
 
-pub use laws::{made_logs_are_audited, ring_logs_are_short};
+pub use laws::{made_logs_are_audited, ring_logs_are_short, worked_commands};

@@ -2,3 +2,4 @@ mod Accepting
 mod AcceptingTypes
 mod Opening
 pub mod WritableOpening
+mod Worked

@@ -3,4 +3,4 @@
 
 mod laws;
 
-pub use laws::{files_open_reached_traders, files_open_writable_traders};
+pub use laws::{files_open_reached_traders, files_open_writable_traders, worked_telling};
