@@ -71,7 +71,7 @@ module _ (limits : List (List ℕ)) (offers : List Offer) (draft : Draft) (n cou
 
 -- ---- the reference
 
-reference-small : (home : Address) (name : List ℕ) → IsAddress home → IsTraderName name → (more : Bool)
+pub reference-small : (home : Address) (name : List ℕ) → IsAddress home → IsTraderName name → (more : Bool)
     → IsSmallReference (given_or_nil (offer_iterator home name 1) more)
 reference-small home name a t true = offers_small home name 1 a t (omega arith)
 reference-small home name a t false = nil-small

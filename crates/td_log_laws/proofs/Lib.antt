@@ -1,11 +1,15 @@
+pub mod Carrying
 pub mod Cutting
+pub mod Fitting
 pub mod Following
 pub mod Given
 pub mod Growing
+pub mod Keeping
 pub mod Lasting
 pub mod Made
 pub mod Plain
 pub mod Readings
+pub mod Referring
 pub mod Refusing
 pub mod Shortness
 pub mod Weighing

@@ -6,16 +6,16 @@ use Rattle.std.proofs.lemmas.Bool.{leb-true}
 use Rattle.std.proofs.lemmas.Fmt.{length-decimal-le}
 use Rattle.std.proofs.lemmas.List.{length-map}
 use Rattle.std.specs.Fmt.{decimal}
-use Rattle.std.specs.List.{list_all}
+use Rattle.std.specs.List.{AllByRecursion, list_all}
 use Rattle.hex.proofs.HexLemmas.{length-encode_with}
 use Rattle.hex.specs.Hex.{encode_lower, lower_digits}
-use Rattle.td_audit.specs.Making.{Answers, AsksAll, Follows, Next, answer_line, ask_line, deliver_line, ended, form}
-use Rattle.td_audit.specs.Making.{goes, innermost, lines_told, more, next_in, no_value_line, none, passes, reply_line}
-use Rattle.td_audit.specs.Making.{request_to}
+use Rattle.td_audit.specs.Making.{Answers, AsksAll, Follows, IsLog, Next, answer_line, ask_line, deliver_line, ended}
+use Rattle.td_audit.specs.Making.{form, goes, innermost, lines_told, more, next_in, no_value_line, none, passes}
+use Rattle.td_audit.specs.Making.{reply_line, request_to}
 use Rattle.td_audit.specs.Replies.{begun, spelled}
 use Rattle.td_audit_laws.proofs.Roots.{HasQuery, Keeps, asked-keeps, query-fixed, run-keeps}
 use Rattle.td_audit_laws.proofs.Walks.{ended-call}
-use Rattle.td_cdr.specs.Names.{is_trader_byte, trader_name}
+use Rattle.td_cdr.specs.Names.{IsTraderName, is_trader_byte, trader_name}
 use Rattle.td_cdr.specs.declared.order.Order.TheVariants.{Big}
 use Rattle.td_drill.specs.Drills.{drill_query}
 use Rattle.td_giop.proofs.ByField.{request_is}
@@ -24,7 +24,10 @@ use Rattle.td_giop.specs.Written.{reply_start, request_size, request_start}
 use Rattle.td_ior.proofs.Numbers.{and-left, and-right}
 use Rattle.td_ior.specs.Keys.{written_key}
 use Rattle.td_iter.specs.Batches.{IsBatch}
-use Rattle.td_iter.specs.Heads.{offers_found}
+use Rattle.td_iter.specs.Heads.{IsSmallReference, offers_found}
+use Rattle.td_log_laws.proofs.Carrying.{EndedRefers, IsMade, OffersRefer, keeps-referring, quiet-made, referring}
+use Rattle.td_log_laws.proofs.Fitting.{visit-fits}
+use Rattle.td_log_laws.proofs.Keeping.{CallHas, StageHas, WorldHas, event-keeps}
 use Rattle.td_log_laws.proofs.Following.{next-is, next-some, within}
 use Rattle.td_log_laws.proofs.Growing.{two-more}
 use Rattle.td_log_laws.proofs.Lasting.{EndedSo, SparseCall, SparseStage, SparseWorld, asked-lasts, event-lasts}
@@ -32,11 +35,14 @@ use Rattle.td_log_laws.proofs.Made.{told-append}
 use Rattle.td_log_laws.proofs.Refusing.{refused-brief}
 use Rattle.td_log_laws.proofs.Shortness.{drill-starts, made-short, next-quiet}
 use Rattle.td_log_laws.proofs.Whole.{asked, sealed-length}
-use Rattle.td_log_laws.specs.Short.{MadeLogsAreSmall}
+use Rattle.td_log_laws.specs.Short.{MadeLogsAreSmall, MadeLogsFit, SparseTrader}
 use Rattle.td_lookup.specs.Choosing.{chosen}
 use Rattle.td_lookup.specs.Querying.{first_offers}
 use Rattle.td_net.specs.Schedules.{over, then}
-use Rattle.td_net.specs.Worlds.{World, state_at, visit_at}
+use Rattle.td_net.specs.Worlds.{World, Becomes, state_at, step_of, visit_at}
+use Rattle.td_net.specs.declared.event.Event.{Event}
+use Rattle.td_codes.specs.declared.reference.Ior.{Ior}
+use Rattle.td_store.specs.declared.record.OfferRecord.{OfferRecord}
 use Rattle.td_net.specs.declared.event.CallState.{CallState}
 use Rattle.td_net.specs.declared.event.CallState.TheVariants as state
 use Rattle.td_net.specs.declared.event.Event.TheVariants as event
@@ -45,7 +51,7 @@ use Rattle.td_ops.specs.Calls.{call_piece}
 use Rattle.td_ops.specs.Outcomes.{outcome_piece}
 use Rattle.td_ops.specs.declared.call.Query.{Query}
 use Rattle.td_ops.specs.declared.outcome.Outcome.{Outcome}
-use Rattle.td_trader.specs.PlainTraders.{PlainTrader}
+use Rattle.td_trader.specs.PlainTraders.{PlainTrader, store_of}
 use Rattle.td_turns_laws.proofs.Parts.{each-at}
 use Rattle.td_value.specs.declared.key.Kind.TheVariants.{Lookup}
 use Rattle.td_value.specs.declared.structures.Offer.{Offer}
@@ -178,9 +184,9 @@ visit-small home name q (visit.Answered a max_list) o e so is =
     (answer-small home name a.limits (map (chosen drill_query.desired) a.offers) (min drill_query.how_many max_list)
     is.0 is.1)
 
-reply-small : (c : ℕ) (o : Outcome) → c < 2 ^ 64 → length (spelled form o) ≤ 16777228
-    → length (reply_line c o) ≤ 33554483
-reply-small c o h few =
+reply-small : (most c : ℕ) (o : Outcome) → c < 2 ^ 64 → length (spelled form o) ≤ most
+    → length (reply_line c o) ≤ 2 * most + 27
+reply-small most c o h few =
     let hex = length-encode_with lower_digits (spelled form o) in
     omega (
       arith,
@@ -192,107 +198,173 @@ reply-small c o h few =
       length-append (codes "reply " ++ decimal c ++ codes " ") (encode_lower (spelled form o)),
     )
 
--- ---- the lines between
+-- ---- a log, where each reply to the query has so many bytes at most
 
--- what holds behind so many lines
-record Holds (root : ℕ) (w : World) (n : ℕ) : Type 0 where
-  sparse : SparseWorld w
-  few : length w.calls ≤ 2 * n
-  kept : Keeps (HasQuery drill_query) root w.calls
+-- the same for each of so many
+abbrev share : (each : ℕ) → ℕ → ℕ
+share each zero = 0
+share each (suc n) = each + share each n
 
-record Light (root : ℕ) (x : World) (n : ℕ) (lines : List (List ℕ)) (v : Visit) : Type 0 where
-  holds : Holds root x n
-  ends : visit_at x.calls root ≡ Some v
-  bytes : length (lines_told lines) ≤ 29 * length lines
+module _ (home : Address) (P : Ior → Type 0) (most : ℕ)
+    (replies : (name : List ℕ) (q : Query) (v : Visit) (o : Outcome) → IsTraderName name → q ≡ drill_query
+    → EndedSo q v → EndedRefers P q v → Answers home name v o → length (spelled form o) ≤ most) where
+  keeps : (w u : World) (e : Event) → WorldHas (referring P) w → IsMade e → Becomes w (step_of w e) u
+      → WorldHas (referring P) u
+  keeps w u e h made b = event-keeps (referring P) IsMade (keeps-referring P) w u e h made b
 
-follow-light : (root : ℕ) {w x : World} {lines : List (List ℕ)} {v : Visit} → Follows root w lines v x → (n : ℕ)
-    → Holds root w n → n + length lines < 2 ^ 62 → Light root x (n + length lines) lines v
-follow-light root (ended {w = w} e) n h low = record {
-  holds = subst (Holds root w) (let same : n ≡ n + 0 = omega arith in same) h;
-  ends = e;
-  bytes = omega arith;
-}
-follow-light root (goes {w = w} {u = u} {x = x} {lines = lines} next open_yet at accepts later) n h low =
-    let c = innermost (length w.calls) w.calls root in
-    let there = next-some c (state_at w.calls c) next at in
-    let inside = within w.calls c there.0 there.1 in
-    let few = h.few in
-    let grows = two-more w u next.event accepts.becomes in
-    let left = event-lasts w u next.event (next-quiet c (state_at w.calls c) next at) h.sparse accepts.accepted
-    accepts.becomes in
-    let line = next-small c (omega (arith, inside, few, low)) (state_at w.calls c) next at in
-    let rest =
-    follow-light root later (n + 1)
-    (record {
-      sparse = left.0;
-      few = omega (arith, few, grows);
-      kept = run-keeps (HasQuery drill_query) (query-fixed drill_query) root w u (next.event ∷ []) h.kept
-          (then accepts.becomes over);
-    }) (omega (arith, low)) in
-    let others = rest.bytes in
-    let count : n + 1 + length lines ≡ n + length (next.line ∷ lines) = omega arith in
-    record {
-      holds = subst (Holds root x) count rest.holds;
-      ends = rest.ends;
-      bytes = omega (arith, line, others, length-append next.line (10 ∷ lines_told lines));
-    }
+  -- ---- the lines between
 
--- ---- the reply behind them
+  -- what holds behind so many lines
+  record Holds (root : ℕ) (w : World) (n : ℕ) : Type 0 where
+    sparse : SparseWorld w
+    refers : WorldHas (referring P) w
+    few : length w.calls ≤ 2 * n
+    kept : Keeps (HasQuery drill_query) root w.calls
 
-outcome-small : (home : Address) (name : List ℕ) (x : World) (c n : ℕ) (v : Visit) (o : Outcome) → Holds c x n
-    → visit_at x.calls c ≡ Some v → Answers home name v o → length (spelled form o) ≤ 16777228
-outcome-small home name x c n v o h ends answers =
-    let call = ended-call x.calls c v (slice_get x.calls c) refl ends in
-    let sparse : SparseStage call.call.query call.call.stage =
-    each-at SparseCall x.calls c call.call h.sparse.calls call.is in
-    let so : EndedSo call.call.query v = subst (SparseStage call.call.query) call.stage sparse in
-    visit-small home name call.call.query v o (h.kept.holds call.call call.is) so answers
+  record Light (root : ℕ) (x : World) (n : ℕ) (lines : List (List ℕ)) (v : Visit) : Type 0 where
+    holds : Holds root x n
+    ends : visit_at x.calls root ≡ Some v
+    bytes : length (lines_told lines) ≤ 29 * length lines
 
--- ---- all lines
+  follow-light : (root : ℕ) {w x : World} {lines : List (List ℕ)} {v : Visit} → Follows root w lines v x → (n : ℕ)
+      → Holds root w n → n + length lines < 2 ^ 62 → Light root x (n + length lines) lines v
+  follow-light root (ended {w = w} e) n h low = record {
+    holds = subst (Holds root w) (let same : n ≡ n + 0 = omega arith in same) h;
+    ends = e;
+    bytes = omega arith;
+  }
+  follow-light root (goes {w = w} {u = u} {x = x} {lines = lines} next open_yet at accepts later) n h low =
+      let c = innermost (length w.calls) w.calls root in
+      let there = next-some c (state_at w.calls c) next at in
+      let inside = within w.calls c there.0 there.1 in
+      let few = h.few in
+      let grows = two-more w u next.event accepts.becomes in
+      let quiet = next-quiet c (state_at w.calls c) next at in
+      let left = event-lasts w u next.event quiet h.sparse accepts.accepted accepts.becomes in
+      let line = next-small c (omega (arith, inside, few, low)) (state_at w.calls c) next at in
+      let rest =
+      follow-light root later (n + 1)
+      (record {
+        sparse = left.0;
+        refers = keeps w u next.event h.refers (quiet-made next.event quiet) accepts.becomes;
+        few = omega (arith, few, grows);
+        kept = run-keeps (HasQuery drill_query) (query-fixed drill_query) root w u (next.event ∷ []) h.kept
+            (then accepts.becomes over);
+      }) (omega (arith, low)) in
+      let others = rest.bytes in
+      let count : n + 1 + length lines ≡ n + length (next.line ∷ lines) = omega arith in
+      record {
+        holds = subst (Holds root x) count rest.holds;
+        ends = rest.ends;
+        bytes = omega (arith, line, others, length-append next.line (10 ∷ lines_told lines));
+      }
 
-asks-light : (home : Address) {w y : World} {k : ℕ} {names lines : List (List ℕ)} → AsksAll home w k names lines y
-    → (n : ℕ) → SparseWorld w → length w.calls ≤ 2 * n → n + length lines < 2 ^ 62
-    → length (lines_told lines) ≤ 29 * length lines + 33555120 * length names
-asks-light home none n h few low = omega arith
-asks-light home (passes unnamed later) n h few low =
-    let rest = asks-light home later n h few low in omega (arith, rest)
-asks-light home (more {w = w} {u = u} {x = x} {n = k} {name = name} {names = names} {lines = lines} {others = others}
-    {v = v} o named request accepts follows answers octets later) n h few low =
-    let c = length w.calls in
-    let reply = reply_line c o in
-    let asked_one = asked-lasts w u k drill_query h drill-starts accepts.accepted accepts.becomes in
-    let grows = two-more w u (event.Ask k drill_query) accepts.becomes in
-    let lines-in = length-append lines (reply ∷ others) in
-    let followed =
-    follow-light c follows (n + 1)
-    (record {
-      sparse = asked_one.0;
-      few = omega (arith, few, grows);
-      kept = asked-keeps (HasQuery drill_query) (query-fixed drill_query) w u k drill_query refl accepts.accepted
-          accepts.becomes;
-    }) (omega (arith, low, lines-in)) in
-    let calls = followed.holds.few in
-    let rest =
-    asks-light home later (n + 1 + length lines + 1) followed.holds.sparse (omega (arith, calls))
-    (omega (arith, low, lines-in)) in
-    let ask-bytes = ask-small name named in
-    let between = followed.bytes in
-    let reply-bytes =
-    reply-small c o (omega (arith, few, low))
-    (outcome-small home name x c (n + 1 + length lines) v o followed.holds followed.ends answers) in
-    let front : length (lines_told (ask_line name ∷ lines ++ reply ∷ others))
-    ≡ length (ask_line name) + suc (length (lines_told (lines ++ reply ∷ others))) =
-    length-append (ask_line name) (10 ∷ lines_told (lines ++ reply ∷ others)) in
-    let middle = told-append lines (reply ∷ others) in
-    let behind : length (lines_told (reply ∷ others)) ≡ length reply + suc (length (lines_told others)) =
-    length-append reply (10 ∷ lines_told others) in
-    omega (arith, front, middle, behind, ask-bytes, between, reply-bytes, rest, lines-in)
+  -- ---- the reply behind them
+
+  outcome-small : (name : List ℕ) (x : World) (c n : ℕ) (v : Visit) (o : Outcome) → IsTraderName name → Holds c x n
+      → visit_at x.calls c ≡ Some v → Answers home name v o → length (spelled form o) ≤ most
+  outcome-small name x c n v o named h ends answers =
+      let call = ended-call x.calls c v (slice_get x.calls c) refl ends in
+      let sparse : SparseStage call.call.query call.call.stage =
+      each-at SparseCall x.calls c call.call h.sparse.calls call.is in
+      let so : EndedSo call.call.query v = subst (SparseStage call.call.query) call.stage sparse in
+      let stage : StageHas (referring P) call.call.query call.call.stage =
+      each-at (CallHas (referring P)) x.calls c call.call h.refers.calls call.is in
+      let refers : EndedRefers P call.call.query v =
+      subst (StageHas (referring P) call.call.query) call.stage stage in
+      replies name call.call.query v o named (h.kept.holds call.call call.is) so refers answers
+
+  -- ---- all lines
+
+  asks-light : {w y : World} {k : ℕ} {names lines : List (List ℕ)} → AsksAll home w k names lines y → (n : ℕ)
+      → SparseWorld w → WorldHas (referring P) w → length w.calls ≤ 2 * n → n + length lines < 2 ^ 62
+      → length (lines_told lines) ≤ 29 * length lines + share (2 * most + 664) (length names)
+  asks-light none n h refers few low = omega arith
+  asks-light (passes unnamed later) n h refers few low =
+      let rest = asks-light later n h refers few low in omega (arith, rest)
+  asks-light (more {w = w} {u = u} {x = x} {n = k} {name = name} {names = names} {lines = lines} {others = others}
+      {v = v} o named request accepts follows answers octets later) n h refers few low =
+      let c = length w.calls in
+      let reply = reply_line c o in
+      let asked_one = asked-lasts w u k drill_query h drill-starts accepts.accepted accepts.becomes in
+      let grows = two-more w u (event.Ask k drill_query) accepts.becomes in
+      let lines-in = length-append lines (reply ∷ others) in
+      let followed =
+      follow-light c follows (n + 1)
+      (record {
+        sparse = asked_one.0;
+        refers = keeps w u (event.Ask k drill_query) refers tt accepts.becomes;
+        few = omega (arith, few, grows);
+        kept = asked-keeps (HasQuery drill_query) (query-fixed drill_query) w u k drill_query refl accepts.accepted
+            accepts.becomes;
+      }) (omega (arith, low, lines-in)) in
+      let calls = followed.holds.few in
+      let rest =
+      asks-light later (n + 1 + length lines + 1) followed.holds.sparse followed.holds.refers (omega (arith, calls))
+      (omega (arith, low, lines-in)) in
+      let ask-bytes = ask-small name named in
+      let between = followed.bytes in
+      let reply-bytes =
+      reply-small most c o (omega (arith, few, low))
+      (outcome-small name x c (n + 1 + length lines) v o named followed.holds followed.ends answers) in
+      let front : length (lines_told (ask_line name ∷ lines ++ reply ∷ others))
+      ≡ length (ask_line name) + suc (length (lines_told (lines ++ reply ∷ others))) =
+      length-append (ask_line name) (10 ∷ lines_told (lines ++ reply ∷ others)) in
+      let middle = told-append lines (reply ∷ others) in
+      let behind : length (lines_told (reply ∷ others)) ≡ length reply + suc (length (lines_told others)) =
+      length-append reply (10 ∷ lines_told others) in
+      omega (arith, front, middle, behind, ask-bytes, between, reply-bytes, rest, lines-in)
+
+  -- the whole log
+  made-light : (traders : List PlainTrader) (log : List ℕ) → AllByRecursion SparseTrader traders
+      → AllByRecursion (λ (t : PlainTrader). OffersRefer P (store_of t).offers) traders → length traders ≤ 64
+      → IsLog traders home log → length log ≤ 237568 + share (2 * most + 664) (length traders)
+  made-light traders log sparse refers few is =
+      let all : length log ≡ length (lines_told is.lines) = ap (length {A = ℕ}) is.told in
+      let short = made-short traders home log sparse is in
+      let count : share (2 * most + 664) (length (map (λ (t : PlainTrader). t.name) traders))
+      ≡ share (2 * most + 664) (length traders) =
+      ap (share (2 * most + 664)) (length-map traders (λ (t : PlainTrader). t.name)) in
+      let bytes = asks-light is.asked 0 (record { traders = sparse; calls = tt })
+      (record { traders = refers; calls = tt }) (omega arith) (omega (arith, short, few)) in
+      omega (arith, all, short, few, count, bytes)
+
+-- ---- any references
+
+abbrev AnyReference : Ior → Type 0
+AnyReference r = Unit {0}
+
+any-offers : (offers : List OfferRecord) → OffersRefer AnyReference offers
+any-offers [] = tt
+any-offers (o ∷ offers) = (tt, any-offers offers)
+
+any-traders : (traders : List PlainTrader)
+    → AllByRecursion (λ (t : PlainTrader). OffersRefer AnyReference (store_of t).offers) traders
+any-traders [] = tt
+any-traders (t ∷ traders) = (any-offers (store_of t).offers, any-traders traders)
+
+share-large : (n : ℕ) → share 33555120 n ≡ 33555120 * n
+share-large zero = refl
+share-large (suc n) = let later = share-large n in omega (arith, later)
 
 pub made-small : MadeLogsAreSmall
-made-small traders home log sparse most is =
-    let all : length log ≡ length (lines_told is.lines) = ap (length {A = ℕ}) is.told in
-    let short = made-short traders home log sparse is in
-    let each = length-map traders (λ (t : PlainTrader). t.name) in
-    let bytes = asks-light home is.asked 0 (record { traders = sparse; calls = tt }) (omega arith)
-    (omega (arith, short, most)) in
-    omega (arith, all, short, most, each, bytes)
+made-small traders home log sparse few is =
+    let light =
+    made-light home AnyReference 16777228
+    (λ name q v o named e so refers answers. visit-small home name q v o e so answers) traders log sparse
+    (any-traders traders) few is in
+    omega (arith, light, few, share-large (length traders))
+
+-- ---- small references
+
+share-few : (n : ℕ) → share 830534 n ≡ 830534 * n
+share-few zero = refl
+share-few (suc n) = let later = share-few n in omega (arith, later)
+
+pub made-fits : MadeLogsFit
+made-fits traders home log here sparse small few is =
+    let light =
+    made-light home IsSmallReference 414935
+    (λ name q v o named e so refers answers. visit-fits home name q v o here named e so refers answers) traders log
+    sparse small few is in
+    omega (arith, light, few, share-few (length traders))

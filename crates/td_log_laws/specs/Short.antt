@@ -2,6 +2,8 @@
 use Rattle.std.specs.Prelude.{◌≡◌, ℕ, ◌*◌, ◌^◌, ◌<◌, ◌≤◌, List, length, None}
 use Rattle.std.specs.List.{AllByRecursion}
 use Rattle.td_audit.specs.Making.{IsLog}
+use Rattle.td_iter.specs.Heads.{IsSmallReference}
+use Rattle.td_objects.specs.References.{IsAddress}
 use Rattle.td_register.specs.Stores.{Store}
 use Rattle.td_store.specs.declared.record.OfferRecord.{OfferRecord}
 use Rattle.td_trader.specs.PlainTraders.{PlainTrader, store_of}
@@ -39,3 +41,16 @@ MadeLogsAreSmall =
     (traders : List PlainTrader) (home : Address) (log : List ℕ)
     → AllByRecursion SparseTrader traders → length traders ≤ 64
     → IsLog traders home log → length log < 2 ^ 32
+
+-- the references of its offers have at most 4,096 bytes
+abbrev pub HasSmallReferences : PlainTrader → Type 0
+HasSmallReferences t =
+    AllByRecursion (λ (o : OfferRecord). IsSmallReference o.reference) (store_of t).offers
+
+-- Where they are so small, the log has at most 64 MiB: a query of the log asks for a hundred offers, and for no
+-- properties.
+abbrev pub MadeLogsFit : Type 0
+MadeLogsFit =
+    (traders : List PlainTrader) (home : Address) (log : List ℕ) → IsAddress home
+    → AllByRecursion SparseTrader traders → AllByRecursion HasSmallReferences traders
+    → length traders ≤ 64 → IsLog traders home log → length log ≤ 2 ^ 26
