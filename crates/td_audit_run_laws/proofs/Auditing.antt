@@ -15,6 +15,7 @@ use Rattle.td_audit_run.specs.declared.audited.Audited.TheVariants.{Usage, Missi
 use Rattle.td_audit_run.specs.declared.audited.Audited.TheVariants.{Printed, Denied, PrintFault}
 use Rattle.td_audit_run_laws.proofs.Filed.{files-pass}
 use Rattle.td_audit_run_laws.proofs.Generating.{generated-octets}
+use Rattle.td_audit_run_laws.proofs.Ringing.{rings-fit}
 use Rattle.td_audit_run_laws.specs.Rings.{AreNamed, RingLogsPass, SaysYes}
 use Rattle.td_command.specs.Printing.{SinkSeen}
 use Rattle.td_command.specs.Shelves.{Shelves}
@@ -24,6 +25,7 @@ use Rattle.td_lines.specs.declared.entry.Refused.{Refused as Entry}
 use Rattle.td_log.specs.Words.{lines_of}
 use Rattle.td_make.specs.Generated.{generated}
 use Rattle.td_make_file_laws.specs.Opened.{GeneratedOpen}
+use Rattle.td_make_laws.specs.Said.{GeneratedAreRead}
 use Rattle.td_out.specs.Texts.{Named, longest_text, text_named}
 
 -- ---- a text by its name
@@ -100,14 +102,14 @@ ended-so log before after wanted ended e h = subst (λ (x : Audited). SaysYes lo
 
 module _ (one : VerdictsAreOne) (count : ℕ) (least : 1 ≤ count) (most : count ≤ 64) (o : Opening)
     (opened : opening_of (generated count) ≡ Ok o) (short : length (generated count) ≤ longest_text) (log : List ℕ)
-    (is : IsLog o.traders o.home log) (texts : Shelves) (file name : List ℕ)
+    (is : IsLog o.traders o.home log) (fits : length log ≤ longest_text) (texts : Shelves) (file name : List ℕ)
     (named : AreNamed texts file name count log) (before after : SinkSeen) where
   of-log : (mid last : ℕ) (ended : Audited) → AuditsNamed o texts.told name mid last ended before after
       → SaysYes log ended before after
   of-log mid last ended (missing h e same) = ended-so log before after Missing ended e same
   of-log mid last ended (long h e same) =
-      ended-so log before after TooLong ended e
-      (read-long texts.told named.list named.told name log named.log_is h, same)
+      let over = read-long texts.told named.list named.told name log named.log_is h in
+      absurd (let no : ⊥ = omega (arith, over, fits) in no)
   of-log mid last ended (wanting e same) = ended-so log before after Memory ended e same
   of-log mid last ended (audits other h prints) =
       let same : other ≡ log = read-one texts.told named.list named.told name log named.log_is other h.1 in
@@ -140,11 +142,12 @@ module _ (one : VerdictsAreOne) (count : ℕ) (least : 1 ≤ count) (most : coun
       of-text text mid texts.after ended
       (read-one texts.told named.list named.told file (generated count) named.file_is text h.1) audited
 
-pub rings-pass : VerdictsAreOne → GeneratedOpen → RingLogsPass
-rings-pass one open_all count o log file name texts before after written0 written1 faults0 faults1 status least most
+pub rings-pass : VerdictsAreOne → GeneratedAreRead → GeneratedOpen → RingLogsPass
+rings-pass one read open_all count o log file name texts before after written0 written1 faults0 faults1 status least most
     opened is named run = record {
       ended = run.ended;
-      says = of-file one count least most o opened (open_all count least most).short log is texts file name named before
+      says = of-file one count least most o opened (open_all count least most).short log is
+          (rings-fit read open_all count o log least most opened is) texts file name named before
           after run.ended run.obeys;
       answered = run.answered;
     }

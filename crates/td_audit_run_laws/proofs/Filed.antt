@@ -69,6 +69,10 @@ files-opened : (text : List ℕ) (o : Opening) → AreOctets text → opening_of
 files-opened text o octets opens =
     record { distinct = (placed text o opens).0; writable = files-open-writable text o octets opens }
 
+-- the server listens at an address
+pub files-at : (text : List ℕ) (o : Opening) → opening_of text ≡ Ok o → IsAddress o.home
+files-at text o opens = (placed text o opens).1
+
 pub files-pass : FilesLogsPass
 files-pass text log o octets opens is short =
     made-pass o.traders o.home log (files-opened text o octets opens) (placed text o opens).1 is short

@@ -2,14 +2,14 @@
 use Rattle.std.proofs.Common.{◌≡◌, ◌≤◌, ℕ, zero, suc, List, [], ◌∷◌, length, map, Result, Ok, sym, ap, subst, ◌∙◌}
 use Rattle.std.proofs.Common.{arith, length-append, refl}
 use Rattle.td_audit_laws.specs.Laws.{VerdictsAreOne}
-use Rattle.td_audit_run_laws.proofs.Filed.{files-right}
+use Rattle.td_audit_run_laws.proofs.Filed.{files-at, files-right}
 use Rattle.td_audit_run_laws.proofs.Generating.{generated-octets}
-use Rattle.td_audit_run_laws.proofs.Sparse.{generated-sparse}
-use Rattle.td_audit_run_laws.specs.Rings.{RingLogsAreRight, RingLogsAreShort, RingLogsAreSmall}
+use Rattle.td_audit_run_laws.proofs.Sparse.{generated-small, generated-sparse}
+use Rattle.td_audit_run_laws.specs.Rings.{RingLogsAreRight, RingLogsAreShort, RingLogsFit}
 use Rattle.td_file.specs.Files.{Opening, opening_of}
 use Rattle.td_lines.specs.declared.entry.Refused.{Refused}
 use Rattle.td_log_laws.proofs.Shortness.{made-short}
-use Rattle.td_log_laws.proofs.Weighing.{made-small}
+use Rattle.td_log_laws.proofs.Weighing.{made-fits}
 use Rattle.td_make.specs.Generated.{generated}
 use Rattle.td_make_file_laws.specs.Opened.{GeneratedOpen}
 use Rattle.td_make_laws.specs.Said.{GeneratedAreRead, first_names, name_of}
@@ -43,12 +43,14 @@ rings-short read opens count o log least most opened is =
     let few = made-short o.traders o.home log (generated-sparse read count o least most opened) is in
     omega (arith, all, few)
 
-pub rings-small : GeneratedAreRead → GeneratedOpen → RingLogsAreSmall
-rings-small read opens count o log least most opened is =
+pub rings-fit : GeneratedAreRead → GeneratedOpen → RingLogsFit
+rings-fit read opens count o log least most opened is =
     let all = traders-count opens count o least most opened in
-    made-small o.traders o.home log (generated-sparse read count o least most opened) (omega (arith, all, most)) is
+    made-fits o.traders o.home log (files-at (generated count) o opened)
+    (generated-sparse read count o least most opened) (generated-small read count o least most opened)
+    (omega (arith, all, most)) is
 
 pub rings-right : VerdictsAreOne → GeneratedAreRead → GeneratedOpen → RingLogsAreRight
 rings-right one read opens count o log v least most opened is audit =
     files-right one (generated count) log o v (generated-octets count least most) opened is
-    (rings-small read opens count o log least most opened is) audit
+    (let fits = rings-fit read opens count o log least most opened is in omega (arith, fits)) audit

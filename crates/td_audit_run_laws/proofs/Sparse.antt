@@ -1,5 +1,5 @@
 -- The traders of a generated file are sparse: each has two links, and ten offers with a cost that is no dynamic
--- property.
+-- property. The references of these are small.
 use Rattle.std.proofs.Common.{◌≡◌, ℕ, zero, suc, ◌+◌, ◌≤◌, Bool, true, false, cond, List, [], ◌∷◌, ◌++◌, length, map}
 use Rattle.std.proofs.Common.{Option, None, Some, Result, Ok, Err, refl, sym, ap, subst, arith, length-append}
 use Rattle.std.specs.List.{AllByRecursion}
@@ -23,7 +23,10 @@ use Rattle.td_lines.specs.declared.entry.Numbered.{Numbered}
 use Rattle.td_lines.specs.declared.entry.Refused.{Refused}
 use Rattle.td_lines.specs.declared.entry.Script.{Script}
 use Rattle.td_lines.specs.declared.entry.TraderScript.{TraderScript}
-use Rattle.td_log_laws.specs.Short.{ArePlain, IsPlain, SparseTrader}
+use Rattle.td_iter.specs.Heads.{IsSmallReference}
+use Rattle.td_audit_run_laws.proofs.Items.{item-small}
+use Rattle.td_store.specs.declared.record.OfferRecord.{OfferRecord}
+use Rattle.td_log_laws.specs.Short.{ArePlain, HasSmallReferences, IsPlain, SparseTrader}
 use Rattle.td_make.specs.Generated.{generated}
 use Rattle.td_make_laws.specs.Said.{Asked, GeneratedAreRead, asked, costing, entries_in, head_entries, link_entries}
 use Rattle.td_make_laws.specs.Said.{offer_entries, offer_entry, ring_trader, ring_traders, type_entries}
@@ -50,9 +53,13 @@ use Rattle.td_walk.specs.declared.trace.Address.{Address}
 
 -- ---- a store so far
 
+abbrev AreSmall : List OfferRecord → Type 0
+AreSmall os = AllByRecursion (λ (o : OfferRecord). IsSmallReference o.reference) os
+
 -- so many links were added
 record SparseBy (n : ℕ) (s : Store) : Type 0 where
   offers : ArePlain s.offers
+  small : AreSmall s.offers
   links : length s.links ≤ n
   hops : s.attributes.def_hop_count ≤ 5
 
@@ -84,7 +91,7 @@ offer-plain s r name amount = record { ordinary = refl; static = named-static am
 data RingEntry : Entry → ℕ → Type 0 where
   typed : (name if_name : List ℕ) (props : List PropStruct) (supers : List (List ℕ))
       → RingEntry (entry.Change (change.AddType name if_name props supers)) 0
-  offered : (r : Ior) (name : List ℕ) (amount : ℕ)
+  offered : (r : Ior) (name : List ℕ) (amount : ℕ) → IsSmallReference r
       → RingEntry (entry.Change (change.Export r name (costing amount ∷ []))) 0
   linked : (name trader : List ℕ) (pass limiting : FollowOption) → RingEntry (entry.Link name trader pass limiting) 1
 
@@ -98,17 +105,18 @@ both-entries (e ∷ es) fs m n (one_more {m = a} {n = b} h rest) k =
     subst (RingEntries (e ∷ es ++ fs)) (let same : a + (b + n) ≡ a + b + n = omega arith in same)
     (one_more h (both-entries es fs b n rest k))
 
-offers-ring : (trader count : ℕ) → RingEntries (offer_entries trader count) 0
-offers-ring trader zero = no_entry
-offers-ring trader (suc done) =
-    both-entries (offer_entries trader done) (offer_entry trader (suc done) ∷ []) 0 0 (offers-ring trader done)
-    (one_more (offered _ _ _) no_entry)
+offers-ring : (trader count : ℕ) → trader ≤ 64 → count ≤ 10 → RingEntries (offer_entries trader count) 0
+offers-ring trader zero low few = no_entry
+offers-ring trader (suc done) low few =
+    both-entries (offer_entries trader done) (offer_entry trader (suc done) ∷ []) 0 0
+    (offers-ring trader done low (omega (arith, few)))
+    (one_more (offered _ _ _ (item-small trader (suc done) (omega (arith, low)) (omega (arith, few)))) no_entry)
 
-trader-ring : (count trader : ℕ) → RingEntries (ring_trader count trader).entries 2
-trader-ring count trader =
+trader-ring : (count trader : ℕ) → trader ≤ 64 → RingEntries (ring_trader count trader).entries 2
+trader-ring count trader low =
     both-entries (head_entries trader) (link_entries count trader) 0 2
     (both-entries type_entries (offer_entries trader 10) 0 0
-    (one_more (typed _ _ _ _) (one_more (typed _ _ _ _) no_entry)) (offers-ring trader 10))
+    (one_more (typed _ _ _ _) (one_more (typed _ _ _ _) no_entry)) (offers-ring trader 10 low (omega arith)))
     (one_more (linked _ _ _ _) (one_more (linked _ _ _ _) no_entry))
 
 -- ---- what comes of an entry
@@ -122,7 +130,7 @@ unless-kept P None r after h = h
 unless-kept P (Some f) r after h = tt
 
 types-kept : (n : ℕ) (s : Store) (c : types.Comes) → SparseBy n s → Kept (SparseBy n) (changes_types s c)
-types-kept n s (Ok answer) h = record { offers = h.offers; links = h.links; hops = h.hops }
+types-kept n s (Ok answer) h = record { offers = h.offers; small = h.small; links = h.links; hops = h.hops }
 types-kept n s (Err f) h = tt
 
 step-kept : (home : Address) (n : ℕ) (s : Store) (e : Entry) (m : ℕ) → RingEntry e m → SparseBy n s
@@ -132,7 +140,7 @@ step-kept home n s e m (typed name if_name props supers) h =
     subst (λ (k : ℕ). Kept (SparseBy k) (comes_to s (change.AddType name if_name props supers)))
     (let same : n ≡ n + 0 = omega arith in same)
     (types-kept n s (types.add_type s.types name if_name props supers) h)
-step-kept home n s e m (offered r name amount) h =
+step-kept home n s e m (offered r name amount small) h =
     subst (λ (k : ℕ). Kept (SparseBy k) (comes_to s (change.Export r name (costing amount ∷ []))))
     (let same : n ≡ n + 0 = omega arith in same)
     (unless-kept (SparseBy n) (export_cause s r name (costing amount ∷ [])) (told.Id (id_of (s.last_offer + 1)))
@@ -140,6 +148,8 @@ step-kept home n s e m (offered r name amount) h =
     (record {
       offers = each-append IsPlain s.offers (exported s r name (costing amount ∷ []) ∷ []) h.offers
           (offer-plain s r name amount, tt);
+      small = each-append (λ (o : OfferRecord). IsSmallReference o.reference) s.offers
+          (exported s r name (costing amount ∷ []) ∷ []) h.small (small, tt);
       links = h.links;
       hops = h.hops;
     }))
@@ -150,6 +160,7 @@ step-kept home n s e m (linked name trader pass limiting) h =
     (record s { links = s.links ++ new_links name target pass limiting register })
     (record {
       offers = h.offers;
+      small = h.small;
       links = (let few = h.links in
           omega (arith, few, length-append s.links (new_links name target pass limiting register)));
       hops = h.hops;
@@ -194,62 +205,79 @@ IsRing a = RingEntries a.entries 2
 
 new-sparse : (home : Address) (name : List ℕ) (ds : Declared) → SparseBy 0 (new_store home name ds)
 unfolding new_store
-new-sparse home name ds = record { offers = tt; links = omega arith; hops = omega arith }
+new-sparse home name ds = record { offers = tt; small = tt; links = omega arith; hops = omega arith }
+
+-- what comes of each
+abbrev IsSmallRing : PlainTrader → Type 0
+IsSmallRing u = SparseTrader u × HasSmallReferences u
 
 one-sparse : (home : Address) (t : TraderScript) → IsRing (asked t) → (r : Result Store Refused)
-    → opening_store home t ≡ r → (u : PlainTrader) → (r >>= λ s. Ok (opened t.name s bounds)) ≡ Ok u → SparseTrader u
+    → opening_store home t ≡ r → (u : PlainTrader) → (r >>= λ s. Ok (opened t.name s bounds)) ≡ Ok u → IsSmallRing u
 unfolding after_all
 one-sparse home t ring (Err f) is u e = absurd (never-ok f u e)
 one-sparse home t ring (Ok s) is u e =
     let kept =
     entries-kept home t.entries 0 2 (new_store home t.name t.interfaces) s ring (new-sparse home t.name t.interfaces) is
     in
-    subst SparseTrader (ok-same (opened t.name s bounds) u e)
-    (record { offers = kept.offers; links = kept.links; hops = kept.hops })
+    subst IsSmallRing (ok-same (opened t.name s bounds) u e)
+    (record { offers = kept.offers; links = kept.links; hops = kept.hops }, kept.small)
 
 all-sparse : (home : Address) (ts : List TraderScript) (us : List PlainTrader) → AllByRecursion IsRing (map asked ts)
-    → all_traders home ts ≡ Ok us → AllByRecursion SparseTrader us
-all-sparse home [] us ring e = subst (AllByRecursion SparseTrader) (ok-same [] us e) tt
+    → all_traders home ts ≡ Ok us → AllByRecursion IsSmallRing us
+all-sparse home [] us ring e = subst (AllByRecursion IsSmallRing) (ok-same [] us e) tt
 all-sparse home (t ∷ ts) us ring e =
     go (trader_of home t) (λ u is. one-sparse home t ring.0 (opening_store home t) refl u is) (all_traders home ts)
     (λ vs is. all-sparse home ts vs ring.1 is) e
   where
-    go : (r : Result PlainTrader Refused) → ((u : PlainTrader) → r ≡ Ok u → SparseTrader u)
+    go : (r : Result PlainTrader Refused) → ((u : PlainTrader) → r ≡ Ok u → IsSmallRing u)
         → (s : Result (List PlainTrader) Refused)
-        → ((vs : List PlainTrader) → s ≡ Ok vs → AllByRecursion SparseTrader vs)
-        → (r >>= λ first. s >>= λ others. Ok (first ∷ others)) ≡ Ok us → AllByRecursion SparseTrader us
+        → ((vs : List PlainTrader) → s ≡ Ok vs → AllByRecursion IsSmallRing vs)
+        → (r >>= λ first. s >>= λ others. Ok (first ∷ others)) ≡ Ok us → AllByRecursion IsSmallRing us
     go (Err f) one s all e = absurd (never-ok f us e)
     go (Ok first) one (Err f) all e = absurd (never-ok f us e)
     go (Ok first) one (Ok others) all e =
-        subst (AllByRecursion SparseTrader) (ok-same (first ∷ others) us e) (one first refl, all others refl)
+        subst (AllByRecursion IsSmallRing) (ok-same (first ∷ others) us e) (one first refl, all others refl)
 
-rings : (count done : ℕ) → AllByRecursion IsRing (ring_traders count done)
-rings count zero = tt
-rings count (suc done) =
-    each-append IsRing (ring_traders count done) (ring_trader count (suc done) ∷ []) (rings count done)
-    (trader-ring count (suc done), tt)
+rings : (count done : ℕ) → done ≤ 64 → AllByRecursion IsRing (ring_traders count done)
+rings count zero low = tt
+rings count (suc done) low =
+    each-append IsRing (ring_traders count done) (ring_trader count (suc done) ∷ [])
+    (rings count done (omega (arith, low))) (trader-ring count (suc done) low, tt)
 
 at-sparse : (home : Address) (seed : List ℕ) (r : Result (List PlainTrader) Refused) (later : Option Refused)
-    → ((us : List PlainTrader) → r ≡ Ok us → AllByRecursion SparseTrader us) → (o : Opening)
+    → ((us : List PlainTrader) → r ≡ Ok us → AllByRecursion IsSmallRing us) → (o : Opening)
     → (r >>= λ traders. unless_refused later (opening home seed traders)) ≡ Ok o
-    → AllByRecursion SparseTrader o.traders
+    → AllByRecursion IsSmallRing o.traders
 at-sparse home seed (Err f) later all o e = absurd (never-ok f o e)
 at-sparse home seed (Ok us) (Some f) all o e = absurd (never-ok f o e)
 at-sparse home seed (Ok us) None all o e =
-    subst (λ (z : Opening). AllByRecursion SparseTrader z.traders) (ok-same (opening home seed us) o e) (all us refl)
+    subst (λ (z : Opening). AllByRecursion IsSmallRing z.traders) (ok-same (opening home seed us) o e) (all us refl)
 
 with-sparse : (s : Script) (h : Option Home) (o : Opening) → AllByRecursion IsRing (map asked s.traders)
-    → opening_with s h ≡ Ok o → AllByRecursion SparseTrader o.traders
+    → opening_with s h ≡ Ok o → AllByRecursion IsSmallRing o.traders
 with-sparse s None o ring e = absurd (never-ok _ o e)
 with-sparse s (Some home) o ring e =
     at-sparse (home_address home) s.seed (all_traders (home_address home) s.traders)
     (later_refusal s.refused (missing_in s.traders s.traders))
     (λ us is. all-sparse (home_address home) s.traders us ring is) o e
 
-pub generated-sparse : GeneratedAreRead → (count : ℕ) (o : Opening) → 1 ≤ count → count ≤ 64
-    → opening_of (generated count) ≡ Ok o → AllByRecursion SparseTrader o.traders
+generated-rings : GeneratedAreRead → (count : ℕ) (o : Opening) → 1 ≤ count → count ≤ 64
+    → opening_of (generated count) ≡ Ok o → AllByRecursion IsSmallRing o.traders
 unfolding opening_of
-generated-sparse read count o least most e =
+generated-rings read count o least most e =
     let s : Script = script_of (generated count) in
     with-sparse s s.home o
-    (subst (AllByRecursion IsRing) (sym (read count least most).traders) (rings count count)) e
+    (subst (AllByRecursion IsRing) (sym (read count least most).traders) (rings count count most)) e
+
+both-each : (us : List PlainTrader) → AllByRecursion IsSmallRing us
+    → AllByRecursion SparseTrader us × AllByRecursion HasSmallReferences us
+both-each [] h = (tt, tt)
+both-each (u ∷ us) h = let later = both-each us h.1 in ((h.0.0, later.0), (h.0.1, later.1))
+
+pub generated-sparse : GeneratedAreRead → (count : ℕ) (o : Opening) → 1 ≤ count → count ≤ 64
+    → opening_of (generated count) ≡ Ok o → AllByRecursion SparseTrader o.traders
+generated-sparse read count o least most e = (both-each o.traders (generated-rings read count o least most e)).0
+
+pub generated-small : GeneratedAreRead → (count : ℕ) (o : Opening) → 1 ≤ count → count ≤ 64
+    → opening_of (generated count) ≡ Ok o → AllByRecursion HasSmallReferences o.traders
+generated-small read count o least most e = (both-each o.traders (generated-rings read count o least most e)).1

@@ -35,12 +35,12 @@ pub record AreNamed (texts : Shelves) (file name : List ℕ) (count : ℕ) (log 
   pub log_is : text_named name list ≡ Some log
 
 -- It is said that each line passes, or a front of that where the sink fails; or nothing is said, as a text isn't read,
--- the log is too long, or memory is wanting. It is never said that a line fails, or isn't in the table.
+-- or memory is wanting. It is never said that a line fails, or isn't in the table, or that the log is too long.
 abbrev pub SaysYes : (log : List ℕ) → Audited → SinkSeen → SinkSeen → Type 0
 SaysYes log Printed before after = Whole (yes_line (length (lines_of log))) before after
 SaysYes log PrintFault before after = Cut (yes_line (length (lines_of log))) before after
 SaysYes log Missing before after = after ≡ before
-SaysYes log TooLong before after = (longest_text < length log) × (after ≡ before)
+SaysYes log TooLong before after = ⊥
 SaysYes log Memory before after = after ≡ before
 SaysYes log Denied before after = ⊥
 SaysYes log (Strange number) before after = ⊥
@@ -72,11 +72,11 @@ RingLogsAreShort =
     (count : ℕ) (o : Opening) (log : List ℕ) → 1 ≤ count → count ≤ 64 → opening_of (generated count)
     ≡ Ok o → (is : IsLog o.traders o.home log) → length is.lines ≤ 128 * count
 
--- fewer than 2^32 bytes
-abbrev pub RingLogsAreSmall : Type 0
-RingLogsAreSmall =
+-- no longer than a text that is read may be, which is 64 MiB
+abbrev pub RingLogsFit : Type 0
+RingLogsFit =
     (count : ℕ) (o : Opening) (log : List ℕ) → 1 ≤ count → count ≤ 64 → opening_of (generated count)
-    ≡ Ok o → IsLog o.traders o.home log → length log < 2 ^ 32
+    ≡ Ok o → IsLog o.traders o.home log → length log ≤ longest_text
 
 -- So the verdict on it is that each line passes, or memory is wanted.
 abbrev pub RingLogsAreRight : Type 0

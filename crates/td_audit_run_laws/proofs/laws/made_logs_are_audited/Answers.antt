@@ -6,4 +6,5 @@ pub returns-clause-files : goal.returns-clause-files
 returns-clause-files c = files-pass
 
 pub returns-clause-rings : goal.returns-clause-rings
-returns-clause-rings c = rings-pass c.verdicts_are_one.ensures c.generated_files_open.ensures
+returns-clause-rings c =
+    rings-pass c.verdicts_are_one.ensures c.generated_files_are_read.ensures c.generated_files_open.ensures
