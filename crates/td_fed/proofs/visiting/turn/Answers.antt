@@ -63,3 +63,20 @@ returns-in-Done-clause-so_far g c =
     (turn-closes-so-far (Begins g.T.Traders.others g.T.Traders.later) (Watches g.T.Traders.others g.T.Traders.later)
     (inside_group c.args.home.now) s u c.next_of_innermost.new.stack.items c.args.notes.now.items
     c.end_innermost.new.notes.items c.end_innermost.result (c.end_innermost.ensures.so_far w calls))
+
+pub returns-in_err-ask_innermost-in_default-clause-draws : goal.returns-in_err-ask_innermost-in_default-clause-draws
+returns-in_err-ask_innermost-in_default-clause-draws g c = draws-none (g.W.Words.word c.args.words.now)
+
+pub returns-in_err-ask_innermost-in_default-clause-so_far : goal.returns-in_err-ask_innermost-in_default-clause-so_far
+returns-in_err-ask_innermost-in_default-clause-so_far g c =
+    let s =
+    course (g.T.Traders.world c.args.traders.now) (g.W.Words.word c.args.words.now)
+    (g.P.Peers.calls c.args.peers.now) in
+    let u =
+    course (g.T.Traders.world c.ask_innermost.new.traders) (g.W.Words.word c.args.words.now)
+    (g.P.Peers.calls c.ask_innermost.new.peers) in
+    on-err _
+    (subst (λ (fs : List Frame). IsTurnSoFar (Begins g.T.Traders.others g.T.Traders.later)
+    (Watches g.T.Traders.others g.T.Traders.later) (inside_group c.args.home.now) s fs c.args.notes.now.items
+    c.ask_innermost.new.notes.items u) c.next_of_innermost.ensures.kept
+    (c.in_err-ask_innermost-in_default.ensures.so_far (g.W.Words.word c.args.words.now)))
