@@ -54,21 +54,14 @@ use Rattle.td_value.specs.contracts.structures.Property as property
 -- ---- the rows below, which Rattle itself shows to cross
 ruleset rows = (text_cross.the_send, list_cross.the_send, boxed_cross.the_send, shared_cross.the_send)
 
-ruleset low = (
-  sendable,
-  crosses,
-  rows,
-  ior_cross.the_field_send,
-  ior_cross.the_send,
-  whole_cross.the_send,
-)
+ruleset low = (sendable, crosses, rows, ior_cross.the_field_send, ior_cross.the_send)
 
 -- ---- what holds a TypeCode or a value: each from its parts
 code_field : IsSend (code.the_field).row
-code_field = search (send-TypeCode, low) depth 20
+code_field = search (send-TypeCode, whole_cross.the_send, low) depth 20
 
 any_field : IsSend (any.the_field).row
-any_field = search (send-Any, low) depth 20
+any_field = search (send-Any, whole_cross.the_send, low) depth 20
 
 pub any_send : IsSend any.the_row
 any_send = recorded_send (any.the_field).row _ _ (any.the_type).to_one any_field
@@ -83,18 +76,11 @@ prop_send : IsSend prop.the_row
 prop_send = search (code_field, mode_cross.the_field_send, low) depth 20
 
 -- ---- what is shared: several threads may see it at once
-ruleset seen = (
-  sendable,
-  crosses,
-  text_cross.the_sync,
-  list_cross.the_sync,
-  ior_cross.the_field_sync,
-  ior_cross.the_sync,
-  whole_cross.the_sync,
-)
+ruleset seen =
+    (sendable, crosses, text_cross.the_sync, list_cross.the_sync, ior_cross.the_field_sync, ior_cross.the_sync)
 
 any_field_sync : IsSync (any.the_field).row
-any_field_sync = search (sync-Any, seen) depth 20
+any_field_sync = search (sync-Any, whole_cross.the_sync, seen) depth 20
 
 property_sync : IsSync property.the_row
 property_sync = search (any_field_sync, seen) depth 20
