@@ -67,9 +67,10 @@ impl<L: Wire> Caller<L> {
         answer
     }
 
-    /// Asks another trader: writes the query, and reads its reply. An iterator is drained over the same connection by
-    /// `next_n(1000)`, with request ids 2, 3 and so on, and then destroyed. The connection has ended when the query is
-    /// done, whatever comes of it.
+    /// Asks another trader: writes the query, and reads its reply. An iterator is drained by `next_n(1000)`, with request
+    /// ids 2, 3 and so on, and then destroyed: over the same connection where its profile names the trader's host, byte
+    /// by byte, and its port, and else over one more connection, to there. No connection stands when the query is done,
+    /// whatever comes of it.
     ///
     /// # Errors
     ///

@@ -44,7 +44,7 @@ impl<L: Wire> Peers for Caller<L> {
 
     ghost same_on = { λ a b c p q. L.same_on a.wire b.wire c.wire p q };
 
-    /// What the reply says, and what the iterator gives over the same connection; an exception is a fault.
+    /// What the reply says, and what the iterator gives; an exception is a fault.
     #[tactic(auto, using(td_gather::proofs::Writing::leaves_untouched))]
     fn query(&mut self, alloc: Global, target: &Ior, q: &Query) -> Result<SubAnswer, PeerFault>
         ensures same { L.same self.old.wire self.new.wire }

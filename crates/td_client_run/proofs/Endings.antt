@@ -14,8 +14,9 @@ use Rattle.td_value.specs.declared.structures.Offer.{Offer}
 use Rattle.td_call.specs.Calling.{first_id}
 use Rattle.td_call.specs.Readings.{outcome_told}
 use Rattle.td_call.specs.Replies.{Comes, told, strange, short, replied}
-use Rattle.td_gather.specs.Asking.{after_query, asked, found_ends, iterated, left_over, most_batches}
-use Rattle.td_gather.specs.Asking.{query_ends, second_id, with_limits}
+use Rattle.td_gather.specs.Asking.{FirstPart, after_query, asked, asked_first, completed, drained_behind, elsewhere}
+use Rattle.td_gather.specs.Asking.{ends, found_ends, is_at, iterated, left_ends, most_batches, query_ends, second_id}
+use Rattle.td_gather.specs.Asking.{with_limits}
 use Rattle.td_gather.specs.Draining.{Ended, gave, raised, unclear, cut, after_batch, after_destroy, answer_ends}
 use Rattle.td_gather.specs.Draining.{batch_length, behind, behind_batch, destroy, destroy_ends, drained}
 use Rattle.td_gather.specs.Draining.{may_join, next_batch}
@@ -118,52 +119,79 @@ drained_lined (suc batches) id count given =
     turn_lined (drained batches (id + 1)) id count given (drained_lined batches (id + 1))
     (replied (outcome_told next_batch) id given)
 
-iterated_lined : (p : Option Iiop) (count : ℕ) (given : List ℕ) → EndsLined (iterated p count given)
-iterated_lined (Some p) count given = drained_lined most_batches second_id count given
-iterated_lined None count given = tt
-
-left_lined : (b : Bool) (p : Option Iiop) (count : ℕ) (given : List ℕ)
-    → EndsLined (cond b (gave []) (iterated p count given))
-left_lined true p count given = tt
-left_lined false p count given = iterated_lined p count given
-
 -- ---- the query
 
-found_lined : (offers : List Offer) (iterator : Ior) (limits : List (List ℕ)) (left : List ℕ)
-    → EndsLined (found_ends offers iterator limits left)
-found_lined offers iterator limits left =
-    let more = left_over iterator (length offers) left in
-    chosen (may_join 0 offers) (with_limits limits (behind offers more))
-    (limits_lined limits (behind offers more)
-    (behind_lined offers more (left_lined (is_nil iterator) (iiop_of iterator) (length offers) left)))
+-- a part that is the end is one
+abbrev pub PartLined : FirstPart → Type 0
+PartLined (ends e) = EndsLined e
+PartLined (elsewhere p found) = ⊤
 
-query_lined : (a : Answered) (left : List ℕ) → EndsLined (query_ends a left)
-query_lined (Done (reply.Found offers iterator limits)) left = found_lined offers iterator limits left
-query_lined (Done reply.Nothing) left = tt
-query_lined (Done (reply.Id x)) left = tt
-query_lined (Done (reply.Number x)) left = tt
-query_lined (Done (reply.Truth x)) left = tt
-query_lined (Done (reply.Reference x)) left = tt
-query_lined (Done (reply.Follow x)) left = tt
-query_lined (Done (reply.Stem x)) left = tt
-query_lined (Done (reply.Incarnation x)) left = tt
-query_lined (Done (reply.Names x)) left = tt
-query_lined (Done (reply.Offer x)) left = tt
-query_lined (Done (reply.Link x)) left = tt
-query_lined (Done (reply.Proxy x)) left = tt
-query_lined (Done (reply.Typed x)) left = tt
-query_lined (Done (reply.Ids x y)) left = tt
-query_lined (Done (reply.Batch x y)) left = tt
-query_lined (Done (reply.IdBatch x y)) left = tt
-query_lined (User id) left = refl
-query_lined (System id minor completion) left = refl
+chosen_part : (b : Bool) (x : FirstPart) → PartLined x → PartLined (cond b x (ends unclear))
+chosen_part true x p = p
+chosen_part false x p = tt
 
-after_lined : (given : List ℕ) (x : Comes Answered) → EndsLined (after_query given x)
-after_lined given (told a size) = query_lined a (drop size given)
-after_lined given strange = tt
-after_lined given short = tt
+drained_behind_lined : (found : SubAnswer) (given : List ℕ) → EndsLined (drained_behind found given)
+drained_behind_lined found given =
+    let more = drained most_batches second_id (length found.offers) given in
+    limits_lined found.limits (behind found.offers more)
+    (behind_lined found.offers more (drained_lined most_batches second_id (length found.offers) given))
+
+at_lined : (b : Bool) (p : Iiop) (found : SubAnswer) (left : List ℕ)
+    → PartLined (cond b (ends (drained_behind found left)) (elsewhere p found))
+at_lined true p found left = drained_behind_lined found left
+at_lined false p found left = tt
+
+iterated_lined : (trader : Iiop) (o : Option Iiop) (found : SubAnswer) (left : List ℕ)
+    → PartLined (iterated trader o found left)
+iterated_lined trader (Some p) found left = at_lined (is_at trader p) p found left
+iterated_lined trader None found left = tt
+
+left_lined : (b : Bool) (trader : Iiop) (o : Option Iiop) (found : SubAnswer) (left : List ℕ)
+    → PartLined (cond b (ends (gave found)) (iterated trader o found left))
+left_lined true trader o found left = tt
+left_lined false trader o found left = iterated_lined trader o found left
+
+found_lined : (trader : Iiop) (iterator : Ior) (found : SubAnswer) (left : List ℕ)
+    → PartLined (found_ends trader iterator found left)
+found_lined trader iterator found left =
+    chosen_part (may_join 0 found.offers) (left_ends trader iterator found left)
+    (left_lined (is_nil iterator) trader (iiop_of iterator) found left)
+
+query_lined : (trader : Iiop) (a : Answered) (left : List ℕ) → PartLined (query_ends trader a left)
+query_lined trader (Done (reply.Found offers iterator limits)) left =
+    found_lined trader iterator (record { offers = offers; limits = limits }) left
+query_lined trader (Done reply.Nothing) left = tt
+query_lined trader (Done (reply.Id x)) left = tt
+query_lined trader (Done (reply.Number x)) left = tt
+query_lined trader (Done (reply.Truth x)) left = tt
+query_lined trader (Done (reply.Reference x)) left = tt
+query_lined trader (Done (reply.Follow x)) left = tt
+query_lined trader (Done (reply.Stem x)) left = tt
+query_lined trader (Done (reply.Incarnation x)) left = tt
+query_lined trader (Done (reply.Names x)) left = tt
+query_lined trader (Done (reply.Offer x)) left = tt
+query_lined trader (Done (reply.Link x)) left = tt
+query_lined trader (Done (reply.Proxy x)) left = tt
+query_lined trader (Done (reply.Typed x)) left = tt
+query_lined trader (Done (reply.Ids x y)) left = tt
+query_lined trader (Done (reply.Batch x y)) left = tt
+query_lined trader (Done (reply.IdBatch x y)) left = tt
+query_lined trader (User id) left = refl
+query_lined trader (System id minor completion) left = refl
+
+after_lined : (trader : Iiop) (given : List ℕ) (x : Comes Answered) → PartLined (after_query trader given x)
+after_lined trader given (told a size) = query_lined trader a (drop size given)
+after_lined trader given strange = tt
+after_lined trader given short = tt
+
+completed_lined : (x : FirstPart) (next : List ℕ) → PartLined x → EndsLined (completed x next)
+completed_lined (ends e) next p = p
+completed_lined (elsewhere q found) next p = drained_behind_lined found next
 
 -- the exception that a query ends with
-pub raised_lined : (c : Call) (given : List ℕ) (a : Answered) → asked c given ≡ raised a → HasLines a
-raised_lined c given a e =
-    subst (λ (x : Ended SubAnswer). EndsLined x) e (after_lined given (replied (outcome_told c) first_id given))
+pub raised_lined : (trader : Iiop) (c : Call) (given next : List ℕ) (a : Answered)
+    → asked trader c given next ≡ raised a → HasLines a
+raised_lined trader c given next a e =
+    subst (λ (x : Ended SubAnswer). EndsLined x) e
+    (completed_lined (asked_first trader c given) next
+    (after_lined trader given (replied (outcome_told c) first_id given)))

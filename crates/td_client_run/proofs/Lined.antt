@@ -7,7 +7,9 @@ use Rattle.td_cdr.specs.Text.{has_nul}
 use Rattle.td_codes.specs.declared.reference.Ior.{Ior}
 use Rattle.td_forms.specs.Words.{rule_named}
 use Rattle.td_ior.specs.Keys.{◌>>=◌}
+use Rattle.td_ior.specs.Profiles.{iiop_of}
 use Rattle.td_ior.specs.Texts.{reference_in}
+use Rattle.td_ior.specs.declared.profile.Iiop.{Iiop}
 use Rattle.td_ops.specs.Called.{operation_in}
 use Rattle.td_ops.specs.Operations.{row}
 use Rattle.td_ops.specs.declared.call.Call.{Call}
@@ -31,7 +33,7 @@ use Rattle.td_call.specs.Calling.{Answers, first_id, next_given}
 use Rattle.td_call.specs.Readings.{outcome_told}
 use Rattle.td_call.specs.Replies.{Comes}
 use Rattle.td_call.specs.Requests.{request_of}
-use Rattle.td_gather.specs.Asking.{asked}
+use Rattle.td_gather.specs.Asking.{AsksBy, asked, second_given}
 use Rattle.td_gather.specs.Draining.{raised}
 use Rattle.td_gather.specs.declared.gathered.Gathered.TheVariants.{Offers, Refused}
 use Rattle.td_client_run.specs.Outcomes.{outcome_lines}
@@ -91,14 +93,19 @@ words_lined words = read_lined (list_any has_nul words) (asked_of words)
 
 -- ---- what comes back
 
+refused_lined : (o : Option Iiop) (c : Call) (t : Traffic) (before after : Option Traffic) (f0 f1 : ℕ) (answer : Told)
+    → before ≡ Some t → AsksBy o c before after f0 f1 (Ok (Refused answer)) → HasLines answer
+refused_lined (Some p) c t before after f0 f1 answer tells x =
+    raised_lined p c (next_given t) (second_given t) answer
+    (subst
+    (λ (b : Option Traffic). IfSome b (λ u. asked p c (next_given u) (second_given u) ≡ raised answer)) tells x)
+refused_lined None c t before after f0 f1 answer tells x = absurd x
+
 sent : (asking : Asking) (t : Traffic) (v w : Line) (o : Outcome) → IsLined asking → v.told ≡ Some t
     → Sends asking v w (Ok o) → is_some (outcome_lines o) ≡ true
 sent (wish.Query target q) t v w (Gathered (Offers found)) known tells s = refl
 sent (wish.Query target q) t v w (Gathered (Refused answer)) known tells s =
-    raised_lined (call.Query q) (next_given t) answer
-    (subst
-    (λ (before : Option Traffic). IfSome before (λ u. asked (call.Query q) (next_given u) ≡ raised answer)) tells
-    s.asks)
+    refused_lined (iiop_of target) (call.Query q) t v.told w.told v.faults w.faults answer tells s.asks
 sent (wish.Query target q) t v w (Answered a) known tells s = absurd s
 sent (wish.Call target c) t v w (Gathered g) known tells s = absurd s
 sent (wish.Call target c) t v w (Answered a) known tells s =

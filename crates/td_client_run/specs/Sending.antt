@@ -35,8 +35,8 @@ pub record Calls (target : Ior) (c : Call) (before after : Line)
   pub leaves : Leaves (λ p. request_of first_id p c) target before.told after.told
   pub disconnected : StaysDisconnected before.told after.told
 
--- A query over a connection of its own, and what is gathered. Where it fails too, a front of its requests was written,
--- over no more than the one connection, which has ended.
+-- A query over a connection of its own, and what is gathered; an iterator that is elsewhere is drained over one more, to
+-- there. Where it fails too, a front of its requests was written, over no more than these connections, which have ended.
 pub record Queries (target : Ior) (q : Query) (before after : Line)
     (r : Result Given PeerFault) : Type 0 where
   pub asks : Asks target q before.told after.told before.faults after.faults r

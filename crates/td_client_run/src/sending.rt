@@ -10,7 +10,8 @@ use td_gather::ask_over;
 use td_walk::PeerFault;
 use td_wire::Wire;
 
-/// Asks the object over a connection of its own; the iterator of a query is drained over the same one.
+/// Asks the object over a connection of its own; the iterator of a query is drained over the same one, or over one more
+/// where it is elsewhere.
 ///
 /// # Errors
 ///

@@ -1,15 +1,15 @@
 -- From a query's reply to what asking answers.
-use Rattle.std.proofs.Common.{◌≡◌, ◌∙◌, inl, inr, ℕ, ◌≤◌, List, [], ◌++◌, drop, Option, Some, None}
-use Rattle.std.proofs.Common.{option_map, Result, Ok, Err, refl, sym, ap, subst, true, append-nil}
-use Rattle.td_codes.specs.declared.reference.Ior.{Ior}
+use Rattle.std.proofs.Common.{◌≡◌, ◌∙◌, inl, inr, ℕ, ◌≤◌, List, [], ◌++◌, length, drop, Option, Some, None}
+use Rattle.std.proofs.Common.{option_map, Result, Ok, Err, refl, sym, ap, subst, true, Bool, append-nil}
+use Rattle.std.specs.Prelude.{IfSome, IsTrue}
 use Rattle.td_giop.specs.Stream.{Stream}
 use Rattle.td_ior.specs.declared.profile.Iiop.{Iiop}
-use Rattle.td_ior.specs.Profiles.{iiop_of}
 use Rattle.td_ops.specs.declared.call.Call.{Call}
 use Rattle.td_ops.specs.declared.outcome.Answered.{Answered}
 use Rattle.td_ops.specs.declared.outcome.Answered.TheVariants.{Done}
 use Rattle.td_ops.specs.declared.outcome.Reply.{Reply}
 use Rattle.td_out.proofs.Steps.{Rose-later}
+use Rattle.td_walk.specs.declared.answer.SubAnswer.{SubAnswer}
 use Rattle.td_walk.specs.declared.fault.PeerFault.{PeerFault}
 use Rattle.td_walk.specs.declared.fault.PeerFault.TheVariants as fault
 use Rattle.td_wire.specs.Connections.{Traffic, ended, left_of, opened, with_left, wrote}
@@ -17,99 +17,77 @@ use Rattle.td_call.specs.Calling.{Connected, first_id, fresh_stream, next_given}
 use Rattle.td_call.specs.Fetching.{Exchanges, IsRead, Replies}
 use Rattle.td_call.specs.Readings.{outcome_told}
 use Rattle.td_call.specs.Requests.{request_of}
-use Rattle.td_gather.specs.Asking.{AsksAt, AsksBy, AsksThrough, EndsSo, after_query, asked, asked_requests, query_ends}
-use Rattle.td_gather.specs.Asking.{reply_ends}
-use Rattle.td_gather.specs.Draining.{raised}
+use Rattle.td_gather.specs.Asking.{AsksAt, AsksBy, EndsSo, FindsSo, FirstPart, HasDrained, HasQueried, HasWritten}
+use Rattle.td_gather.specs.Asking.{after_query, asked_first, completed, drain_over, drained_behind, elsewhere, ends}
+use Rattle.td_gather.specs.Asking.{query_ends, query_over, reply_ends, second_given}
+use Rattle.td_gather.specs.Draining.{Ended, raised}
 use Rattle.td_gather.specs.Writing.{Writes, WritesBy, gives_all}
+use Rattle.td_gather.specs.declared.gathered.Found.{Found as Part}
+use Rattle.td_gather.specs.declared.gathered.Found.TheVariants.{All, Elsewhere}
 use Rattle.td_gather.specs.declared.gathered.Gathered.{Gathered}
 use Rattle.td_gather.specs.declared.gathered.Gathered.TheVariants.{Offers, Refused}
+use Rattle.td_gather.proofs.Leftover.{all_of, finds_as, finds_behind, finds_untold}
 
 -- ---- over a connection of which nothing came yet
 
 -- the request for the query, as a part of what was written
-abbrev query_request : (profile : Iiop) → Call → List ℕ
-query_request profile c = request_of first_id profile c
+abbrev query_request : (trader : Iiop) → Call → List ℕ
+query_request trader c = request_of first_id trader c
 
-pub from_fresh : (profile : Iiop) (c : Call) (s : Stream) (held : List ℕ) (before now : Option Traffic) (f0 f1 : ℕ)
+pub from_fresh : (trader : Iiop) (c : Call) (s : Stream) (held : List ℕ) (before now : Option Traffic) (f0 f1 : ℕ)
     (r : Result Answered PeerFault) → s ≡ fresh_stream
-    → Exchanges (outcome_told c) first_id (query_request profile c) s.rest held before now f0 f1 r
-    → Exchanges (outcome_told c) first_id (query_request profile c) [] held before now f0 f1 r
-from_fresh profile c s held before now f0 f1 r is x =
-    subst (λ (h : List ℕ). Exchanges (outcome_told c) first_id (query_request profile c) h held before now f0 f1 r)
+    → Exchanges (outcome_told c) first_id (query_request trader c) s.rest held before now f0 f1 r
+    → Exchanges (outcome_told c) first_id (query_request trader c) [] held before now f0 f1 r
+from_fresh trader c s held before now f0 f1 r is x =
+    subst (λ (h : List ℕ). Exchanges (outcome_told c) first_id (query_request trader c) h held before now f0 f1 r)
     (ap (λ (u : Stream). u.rest) is) x
 
 -- what the query comes to, by what is held and left behind its reply
-asked_is : (profile : Iiop) (c : Call) (held : List ℕ) (t : Traffic) (now : Option Traffic) (reply : Reply)
-    (x : Replies (outcome_told c) first_id (query_request profile c) [] held t now (Done reply))
-    → asked c (left_of t) ≡ reply_ends reply (held ++ left_of (with_left x.rest (wrote (query_request profile c) t)))
-asked_is profile c held t now reply x =
-    ap (after_query (left_of t)) x.is ∙ ap (reply_ends reply) (sym x.behind)
-    ∙ ap (λ (left : List ℕ). reply_ends reply (held ++ left)) (sym x.left)
+asked_is : (trader : Iiop) (c : Call) (held : List ℕ) (t : Traffic) (now : Option Traffic) (reply : Reply)
+    (x : Replies (outcome_told c) first_id (query_request trader c) [] held t now (Done reply))
+    → asked_first trader c (left_of t)
+    ≡ reply_ends trader reply (held ++ left_of (with_left x.rest (wrote (query_request trader c) t)))
+asked_is trader c held t now reply x =
+    ap (after_query trader (left_of t)) x.is ∙ ap (reply_ends trader reply) (sym x.behind)
+    ∙ ap (λ (left : List ℕ). reply_ends trader reply (held ++ left)) (sym x.left)
 
--- an ending where the connection stands, as the wire tells it
-ends_here : (held : List ℕ) (u : Traffic) (now : Option Traffic) (reply : Reply) (f0 f1 : ℕ)
-    (r : Result Gathered PeerFault) → now ≡ Some u → EndsSo (reply_ends reply) held now f0 f1 r
-    → EndsSo (reply_ends reply) held (Some u) f0 f1 r
-ends_here held u now reply f0 f1 r is e =
-    subst (λ (x : Option Traffic). EndsSo (reply_ends reply) held x f0 f1 r) is e
+-- a part where the connection stands, as the wire tells it
+finds_here : (trader : Iiop) (held : List ℕ) (u : Traffic) (now : Option Traffic) (reply : Reply) (f0 f1 : ℕ)
+    (r : Result Part PeerFault) → now ≡ Some u → FindsSo (reply_ends trader reply) held now f0 f1 r
+    → FindsSo (reply_ends trader reply) held (Some u) f0 f1 r
+finds_here trader held u now reply f0 f1 r is e =
+    subst (λ (x : Option Traffic). FindsSo (reply_ends trader reply) held x f0 f1 r) is e
 
-through_some : (profile : Iiop) (c : Call) (held : List ℕ) (t : Traffic) (now : Option Traffic) (f0 f1 f2 : ℕ)
-    (reply : Reply) (r : Result Gathered PeerFault) → f0 ≤ f1
-    → (x : Replies (outcome_told c) first_id (query_request profile c) [] held t now (Done reply))
-    → EndsSo (reply_ends reply) held (Some (with_left x.rest (wrote (query_request profile c) t))) f1 f2 r
-    → AsksThrough c (Some t) f0 f2 r
-through_some profile c held t now f0 f1 f2 reply (Ok (Offers a)) later x e = asked_is profile c held t now reply x ∙ e
-through_some profile c held t now f0 f1 f2 reply (Ok (Refused answer)) later x e =
-    asked_is profile c held t now reply x ∙ e
-through_some profile c held t now f0 f1 f2 reply (Err fault.Wire) later x e =
-    elim e [
-      | inl rose ↦ inl (Rose-later f0 f1 f2 later rose)
-      | inr ended ↦ inr (asked_is profile c held t now reply x ∙ ended)
-    ]
-through_some profile c held t now f0 f1 f2 reply (Err fault.Grammar) later x e =
-    asked_is profile c held t now reply x ∙ e
-through_some profile c held t now f0 f1 f2 reply (Err fault.Exception) later x e = absurd e
-through_some profile c held t now f0 f1 f2 reply (Err fault.Memory) later x e = tt
-
-through_none : (c : Call) (held : List ℕ) (now : Option Traffic) (f0 f1 f2 : ℕ) (reply : Reply)
-    (r : Result Gathered PeerFault) → f0 ≤ f1 → EndsSo (reply_ends reply) held now f1 f2 r → AsksThrough c None f0 f2 r
-through_none c held now f0 f1 f2 reply (Ok (Offers a)) later e = tt
-through_none c held now f0 f1 f2 reply (Ok (Refused answer)) later e = tt
-through_none c held now f0 f1 f2 reply (Err fault.Wire) later e =
-    elim e [ inl rose ↦ inl (Rose-later f0 f1 f2 later rose) | inr ended ↦ inr tt ]
-through_none c held now f0 f1 f2 reply (Err fault.Grammar) later e = tt
-through_none c held now f0 f1 f2 reply (Err fault.Exception) later e = absurd e
-through_none c held now f0 f1 f2 reply (Err fault.Memory) later e = tt
-
-pub through_done : (profile : Iiop) (c : Call) (held : List ℕ) (before now : Option Traffic) (f0 f1 f2 : ℕ)
-    (reply : Reply) (r : Result Gathered PeerFault) → f0 ≤ f1
-    → Exchanges (outcome_told c) first_id (query_request profile c) [] held before now f0 f1 (Ok (Done reply))
-    → EndsSo (reply_ends reply) held now f1 f2 r → AsksThrough c before f0 f2 r
-through_done profile c held None now f0 f1 f2 reply r later x e =
-    through_none c held now f0 f1 f2 reply r later e
-through_done profile c held (Some t) now f0 f1 f2 reply r later x e =
-    through_some profile c held t now f0 f1 f2 reply r later x
-    (ends_here held (with_left x.rest (wrote (query_request profile c) t)) now reply f1 f2 r x.wire e)
+pub through_done : (trader : Iiop) (c : Call) (held : List ℕ) (before now : Option Traffic) (f0 f1 f2 : ℕ)
+    (reply : Reply) (r : Result Part PeerFault) → f0 ≤ f1
+    → Exchanges (outcome_told c) first_id (query_request trader c) [] held before now f0 f1 (Ok (Done reply))
+    → FindsSo (reply_ends trader reply) held now f1 f2 r → FindsSo (asked_first trader c) [] before f0 f2 r
+through_done trader c held None now f0 f1 f2 reply r later x e =
+    finds_untold (asked_first trader c) (reply_ends trader reply) [] held now f0 f1 f2 r later e
+through_done trader c held (Some t) now f0 f1 f2 reply r later x e =
+    let u : Traffic = with_left x.rest (wrote (query_request trader c) t) in
+    finds_behind (asked_first trader c) (reply_ends trader reply) [] held t u f0 f1 f2 r later
+    (asked_is trader c held t now reply x) (finds_here trader held u now reply f1 f2 r x.wire e)
 
 -- an exception
-pub through_refused : (profile : Iiop) (c : Call) (held : List ℕ) (before now : Option Traffic) (f0 f1 : ℕ)
-    (answer : Answered) → ((left : List ℕ) → query_ends answer left ≡ raised answer)
-    → Exchanges (outcome_told c) first_id (query_request profile c) [] held before now f0 f1 (Ok answer)
-    → AsksThrough c before f0 f1 (Ok (Refused answer))
-through_refused profile c held None now f0 f1 answer is x = tt
-through_refused profile c held (Some t) now f0 f1 answer is x =
-    ap (after_query (left_of t)) x.is ∙ is (drop x.size (left_of t))
+pub through_refused : (trader : Iiop) (c : Call) (held : List ℕ) (before now : Option Traffic) (f0 f1 : ℕ)
+    (answer : Answered) → ((left : List ℕ) → query_ends trader answer left ≡ ends (raised answer))
+    → Exchanges (outcome_told c) first_id (query_request trader c) [] held before now f0 f1 (Ok answer)
+    → FindsSo (asked_first trader c) [] before f0 f1 (Ok (All (Refused answer)))
+through_refused trader c held None now f0 f1 answer is x = tt
+through_refused trader c held (Some t) now f0 f1 answer is x =
+    ap (after_query trader (left_of t)) x.is ∙ is (drop x.size (left_of t))
 
-pub through_fault : (profile : Iiop) (c : Call) (held : List ℕ) (before now : Option Traffic) (f0 f1 : ℕ)
-    (e : PeerFault) → Exchanges (outcome_told c) first_id (query_request profile c) [] held before now f0 f1 (Err e)
-    → AsksThrough c before f0 f1 (Err e)
-through_fault profile c held None now f0 f1 fault.Wire x = elim x [ inl rose ↦ inl rose | inr ended ↦ inr tt ]
-through_fault profile c held (Some t) now f0 f1 fault.Wire x =
-    elim x [ inl rose ↦ inl rose | inr ended ↦ inr (ap (after_query (left_of t)) ended) ]
-through_fault profile c held None now f0 f1 fault.Grammar x = tt
-through_fault profile c held (Some t) now f0 f1 fault.Grammar x = ap (after_query (left_of t)) x
-through_fault profile c held before now f0 f1 fault.Exception x = absurd x
-through_fault profile c held before now f0 f1 fault.Memory x = tt
+pub through_fault : (trader : Iiop) (c : Call) (held : List ℕ) (before now : Option Traffic) (f0 f1 : ℕ)
+    (e : PeerFault) → Exchanges (outcome_told c) first_id (query_request trader c) [] held before now f0 f1 (Err e)
+    → FindsSo (asked_first trader c) [] before f0 f1 (Err e)
+through_fault trader c held None now f0 f1 fault.Wire x = elim x [ inl rose ↦ inl rose | inr ended ↦ inr tt ]
+through_fault trader c held (Some t) now f0 f1 fault.Wire x =
+    elim x [ inl rose ↦ inl rose | inr ended ↦ inr (ap (after_query trader (left_of t)) ended) ]
+through_fault trader c held None now f0 f1 fault.Grammar x = tt
+through_fault trader c held (Some t) now f0 f1 fault.Grammar x = ap (after_query trader (left_of t)) x
+through_fault trader c held before now f0 f1 fault.Exception x = absurd x
+through_fault trader c held before now f0 f1 fault.Memory x = tt
 
 -- ---- over a new connection
 
@@ -119,60 +97,182 @@ all_written : (requests : List ℕ) (t : Traffic) (after : Option Traffic) (w : 
 all_written requests t after w =
     sym (w.0.front ∙ ap (λ (x : List ℕ). w.0.written ++ x) (w.1 refl) ∙ append-nil w.0.written)
 
-asks_fresh : (p : Iiop) (c : Call) (before last after : Option Traffic) (f0 f1 f2 : ℕ) (r : Result Gathered PeerFault)
-    → f0 ≤ f1 → AsksThrough c (option_map (opened p.host p.port) before) f1 f2 r
-    → WritesBy (gives_all r) (asked_requests p c) [] (option_map (opened p.host p.port) before) last
-    → after ≡ option_map ended last → AsksAt p c before after f0 f2 r
-asks_fresh p c None last after f0 f1 f2 (Ok (Offers a)) later x w over = tt
-asks_fresh p c (Some t) last after f0 f1 f2 (Ok (Offers a)) later x w over =
+pub all_over : (requests : (given : List ℕ) → List ℕ) (p : Iiop) (s : Stream) (before mid last after : Option Traffic)
+    (f0 f1 : ℕ) (b : Bool) → Connected p before mid f0 f1 (Ok s) → WritesBy b requests [] mid last
+    → after ≡ option_map ended last → IsTrue b
+    → IfSome before (λ t. (rest : List ℕ)
+    × (after ≡ Some (ended (with_left rest (wrote (requests (next_given t)) (opened p.host p.port t))))))
+all_over requests p s before mid last after f0 f1 b made w over all =
+    go before (subst (λ (x : Option Traffic). WritesBy true requests [] x last) made.1
+    (subst (λ (x : Bool). WritesBy x requests [] mid last) all w))
+  where
+    go : (t : Option Traffic) → WritesBy true requests [] (option_map (opened p.host p.port) t) last
+        → IfSome t (λ u. (rest : List ℕ)
+        × (after ≡ Some (ended (with_left rest (wrote (requests (next_given u)) (opened p.host p.port u))))))
+    go None v = tt
+    go (Some u) v = (
+      v.0.rest,
+      over ∙ ap (option_map ended) v.0.wire
+          ∙ ap (λ (x : List ℕ). Some (ended (with_left v.0.rest (wrote x (opened p.host p.port u)))))
+          (all_written (requests (next_given u)) (opened p.host p.port u) last v),
+    )
+
+pub finds_connected : (part : (left : List ℕ) → FirstPart) (p : Iiop) (s : Stream) (before mid : Option Traffic)
+    (f0 f1 f2 : ℕ) (r : Result Part PeerFault) → Connected p before mid f0 f1 (Ok s) → f0 ≤ f1
+    → FindsSo part [] mid f1 f2 r → FindsSo part [] (option_map (opened p.host p.port) before) f0 f2 r
+finds_connected part p s before mid f0 f1 f2 r made later x =
+    finds_as part part [] (option_map (opened p.host p.port) before) f0 f1 f2 r later (λ left. refl)
+    (subst (λ (u : Option Traffic). FindsSo part [] u f1 f2 r) made.1 x)
+
+pub finds_unconnected : (part : (left : List ℕ) → FirstPart) (p : Iiop) (before after : Option Traffic) (f0 f1 : ℕ)
+    (e : PeerFault) → Connected p before after f0 f1 (Err e)
+    → FindsSo part [] (option_map (opened p.host p.port) before) f0 f1 (Err e)
+finds_unconnected part p before after f0 f1 fault.Wire failed = inl failed.0
+finds_unconnected part p before after f0 f1 fault.Grammar no_way = absurd no_way
+finds_unconnected part p before after f0 f1 fault.Exception no_way = absurd no_way
+finds_unconnected part p before after f0 f1 fault.Memory wanted = tt
+
+-- the same of an ending
+ends_later : (ending : (left : List ℕ) → Ended SubAnswer) (before : Option Traffic) (f0 f1 f2 : ℕ)
+    (r : Result Gathered PeerFault) → f0 ≤ f1 → EndsSo ending [] before f1 f2 r → EndsSo ending [] before f0 f2 r
+ends_later ending before f0 f1 f2 (Ok (Offers a)) later e = e
+ends_later ending before f0 f1 f2 (Ok (Refused answer)) later e = e
+ends_later ending before f0 f1 f2 (Err fault.Wire) later e =
+    elim e [ inl rose ↦ inl (Rose-later f0 f1 f2 later rose) | inr ended ↦ inr ended ]
+ends_later ending before f0 f1 f2 (Err fault.Grammar) later e = e
+ends_later ending before f0 f1 f2 (Err fault.Exception) later e = absurd e
+ends_later ending before f0 f1 f2 (Err fault.Memory) later e = tt
+
+pub ends_connected : (ending : (left : List ℕ) → Ended SubAnswer) (p : Iiop) (s : Stream)
+    (before mid : Option Traffic) (f0 f1 f2 : ℕ) (r : Result Gathered PeerFault)
+    → Connected p before mid f0 f1 (Ok s) → f0 ≤ f1 → EndsSo ending [] mid f1 f2 r
+    → EndsSo ending [] (option_map (opened p.host p.port) before) f0 f2 r
+ends_connected ending p s before mid f0 f1 f2 r made later e =
+    ends_later ending (option_map (opened p.host p.port) before) f0 f1 f2 r later
+    (subst (λ (u : Option Traffic). EndsSo ending [] u f1 f2 r) made.1 e)
+
+pub ends_unconnected : (ending : (left : List ℕ) → Ended SubAnswer) (p : Iiop) (before after : Option Traffic)
+    (f0 f1 : ℕ) (e : PeerFault) → Connected p before after f0 f1 (Err e)
+    → EndsSo ending [] (option_map (opened p.host p.port) before) f0 f1 (Err e)
+ends_unconnected ending p before after f0 f1 fault.Wire failed = inl failed.0
+ends_unconnected ending p before after f0 f1 fault.Grammar no_way = absurd no_way
+ends_unconnected ending p before after f0 f1 fault.Exception no_way = absurd no_way
+ends_unconnected ending p before after f0 f1 fault.Memory wanted = tt
+
+-- ---- what is answered where the query's connection gave all
+
+-- with what the next connection gives, which isn't made
+whole_is : (c : Call) (p : Iiop) (t : Traffic) (e : Ended SubAnswer) → asked_first p c (next_given t) ≡ ends e
+    → completed (asked_first p c (next_given t)) (second_given t) ≡ e
+whole_is c p t e is = ap (λ (x : FirstPart). completed x (second_given t)) is
+
+pub asks_all : (p : Iiop) (c : Call) (before after : Option Traffic) (f0 f1 : ℕ) (r : Result Gathered PeerFault)
+    → FindsSo (asked_first p c) [] (option_map (opened p.host p.port) before) f0 f1 (all_of r)
+    → (IsTrue (gives_all r) → HasQueried p c before after) → AsksAt p c before after f0 f1 r
+asks_all p c None after f0 f1 (Ok (Offers a)) x w = tt
+asks_all p c (Some t) after f0 f1 (Ok (Offers a)) x w =
     record {
-      is = x;
-      rest = w.0.rest;
-      wire =
-          over ∙ ap (option_map ended) w.0.wire
-          ∙ ap (λ (x : List ℕ). Some (ended (with_left w.0.rest (wrote x (opened p.host p.port t)))))
-          (all_written (asked_requests p c (next_given t)) (opened p.host p.port t) last w);
+      is = whole_is c p t _ x;
+      wire = subst (λ (part : FirstPart). HasWritten part p c t after) (sym x) (w refl);
     }
-asks_fresh p c None last after f0 f1 f2 (Ok (Refused answer)) later x w over = tt
-asks_fresh p c (Some t) last after f0 f1 f2 (Ok (Refused answer)) later x w over = x
-asks_fresh p c None last after f0 f1 f2 (Err fault.Wire) later x w over =
-    elim x [ inl rose ↦ inl (Rose-later f0 f1 f2 later rose) | inr ended ↦ inr tt ]
-asks_fresh p c (Some t) last after f0 f1 f2 (Err fault.Wire) later x w over =
-    elim x [ inl rose ↦ inl (Rose-later f0 f1 f2 later rose) | inr ended ↦ inr ended ]
-asks_fresh p c None last after f0 f1 f2 (Err fault.Grammar) later x w over = tt
-asks_fresh p c (Some t) last after f0 f1 f2 (Err fault.Grammar) later x w over = x
-asks_fresh p c before last after f0 f1 f2 (Err fault.Exception) later x w over = absurd x
-asks_fresh p c before last after f0 f1 f2 (Err fault.Memory) later x w over = tt
+asks_all p c None after f0 f1 (Ok (Refused answer)) x w = tt
+asks_all p c (Some t) after f0 f1 (Ok (Refused answer)) x w = whole_is c p t (raised answer) x
+asks_all p c None after f0 f1 (Err fault.Wire) x w = elim x [ inl rose ↦ inl rose | inr ended ↦ inr tt ]
+asks_all p c (Some t) after f0 f1 (Err fault.Wire) x w =
+    elim x [ inl rose ↦ inl rose | inr ended ↦ inr (whole_is c p t _ ended) ]
+asks_all p c None after f0 f1 (Err fault.Grammar) x w = tt
+asks_all p c (Some t) after f0 f1 (Err fault.Grammar) x w = whole_is c p t _ x
+asks_all p c before after f0 f1 (Err fault.Exception) x w = absurd x
+asks_all p c before after f0 f1 (Err fault.Memory) x w = tt
 
-pub asks_then : (p : Iiop) (c : Call) (s : Stream) (before mid last after : Option Traffic) (f0 f1 f2 : ℕ)
-    (r : Result Gathered PeerFault) → Connected p before mid f0 f1 (Ok s) → f0 ≤ f1
-    → AsksThrough c mid f1 f2 r → WritesBy (gives_all r) (asked_requests p c) [] mid last
-    → after ≡ option_map ended last → AsksAt p c before after f0 f2 r
-asks_then p c s before mid last after f0 f1 f2 r made later x w over =
-    asks_fresh p c before last after f0 f1 f2 r later
-    (subst (λ (u : Option Traffic). AsksThrough c u f1 f2 r) made.1 x)
-    (subst (λ (u : Option Traffic). WritesBy (gives_all r) (asked_requests p c) [] u last) made.1 w) over
+-- ---- what is answered where the iterator is elsewhere
 
-pub unconnected : (p : Iiop) (c : Call) (before after : Option Traffic) (f0 f1 : ℕ) (e : PeerFault)
-    → Connected p before after f0 f1 (Err e) → AsksAt p c before after f0 f1 (Err e)
-unconnected p c before after f0 f1 fault.Wire failed = inl failed.0
-unconnected p c before after f0 f1 fault.Grammar no_way = absurd no_way
-unconnected p c before after f0 f1 fault.Exception no_way = absurd no_way
-unconnected p c before after f0 f1 fault.Memory wanted = tt
+-- the next connection gives what is drained
+elsewhere_is : (c : Call) (p q : Iiop) (found : SubAnswer) (t : Traffic) (e : Ended SubAnswer)
+    → asked_first p c (next_given t) ≡ elsewhere q found → drained_behind found (second_given t) ≡ e
+    → completed (asked_first p c (next_given t)) (second_given t) ≡ e
+elsewhere_is c p q found t e is d = ap (λ (x : FirstPart). completed x (second_given t)) is ∙ d
 
-pub asks_of : (target : Ior) (p : Iiop) (c : Call) (before after : Option Traffic) (f0 f1 : ℕ)
-    (r : Result Gathered PeerFault) → iiop_of target ≡ Some p → AsksAt p c before after f0 f1 r
-    → AsksBy target c before after f0 f1 r
-asks_of target p c before after f0 f1 (Ok (Offers a)) found x = (p, found, x)
-asks_of target p c before after f0 f1 (Ok (Refused answer)) found x = x
-asks_of target p c before after f0 f1 (Err fault.Wire) found x = x
-asks_of target p c before after f0 f1 (Err fault.Grammar) found x = inr x
-asks_of target p c before after f0 f1 (Err fault.Exception) found x = x
-asks_of target p c before after f0 f1 (Err fault.Memory) found x = tt
+-- the connection to there as the wire tells it
+ends_there : (ending : (left : List ℕ) → Ended SubAnswer) (q : Iiop) (u : Traffic) (between : Option Traffic)
+    (f0 f1 : ℕ) (r : Result Gathered PeerFault) → between ≡ Some u
+    → EndsSo ending [] (option_map (opened q.host q.port) between) f0 f1 r
+    → EndsSo ending [] (Some (opened q.host q.port u)) f0 f1 r
+ends_there ending q u between f0 f1 r is e =
+    subst (λ (x : Option Traffic). EndsSo ending [] (option_map (opened q.host q.port) x) f0 f1 r) is e
 
-pub unasked : (target : Ior) (c : Call) (before after : Option Traffic) (f0 f1 : ℕ) (e : PeerFault)
-    → IsRead (iiop_of target) (Err e) → AsksBy target c before after f0 f1 (Err e)
-unasked target c before after f0 f1 fault.Wire no_way = absurd no_way
-unasked target c before after f0 f1 fault.Grammar none = inl none
-unasked target c before after f0 f1 fault.Exception no_way = absurd no_way
-unasked target c before after f0 f1 fault.Memory wanted = tt
+drained_there : (q : Iiop) (count : ℕ) (u : Traffic) (between after : Option Traffic) → between ≡ Some u
+    → HasDrained q count between after → (more : List ℕ) × (after ≡ Some (drain_over q count more u))
+drained_there q count u between after is w =
+    subst (λ (x : Option Traffic). HasDrained q count x after) is w
+
+asks_told : (p : Iiop) (c : Call) (t : Traffic) (between after : Option Traffic) (q : Iiop) (found : SubAnswer)
+    (f0 f1 f2 : ℕ) (r : Result Gathered PeerFault) → f0 ≤ f1
+    → asked_first p c (next_given t) ≡ elsewhere q found → (rest : List ℕ)
+    → between ≡ Some (query_over p c rest t)
+    → EndsSo (drained_behind found) [] (Some (opened q.host q.port (query_over p c rest t))) f1 f2 r
+    → (IsTrue (gives_all r) → HasDrained q (length found.offers) between after)
+    → AsksAt p c (Some t) after f0 f2 r
+asks_told p c t between after q found f0 f1 f2 (Ok (Offers a)) later is rest over e w =
+    let more = drained_there q (length found.offers) (query_over p c rest t) between after over (w refl) in
+    record {
+      is = elsewhere_is c p q found t _ is e;
+      wire = subst (λ (part : FirstPart). HasWritten part p c t after) (sym is) (rest, more.0, more.1);
+    }
+asks_told p c t between after q found f0 f1 f2 (Ok (Refused answer)) later is rest over e w =
+    elsewhere_is c p q found t (raised answer) is e
+asks_told p c t between after q found f0 f1 f2 (Err fault.Wire) later is rest over e w =
+    elim e [
+      | inl rose ↦ inl (Rose-later f0 f1 f2 later rose)
+      | inr ended ↦ inr (elsewhere_is c p q found t _ is ended)
+    ]
+asks_told p c t between after q found f0 f1 f2 (Err fault.Grammar) later is rest over e w =
+    elsewhere_is c p q found t _ is e
+asks_told p c t between after q found f0 f1 f2 (Err fault.Exception) later is rest over e w = absurd e
+asks_told p c t between after q found f0 f1 f2 (Err fault.Memory) later is rest over e w = tt
+
+asks_untold : (p : Iiop) (c : Call) (between after : Option Traffic) (q : Iiop) (found : SubAnswer) (f0 f1 f2 : ℕ)
+    (r : Result Gathered PeerFault) → f0 ≤ f1
+    → EndsSo (drained_behind found) [] (option_map (opened q.host q.port) between) f1 f2 r
+    → AsksAt p c None after f0 f2 r
+asks_untold p c between after q found f0 f1 f2 (Ok (Offers a)) later e = tt
+asks_untold p c between after q found f0 f1 f2 (Ok (Refused answer)) later e = tt
+asks_untold p c between after q found f0 f1 f2 (Err fault.Wire) later e =
+    elim e [ inl rose ↦ inl (Rose-later f0 f1 f2 later rose) | inr ended ↦ inr tt ]
+asks_untold p c between after q found f0 f1 f2 (Err fault.Grammar) later e = tt
+asks_untold p c between after q found f0 f1 f2 (Err fault.Exception) later e = absurd e
+asks_untold p c between after q found f0 f1 f2 (Err fault.Memory) later e = tt
+
+pub asks_there : (p : Iiop) (c : Call) (before between after : Option Traffic) (q : Iiop) (found : SubAnswer)
+    (f0 f1 f2 : ℕ) (r : Result Gathered PeerFault) → f0 ≤ f1
+    → FindsSo (asked_first p c) [] (option_map (opened p.host p.port) before) f0 f1 (Ok (Elsewhere q found))
+    → (IsTrue true → HasQueried p c before between)
+    → EndsSo (drained_behind found) [] (option_map (opened q.host q.port) between) f1 f2 r
+    → (IsTrue (gives_all r) → HasDrained q (length found.offers) between after) → AsksAt p c before after f0 f2 r
+asks_there p c None between after q found f0 f1 f2 r later x h e w =
+    asks_untold p c between after q found f0 f1 f2 r later e
+asks_there p c (Some t) between after q found f0 f1 f2 r later x h e w =
+    let there = h refl in
+    asks_told p c t between after q found f0 f1 f2 r later x there.0 there.1
+    (ends_there (drained_behind found) q (query_over p c there.0 t) between f1 f2 r there.1 e) w
+
+-- ---- by the trader's reference
+
+pub asks_of : (o : Option Iiop) (p : Iiop) (c : Call) (before after : Option Traffic) (f0 f1 : ℕ)
+    (r : Result Gathered PeerFault) → o ≡ Some p → AsksAt p c before after f0 f1 r
+    → AsksBy o c before after f0 f1 r
+asks_of o p c before after f0 f1 r found x =
+    subst (λ (y : Option Iiop). AsksBy y c before after f0 f1 r) (sym found) x
+
+pub unasked_memory : (o : Option Iiop) (c : Call) (before after : Option Traffic) (f0 f1 : ℕ)
+    → AsksBy o c before after f0 f1 (Err fault.Memory)
+unasked_memory (Some p) c before after f0 f1 = tt
+unasked_memory None c before after f0 f1 = tt
+
+pub unasked : (o : Option Iiop) (c : Call) (before after : Option Traffic) (f0 f1 : ℕ) (e : PeerFault)
+    → IsRead o (Err e) → AsksBy o c before after f0 f1 (Err e)
+unasked o c before after f0 f1 fault.Wire no_way = absurd no_way
+unasked o c before after f0 f1 fault.Grammar none =
+    subst (λ (y : Option Iiop). AsksBy y c before after f0 f1 (Err fault.Grammar)) (sym none) tt
+unasked o c before after f0 f1 fault.Exception no_way = absurd no_way
+unasked o c before after f0 f1 fault.Memory wanted = unasked_memory o c before after f0 f1

@@ -1,146 +1,196 @@
--- From what an iterator gave to what a query answers.
-use Rattle.std.proofs.Common.{◌≡◌, ◌∙◌, inl, inr, ℕ, Bool, true, false, cond, List, [], ◌++◌}
-use Rattle.std.proofs.Common.{length, Option, Some, None, Result, Ok, Err, sym, ap}
-use Rattle.std.proofs.Common.{append-nil, subst}
+-- From what an iterator gave to what the query's own connection gives.
+use Rattle.std.proofs.Common.{◌≡◌, ◌∙◌, inl, inr, ℕ, ◌≤◌, Bool, true, false, cond, List, ◌++◌}
+use Rattle.std.proofs.Common.{length, Option, Some, None, Result, Ok, Err, sym, ap, arith}
 use Rattle.td_codes.specs.declared.reference.Ior.{Ior}
 use Rattle.td_ior.specs.declared.profile.Iiop.{Iiop}
 use Rattle.td_ior.specs.Nil.{is_nil}
 use Rattle.td_ior.specs.Profiles.{iiop_of}
 use Rattle.td_ops.specs.declared.outcome.Answered.{Answered}
+use Rattle.td_out.proofs.Steps.{Rose-later}
 use Rattle.td_value.specs.declared.structures.Offer.{Offer}
+use Rattle.td_walk.specs.declared.answer.SubAnswer.{SubAnswer}
 use Rattle.td_walk.specs.declared.fault.PeerFault.{PeerFault}
 use Rattle.td_walk.specs.declared.fault.PeerFault.TheVariants as fault
 use Rattle.td_wire.specs.Connections.{Traffic, left_of}
 use Rattle.td_call.specs.Fetching.{IsRead}
-use Rattle.td_gather.specs.Asking.{EndsSo, LeavesOver}
-use Rattle.td_gather.specs.Asking.{found_ends, iterated, left_over, most_batches, second_id}
-use Rattle.td_gather.specs.Asking.{with_limits}
+use Rattle.td_gather.specs.Asking.{EndsSo, FindsSo, FirstPart, drained_behind, elsewhere, ends, found_ends}
+use Rattle.td_gather.specs.Asking.{is_at, iterated, left_ends, most_batches, second_id, with_limits}
 use Rattle.td_gather.specs.Draining.{Ended, gave, raised, unclear, cut, behind, drained, may_join}
 use Rattle.td_gather.specs.Turns.{Drains}
+use Rattle.td_gather.specs.declared.gathered.Found.{Found as Part}
+use Rattle.td_gather.specs.declared.gathered.Found.TheVariants.{All, Elsewhere}
+use Rattle.td_gather.specs.declared.gathered.Gathered.{Gathered}
 use Rattle.td_gather.specs.declared.gathered.Gathered.TheVariants.{Offers, Refused}
 
--- ---- an iterator
+-- ---- an iterator's offers behind what was found
 
-over_nil : (iterator : Ior) (count : ℕ) (given : List ℕ) → is_nil iterator ≡ true
-    → left_over iterator count given ≡ gave []
-over_nil iterator count given nil =
-    ap (λ (b : Bool). cond b (gave []) (iterated (iiop_of iterator) count given)) nil
+drained_by : (found : SubAnswer) (old : List Offer) (given : List ℕ) (e : Ended (List Offer)) → old ≡ found.offers
+    → drained most_batches second_id (length old) given ≡ e
+    → drained_behind found given ≡ with_limits found.limits (behind found.offers e)
+drained_by found old given e is d =
+    ap (λ (x : List Offer). with_limits found.limits
+    (behind found.offers (drained most_batches second_id (length x) given))) (sym is)
+    ∙ ap (λ (x : Ended (List Offer)). with_limits found.limits (behind found.offers x)) d
 
-over_iterated : (iterator : Ior) (count : ℕ) (given : List ℕ) → is_nil iterator ≡ false
-    → left_over iterator count given ≡ iterated (iiop_of iterator) count given
-over_iterated iterator count given some =
-    ap (λ (b : Bool). cond b (gave []) (iterated (iiop_of iterator) count given)) some
+pub behind_gathered : (found : SubAnswer) (old new all : List Offer) (held : List ℕ) (before : Option Traffic) (f0 f1 : ℕ)
+    → old ≡ found.offers → all ≡ new → Drains second_id most_batches held before f0 f1 old new (Ok None)
+    → EndsSo (drained_behind found) held before f0 f1 (Ok (Offers (record { offers = all; limits = found.limits })))
+behind_gathered found old new all held None f0 f1 is same d = tt
+behind_gathered found old new all held (Some t) f0 f1 is same d =
+    drained_by found old (held ++ left_of t) (gave d.0) is d.2
+    ∙ ap (λ (x : List Offer). gave (record { offers = x; limits = found.limits }))
+    (sym (same ∙ d.1 ∙ ap (λ (x : List Offer). x ++ d.0) is))
 
-over_drained : (iterator : Ior) (p : Iiop) (count : ℕ) (given : List ℕ) → is_nil iterator ≡ false
-    → iiop_of iterator ≡ Some p → left_over iterator count given ≡ drained most_batches second_id count given
-over_drained iterator p count given some found =
-    over_iterated iterator count given some ∙ ap (λ (o : Option Iiop). iterated o count given) found
+pub behind_refused : (found : SubAnswer) (old new : List Offer) (held : List ℕ) (before : Option Traffic) (f0 f1 : ℕ)
+    (answer : Answered) → old ≡ found.offers
+    → Drains second_id most_batches held before f0 f1 old new (Ok (Some answer))
+    → EndsSo (drained_behind found) held before f0 f1 (Ok (Refused answer))
+behind_refused found old new held None f0 f1 answer is d = tt
+behind_refused found old new held (Some t) f0 f1 answer is d =
+    drained_by found old (held ++ left_of t) (raised answer) is d
 
-pub leaves_none : (iterator : Ior) (held : List ℕ) (before : Option Traffic) (f : ℕ) (old : List Offer)
-    → is_nil iterator ≡ true → LeavesOver iterator held before f f old old (Ok None)
-leaves_none iterator held None f old nil = tt
-leaves_none iterator held (Some t) f old nil =
-    ([], sym (append-nil old), over_nil iterator (length old) (held ++ left_of t) nil)
-
-pub leaves_no_profile : (iterator : Ior) (held : List ℕ) (before : Option Traffic) (f0 f1 : ℕ)
-    (old new : List Offer) (e : PeerFault) → is_nil iterator ≡ false → IsRead (iiop_of iterator) (Err e)
-    → LeavesOver iterator held before f0 f1 old new (Err e)
-leaves_no_profile iterator held before f0 f1 old new fault.Wire some none = absurd none
-leaves_no_profile iterator held None f0 f1 old new fault.Grammar some none = tt
-leaves_no_profile iterator held (Some t) f0 f1 old new fault.Grammar some none =
-    over_iterated iterator (length old) (held ++ left_of t) some
-    ∙ ap (λ (o : Option Iiop). iterated o (length old) (held ++ left_of t)) none
-leaves_no_profile iterator held before f0 f1 old new fault.Exception some none = absurd none
-leaves_no_profile iterator held before f0 f1 old new fault.Memory some none = tt
-
-pub leaves_drained : (iterator : Ior) (p : Iiop) (held : List ℕ) (before : Option Traffic) (f0 f1 : ℕ)
-    (old new : List Offer) (r : Result (Option Answered) PeerFault) → is_nil iterator ≡ false
-    → iiop_of iterator ≡ Some p → Drains second_id most_batches held before f0 f1 old new r
-    → LeavesOver iterator held before f0 f1 old new r
-leaves_drained iterator p held None f0 f1 old new (Ok None) some found d = tt
-leaves_drained iterator p held (Some t) f0 f1 old new (Ok None) some found d =
-    (d.0, d.1, over_drained iterator p (length old) (held ++ left_of t) some found ∙ d.2)
-leaves_drained iterator p held None f0 f1 old new (Ok (Some answer)) some found d = tt
-leaves_drained iterator p held (Some t) f0 f1 old new (Ok (Some answer)) some found d =
-    over_drained iterator p (length old) (held ++ left_of t) some found ∙ d
-leaves_drained iterator p held None f0 f1 old new (Err fault.Wire) some found d =
+pub behind_fault : (found : SubAnswer) (old new : List Offer) (held : List ℕ) (before : Option Traffic) (f0 f1 : ℕ)
+    (e : PeerFault) → old ≡ found.offers → Drains second_id most_batches held before f0 f1 old new (Err e)
+    → EndsSo (drained_behind found) held before f0 f1 (Err e)
+behind_fault found old new held None f0 f1 fault.Wire is d =
     elim d [ inl rose ↦ inl rose | inr ended ↦ inr tt ]
-leaves_drained iterator p held (Some t) f0 f1 old new (Err fault.Wire) some found d =
+behind_fault found old new held (Some t) f0 f1 fault.Wire is d =
     elim d [
       | inl rose ↦ inl rose
-      | inr ended ↦ inr (over_drained iterator p (length old) (held ++ left_of t) some found ∙ ended)
+      | inr ended ↦ inr (drained_by found old (held ++ left_of t) cut is ended)
     ]
-leaves_drained iterator p held None f0 f1 old new (Err fault.Grammar) some found d = tt
-leaves_drained iterator p held (Some t) f0 f1 old new (Err fault.Grammar) some found d =
-    over_drained iterator p (length old) (held ++ left_of t) some found ∙ d
-leaves_drained iterator p held before f0 f1 old new (Err fault.Exception) some found d = absurd d
-leaves_drained iterator p held before f0 f1 old new (Err fault.Memory) some found d = tt
+behind_fault found old new held None f0 f1 fault.Grammar is d = tt
+behind_fault found old new held (Some t) f0 f1 fault.Grammar is d =
+    drained_by found old (held ++ left_of t) unclear is d
+behind_fault found old new held before f0 f1 fault.Exception is d = absurd d
+behind_fault found old new held before f0 f1 fault.Memory is d = tt
 
--- ---- what was found, with what the iterator gave
+-- ---- one part by the words of another
 
-joined_ends : (offers : List Offer) (iterator : Ior) (limits : List (List ℕ)) (left : List ℕ)
-    → may_join 0 offers ≡ true
-    → found_ends offers iterator limits left
-    ≡ with_limits limits (behind offers (left_over iterator (length offers) left))
-joined_ends offers iterator limits left joins =
-    ap (λ (b : Bool). cond b (with_limits limits (behind offers (left_over iterator (length offers) left))) unclear)
-    joins
+-- behind some more bytes, and with an earlier count of faults
+pub finds_behind : (part more : (left : List ℕ) → FirstPart) (held rest : List ℕ) (t u : Traffic) (f0 f1 f2 : ℕ)
+    (r : Result Part PeerFault) → f0 ≤ f1 → part (held ++ left_of t) ≡ more (rest ++ left_of u)
+    → FindsSo more rest (Some u) f1 f2 r → FindsSo part held (Some t) f0 f2 r
+finds_behind part more held rest t u f0 f1 f2 (Ok (All (Offers a))) later is x = is ∙ x
+finds_behind part more held rest t u f0 f1 f2 (Ok (All (Refused answer))) later is x = is ∙ x
+finds_behind part more held rest t u f0 f1 f2 (Ok (Elsewhere p found)) later is x = is ∙ x
+finds_behind part more held rest t u f0 f1 f2 (Err fault.Wire) later is x =
+    elim x [ inl rose ↦ inl (Rose-later f0 f1 f2 later rose) | inr ended ↦ inr (is ∙ ended) ]
+finds_behind part more held rest t u f0 f1 f2 (Err fault.Grammar) later is x = is ∙ x
+finds_behind part more held rest t u f0 f1 f2 (Err fault.Exception) later is x = absurd x
+finds_behind part more held rest t u f0 f1 f2 (Err fault.Memory) later is x = tt
 
--- the same where the end of what the iterator gives is known
-ends_by : (offers : List Offer) (iterator : Ior) (limits : List (List ℕ)) (left : List ℕ) (e : Ended (List Offer))
-    → may_join 0 offers ≡ true → left_over iterator (length offers) left ≡ e
-    → found_ends offers iterator limits left ≡ with_limits limits (behind offers e)
-ends_by offers iterator limits left e joins ending =
-    joined_ends offers iterator limits left joins
-    ∙ ap (λ (x : Ended (List Offer)). with_limits limits (behind offers x)) ending
+-- where the wire tells nothing
+pub finds_untold : (part more : (left : List ℕ) → FirstPart) (held rest : List ℕ) (now : Option Traffic) (f0 f1 f2 : ℕ)
+    (r : Result Part PeerFault) → f0 ≤ f1 → FindsSo more rest now f1 f2 r → FindsSo part held None f0 f2 r
+finds_untold part more held rest now f0 f1 f2 (Ok (All (Offers a))) later x = tt
+finds_untold part more held rest now f0 f1 f2 (Ok (All (Refused answer))) later x = tt
+finds_untold part more held rest now f0 f1 f2 (Ok (Elsewhere p found)) later x = tt
+finds_untold part more held rest now f0 f1 f2 (Err fault.Wire) later x =
+    elim x [ inl rose ↦ inl (Rose-later f0 f1 f2 later rose) | inr ended ↦ inr tt ]
+finds_untold part more held rest now f0 f1 f2 (Err fault.Grammar) later x = tt
+finds_untold part more held rest now f0 f1 f2 (Err fault.Exception) later x = absurd x
+finds_untold part more held rest now f0 f1 f2 (Err fault.Memory) later x = tt
 
-pub unjoined_ends : (offers : List Offer) (iterator : Ior) (limits : List (List ℕ)) (held : List ℕ)
-    (before : Option Traffic) (f0 f1 : ℕ) → may_join 0 offers ≡ false
-    → EndsSo (found_ends offers iterator limits) held before f0 f1 (Err fault.Grammar)
-unjoined_ends offers iterator limits held None f0 f1 refused = tt
-unjoined_ends offers iterator limits held (Some t) f0 f1 refused =
-    ap (λ (b : Bool).
-    cond b (with_limits limits (behind offers (left_over iterator (length offers) (held ++ left_of t)))) unclear)
-    refused
+pub finds_as : (part more : (left : List ℕ) → FirstPart) (held : List ℕ) (before : Option Traffic) (f0 f1 f2 : ℕ)
+    (r : Result Part PeerFault) → f0 ≤ f1 → ((left : List ℕ) → part left ≡ more left)
+    → FindsSo more held before f1 f2 r → FindsSo part held before f0 f2 r
+finds_as part more held None f0 f1 f2 r later is x = finds_untold part more held held None f0 f1 f2 r later x
+finds_as part more held (Some t) f0 f1 f2 r later is x =
+    finds_behind part more held held t t f0 f1 f2 r later (is (held ++ left_of t)) x
 
--- the offers that were gathered first are those of the reply
-pub from_reply : (iterator : Ior) (held : List ℕ) (before : Option Traffic) (f0 f1 : ℕ)
-    (old offers new : List Offer) (r : Result (Option Answered) PeerFault) → old ≡ offers
-    → LeavesOver iterator held before f0 f1 old new r → LeavesOver iterator held before f0 f1 offers new r
-from_reply iterator held before f0 f1 old offers new r is l =
-    subst (λ (x : List Offer). LeavesOver iterator held before f0 f1 x new r) is l
+-- ---- parts that are known
 
-pub ends_gathered : (offers new all : List Offer) (iterator : Ior) (limits : List (List ℕ)) (held : List ℕ)
-    (before : Option Traffic) (f0 f1 : ℕ) → may_join 0 offers ≡ true → all ≡ new
-    → LeavesOver iterator held before f0 f1 offers new (Ok None)
-    → EndsSo (found_ends offers iterator limits) held before f0 f1
-    (Ok (Offers (record { offers = all; limits = limits })))
-ends_gathered offers new all iterator limits held None f0 f1 joins is l = tt
-ends_gathered offers new all iterator limits held (Some t) f0 f1 joins is l =
-    ends_by offers iterator limits (held ++ left_of t) (gave l.0) joins l.2
-    ∙ ap (λ (x : List Offer). gave (record { offers = x; limits = limits })) (sym (is ∙ l.1))
+pub finds_offers : (part : (left : List ℕ) → FirstPart) (held : List ℕ) (before : Option Traffic) (f0 f1 : ℕ)
+    (a : SubAnswer) → ((left : List ℕ) → part left ≡ ends (gave a))
+    → FindsSo part held before f0 f1 (Ok (All (Offers a)))
+finds_offers part held None f0 f1 a is = tt
+finds_offers part held (Some t) f0 f1 a is = is (held ++ left_of t)
 
-pub ends_refused : (offers new : List Offer) (iterator : Ior) (limits : List (List ℕ)) (held : List ℕ)
-    (before : Option Traffic) (f0 f1 : ℕ) (answer : Answered) → may_join 0 offers ≡ true
-    → LeavesOver iterator held before f0 f1 offers new (Ok (Some answer))
-    → EndsSo (found_ends offers iterator limits) held before f0 f1 (Ok (Refused answer))
-ends_refused offers new iterator limits held None f0 f1 answer joins l = tt
-ends_refused offers new iterator limits held (Some t) f0 f1 answer joins l =
-    ends_by offers iterator limits (held ++ left_of t) (raised answer) joins l
+pub finds_elsewhere : (part : (left : List ℕ) → FirstPart) (held : List ℕ) (before : Option Traffic) (f0 f1 : ℕ)
+    (p : Iiop) (found : SubAnswer) → ((left : List ℕ) → part left ≡ elsewhere p found)
+    → FindsSo part held before f0 f1 (Ok (Elsewhere p found))
+finds_elsewhere part held None f0 f1 p found is = tt
+finds_elsewhere part held (Some t) f0 f1 p found is = is (held ++ left_of t)
 
-pub ends_fault : (offers new : List Offer) (iterator : Ior) (limits : List (List ℕ)) (held : List ℕ)
-    (before : Option Traffic) (f0 f1 : ℕ) (e : PeerFault) → may_join 0 offers ≡ true
-    → LeavesOver iterator held before f0 f1 offers new (Err e)
-    → EndsSo (found_ends offers iterator limits) held before f0 f1 (Err e)
-ends_fault offers new iterator limits held None f0 f1 fault.Wire joins l =
-    elim l [ inl rose ↦ inl rose | inr ended ↦ inr tt ]
-ends_fault offers new iterator limits held (Some t) f0 f1 fault.Wire joins l =
-    elim l [
+pub finds_unclear : (part : (left : List ℕ) → FirstPart) (held : List ℕ) (before : Option Traffic) (f0 f1 : ℕ)
+    → ((left : List ℕ) → part left ≡ ends unclear) → FindsSo part held before f0 f1 (Err fault.Grammar)
+finds_unclear part held None f0 f1 is = tt
+finds_unclear part held (Some t) f0 f1 is = is (held ++ left_of t)
+
+-- all that the query comes to
+abbrev pub all_of : Result Gathered PeerFault → Result Part PeerFault
+all_of (Ok g) = Ok (All g)
+all_of (Err e) = Err e
+
+pub finds_ended : (part : (left : List ℕ) → FirstPart) (ending : (left : List ℕ) → Ended SubAnswer) (held : List ℕ)
+    (before : Option Traffic) (f0 f1 : ℕ) (r : Result Gathered PeerFault)
+    → ((left : List ℕ) → part left ≡ ends (ending left)) → EndsSo ending held before f0 f1 r
+    → FindsSo part held before f0 f1 (all_of r)
+finds_ended part ending held None f0 f1 (Ok (Offers a)) is e = tt
+finds_ended part ending held (Some t) f0 f1 (Ok (Offers a)) is e =
+    is (held ++ left_of t) ∙ ap (λ (x : Ended SubAnswer). ends x) e
+finds_ended part ending held None f0 f1 (Ok (Refused answer)) is e = tt
+finds_ended part ending held (Some t) f0 f1 (Ok (Refused answer)) is e =
+    is (held ++ left_of t) ∙ ap (λ (x : Ended SubAnswer). ends x) e
+finds_ended part ending held None f0 f1 (Err fault.Wire) is e =
+    elim e [ inl rose ↦ inl rose | inr ended ↦ inr tt ]
+finds_ended part ending held (Some t) f0 f1 (Err fault.Wire) is e =
+    elim e [
       | inl rose ↦ inl rose
-      | inr ended ↦ inr (ends_by offers iterator limits (held ++ left_of t) cut joins ended)
+      | inr ended ↦ inr (is (held ++ left_of t) ∙ ap (λ (x : Ended SubAnswer). ends x) ended)
     ]
-ends_fault offers new iterator limits held None f0 f1 fault.Grammar joins l = tt
-ends_fault offers new iterator limits held (Some t) f0 f1 fault.Grammar joins l =
-    ends_by offers iterator limits (held ++ left_of t) unclear joins l
-ends_fault offers new iterator limits held before f0 f1 fault.Exception joins l = absurd l
-ends_fault offers new iterator limits held before f0 f1 fault.Memory joins l = tt
+finds_ended part ending held None f0 f1 (Err fault.Grammar) is e = tt
+finds_ended part ending held (Some t) f0 f1 (Err fault.Grammar) is e =
+    is (held ++ left_of t) ∙ ap (λ (x : Ended SubAnswer). ends x) e
+finds_ended part ending held before f0 f1 (Err fault.Exception) is e = absurd e
+finds_ended part ending held before f0 f1 (Err fault.Memory) is e = tt
+
+-- ---- an iterator, by its reference and its profile
+
+pub at_place : (trader p : Iiop) (found : SubAnswer) → is_at trader p ≡ true
+    → (left : List ℕ) → iterated trader (Some p) found left ≡ ends (drained_behind found left)
+at_place trader p found here left =
+    ap (λ (b : Bool). cond b (ends (drained_behind found left)) (elsewhere p found)) here
+
+pub at_other : (trader p : Iiop) (found : SubAnswer) → is_at trader p ≡ false
+    → (left : List ℕ) → iterated trader (Some p) found left ≡ elsewhere p found
+at_other trader p found there left =
+    ap (λ (b : Bool). cond b (ends (drained_behind found left)) (elsewhere p found)) there
+
+pub of_nil : (trader : Iiop) (iterator : Ior) (found : SubAnswer) → is_nil iterator ≡ true
+    → (left : List ℕ) → left_ends trader iterator found left ≡ ends (gave found)
+of_nil trader iterator found nil left =
+    ap (λ (b : Bool). cond b (ends (gave found)) (iterated trader (iiop_of iterator) found left)) nil
+
+pub of_profile : (trader : Iiop) (iterator : Ior) (o : Option Iiop) (found : SubAnswer) → is_nil iterator ≡ false
+    → iiop_of iterator ≡ o → (left : List ℕ) → left_ends trader iterator found left ≡ iterated trader o found left
+of_profile trader iterator o found some is left =
+    ap (λ (b : Bool). cond b (ends (gave found)) (iterated trader (iiop_of iterator) found left)) some
+    ∙ ap (λ (x : Option Iiop). iterated trader x found left) is
+
+pub finds_no_profile : (trader : Iiop) (iterator : Ior) (found : SubAnswer) (held : List ℕ) (before : Option Traffic)
+    (f0 f1 : ℕ) (e : PeerFault) → is_nil iterator ≡ false → IsRead (iiop_of iterator) (Err e)
+    → FindsSo (left_ends trader iterator found) held before f0 f1 (Err e)
+finds_no_profile trader iterator found held before f0 f1 fault.Wire some none = absurd none
+finds_no_profile trader iterator found held before f0 f1 fault.Grammar some none =
+    finds_unclear (left_ends trader iterator found) held before f0 f1
+    (of_profile trader iterator None found some none)
+finds_no_profile trader iterator found held before f0 f1 fault.Exception some none = absurd none
+finds_no_profile trader iterator found held before f0 f1 fault.Memory some none = tt
+
+pub joined_ends : (trader : Iiop) (iterator : Ior) (found : SubAnswer) → may_join 0 found.offers ≡ true
+    → (left : List ℕ) → found_ends trader iterator found left ≡ left_ends trader iterator found left
+joined_ends trader iterator found joins left =
+    ap (λ (b : Bool). cond b (left_ends trader iterator found left) (ends unclear)) joins
+
+pub unjoined_ends : (trader : Iiop) (iterator : Ior) (found : SubAnswer) → may_join 0 found.offers ≡ false
+    → (left : List ℕ) → found_ends trader iterator found left ≡ ends unclear
+unjoined_ends trader iterator found refused left =
+    ap (λ (b : Bool). cond b (left_ends trader iterator found left) (ends unclear)) refused
+
+-- with no fault in between
+pub finds_same : (part more : (left : List ℕ) → FirstPart) (held : List ℕ) (before : Option Traffic) (f0 f1 : ℕ)
+    (r : Result Part PeerFault) → ((left : List ℕ) → part left ≡ more left) → FindsSo more held before f0 f1 r
+    → FindsSo part held before f0 f1 r
+finds_same part more held before f0 f1 r is x = finds_as part more held before f0 f0 f1 r (omega arith) is x

@@ -7,28 +7,32 @@ use Rattle.td_ior.specs.Profiles.{iiop_of}
 use Rattle.td_ops.specs.declared.call.Call.{Call}
 use Rattle.td_ops.specs.declared.outcome.Answered.{Answered}
 use Rattle.td_ops.specs.declared.outcome.Answered.TheVariants.{Done}
-use Rattle.td_ops.specs.declared.outcome.Reply.TheVariants.{Batch}
+use Rattle.td_ops.specs.declared.outcome.Reply.TheVariants.{Batch, Nothing}
 use Rattle.td_value.specs.declared.structures.Offer.{Offer}
+use Rattle.td_walk.specs.declared.answer.SubAnswer.{SubAnswer}
 use Rattle.td_call.specs.Calling.{first_id}
 use Rattle.td_call.specs.Replies.{Comes, told, replied}
 use Rattle.td_call.specs.Readings.{outcome_told}
 use Rattle.td_call.specs.Requests.{request_of}
-use Rattle.td_gather.specs.Asking.{iterator_requests, most_batches, requests_behind, second_id}
-use Rattle.td_gather.specs.Draining.{batch_length, batches_asked, destroy, drain_requests, goes_on, may_join}
-use Rattle.td_gather.specs.Draining.{next_batch}
-use Rattle.td_gather.specs.Examples.{GivesBatches, WorkedBatches, WorkedException, WorkedNil}
+use Rattle.td_gather.specs.Asking.{FirstPart, after_query, asked_first, asked_requests, completed, drained_behind}
+use Rattle.td_gather.specs.Asking.{elsewhere, ends, iterated, iterator_requests, left_ends, left_requests, most_batches}
+use Rattle.td_gather.specs.Asking.{requests_behind, requests_here, second_id, with_limits}
+use Rattle.td_gather.specs.Draining.{Ended, after_batch, after_destroy, batch_length, batches_asked, behind, destroy}
+use Rattle.td_gather.specs.Draining.{drain_requests, drained, gave, goes_on, may_join, next_batch, unclear}
+use Rattle.td_gather.specs.Examples.{FindsElsewhere, GivesBatches, GivesLast, WorkedBatches, WorkedElsewhere}
+use Rattle.td_gather.specs.Examples.{WorkedException, WorkedNil, WorkedPlaces}
 use Rattle.td_gather.proofs.Batching.{asked_behind}
 
 pub no_iterator : (trader : Iiop) (c : Call) (given : List ℕ) (size : ℕ) → WorkedNil trader c given size
 unfolding may_join
 no_iterator trader c given size is =
-    ap (λ (x : Comes Answered). request_of first_id trader c ++ requests_behind given x) is
+    ap (λ (x : Comes Answered). request_of first_id trader c ++ requests_behind trader given x) is
     ∙ append-nil (request_of first_id trader c)
 
 pub exception : (trader : Iiop) (c : Call) (given : List ℕ) (size : ℕ) (id : List ℕ)
     → WorkedException trader c given size id
 exception trader c given size id is =
-    ap (λ (x : Comes Answered). request_of first_id trader c ++ requests_behind given x) is
+    ap (λ (x : Comes Answered). request_of first_id trader c ++ requests_behind trader given x) is
     ∙ append-nil (request_of first_id trader c)
 
 -- how many batches are asked for: one, and those behind its reply
@@ -41,30 +45,102 @@ step batches id count size given answer goes is follows =
     asked_behind (batches_asked batches (id + 1)) count size given answer goes
     (replied (outcome_told next_batch) id given) is follows
 
-two : (most : ℕ) (c : Call) (given : List ℕ) (p : Iiop) (iterator : Ior) (o : Offer)
-    (g : GivesBatches c given p iterator o)
+two : (most : ℕ) (trader : Iiop) (c : Call) (given : List ℕ) (p : Iiop) (iterator : Ior) (o : Offer)
+    (g : GivesBatches trader c given p iterator o)
     → batches_asked (suc (suc most)) second_id 0 (drop g.reply given) ≡ 2
-two most c given p iterator o g =
+two most trader c given p iterator o g =
     step (suc most) second_id 0 g.batch (drop g.reply given) (Done (Batch true (o ∷ []))) true g.first g.small
     ∙ ap (λ (n : ℕ). suc n)
     (step most 3 1 g.end (drop g.batch (drop g.reply given)) (Done (Batch false [])) false g.last refl)
 
-two_in_all : (c : Call) (given : List ℕ) (p : Iiop) (iterator : Ior) (o : Offer) (g : GivesBatches c given p iterator o)
+two_in_all : (trader : Iiop) (c : Call) (given : List ℕ) (p : Iiop) (iterator : Ior) (o : Offer)
+    (g : GivesBatches trader c given p iterator o)
     → batches_asked most_batches second_id 0 (drop g.reply given) ≡ 2
-two_in_all c given p iterator o g =
+two_in_all trader c given p iterator o g =
     let most : most_batches ≡ suc (suc 999999) = omega arith in
-    ap (λ (n : ℕ). batches_asked n second_id 0 (drop g.reply given)) most ∙ two 999999 c given p iterator o g
+    ap (λ (n : ℕ). batches_asked n second_id 0 (drop g.reply given)) most ∙ two 999999 trader c given p iterator o g
 
 pub batches : (trader : Iiop) (c : Call) (given : List ℕ) (p : Iiop) (iterator : Ior) (o : Offer)
     → WorkedBatches trader c given p iterator o
 unfolding may_join
 batches trader c given p iterator o g =
     let first : List ℕ = request_of first_id trader c in
-    ap (λ (x : Comes Answered). first ++ requests_behind given x) g.found
-    ∙ ap (λ (b : Bool). first ++ cond b [] (iterator_requests (iiop_of iterator) 0 (drop g.reply given))) g.some
-    ∙ ap (λ (o : Option Iiop). first ++ iterator_requests o 0 (drop g.reply given)) g.profile
-    ∙ ap (λ (n : ℕ). first ++ drain_requests p second_id n) (two_in_all c given p iterator o g)
+    ap (λ (x : Comes Answered). first ++ requests_behind trader given x) g.found
+    ∙ ap (λ (b : Bool). first ++ cond b [] (requests_here trader (iiop_of iterator) 0 (drop g.reply given))) g.some
+    ∙ ap (λ (o : Option Iiop). first ++ requests_here trader o 0 (drop g.reply given)) g.profile
+    ∙ ap (λ (b : Bool). first ++ cond b (iterator_requests p 0 (drop g.reply given)) []) g.here
+    ∙ ap (λ (n : ℕ). first ++ drain_requests p second_id n) (two_in_all trader c given p iterator o g)
     ∙ ap (λ (x : List ℕ). first ++ x)
     (append_assoc (request_of 2 p next_batch) (request_of 3 p next_batch ++ []) (request_of 4 p destroy)
     ∙ ap (λ (x : List ℕ). request_of 2 p next_batch ++ (x ++ request_of 4 p destroy))
     (append-nil (request_of 3 p next_batch)))
+
+-- ---- profiles
+
+pub places : WorkedPlaces
+places = record { key = refl; port = refl; host = refl; bytes = refl }
+
+-- ---- an iterator elsewhere
+
+-- the first part
+first_there : (trader : Iiop) (c : Call) (given : List ℕ) (p : Iiop) (iterator : Ior) (a : Offer)
+    → FindsElsewhere trader c given p iterator a
+    → asked_first trader c given ≡ elsewhere p (record { offers = a ∷ []; limits = [] })
+first_there trader c given p iterator a f =
+    let found : SubAnswer = record { offers = a ∷ []; limits = [] } in
+    let left : List ℕ = drop f.reply given in
+    ap (after_query trader given) f.found
+    ∙ ap (λ (b : Bool). cond b (left_ends trader iterator found left) (ends unclear)) f.small
+    ∙ ap (λ (b : Bool). cond b (ends (gave found)) (iterated trader (iiop_of iterator) found left)) f.some
+    ∙ ap (λ (o : Option Iiop). iterated trader o found left) f.profile
+    ∙ ap (λ (b : Bool). cond b (ends (drained_behind found left)) (elsewhere p found)) f.other
+
+-- what the query's connection carries
+query_alone : (trader : Iiop) (c : Call) (given : List ℕ) (p : Iiop) (iterator : Ior) (a : Offer)
+    → FindsElsewhere trader c given p iterator a → asked_requests trader c given ≡ request_of 1 trader c
+query_alone trader c given p iterator a f =
+    let first : List ℕ = request_of first_id trader c in
+    let left : List ℕ = drop f.reply given in
+    ap (λ (x : Comes Answered). first ++ requests_behind trader given x) f.found
+    ∙ ap (λ (b : Bool). first ++ cond b (left_requests trader iterator 1 left) []) f.small
+    ∙ ap (λ (b : Bool). first ++ cond b [] (requests_here trader (iiop_of iterator) 1 left)) f.some
+    ∙ ap (λ (o : Option Iiop). first ++ requests_here trader o 1 left) f.profile
+    ∙ ap (λ (b : Bool). first ++ cond b (iterator_requests p 1 left) []) f.other ∙ append-nil first
+
+-- one batch, and what it comes to
+one_batch : (batches id count size end : ℕ) (given : List ℕ) (b : Offer)
+    → replied (outcome_told next_batch) id given ≡ told (Done (Batch false (b ∷ []))) size
+    → may_join count (b ∷ []) ≡ true
+    → replied (outcome_told destroy) (id + 1) (drop size given) ≡ told (Done Nothing) end
+    → drained (suc batches) id count given ≡ gave (b ∷ [])
+unfolding drained
+one_batch batches id count size end given b is joins destroyed =
+    let next = drained batches (id + 1) (count + 1) (drop size given) in
+    let last = after_destroy (replied (outcome_told destroy) (id + 1) (drop size given)) in
+    ap (after_batch (drained batches (id + 1)) id count given) is
+    ∙ ap (λ (x : Bool). cond x (behind (b ∷ []) last) unclear) joins
+    ∙ ap (λ (x : Comes Answered). behind (b ∷ []) (after_destroy x)) destroyed
+
+drained_one : (next : List ℕ) (b : Offer) → GivesLast next b → drained most_batches second_id 1 next ≡ gave (b ∷ [])
+drained_one next b l =
+    let most : most_batches ≡ suc 1000000 = omega arith in
+    ap (λ (n : ℕ). drained n second_id 1 next) most
+    ∙ one_batch 1000000 second_id 1 l.batch l.end next b l.last l.small l.destroyed
+
+asked_one : (next : List ℕ) (b : Offer) → GivesLast next b → batches_asked most_batches second_id 1 next ≡ 1
+asked_one next b l =
+    let most : most_batches ≡ suc 1000000 = omega arith in
+    ap (λ (n : ℕ). batches_asked n second_id 1 next) most
+    ∙ step 1000000 second_id 1 l.batch next (Done (Batch false (b ∷ []))) false l.last refl
+
+pub another_place : (trader : Iiop) (c : Call) (given next : List ℕ) (p : Iiop) (iterator : Ior) (a b : Offer)
+    → WorkedElsewhere trader c given next p iterator a b
+another_place trader c given next p iterator a b f l =
+    let first = first_there trader c given p iterator a f in (
+      first,
+      ap (λ (x : FirstPart). completed x next) first
+          ∙ ap (λ (x : Ended (List Offer)). with_limits [] (behind (a ∷ []) x)) (drained_one next b l),
+      query_alone trader c given p iterator a f,
+      ap (λ (n : ℕ). drain_requests p second_id n) (asked_one next b l)
+          ∙ ap (λ (x : List ℕ). x ++ request_of 3 p destroy) (append-nil (request_of 2 p next_batch)),
+    )

@@ -2,7 +2,7 @@
 use Rattle.std.proofs.Common.{◌≡◌, ◌∙◌, ℕ, zero, suc, ◌+◌, ◌≤◌, Bool, true, false, true≢false, cond, List, []}
 use Rattle.std.proofs.Common.{◌++◌, length, Option, Some, None, option_map, Result, Ok, Err, refl, sym, ap, subst}
 use Rattle.std.proofs.Common.{append-nil, append_assoc, arith}
-use Rattle.std.specs.Prelude.{IfSome}
+use Rattle.std.specs.Prelude.{IfSome, IsTrue}
 use Rattle.td_codes.specs.declared.reference.Ior.{Ior}
 use Rattle.td_giop.specs.Stream.{Stream}
 use Rattle.td_ior.specs.declared.profile.Iiop.{Iiop}
@@ -13,6 +13,7 @@ use Rattle.td_ops.specs.declared.outcome.Answered.{Answered}
 use Rattle.td_ops.specs.declared.outcome.Answered.TheVariants.{Done}
 use Rattle.td_ops.specs.declared.outcome.Reply.{Reply}
 use Rattle.td_value.specs.declared.structures.Offer.{Offer}
+use Rattle.td_walk.specs.declared.answer.SubAnswer.{SubAnswer}
 use Rattle.td_walk.specs.declared.fault.PeerFault.{PeerFault}
 use Rattle.td_walk.specs.declared.fault.PeerFault.TheVariants as fault
 use Rattle.td_wire.specs.Connections.{Connection, Traffic, ended, having_left, left_in, left_of, opened, with_left}
@@ -20,18 +21,20 @@ use Rattle.td_wire.specs.Connections.{written_on, wrote}
 use Rattle.td_wire.proofs.Steps.{moved_none, moved_twice}
 use Rattle.td_call.specs.Calling.{Connected, first_id, next_given}
 use Rattle.td_call.specs.Fetching.{Exchanges}
-use Rattle.td_call.specs.Moving.{Moves, heard, sent}
+use Rattle.td_call.specs.Moving.{Moves, StaysDisconnected, heard, sent}
 use Rattle.td_call.specs.Readings.{outcome_told}
 use Rattle.td_call.specs.Replies.{Comes, replied}
 use Rattle.td_call.specs.Requests.{request_of}
-use Rattle.td_gather.specs.Asking.{asked_requests, found_requests, iterator_requests, left_requests, most_batches}
-use Rattle.td_gather.specs.Asking.{reply_requests, requests_behind, second_id}
+use Rattle.td_gather.specs.Asking.{FindsSo, HasQueried, asked_first, asked_requests, found_requests, is_at}
+use Rattle.td_gather.specs.Asking.{iterator_requests, left_requests, most_batches, reply_requests, requests_behind}
+use Rattle.td_gather.specs.Asking.{requests_here, second_id}
 use Rattle.td_gather.specs.Draining.{batch_requests, batches_asked, batches_behind, destroy, drain_requests, may_join}
 use Rattle.td_gather.specs.Draining.{most_offers, next_batch}
 use Rattle.td_gather.specs.Turns.{Destroys, Turns}
-use Rattle.td_gather.specs.Writing.{AskLeavesAt, AskLeavesBy, Writes, WritesBy, WritesFront, drains_all, over}
-use Rattle.td_gather.specs.Writing.{reached, unopened, untouched}
+use Rattle.td_gather.specs.Writing.{AskLeavesAt, AskLeavesBy, IsElsewhere, LeavesFront, Writes, WritesBy, WritesFront}
+use Rattle.td_gather.specs.Writing.{drains_all, over, reached, twice, unopened, untouched}
 use Rattle.td_gather.specs.declared.draining.Turn.TheVariants.{Last}
+use Rattle.td_gather.specs.declared.gathered.Found.TheVariants.{Elsewhere}
 use Rattle.td_gather.proofs.Gathering.{Came, Stands, finish_here, one_left, one_more}
 
 -- ---- a front of the requests
@@ -237,115 +240,132 @@ writes_last profile held0 held held_after (Some t) now then after f0 f1 f2 f3 ol
     behind_first (first ++ one) last (drain_requests profile second_id asked) f.rest t after (drains_all r) is
     (subst (λ (x : Traffic). Writes (drains_all r) last x after) (moved_twice first one s.rest f.rest t) w)
 
--- ---- an iterator's reference
-
-nil_requests : (iterator : Ior) (count : ℕ) (given : List ℕ) → is_nil iterator ≡ true
-    → left_requests iterator count given ≡ []
-nil_requests iterator count given nil =
-    ap (λ (b : Bool). cond b [] (iterator_requests (iiop_of iterator) count given)) nil
-
-pub writes_nil : (iterator : Ior) (count : ℕ) (held : List ℕ) (t : Option Traffic) → is_nil iterator ≡ true
-    → WritesBy true (λ left. left_requests iterator count left) held t t
-writes_nil iterator count held None nil = tt
-writes_nil iterator count held (Some t) nil =
-    let f = front_none (left_requests iterator count (held ++ left_of t)) t in
-    (f.0, λ e. f.1 ∙ nil_requests iterator count (held ++ left_of t) nil)
-
-profile_requests : (iterator : Ior) (p : Iiop) (count : ℕ) (given : List ℕ) → is_nil iterator ≡ false
-    → iiop_of iterator ≡ Some p
-    → left_requests iterator count given
-    ≡ drain_requests p second_id (batches_asked most_batches second_id count given)
-profile_requests iterator p count given some found =
-    ap (λ (b : Bool). cond b [] (iterator_requests (iiop_of iterator) count given)) some
-    ∙ ap (λ (o : Option Iiop). iterator_requests o count given) found
+-- ---- requests by other words
 
 -- the same by other words for the requests
-writes_same : (all : Bool) (requests others : List ℕ) (t : Traffic) (after : Option Traffic) → others ≡ requests
-    → Writes all requests t after → Writes all others t after
-writes_same all requests others t after is w =
-    subst (λ (x : List ℕ). Writes all x t after) (sym is) w
+writes_same : (all : Bool) (x y : List ℕ) (t : Traffic) (after : Option Traffic) → x ≡ y → Writes all y t after
+    → Writes all x t after
+writes_same all x y t after is w = subst (λ (z : List ℕ). Writes all z t after) (sym is) w
 
-pub writes_drained : (iterator : Ior) (p : Iiop) (count : ℕ) (held : List ℕ) (before after : Option Traffic)
-    (all : Bool) → is_nil iterator ≡ false → iiop_of iterator ≡ Some p
-    → WritesBy all
-    (λ left. drain_requests p second_id (batches_asked most_batches second_id count left)) held before after
-    → WritesBy all (λ left. left_requests iterator count left) held before after
-writes_drained iterator p count held None after all some found w = tt
-writes_drained iterator p count held (Some t) after all some found w =
-    writes_same all _ _ t after (profile_requests iterator p count (held ++ left_of t) some found) w
+pub writes_as : (requests more : (left : List ℕ) → List ℕ) (held : List ℕ) (before after : Option Traffic) (all : Bool)
+    → ((left : List ℕ) → requests left ≡ more left) → WritesBy all more held before after
+    → WritesBy all requests held before after
+writes_as requests more held None after all is w = tt
+writes_as requests more held (Some t) after all is w =
+    writes_same all (requests (held ++ left_of t)) (more (held ++ left_of t)) t after (is (held ++ left_of t)) w
 
--- ---- a query's reply
+-- there were none to write
+pub writes_nothing : (requests : (left : List ℕ) → List ℕ) (held : List ℕ) (t : Option Traffic)
+    → ((left : List ℕ) → requests left ≡ []) → WritesBy true requests held t t
+writes_nothing requests held None is = tt
+writes_nothing requests held (Some t) is =
+    let f = front_none (requests (held ++ left_of t)) t in (f.0, λ e. f.1 ∙ is (held ++ left_of t))
 
-joined_requests : (offers : List Offer) (iterator : Ior) (left : List ℕ) → may_join 0 offers ≡ true
-    → found_requests offers iterator left ≡ left_requests iterator (length offers) left
-joined_requests offers iterator left joins =
-    ap (λ (b : Bool). cond b (left_requests iterator (length offers) left) []) joins
+-- ---- an iterator, by its reference and its profile
 
-pub writes_found : (offers old : List Offer) (iterator : Ior) (held : List ℕ) (before after : Option Traffic)
-    (all : Bool) → may_join 0 offers ≡ true → old ≡ offers
-    → WritesBy all (λ left. left_requests iterator (length old) left) held before after
-    → WritesBy all (λ left. found_requests offers iterator left) held before after
-writes_found offers old iterator held None after all joins is w = tt
-writes_found offers old iterator held (Some t) after all joins is w =
-    writes_same all _ _ t after
-    (joined_requests offers iterator (held ++ left_of t) joins
-    ∙ ap (λ (x : List Offer). left_requests iterator (length x) (held ++ left_of t)) (sym is)) w
+pub place_requests : (trader p : Iiop) (count : ℕ) → is_at trader p ≡ true
+    → (left : List ℕ) → requests_here trader (Some p) count left ≡ iterator_requests p count left
+place_requests trader p count here left =
+    ap (λ (b : Bool). cond b (iterator_requests p count left) []) here
+
+pub other_requests : (trader p : Iiop) (count : ℕ) → is_at trader p ≡ false
+    → (left : List ℕ) → requests_here trader (Some p) count left ≡ []
+other_requests trader p count there left = ap (λ (b : Bool). cond b (iterator_requests p count left) []) there
+
+pub nil_requests : (trader : Iiop) (iterator : Ior) (count : ℕ) → is_nil iterator ≡ true
+    → (left : List ℕ) → left_requests trader iterator count left ≡ []
+nil_requests trader iterator count nil left =
+    ap (λ (b : Bool). cond b [] (requests_here trader (iiop_of iterator) count left)) nil
+
+pub profile_requests : (trader : Iiop) (iterator : Ior) (o : Option Iiop) (count : ℕ) → is_nil iterator ≡ false
+    → iiop_of iterator ≡ o
+    → (left : List ℕ) → left_requests trader iterator count left ≡ requests_here trader o count left
+profile_requests trader iterator o count some is left =
+    ap (λ (b : Bool). cond b [] (requests_here trader (iiop_of iterator) count left)) some
+    ∙ ap (λ (x : Option Iiop). requests_here trader x count left) is
+
+pub joined_requests : (trader : Iiop) (iterator : Ior) (offers : List Offer) → may_join 0 offers ≡ true
+    → (left : List ℕ) → found_requests trader iterator offers left
+    ≡ left_requests trader iterator (length offers) left
+joined_requests trader iterator offers joins left =
+    ap (λ (b : Bool). cond b (left_requests trader iterator (length offers) left) []) joins
+
+-- an iterator is drained behind what was found
+pub writes_behind : (p : Iiop) (old offers : List Offer) (held : List ℕ) (before after : Option Traffic) (all : Bool)
+    → old ≡ offers
+    → WritesBy all (λ left. drain_requests p second_id (batches_asked most_batches second_id (length old) left)) held
+    before after
+    → WritesBy all (iterator_requests p (length offers)) held before after
+writes_behind p old offers held before after all is w =
+    writes_as (iterator_requests p (length offers)) (iterator_requests p (length old)) held before after all
+    (λ left. ap (λ (x : List Offer). iterator_requests p (length x) left) (sym is)) w
 
 -- ---- a query
 
 -- its request was written, in part or whole, and its reply asks for no more
-pub writes_query : (profile : Iiop) (c : Call) (before after : Option Traffic)
-    → Moves (request_of first_id profile c) before after
-    → WritesBy false (λ left. asked_requests profile c left) [] before after
-writes_query profile c None after m = tt
-writes_query profile c (Some t) after m =
-    in_part (asked_requests profile c (left_of t)) t after
-    (front_moved (request_of first_id profile c)
-    (requests_behind (left_of t) (replied (outcome_told c) first_id (left_of t)))
-    (asked_requests profile c (left_of t)) t after refl m)
+pub writes_query : (trader : Iiop) (c : Call) (before after : Option Traffic)
+    → Moves (request_of first_id trader c) before after
+    → WritesBy false (asked_requests trader c) [] before after
+writes_query trader c None after m = tt
+writes_query trader c (Some t) after m =
+    in_part (asked_requests trader c (left_of t)) t after
+    (front_moved (request_of first_id trader c)
+    (requests_behind trader (left_of t) (replied (outcome_told c) first_id (left_of t)))
+    (asked_requests trader c (left_of t)) t after refl m)
 
 -- its reply came, and what that asks for was written
-pub writes_asked : (profile : Iiop) (c : Call) (held : List ℕ) (before now after : Option Traffic) (f0 f1 : ℕ)
+pub writes_asked : (trader : Iiop) (c : Call) (held : List ℕ) (before now after : Option Traffic) (f0 f1 : ℕ)
     (reply : Reply) (all : Bool)
-    → Exchanges (outcome_told c) first_id (request_of first_id profile c) [] held before now f0 f1 (Ok (Done reply))
-    → WritesBy all (λ left. reply_requests reply left) held now after
-    → WritesBy all (λ left. asked_requests profile c left) [] before after
-writes_asked profile c held None now after f0 f1 reply all x w = tt
-writes_asked profile c held (Some t) now after f0 f1 reply all x w =
-    let first : List ℕ = request_of first_id profile c in
+    → Exchanges (outcome_told c) first_id (request_of first_id trader c) [] held before now f0 f1 (Ok (Done reply))
+    → WritesBy all (reply_requests trader reply) held now after
+    → WritesBy all (asked_requests trader c) [] before after
+writes_asked trader c held None now after f0 f1 reply all x w = tt
+writes_asked trader c held (Some t) now after f0 f1 reply all x w =
+    let first : List ℕ = request_of first_id trader c in
     let u : Traffic = with_left x.rest (wrote first t) in
-    let more : List ℕ = reply_requests reply (held ++ left_of u) in
+    let more : List ℕ = reply_requests trader reply (held ++ left_of u) in
     let here : Writes all more u after =
-    subst (λ (y : Option Traffic). WritesBy all (λ left. reply_requests reply left) held y after) x.wire w in
-    let is : asked_requests profile c (left_of t) ≡ first ++ more =
-    ap (λ (y : Comes Answered). first ++ requests_behind (left_of t) y) x.is
-    ∙ ap (λ (left : List ℕ). first ++ reply_requests reply left) (sym x.behind)
-    ∙ ap (λ (left : List ℕ). first ++ reply_requests reply (held ++ left)) (sym x.left) in
-    behind_first first more (asked_requests profile c (left_of t)) x.rest t after all is here
+    subst (λ (y : Option Traffic). WritesBy all (reply_requests trader reply) held y after) x.wire w in
+    let is : asked_requests trader c (left_of t) ≡ first ++ more =
+    ap (λ (y : Comes Answered). first ++ requests_behind trader (left_of t) y) x.is
+    ∙ ap (λ (left : List ℕ). first ++ reply_requests trader reply left) (sym x.behind)
+    ∙ ap (λ (left : List ℕ). first ++ reply_requests trader reply (held ++ left)) (sym x.left) in
+    behind_first first more (asked_requests trader c (left_of t)) x.rest t after all is here
 
 -- ---- over a connection of its own
 
-pub leaves_unconnected : (p : Iiop) (c : Call) (before after : Option Traffic) (f0 f1 : ℕ) (e : PeerFault)
-    → Connected p before after f0 f1 (Err e) → AskLeavesAt p c before after
-leaves_unconnected p c before after f0 f1 fault.Wire made = unopened made.1
-leaves_unconnected p c before after f0 f1 fault.Grammar no_way = absurd no_way
-leaves_unconnected p c before after f0 f1 fault.Exception no_way = absurd no_way
-leaves_unconnected p c None after f0 f1 fault.Memory made = over None tt made
-leaves_unconnected p c (Some t) after f0 f1 fault.Memory made =
-    over (Some (opened p.host p.port t))
-    (front_none (asked_requests p c (next_given t)) (opened p.host p.port t)).0 made
+pub leaves_unconnected : (requests : (given : List ℕ) → List ℕ) (p : Iiop) (before after : Option Traffic) (f0 f1 : ℕ)
+    (e : PeerFault) → Connected p before after f0 f1 (Err e) → LeavesFront requests p before after
+leaves_unconnected requests p before after f0 f1 fault.Wire made = unopened made.1
+leaves_unconnected requests p before after f0 f1 fault.Grammar no_way = absurd no_way
+leaves_unconnected requests p before after f0 f1 fault.Exception no_way = absurd no_way
+leaves_unconnected requests p None after f0 f1 fault.Memory made = over None tt made
+leaves_unconnected requests p (Some t) after f0 f1 fault.Memory made =
+    over (Some (opened p.host p.port t)) (front_none (requests (next_given t)) (opened p.host p.port t)).0 made
 
-pub leaves_asked : (p : Iiop) (c : Call) (s : Stream) (before mid last after : Option Traffic) (f0 f1 : ℕ) (all : Bool)
-    → Connected p before mid f0 f1 (Ok s) → WritesBy all (asked_requests p c) [] mid last
-    → after ≡ option_map ended last → AskLeavesAt p c before after
-leaves_asked p c s before mid last after f0 f1 all made w is =
-    over last (go before (subst (λ (x : Option Traffic). WritesBy all (asked_requests p c) [] x last) made.1 w)) is
+pub leaves_front : (requests : (given : List ℕ) → List ℕ) (p : Iiop) (s : Stream) (before mid last after : Option Traffic)
+    (f0 f1 : ℕ) (all : Bool) → Connected p before mid f0 f1 (Ok s) → WritesBy all requests [] mid last
+    → after ≡ option_map ended last → LeavesFront requests p before after
+leaves_front requests p s before mid last after f0 f1 all made w is =
+    over last (go before (subst (λ (x : Option Traffic). WritesBy all requests [] x last) made.1 w)) is
   where
-    go : (t : Option Traffic)
-        → WritesBy all (asked_requests p c) [] (option_map (opened p.host p.port) t) last
-        → IfSome t (λ u. WritesFront (asked_requests p c (next_given u)) (opened p.host p.port u) last)
+    go : (t : Option Traffic) → WritesBy all requests [] (option_map (opened p.host p.port) t) last
+        → IfSome t (λ u. WritesFront (requests (next_given u)) (opened p.host p.port u) last)
     go None w = tt
     go (Some u) w = w.0
+
+pub leaves_there : (p : Iiop) (c : Call) (before between after : Option Traffic) (q : Iiop) (found : SubAnswer) (f0 f1 : ℕ)
+    → FindsSo (asked_first p c) [] (option_map (opened p.host p.port) before) f0 f1 (Ok (Elsewhere q found))
+    → (IsTrue true → HasQueried p c before between)
+    → LeavesFront (iterator_requests q (length found.offers)) q between after → AskLeavesAt p c before after
+leaves_there p c before between after q found f0 f1 x h left =
+    twice q found between (go before x (h refl)) left
+  where
+    go : (t : Option Traffic)
+        → FindsSo (asked_first p c) [] (option_map (opened p.host p.port) t) f0 f1 (Ok (Elsewhere q found))
+        → HasQueried p c t between → IfSome t (λ u. IsElsewhere p c u between q found)
+    go None y w = tt
+    go (Some u) y w = record { part = y; rest = w.0; wire = w.1 }
 
 pub leaves_untouched : (target : Ior) (c : Call) (t : Option Traffic) → AskLeavesBy target c t t
 leaves_untouched target c t = untouched refl
@@ -353,3 +373,9 @@ leaves_untouched target c t = untouched refl
 pub leaves_reached : (target : Ior) (p : Iiop) (c : Call) (before after : Option Traffic) → iiop_of target ≡ Some p
     → AskLeavesAt p c before after → AskLeavesBy target c before after
 leaves_reached target p c before after found left = reached p found left
+
+-- ---- no connection stands
+
+pub disconnected_twice : (before between after : Option Traffic) → StaysDisconnected before between
+    → StaysDisconnected between after → StaysDisconnected before after
+disconnected_twice before between after first second = λ none. second (first none)

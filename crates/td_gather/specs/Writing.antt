@@ -1,6 +1,7 @@
--- What a query has written, whatever comes of it: a front of its requests, over no more than one connection.
-use Rattle.std.specs.Prelude.{◌≡◌, Bool, true, false, IsTrue, List, [], ◌++◌, ℕ, Option, Some, None, IfSome, option_map}
-use Rattle.std.specs.Prelude.{Result, Ok, Err}
+-- What a query has written, whatever comes of it: a front of its requests, over a connection of its own. Where its reply
+-- names an iterator that is elsewhere, all of them, and a front of the requests to that over one more, to there.
+use Rattle.std.specs.Prelude.{◌≡◌, Bool, true, false, IsTrue, List, [], ◌++◌, length, ℕ, Option, Some, None, IfSome}
+use Rattle.std.specs.Prelude.{option_map, Result, Ok, Err}
 use Rattle.td_codes.specs.declared.reference.Ior.{Ior}
 use Rattle.td_ior.specs.declared.profile.Iiop.{Iiop}
 use Rattle.td_ior.specs.Profiles.{iiop_of}
@@ -8,11 +9,14 @@ use Rattle.td_ops.specs.declared.call.Call.{Call}
 use Rattle.td_ops.specs.declared.call.Call.TheVariants.{Query as Querying}
 use Rattle.td_ops.specs.declared.call.Query.{Query}
 use Rattle.td_ops.specs.declared.outcome.Answered.{Answered}
+use Rattle.td_walk.specs.declared.answer.SubAnswer.{SubAnswer}
 use Rattle.td_walk.specs.declared.fault.PeerFault.{PeerFault}
 use Rattle.td_wire.specs.Connections.{Traffic, ended, left_of, opened, with_left, wrote}
 use Rattle.td_call.specs.Calling.{next_given}
 use Rattle.td_call.specs.Moving.{Unopened}
-use Rattle.td_gather.specs.Asking.{asked_requests}
+use Rattle.td_gather.specs.Asking.{asked_first, asked_requests, elsewhere, iterator_requests, query_over}
+use Rattle.td_gather.specs.declared.gathered.Found.{Found}
+use Rattle.td_gather.specs.declared.gathered.Found.TheVariants.{All, Elsewhere}
 use Rattle.td_gather.specs.declared.gathered.Gathered.{Gathered}
 use Rattle.td_gather.specs.declared.gathered.Gathered.TheVariants.{Offers, Refused}
 
@@ -48,16 +52,39 @@ gives_all (Ok (Offers a)) = true
 gives_all (Ok (Refused answer)) = false
 gives_all (Err fault) = false
 
+-- whether nothing is owed over the query's own connection: all offers are given, or the iterator is elsewhere
+abbrev pub is_whole : Result Found PeerFault → Bool
+is_whole (Ok (All g)) = gives_all (Ok g)
+is_whole (Ok (Elsewhere p found)) = true
+is_whole (Err fault) = false
+
 -- ---- over a connection of its own
 
-pub data AskLeavesAt (p : Iiop) (c : Call) (before after : Option Traffic) : Type 0 where
+-- to where this profile says, for the requests that what it gives calls for
+pub data LeavesFront (requests : (given : List ℕ) → List ℕ) (p : Iiop)
+    (before after : Option Traffic) : Type 0 where
   -- none was made
-  unopened : Unopened before after → AskLeavesAt p c before after
-  -- one was made, which has ended, and a front of the query's requests was written over it
+  unopened : Unopened before after → LeavesFront requests p before after
+  -- one was made, which has ended, and a front of the requests was written over it
   over : (last : Option Traffic)
-      → IfSome before (λ t. WritesFront (asked_requests p c (next_given t))
-      (opened p.host p.port t) last)
-      → after ≡ option_map ended last → AskLeavesAt p c before after
+      → IfSome before (λ t. WritesFront (requests (next_given t)) (opened p.host p.port t) last)
+      → after ≡ option_map ended last → LeavesFront requests p before after
+
+-- the query's connection has ended, with all requests written over it, and the iterator that its reply names is elsewhere
+pub record IsElsewhere (trader : Iiop) (c : Call) (t : Traffic) (after : Option Traffic) (p : Iiop)
+    (found : SubAnswer) : Type 0 where
+  pub part : asked_first trader c (next_given t) ≡ elsewhere p found
+  pub rest : List ℕ
+  pub wire : after ≡ Some (query_over trader c rest t)
+
+pub data AskLeavesAt (trader : Iiop) (c : Call) (before after : Option Traffic) : Type 0 where
+  once : LeavesFront (asked_requests trader c) trader before after
+      → AskLeavesAt trader c before after
+  -- and then a connection to where the iterator is, at most, with a front of the requests to it
+  twice : (p : Iiop) → (found : SubAnswer) → (between : Option Traffic)
+      → IfSome before (λ t. IsElsewhere trader c t between p found)
+      → LeavesFront (iterator_requests p (length found.offers)) p between after
+      → AskLeavesAt trader c before after
 
 pub data AskLeavesBy (target : Ior) (c : Call) (before after : Option Traffic) : Type 0 where
   -- so it is with a trader that has no IIOP profile

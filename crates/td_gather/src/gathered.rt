@@ -1,5 +1,6 @@
 //! What a query of another trader gives.
 
+use td_ior::Iiop;
 use td_ops::Answered;
 use td_walk::SubAnswer;
 
@@ -10,4 +11,13 @@ pub enum Gathered {
     Offers(SubAnswer),
     /// The exception that the query or a call of its iterator was answered with.
     Refused(Answered),
+}
+
+/// What the query's own connection gave.
+#[derive(Drop)]
+pub(crate) enum Found {
+    /// All that the query gives.
+    All(Gathered),
+    /// Offers and limits, and where the iterator is reached that gives the other offers.
+    Elsewhere { profile: Iiop, found: SubAnswer },
 }

@@ -2,12 +2,13 @@
 
 ghost use Rattle.std.specs.Prelude.{ℕ, List};
 ghost use Rattle.td_codes.specs.declared.reference.Ior.{Ior};
-ghost use Rattle.td_gather.specs.Examples.{WorkedBatches, WorkedException, WorkedNil};
+ghost use Rattle.td_gather.specs.Examples.{WorkedBatches, WorkedElsewhere, WorkedException, WorkedNil, WorkedPlaces};
 ghost use Rattle.td_ior.specs.declared.profile.Iiop.{Iiop};
 ghost use Rattle.td_ops.specs.declared.call.Call.{Call};
 ghost use Rattle.td_value.specs.declared.structures.Offer.{Offer};
 
-/// The requests of a query, by the replies that its connection gives.
+/// The requests of a query, by the replies that its connection gives, and where its iterator is elsewhere, that the next
+/// one gives.
 pub fn worked_requests()
     ensures nil { (trader : Iiop) (c : Call) (given : List ℕ) (size : ℕ)
         → WorkedNil trader c given size }
@@ -16,4 +17,8 @@ pub fn worked_requests()
     ensures batches { (trader : Iiop) (c : Call) (given : List ℕ) (p : Iiop) (iterator : Ior)
         (o : Offer)
         → WorkedBatches trader c given p iterator o }
+    ensures places { WorkedPlaces }
+    ensures elsewhere { (trader : Iiop) (c : Call) (given next : List ℕ) (p : Iiop) (iterator : Ior)
+        (a b : Offer)
+        → WorkedElsewhere trader c given next p iterator a b }
 {}

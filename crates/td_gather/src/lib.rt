@@ -1,5 +1,5 @@
-//! A query of another trader, with what its iterator gives over the same connection (OMG's Trading Object Service,
-//! interfaces Lookup and OfferIterator).
+//! A query of another trader, with what its iterator gives, there or elsewhere (OMG's Trading Object Service, interfaces
+//! Lookup and OfferIterator).
 #![tactic(auto)]
 
 mod asking;

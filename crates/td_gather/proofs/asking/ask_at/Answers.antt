@@ -1,43 +1,57 @@
-use Rattle.std.proofs.Common.{sym}
-use Rattle.td_call.proofs.Moving.{disconnected_ended, disconnected_unconnected}
-use Rattle.td_gather.proofs.Answering.{asks_then, unconnected}
-use Rattle.td_gather.specs.Writing.{gives_all}
-use Rattle.td_gather.proofs.Writing.{leaves_asked, leaves_unconnected}
+use Rattle.std.proofs.Common.{Ok, Err}
+use Rattle.td_gather.specs.Writing.{once}
+use Rattle.td_gather.proofs.Answering.{asks_all, asks_there}
+use Rattle.td_gather.proofs.Writing.{disconnected_twice, leaves_there}
 use Rattle.td_gather.proofs.asking.ask_at.Goals as goal
+
+pub drain_there-requires : goal.drain_there-requires
+drain_there-requires g c =
+    record { grows = rw c.in-Ok-Elsewhere.field-0-is at c.in-Ok-Elsewhere.ensures.fit }
 
 pub returns-in-Err-clause-asks : goal.returns-in-Err-clause-asks
 returns-in-Err-clause-asks g c =
-    unconnected c.args.profile.now c.args.call.now (g.L.Wire.told c.args.wire.now) (g.L.Wire.told c.connect.new.wire)
-    (g.L.Wire.faults c.args.wire.now) (g.L.Wire.faults c.connect.new.wire) c.in-Err.fault c.in-Err.ensures.connected
+    asks_all c.args.trader.now c.args.call.now (g.L.Wire.told c.args.wire.now) (g.L.Wire.told c.ask_first.new.wire)
+    (g.L.Wire.faults c.args.wire.now) (g.L.Wire.faults c.ask_first.new.wire) (Err c.in-Err.fault)
+    c.in-Err.ensures.finds c.in-Err.ensures.queried
 
-pub returns-in-Ok-clause-asks : goal.returns-in-Ok-clause-asks
-returns-in-Ok-clause-asks g c =
-    asks_then c.args.profile.now c.args.call.now c.in-Ok.framer (g.L.Wire.told c.args.wire.now)
-    (g.L.Wire.told c.connect.new.wire) (g.L.Wire.told c.ask_through-answer.new.wire)
-    (g.L.Wire.told c.finish.new.wire) (g.L.Wire.faults c.args.wire.now) (g.L.Wire.faults c.connect.new.wire)
-    (g.L.Wire.faults c.finish.new.wire) c.ask_through-answer.result c.in-Ok.ensures.connected c.in-Ok.ensures.later
-    (rw (sym c.finish.ensures.faults) at c.ask_through-answer.ensures.asks)
-    c.ask_through-answer.ensures.writes c.finish.ensures.told
+pub returns-in-Ok-All-clause-asks : goal.returns-in-Ok-All-clause-asks
+returns-in-Ok-All-clause-asks g c =
+    asks_all c.args.trader.now c.args.call.now (g.L.Wire.told c.args.wire.now) (g.L.Wire.told c.ask_first.new.wire)
+    (g.L.Wire.faults c.args.wire.now) (g.L.Wire.faults c.ask_first.new.wire) (Ok c.in-Ok-All.gathered)
+    (rw c.in-Ok-All.field-0-is at c.in-Ok-All.ensures.finds)
+    (rw c.in-Ok-All.field-0-is at c.in-Ok-All.ensures.queried)
 
-pub returns-in-Err-clause-disconnected : goal.returns-in-Err-clause-disconnected
-returns-in-Err-clause-disconnected g c =
-    disconnected_unconnected c.args.profile.now (g.L.Wire.told c.args.wire.now) (g.L.Wire.told c.connect.new.wire)
-    (g.L.Wire.faults c.args.wire.now) (g.L.Wire.faults c.connect.new.wire) c.in-Err.fault c.in-Err.ensures.connected
-
-pub returns-in-Ok-clause-disconnected : goal.returns-in-Ok-clause-disconnected
-returns-in-Ok-clause-disconnected g c =
-    disconnected_ended (g.L.Wire.told c.args.wire.now) (g.L.Wire.told c.ask_through-answer.new.wire)
-    (g.L.Wire.told c.finish.new.wire) c.finish.ensures.told
+pub returns-in-Ok-Elsewhere-clause-asks : goal.returns-in-Ok-Elsewhere-clause-asks
+returns-in-Ok-Elsewhere-clause-asks g c =
+    asks_there c.args.trader.now c.args.call.now (g.L.Wire.told c.args.wire.now) (g.L.Wire.told c.ask_first.new.wire)
+    (g.L.Wire.told c.drain_there.new.wire) c.in-Ok-Elsewhere.profile c.in-Ok-Elsewhere.found
+    (g.L.Wire.faults c.args.wire.now) (g.L.Wire.faults c.ask_first.new.wire) (g.L.Wire.faults c.drain_there.new.wire)
+    c.drain_there.result c.in-Ok-Elsewhere.ensures.later
+    (rw c.in-Ok-Elsewhere.field-0-is at c.in-Ok-Elsewhere.ensures.finds)
+    (rw c.in-Ok-Elsewhere.field-0-is at c.in-Ok-Elsewhere.ensures.queried)
+    c.drain_there.ensures.ends c.drain_there.ensures.drained
 
 pub returns-in-Err-clause-leaves : goal.returns-in-Err-clause-leaves
-returns-in-Err-clause-leaves g c =
-    leaves_unconnected c.args.profile.now c.args.call.now (g.L.Wire.told c.args.wire.now)
-    (g.L.Wire.told c.connect.new.wire) (g.L.Wire.faults c.args.wire.now) (g.L.Wire.faults c.connect.new.wire)
-    c.in-Err.fault c.in-Err.ensures.connected
+returns-in-Err-clause-leaves g c = once c.in-Err.ensures.leaves
 
-pub returns-in-Ok-clause-leaves : goal.returns-in-Ok-clause-leaves
-returns-in-Ok-clause-leaves g c =
-    leaves_asked c.args.profile.now c.args.call.now c.in-Ok.framer (g.L.Wire.told c.args.wire.now)
-    (g.L.Wire.told c.connect.new.wire) (g.L.Wire.told c.ask_through-answer.new.wire) (g.L.Wire.told c.finish.new.wire)
-    (g.L.Wire.faults c.args.wire.now) (g.L.Wire.faults c.connect.new.wire) (gives_all c.ask_through-answer.result)
-    c.in-Ok.ensures.connected c.ask_through-answer.ensures.writes c.finish.ensures.told
+pub returns-in-Ok-All-clause-leaves : goal.returns-in-Ok-All-clause-leaves
+returns-in-Ok-All-clause-leaves g c = once c.in-Ok-All.ensures.leaves
+
+pub returns-in-Ok-Elsewhere-clause-leaves : goal.returns-in-Ok-Elsewhere-clause-leaves
+returns-in-Ok-Elsewhere-clause-leaves g c =
+    leaves_there c.args.trader.now c.args.call.now (g.L.Wire.told c.args.wire.now) (g.L.Wire.told c.ask_first.new.wire)
+    (g.L.Wire.told c.drain_there.new.wire) c.in-Ok-Elsewhere.profile c.in-Ok-Elsewhere.found
+    (g.L.Wire.faults c.args.wire.now) (g.L.Wire.faults c.ask_first.new.wire)
+    (rw c.in-Ok-Elsewhere.field-0-is at c.in-Ok-Elsewhere.ensures.finds)
+    (rw c.in-Ok-Elsewhere.field-0-is at c.in-Ok-Elsewhere.ensures.queried) c.drain_there.ensures.leaves
+
+pub returns-in-Err-clause-disconnected : goal.returns-in-Err-clause-disconnected
+returns-in-Err-clause-disconnected g c = c.in-Err.ensures.disconnected
+
+pub returns-in-Ok-All-clause-disconnected : goal.returns-in-Ok-All-clause-disconnected
+returns-in-Ok-All-clause-disconnected g c = c.in-Ok-All.ensures.disconnected
+
+pub returns-in-Ok-Elsewhere-clause-disconnected : goal.returns-in-Ok-Elsewhere-clause-disconnected
+returns-in-Ok-Elsewhere-clause-disconnected g c =
+    disconnected_twice (g.L.Wire.told c.args.wire.now) (g.L.Wire.told c.ask_first.new.wire)
+    (g.L.Wire.told c.drain_there.new.wire) c.in-Ok-Elsewhere.ensures.disconnected c.drain_there.ensures.disconnected

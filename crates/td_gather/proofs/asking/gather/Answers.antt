@@ -2,7 +2,7 @@ use Rattle.std.proofs.Common.{subst, sym}
 use Rattle.td_ops.specs.declared.outcome.Reply.{Reply}
 use Rattle.td_gather.specs.Asking.{reply_requests}
 use Rattle.td_gather.specs.Draining.{HasWritable}
-use Rattle.td_gather.specs.Writing.{WritesBy, gives_all}
+use Rattle.td_gather.specs.Writing.{WritesBy, is_whole}
 use Rattle.td_gather.proofs.Writing.{writes_none}
 use Rattle.td_gather.proofs.asking.gather.Goals as goal
 
@@ -11,11 +11,11 @@ gather_found-requires-clause-writable g c = subst HasWritable c.in-Found.is c.re
 
 pub returns-in_default-clause-writes : goal.returns-in_default-clause-writes
 returns-in_default-clause-writes g c =
-    writes_none (λ left. reply_requests c.args.reply left) c.args.framer.now.rest (g.L.Wire.told c.args.wire.now)
+    writes_none (reply_requests c.args.trader.now c.args.reply) c.args.framer.now.rest (g.L.Wire.told c.args.wire.now)
 
 pub returns-in-Found-clause-writes : goal.returns-in-Found-clause-writes
 returns-in-Found-clause-writes g c =
     subst
-    (λ (r : Reply). WritesBy (gives_all c.gather_found.result) (λ left. reply_requests r left) c.args.framer.now.rest
+    (λ (r : Reply). WritesBy (is_whole c.gather_found.result) (reply_requests c.args.trader.now r) c.args.framer.now.rest
     (g.L.Wire.told c.args.wire.now) (g.L.Wire.told c.gather_found.new.wire))
     (sym c.in-Found.is) c.gather_found.ensures.writes

@@ -1,70 +1,54 @@
-use Rattle.std.proofs.Common.{Ok, Err, None, Some, true, false, ap, arith, length, subst, sym}
-use Rattle.td_value.specs.declared.structures.Offer.{Offer}
-use Rattle.td_gather.specs.Draining.{AreFit}
-use Rattle.td_gather.proofs.Batching.{few_join}
+use Rattle.std.proofs.Common.{◌∙◌, Some, length, sym}
+use Rattle.td_gather.specs.Asking.{iterated, left_ends, left_requests, requests_here}
+use Rattle.td_gather.specs.Writing.{is_whole}
 use Rattle.td_gather.proofs.Fitness.{joining_fit}
-use Rattle.td_gather.proofs.Leftover.{ends_fault, ends_gathered, ends_refused, from_reply}
-use Rattle.td_gather.proofs.Writing.{writes_found}
+use Rattle.td_gather.proofs.Leftover.{finds_no_profile, finds_offers, finds_same, of_nil, of_profile}
+use Rattle.td_gather.proofs.Writing.{nil_requests, profile_requests, writes_as, writes_none, writes_nothing}
 use Rattle.td_gather.proofs.asking.gather_more.Goals as goal
 
-pub drain_reference-requires-clause-few : goal.drain_reference-requires-clause-few
-drain_reference-requires-clause-few g c =
-    let few = few_join 0 c.args.offers c.requires.joined in
-    let size = ap (length {A = Offer}) c.into_vec-gathered.ensures in omega (arith, few, size)
+pub returns-then-is_nil-clause-finds : goal.returns-then-is_nil-clause-finds
+returns-then-is_nil-clause-finds g c =
+    finds_offers (left_ends c.args.trader.now c.args.iterator.now c.args.found) c.args.framer.now.rest
+    (g.L.Wire.told c.args.wire.now) (g.L.Wire.faults c.args.wire.now) (g.L.Wire.faults c.args.wire.now) c.args.found
+    (of_nil c.args.trader.now c.args.iterator.now c.args.found (sym c.is_nil.ensures ∙ c.if-is_nil.true))
 
-pub drain_reference-requires-clause-fit : goal.drain_reference-requires-clause-fit
-drain_reference-requires-clause-fit g c =
-    subst AreFit (sym c.into_vec-gathered.ensures)
-    (joining_fit 0 c.args.offers c.requires.joined c.requires.writable)
+pub returns-in-Err-clause-finds : goal.returns-in-Err-clause-finds
+returns-in-Err-clause-finds g c =
+    finds_no_profile c.args.trader.now c.args.iterator.now c.args.found c.args.framer.now.rest
+    (g.L.Wire.told c.args.wire.now) (g.L.Wire.faults c.args.wire.now) (g.L.Wire.faults c.args.wire.now)
+    c.in-Err.fault (sym c.is_nil.ensures ∙ c.if-is_nil.false) c.in-Err.ensures
 
-pub returns-in-Err-clause-ends : goal.returns-in-Err-clause-ends
-returns-in-Err-clause-ends g c =
-    ends_fault c.args.offers c.drain_reference.new.gathered.items c.args.iterator.now c.args.limits
-    c.args.framer.now.rest (g.L.Wire.told c.args.wire.now) (g.L.Wire.faults c.args.wire.now)
-    (g.L.Wire.faults c.drain_reference.new.wire) c.in-Err.fault c.requires.joined
-    (from_reply c.args.iterator.now c.args.framer.now.rest (g.L.Wire.told c.args.wire.now)
-    (g.L.Wire.faults c.args.wire.now)
-    (g.L.Wire.faults c.drain_reference.new.wire) c.into_vec-gathered.result.items c.args.offers
-    c.drain_reference.new.gathered.items (Err c.in-Err.fault) c.into_vec-gathered.ensures c.in-Err.ensures.leaves)
+pub returns-in-Ok-clause-finds : goal.returns-in-Ok-clause-finds
+returns-in-Ok-clause-finds g c =
+    finds_same (left_ends c.args.trader.now c.args.iterator.now c.args.found)
+    (iterated c.args.trader.now (Some c.in-Ok.profile) c.args.found) c.args.framer.now.rest
+    (g.L.Wire.told c.args.wire.now) (g.L.Wire.faults c.args.wire.now) (g.L.Wire.faults c.gather_at.new.wire)
+    c.gather_at.result
+    (of_profile c.args.trader.now c.args.iterator.now (Some c.in-Ok.profile) c.args.found
+    (sym c.is_nil.ensures ∙ c.if-is_nil.false) c.in-Ok.ensures)
+    c.gather_at.ensures.finds
 
-pub returns-in-Ok-Some-clause-ends : goal.returns-in-Ok-Some-clause-ends
-returns-in-Ok-Some-clause-ends g c =
-    ends_refused c.args.offers c.drain_reference.new.gathered.items c.args.iterator.now c.args.limits
-    c.args.framer.now.rest (g.L.Wire.told c.args.wire.now) (g.L.Wire.faults c.args.wire.now)
-    (g.L.Wire.faults c.drain_reference.new.wire) c.in-Ok-Some.answer
-    c.requires.joined
-    (from_reply c.args.iterator.now c.args.framer.now.rest (g.L.Wire.told c.args.wire.now)
-    (g.L.Wire.faults c.args.wire.now)
-    (g.L.Wire.faults c.drain_reference.new.wire) c.into_vec-gathered.result.items c.args.offers
-    c.drain_reference.new.gathered.items (Ok (Some c.in-Ok-Some.answer)) c.into_vec-gathered.ensures
-    (rw c.in-Ok-Some.field-0-is at c.in-Ok-Some.ensures.leaves))
-
-pub returns-in-Ok-None-clause-ends : goal.returns-in-Ok-None-clause-ends
-returns-in-Ok-None-clause-ends g c =
-    ends_gathered c.args.offers c.drain_reference.new.gathered.items _ c.args.iterator.now c.args.limits
-    c.args.framer.now.rest (g.L.Wire.told c.args.wire.now) (g.L.Wire.faults c.args.wire.now)
-    (g.L.Wire.faults c.drain_reference.new.wire) c.requires.joined
-    c.from_vec.ensures
-    (from_reply c.args.iterator.now c.args.framer.now.rest (g.L.Wire.told c.args.wire.now)
-    (g.L.Wire.faults c.args.wire.now)
-    (g.L.Wire.faults c.drain_reference.new.wire) c.into_vec-gathered.result.items c.args.offers
-    c.drain_reference.new.gathered.items (Ok None) c.into_vec-gathered.ensures
-    (rw c.in-Ok-None.field-0-is at c.in-Ok-None.ensures.leaves))
+pub returns-then-is_nil-clause-writes : goal.returns-then-is_nil-clause-writes
+returns-then-is_nil-clause-writes g c =
+    writes_nothing (left_requests c.args.trader.now c.args.iterator.now (length c.args.found.offers))
+    c.args.framer.now.rest (g.L.Wire.told c.args.wire.now)
+    (nil_requests c.args.trader.now c.args.iterator.now (length c.args.found.offers)
+    (sym c.is_nil.ensures ∙ c.if-is_nil.true))
 
 pub returns-in-Err-clause-writes : goal.returns-in-Err-clause-writes
 returns-in-Err-clause-writes g c =
-    writes_found c.args.offers c.into_vec-gathered.result.items c.args.iterator.now c.args.framer.now.rest
-    (g.L.Wire.told c.args.wire.now) (g.L.Wire.told c.drain_reference.new.wire) false c.requires.joined
-    c.into_vec-gathered.ensures c.in-Err.ensures.writes
+    writes_none (left_requests c.args.trader.now c.args.iterator.now (length c.args.found.offers))
+    c.args.framer.now.rest (g.L.Wire.told c.args.wire.now)
 
-pub returns-in-Ok-Some-clause-writes : goal.returns-in-Ok-Some-clause-writes
-returns-in-Ok-Some-clause-writes g c =
-    writes_found c.args.offers c.into_vec-gathered.result.items c.args.iterator.now c.args.framer.now.rest
-    (g.L.Wire.told c.args.wire.now) (g.L.Wire.told c.drain_reference.new.wire) false c.requires.joined
-    c.into_vec-gathered.ensures (rw c.in-Ok-Some.field-0-is at c.in-Ok-Some.ensures.writes)
+pub returns-in-Ok-clause-writes : goal.returns-in-Ok-clause-writes
+returns-in-Ok-clause-writes g c =
+    writes_as (left_requests c.args.trader.now c.args.iterator.now (length c.args.found.offers))
+    (requests_here c.args.trader.now (Some c.in-Ok.profile) (length c.args.found.offers)) c.args.framer.now.rest
+    (g.L.Wire.told c.args.wire.now) (g.L.Wire.told c.gather_at.new.wire) (is_whole c.gather_at.result)
+    (profile_requests c.args.trader.now c.args.iterator.now (Some c.in-Ok.profile) (length c.args.found.offers)
+    (sym c.is_nil.ensures ∙ c.if-is_nil.false) c.in-Ok.ensures)
+    c.gather_at.ensures.writes
 
-pub returns-in-Ok-None-clause-writes : goal.returns-in-Ok-None-clause-writes
-returns-in-Ok-None-clause-writes g c =
-    writes_found c.args.offers c.into_vec-gathered.result.items c.args.iterator.now c.args.framer.now.rest
-    (g.L.Wire.told c.args.wire.now) (g.L.Wire.told c.drain_reference.new.wire) true c.requires.joined
-    c.into_vec-gathered.ensures (rw c.in-Ok-None.field-0-is at c.in-Ok-None.ensures.writes)
+pub returns-then-is_nil-clause-fit : goal.returns-then-is_nil-clause-fit
+returns-then-is_nil-clause-fit g c =
+    joining_fit 0 c.args.found.offers c.requires.grows.joins c.requires.grows.writable

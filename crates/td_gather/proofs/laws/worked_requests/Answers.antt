@@ -1,4 +1,4 @@
-use Rattle.td_gather.proofs.Worked.{batches, exception, no_iterator}
+use Rattle.td_gather.proofs.Worked.{another_place, batches, exception, no_iterator, places}
 use Rattle.td_gather.proofs.laws.worked_requests.Goals as goal
 
 pub returns-clause-nil : goal.returns-clause-nil
@@ -9,3 +9,9 @@ returns-clause-exception c = exception
 
 pub returns-clause-batches : goal.returns-clause-batches
 returns-clause-batches c = batches
+
+pub returns-clause-places : goal.returns-clause-places
+returns-clause-places c = places
+
+pub returns-clause-elsewhere : goal.returns-clause-elsewhere
+returns-clause-elsewhere c = another_place
