@@ -20,12 +20,18 @@ pub fn wire_of(alloc: Global, parts: &[&[u8]], failing: &[u64]) -> Result<MemWir
     Ok(MemWire::new(alloc, answers, failing))
 }
 
-/// A wire whose first two connections give these parts, one after the other.
-pub fn wire_of_two(alloc: Global, first: &[&[u8]], second: &[&[u8]]) -> Result<MemWire, Memory> {
+/// A wire whose first two connections give these parts, one after the other; these calls fail.
+pub fn wire_of_both(
+    alloc: Global,
+    first: &[&[u8]],
+    second: &[&[u8]],
+    failing: &[u64],
+) -> Result<MemWire, Memory> {
     let mut answers = List::new(alloc);
     answers.push(joined(alloc, first)?)?;
     answers.push(joined(alloc, second)?)?;
-    Ok(MemWire::new(alloc, answers, List::new(alloc)))
+    let failing = List::from_slice(alloc, failing)?;
+    Ok(MemWire::new(alloc, answers, failing))
 }
 
 /// Whether bytes are these parts, one after the other.

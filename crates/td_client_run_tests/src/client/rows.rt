@@ -3,7 +3,7 @@
 
 use crate::client::asking::{Asked, Told, came};
 use crate::client::messages::*;
-use crate::wires::{has_written, has_written_both, is_disconnected, wire_of, wire_of_two};
+use crate::wires::{has_written, has_written_both, is_disconnected, wire_of, wire_of_both};
 use std::alloc::Global;
 use td_cdr::Memory;
 use td_walk::PeerFault;
@@ -21,7 +21,7 @@ pub struct Row {
 
 pub const GRAMMAR: Result<Told, PeerFault> = Err(PeerFault::Grammar);
 
-const WIRE: Result<Told, PeerFault> = Err(PeerFault::Wire);
+pub const WIRE: Result<Told, PeerFault> = Err(PeerFault::Wire);
 
 const EXCEPTION: Result<Told, PeerFault> = Err(PeerFault::Exception);
 
@@ -39,7 +39,7 @@ const TWO: Result<Told, PeerFault> = Ok(Told::Offers {
 });
 
 /// Four offers, the last d.
-const FOUR: Result<Told, PeerFault> = Ok(Told::Offers {
+pub const FOUR: Result<Told, PeerFault> = Ok(Told::Offers {
     count: 4,
     last: b'd',
     limits: 0,
@@ -52,7 +52,7 @@ pub const ONE: Result<Told, PeerFault> = Ok(Told::Offers {
     limits: 0,
 });
 
-const ROWS: [Row; 44] = [
+const ROWS: [Row; 43] = [
     Row {
         what: "it is gone",
         asked: Asked::Call,
@@ -302,14 +302,6 @@ const ROWS: [Row; 44] = [
         wrote: &[QUERY, NEXT_2],
     },
     Row {
-        what: "an iterator of another host is asked over the same connection",
-        asked: Asked::Ask,
-        given: &[FOUND_ELSEWHERE, LAST_NONE, DESTROYED_3],
-        failing: &[],
-        told: ONE,
-        wrote: &[QUERY, NEXT_J, DESTROY_J],
-    },
-    Row {
         what: "an iterator isn't destroyed",
         asked: Asked::Ask,
         given: &[FOUND_ONE, LAST_NONE, CLOSE],
@@ -523,7 +515,7 @@ const PAIRS: [Pair; 3] = [
 ];
 
 fn passes_both(alloc: Global, pair: &Pair) -> Result<bool, Memory> {
-    let mut wire = wire_of_two(alloc, pair.first, pair.second)?;
+    let mut wire = wire_of_both(alloc, pair.first, pair.second, &[])?;
     let [first, second] = pair.asked;
     let told = [
         came(alloc, &mut wire, first),
