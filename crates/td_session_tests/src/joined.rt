@@ -34,6 +34,17 @@ const WORDS_OF_TWO: &[&str] = &[
     "min Cost",
 ];
 
+/// The same, where the server is asked by another name than that of its file.
+const WORDS_OF_ANOTHER_NAME: &[&str] = &[
+    "query",
+    "--how-many",
+    "2",
+    "ref:,localhost,9,North/L",
+    "Laser",
+    "Cost < 10",
+    "min Cost",
+];
+
 /// What is printed: South's laser, and four of North's.
 const LINES: &[u8] = b"\
     offer IOR:000000000000000a49444c3a503a312e3000000000000001000000000000001100010000000000026800000900\
@@ -73,10 +84,11 @@ fn copied(alloc: Global, bytes: &[u8]) -> Result<Vec<u8>, Memory> {
     Ok(all)
 }
 
-/// A wire whose first connection gives these bytes.
-fn wire_of(alloc: Global, gives: &[u8]) -> Result<MemWire, Memory> {
+/// A wire whose first connection gives the first bytes, and whose second gives the others.
+fn wire_of(alloc: Global, gives: &[u8], next: &[u8]) -> Result<MemWire, Memory> {
     let mut answers = List::new(alloc);
     answers.push(Octets::from_slice(alloc, gives)?)?;
+    answers.push(Octets::from_slice(alloc, next)?)?;
     Ok(MemWire::new(alloc, answers, List::new(alloc)))
 }
 
@@ -96,12 +108,17 @@ fn status_over(
     }
 }
 
-/// What the client writes over its connection, which gives these replies and then ends.
-fn requests(alloc: Global, words: &[String], replies: &[u8]) -> Result<Vec<u8>, Memory> {
-    let mut wire = wire_of(alloc, replies)?;
+/// What the client writes over a connection, counted from 0. The first gives these replies, and each then ends.
+fn requests(
+    alloc: Global,
+    words: &[String],
+    replies: &[u8],
+    connection: usize,
+) -> Result<Vec<u8>, Memory> {
+    let mut wire = wire_of(alloc, replies, b"")?;
     let mut sink = MemSink::new(alloc, List::new(alloc));
     let status = status_over(alloc, words, &mut wire, &mut sink);
-    match wire.written(0) {
+    match wire.written(connection) {
         Some(written) if status == Some(6) => copied(alloc, written),
         _ => Ok(Vec::new(alloc)),
     }
@@ -156,7 +173,7 @@ fn prints(
     requests: &[u8],
     lines: &[u8],
 ) -> Result<bool, Memory> {
-    let mut wire = wire_of(alloc, replies)?;
+    let mut wire = wire_of(alloc, replies, b"")?;
     let mut sink = MemSink::new(alloc, List::new(alloc));
     let status = status_over(alloc, words, &mut wire, &mut sink);
     Ok(status == Some(0) && sink.written() == lines && wire.written(0) == Some(requests))
@@ -175,7 +192,7 @@ fn joins(
     let mut written = Vec::new(alloc);
     let mut given = Vec::new(alloc);
     for _ in 0..count {
-        written = requests(alloc, words.as_slice(), given.as_slice())?;
+        written = requests(alloc, words.as_slice(), given.as_slice(), 0)?;
         given = replies(alloc, file, written.as_slice())?;
     }
     prints(
@@ -201,5 +218,43 @@ fn the_client_drains_the_iterator_of_a_session(rt: HostRuntime) -> Result<(), Fa
     let alloc = rt.alloc();
     let file = cities(alloc)?;
     assert!(rt; joins(alloc, file.as_slice(), WORDS_OF_TWO, 3, LINES)?);
+    Ok(())
+}
+
+/// What the client prints with status 5 where the first connection gives these replies, and the second what a session of
+/// its own answers.
+fn printed_elsewhere(
+    alloc: Global,
+    file: &[u8],
+    words: &[String],
+    found: &[u8],
+) -> Result<Vec<u8>, Memory> {
+    let next = requests(alloc, words, found, 1)?;
+    let gone = replies(alloc, file, next.as_slice())?;
+    let mut wire = wire_of(alloc, found, gone.as_slice())?;
+    let mut sink = MemSink::new(alloc, List::new(alloc));
+    let status = status_over(alloc, words, &mut wire, &mut sink);
+    if status == Some(5) && wire.written(1) == Some(next.as_slice()) {
+        copied(alloc, sink.written())
+    } else {
+        Ok(Vec::new(alloc))
+    }
+}
+
+/// Whether the client prints that the iterator is gone: it is asked at the host of its reference, over a connection whose
+/// session has made no iterator.
+fn is_gone_elsewhere(alloc: Global, file: &[u8], words: &[&str]) -> Result<bool, Memory> {
+    let words = words_of(alloc, words)?;
+    let query = requests(alloc, words.as_slice(), b"", 0)?;
+    let found = replies(alloc, file, query.as_slice())?;
+    let printed = printed_elsewhere(alloc, file, words.as_slice(), found.as_slice())?;
+    Ok(printed.as_slice() == b"exception IDL:omg.org/CORBA/OBJECT_NOT_EXIST:1.0\n".as_slice())
+}
+
+#[test]
+fn by_another_name_the_iterator_is_gone(rt: HostRuntime) -> Result<(), Fail> {
+    let alloc = rt.alloc();
+    let file = cities(alloc)?;
+    assert!(rt; is_gone_elsewhere(alloc, file.as_slice(), WORDS_OF_ANOTHER_NAME)?);
     Ok(())
 }
