@@ -1,0 +1,4 @@
+pub mod ForIterators
+pub mod OneKept
+pub mod Others
+pub mod Streaming
