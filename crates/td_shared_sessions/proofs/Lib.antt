@@ -1,0 +1,4 @@
+pub mod Closing
+pub mod Desks
+pub mod Seeded
+pub mod Sends

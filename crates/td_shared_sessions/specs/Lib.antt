@@ -1,0 +1,5 @@
+pub mod Desks
+pub mod HallLaws
+pub mod Sessions
+pub mod Whole
+pub mod Worlds
