@@ -19,6 +19,8 @@ use td_name_command::start_names;
 use td_name_listen::start_listening;
 use td_out::{FileTexts, StdSink};
 use td_sessions::DropEnded;
+use td_shared::PastSharedJournal;
+use td_shared_listen::listen_sharing;
 use td_wire::ConnectionPool;
 
 /// The program over the arguments, the files, the network, the clock and the threads of this runtime, and these streams.
@@ -72,6 +74,14 @@ fn refuse_memory<E: Write + Drop>(errors: E) -> ExitCode {
 fn listens_for_names(args: &[String]) -> bool {
     match args {
         [word, what, _, _] => word.as_str() == "listen" && what.as_str() == "names",
+        _ => false,
+    }
+}
+
+/// Whether the words are `listen`, one more and `shared`: a file, with a desk of iterators for all connections.
+fn shares(args: &[String]) -> bool {
+    match args {
+        [word, _, how] => word.as_str() == "listen" && how.as_str() == "shared",
         _ => false,
     }
 }
@@ -174,11 +184,41 @@ fn serve_with<
         + Sync,
     E: Write + Drop,
 >(rt: &R, args: &[String], errors: E, pool: Option<&ConnectionPool<TcpStream>>) -> ExitCode {
+    if shares(args) {
+        return share_with(rt, args, errors, pool);
+    }
     let mut files = FileTexts::new(rt);
     let mut accept = TcpAccept::new(rt, pool);
     let mut faults = StdSink::new(errors);
     let mut ended = DropEnded::<PastJournal>::new();
     ExitCode::from(serve(
+        rt,
+        rt.alloc(),
+        args,
+        &mut files,
+        &mut accept,
+        &NoGate,
+        &mut faults,
+        &mut ended,
+    ))
+}
+
+/// The same with a desk of iterators for all connections.
+fn share_with<
+    R: Files
+        + Net<Listener = TcpListener, Stream = TcpStream>
+        + Clock
+        + AllocGlobal
+        + Threads
+        + Wait
+        + Sync,
+    E: Write + Drop,
+>(rt: &R, args: &[String], errors: E, pool: Option<&ConnectionPool<TcpStream>>) -> ExitCode {
+    let mut files = FileTexts::new(rt);
+    let mut accept = TcpAccept::new(rt, pool);
+    let mut faults = StdSink::new(errors);
+    let mut ended = td_shared_sessions::DropEnded::<PastSharedJournal>::new();
+    ExitCode::from(listen_sharing(
         rt,
         rt.alloc(),
         args,
