@@ -1,6 +1,6 @@
 //! A desk that two holders share.
 
-ghost use Rattle.td_cell.specs.Passes.{knowledge, Belongs, SameCell};
+ghost use Rattle.td_cell.specs.Passes.{knowledge, Belongs, SameCell, SameNumbers};
 ghost use Rattle.td_desk.specs.Sharing.{InOrder, MayAdd};
 
 use crate::making::{begun, entry};
@@ -20,7 +20,8 @@ fn put<R: Wait>(
 ) -> Result<u64, Memory>
     requires own { Belongs pass.old desk.now.cell }
     requires order { InOrder (knowledge pass.old) }
-    ensures { SameCell pass.new pass.old }
+    ensures own { SameCell pass.new pass.old }
+    ensures same { SameNumbers (knowledge pass.old) (knowledge pass.new) }
 {
     match desk.draw(rt, pass) {
         Ok(number) => put_under(rt, alloc, desk, pass, number, ids),
@@ -39,7 +40,8 @@ fn put_under<R: Wait>(
 ) -> Result<u64, Memory>
     requires own { Belongs pass.old desk.now.cell }
     requires drawn { MayAdd (knowledge pass.old) number }
-    ensures { SameCell pass.new pass.old }
+    ensures own { SameCell pass.new pass.old }
+    ensures same { SameNumbers (knowledge pass.old) (knowledge pass.new) }
 {
     let kept = entry(alloc, number, ids)?;
     let dropped = desk.add(rt, pass, kept);
@@ -68,7 +70,8 @@ fn next<R: Wait>(
     n: u32,
 ) -> Result<(Vec<u8>, Result<bool, DeskFault>), Memory>
     requires { Belongs pass.old desk.now.cell }
-    ensures { SameCell pass.new pass.old }
+    ensures own { SameCell pass.new pass.old }
+    ensures same { SameNumbers (knowledge pass.old) (knowledge pass.new) }
 {
     let trader = Text::from_slice(alloc, b"A")?;
     let begun = begun(alloc, Order::Little)?;
@@ -136,7 +139,54 @@ fn both_in_turns<R: Wait>(rt: &R, alloc: Global) -> Result<bool, Memory> {
     in_turns(rt, alloc, &desk, &mut first, &mut second)
 }
 
+/// Puts five ids on the desk, and takes the first two.
+fn take_two_of_five<R: Wait>(
+    rt: &R,
+    alloc: Global,
+    desk: &SharedDesk,
+    pass: &mut DeskPass,
+) -> Result<bool, Memory>
+    requires own { Belongs pass.old desk.now.cell }
+    requires order { InOrder (knowledge pass.old) }
+    ensures own { SameCell pass.new pass.old }
+    ensures same { SameNumbers (knowledge pass.old) (knowledge pass.new) }
+{
+    let number = put(rt, alloc, desk, pass, b"12345")?;
+    let (ids, more) = next(rt, alloc, desk, pass, number, 2)?;
+    Ok(number == 1 && more == Ok(true) && ids.as_slice() == b"12".as_slice())
+}
+
+/// Takes the last three of the first iterator, and then that off the desk.
+fn take_the_rest<R: Wait>(
+    rt: &R,
+    alloc: Global,
+    desk: &SharedDesk,
+    pass: &mut DeskPass,
+) -> Result<bool, Memory>
+    requires { Belongs pass.old desk.now.cell }
+{
+    let (ids, more) = next(rt, alloc, desk, pass, 1, 9)?;
+    let good = more == Ok(false) && ids.as_slice() == b"345".as_slice();
+    let good = good && destroy(rt, alloc, desk, pass, 1)?;
+    let (ids, more) = next(rt, alloc, desk, pass, 1, 9)?;
+    Ok(good && ids.is_empty() && more == Err(DeskFault::Absent))
+}
+
+/// The iterator of a holder that is gone.
+fn of_one_that_is_gone<R: Wait>(rt: &R, alloc: Global) -> Result<bool, Memory> {
+    let (desk, mut first) = SharedDesk::open(alloc)?;
+    let mut second = desk.split(&mut first)?;
+    let good = take_two_of_five(rt, alloc, &desk, &mut second)?;
+    desk.meet(&mut first, second);
+    Ok(good && take_the_rest(rt, alloc, &desk, &mut first)?)
+}
+
 #[test]
 fn two_holders_are_given_the_rest_of_an_answer(rt: HostRuntime) {
     assert!(rt; both_in_turns(&rt, rt.alloc()) == Ok(true));
+}
+
+#[test]
+fn an_iterator_outlives_its_holder(rt: HostRuntime) {
+    assert!(rt; of_one_that_is_gone(&rt, rt.alloc()) == Ok(true));
 }
