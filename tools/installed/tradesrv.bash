@@ -13,6 +13,8 @@ _tradesrv() {
         compopt -o filenames 2> /dev/null
         mapfile -t COMPREPLY < <(compgen -d -- "$cur"; compgen -f -X '!*.trader' -- "$cur")
         [[ $command != listen || names != "$cur"* ]] || COMPREPLY+=(names)
+    elif [[ $COMP_CWORD -eq $((at + 2)) && $command == listen ]]; then
+        [[ ${COMP_WORDS[COMP_CWORD - 1]} == names || shared != "$cur"* ]] || COMPREPLY=(shared)
     elif [[ $COMP_CWORD -eq $((at + 2)) && $command == audit ]]; then
         compopt -o filenames 2> /dev/null
         mapfile -t COMPREPLY < <(compgen -f -- "$cur")
