@@ -79,31 +79,45 @@ impl Writer {
         (size - self.bytes.len() % size) % size
     }
 
-    /// So many zeros.
-    fn put_zeros(&mut self, count: usize) -> Result<(), Memory>
-        requires { count ≤ 8 }
-        ensures { Adds (replicate count 0) self.old self.new result }
+    /// Puts so many zeros. There is room for them.
+    fn put_zeros(&mut self, count: usize)
+        requires few { count ≤ 8 }
+        requires room { length self.old.bytes + count ≤ self.old.room }
+        ensures { self.new ≡ record self.old { bytes = self.old.bytes ++ replicate count 0 } }
     {
-        self.reserve(count)?;
         for _ in 0..count {
             self.bytes.push_reserved(0);
         }
-        Ok(())
     }
 
-    /// So many zeros, and then `cell`.
+    /// Puts bytes. There is room for them.
     #[inline(always)]
-    fn put_cell(&mut self, pad: usize, cell: &[u8]) -> Result<(), Memory>
-        requires padding { pad ≤ 8 }
-        requires few { length cell.now ≤ 8 }
-        ensures { Adds (replicate pad 0 ++ cell.now) self.old self.new result }
+    fn put(&mut self, v: &[u8])
+        requires { length self.old.bytes + length v.now ≤ self.old.room }
+        ensures bytes { self.new.bytes ≡ self.old.bytes ++ v.now }
+        ensures order { self.new.order ≡ self.old.order }
+        ensures room { self.old.room ≤ self.new.room }
     {
-        self.reserve(pad + cell.len())?;
-        self.put_zeros(pad)?;
-        for &octet in cell {
-            self.bytes.push_reserved(octet);
+        let _ = self.bytes.extend_from_slice(v);
+    }
+
+    /// Puts an unsigned long, behind so many zeros. There is room for them.
+    #[inline(always)]
+    fn put_u32(&mut self, pad: usize, v: u32)
+        requires padding { pad ≤ 8 }
+        requires room { length self.old.bytes + (pad + 4) ≤ self.old.room }
+        ensures bytes { self.new.bytes
+            ≡ self.old.bytes ++ replicate pad 0 ++ bytes_of self.old.order 4 v }
+        ensures order { self.new.order ≡ self.old.order }
+        ensures room { self.old.room ≤ self.new.room }
+    {
+        let mut cell = [0u8; 4];
+        match self.order {
+            Order::Big => BigEndian::write_u32(&mut cell, v),
+            Order::Little => LittleEndian::write_u32(&mut cell, v),
         }
-        Ok(())
+        self.put_zeros(pad);
+        self.put(&cell);
     }
 
     /// One byte, which needs no padding.
@@ -141,7 +155,11 @@ impl Writer {
             Order::Big => BigEndian::write_u16(&mut cell, v),
             Order::Little => LittleEndian::write_u16(&mut cell, v),
         }
-        self.put_cell(self.gap(2), &cell)
+        let pad = self.gap(2);
+        self.reserve(pad + 2)?;
+        self.put_zeros(pad);
+        self.put(&cell);
+        Ok(())
     }
 
     /// An unsigned long long, behind its padding of zeros.
@@ -158,7 +176,11 @@ impl Writer {
             Order::Big => BigEndian::write_u64(&mut cell, v),
             Order::Little => LittleEndian::write_u64(&mut cell, v),
         }
-        self.put_cell(self.gap(8), &cell)
+        let pad = self.gap(8);
+        self.reserve(pad + 8)?;
+        self.put_zeros(pad);
+        self.put(&cell);
+        Ok(())
     }
 
     /// An unsigned long, behind its padding of zeros.
@@ -170,12 +192,10 @@ impl Writer {
         ensures { Adds (written_number 4 self.old.order (length self.old.bytes) v)
             self.old self.new result }
     {
-        let mut cell = [0u8; 4];
-        match self.order {
-            Order::Big => BigEndian::write_u32(&mut cell, v),
-            Order::Little => LittleEndian::write_u32(&mut cell, v),
-        }
-        self.put_cell(self.gap(4), &cell)
+        let pad = self.gap(4);
+        self.reserve(pad + 4)?;
+        self.put_u32(pad, v);
+        Ok(())
     }
 
     /// A sequence of octets, behind their number.
@@ -188,13 +208,13 @@ impl Writer {
             self.old self.new result }
     {
         let size = v.len();
-        let held = self.bytes.len();
-        if size > u32::MAX as usize {
+        if size > (u32::MAX as usize) - self.bytes.len() {
             return Err(Memory);
         }
-        self.reserve((4 - held % 4) % 4 + 4 + size)?;
-        self.u32(size as u32)?;
-        self.bytes.extend_from_slice(v)?;
+        let pad = self.gap(4);
+        self.reserve(pad + 4 + size)?;
+        self.put_u32(pad, size as u32);
+        self.put(v);
         Ok(())
     }
 
@@ -207,7 +227,7 @@ impl Writer {
         ensures { Adds v.now self.old self.new result }
     {
         self.reserve(v.len())?;
-        self.bytes.extend_from_slice(v)?;
+        self.put(v);
         Ok(())
     }
 
@@ -311,14 +331,14 @@ impl Writer {
             self.old self.new result }
     {
         let size = v.len();
-        let held = self.bytes.len();
-        if size > u32::MAX as usize - 1 {
+        if size >= (u32::MAX as usize) - self.bytes.len() {
             return Err(Memory);
         }
-        self.reserve((4 - held % 4) % 4 + 4 + size + 1)?;
-        self.u32(size as u32 + 1)?;
-        self.bytes.extend_from_slice(v)?;
-        self.bytes.push(0)?;
+        let pad = self.gap(4);
+        self.reserve(pad + 4 + size + 1)?;
+        self.put_u32(pad, size as u32 + 1);
+        self.put(v);
+        self.bytes.push_reserved(b'\0');
         Ok(())
     }
 }
