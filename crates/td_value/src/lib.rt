@@ -2,6 +2,7 @@
 #![tactic(auto)]
 
 mod dynamic;
+mod ends;
 mod enumerations;
 mod key;
 mod sizes;

@@ -5,6 +5,7 @@ ghost use Rattle.td_cdr.specs.declared.order.Order.TheVariants.{Big};
 ghost use Rattle.td_value.specs.Structures.{offer, type_struct};
 ghost use Rattle.td_codes.specs.Values.{any_value};
 
+use crate::ends::plain_offer_size;
 use crate::structures::{Property, TypeStruct};
 use std::alloc::Global;
 use td_cdr::{List, Memory, Order, Spelled, Writer, put_two};
@@ -19,12 +20,29 @@ fn size_of<T: Spelled>(alloc: Global, value: &T) -> Result<usize, Memory>
     Ok(w.len())
 }
 
-/// The encoded bytes of an offer: of its reference and its properties.
+/// The encoded bytes of an offer: of its reference and its properties. Where these are numbers and
+/// strings it takes no memory.
 ///
 /// # Errors
 ///
 /// `Memory` for want of memory, or where there are 2^32 bytes or more.
 pub fn offer_size(
+    alloc: Global,
+    reference: &Ior,
+    properties: &List<Property>,
+) -> Result<usize, Memory>
+    ensures { IfOk result (λ n.
+        n ≡ length (offer.format.writes
+        (record { reference = reference.now; properties = properties.now }) Big 0)) }
+{
+    match plain_offer_size(reference, properties) {
+        Some(size) => Ok(size),
+        None => written_offer_size(alloc, reference, properties),
+    }
+}
+
+/// The same, of any offer: it is written to be measured.
+fn written_offer_size(
     alloc: Global,
     reference: &Ior,
     properties: &List<Property>,
