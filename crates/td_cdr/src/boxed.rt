@@ -61,8 +61,21 @@ impl<T: Drop> Boxed<T> {
     }
 }
 
+impl<T: Twin + Drop> Boxed<T> {
+    /// A block with a copy of the value.
+    ///
+    /// # Errors
+    ///
+    /// `Memory` for want of memory alone.
+    pub fn copy_of(alloc: Global, value: &T) -> Result<Boxed<T>, Memory>
+        ensures { IfOk result (λ b. b ≡ value.now) }
+    {
+        Boxed::new(alloc, value.copy(alloc)?)
+    }
+}
+
 impl<T: Twin + Drop> Twin for Boxed<T> {
     fn copy(&self, alloc: Global) -> Result<Boxed<T>, Memory> {
-        Boxed::new(alloc, self.get().copy(alloc)?)
+        Boxed::copy_of(alloc, self.get())
     }
 }

@@ -5,6 +5,8 @@ use td_cdr::{Boxed, List, Text};
 use td_value::{Any, FollowOption, Ior, Policy, PropStruct, Property, TypeCode};
 
 /// A user exception, with its members in the order of their declaration: they hold the item at fault.
+/// Those with a TypeCode stand in blocks of their own, since each result on its way has the place of
+/// the largest exception.
 pub enum UserException {
     NotImplemented,
     IllegalServiceType {
@@ -21,7 +23,7 @@ pub enum UserException {
     },
     PropertyTypeMismatch {
         service_type: Text,
-        property: Property,
+        property: Boxed<Property>,
     },
     MissingMandatoryProperty {
         service_type: Text,
@@ -53,10 +55,10 @@ pub enum UserException {
         name: Text,
     },
     PolicyTypeMismatch {
-        policy: Policy,
+        policy: Boxed<Policy>,
     },
     InvalidPolicyValue {
-        policy: Policy,
+        policy: Boxed<Policy>,
     },
     InvalidObjectRef {
         reference: Ior,
@@ -113,8 +115,8 @@ pub enum UserException {
     },
     DPEvalFailure {
         name: Text,
-        returned_type: TypeCode,
-        extra_info: Any,
+        returned_type: Boxed<TypeCode>,
+        extra_info: Boxed<Any>,
     },
     ServiceTypeExists {
         name: Text,

@@ -35,7 +35,7 @@ fn put_members(alloc: Global, w: &mut Writer, exception: &UserException) -> Resu
         UserException::PropertyTypeMismatch {
             service_type,
             property,
-        } => put_two(alloc, w, service_type, property),
+        } => put_two(alloc, w, service_type, property.get()),
         UserException::MissingMandatoryProperty { service_type, name } => put_two(
             alloc,
             w,
@@ -55,8 +55,8 @@ fn put_members(alloc: Global, w: &mut Writer, exception: &UserException) -> Resu
         UserException::DuplicatePolicyName { name } => name.write(alloc, w),
         UserException::IllegalPreference { preference } => preference.write(alloc, w),
         UserException::IllegalPolicyName { name } => name.write(alloc, w),
-        UserException::PolicyTypeMismatch { policy } => policy.write(alloc, w),
-        UserException::InvalidPolicyValue { policy } => policy.write(alloc, w),
+        UserException::PolicyTypeMismatch { policy } => policy.get().write(alloc, w),
+        UserException::InvalidPolicyValue { policy } => policy.get().write(alloc, w),
         UserException::InvalidObjectRef { reference } => reference.write(alloc, w),
         UserException::UnknownPropertyName { name } => name.write(alloc, w),
         UserException::InterfaceTypeMismatch {
@@ -96,7 +96,7 @@ fn put_members(alloc: Global, w: &mut Writer, exception: &UserException) -> Resu
             name,
             returned_type,
             extra_info,
-        } => put_three(alloc, w, name, returned_type, extra_info),
+        } => put_three(alloc, w, name, returned_type.get(), extra_info.get()),
         UserException::ServiceTypeExists { name } => name.write(alloc, w),
         UserException::ReposInterfaceTypeMismatch {
             base_service,

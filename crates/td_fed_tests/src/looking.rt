@@ -97,7 +97,7 @@ fn is_reply(alloc: Global, reply: &Reply, told: &str) -> bool {
         Reply::Stem(octets) => are_octets(octets.as_slice(), told),
         Reply::Number(number) => told.parse::<u32>() == Ok(*number),
         Reply::Offer(info) => is_offer(info, told),
-        Reply::Proxy(info) => is_proxy(info, told),
+        Reply::Proxy(info) => is_proxy(info.get(), told),
         Reply::Names(names) => is_count(names.len(), told),
         Reply::Ids { ids, .. } => is_count(ids.len(), told),
         _ => false,

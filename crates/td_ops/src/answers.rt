@@ -16,7 +16,7 @@ use crate::operation::{Operation, result_shape};
 use crate::outcome::{Answered, Reply};
 use crate::shape::Shape;
 use std::alloc::Global;
-use td_cdr::{List, Octets, Reader, Spelled, Text, ValueFault};
+use td_cdr::{Boxed, List, Octets, Reader, Spelled, Text, ValueFault};
 use td_value::{
     FollowOption, IncarnationNumber, Ior, LinkInfo, Offer, OfferInfo, ProxyInfo, TypeStruct,
 };
@@ -96,13 +96,21 @@ fn read_reply(alloc: Global, r: &mut Reader, shape: Shape) -> Result<Reply, Valu
         Shape::Names => Ok(Reply::Names(List::read(alloc, r)?)),
         Shape::Offer => Ok(Reply::Offer(OfferInfo::read(alloc, r)?)),
         Shape::Link => Ok(Reply::Link(LinkInfo::read(alloc, r)?)),
-        Shape::Proxy => Ok(Reply::Proxy(ProxyInfo::read(alloc, r)?)),
+        Shape::Proxy => read_described_proxy(alloc, r),
         Shape::Typed => Ok(Reply::Typed(TypeStruct::read(alloc, r)?)),
         Shape::Found => read_found(alloc, r),
         Shape::Ids => read_ids(alloc, r),
         Shape::Batch => read_batch(alloc, r),
         Shape::IdBatch => read_id_batch(alloc, r),
     }
+}
+
+/// What describes a proxy offer. Where it is refused, the reader may have moved.
+fn read_described_proxy(alloc: Global, r: &mut Reader) -> Result<Reply, ValueFault>
+    ensures { Gives is_memory r.new result ((results shape.Proxy).format.reads r.old) }
+{
+    let info = ProxyInfo::read(alloc, r)?;
+    Ok(Reply::Proxy(Boxed::new(alloc, info)?))
 }
 
 /// The answer to a query. Where it is refused, the reader may have moved.

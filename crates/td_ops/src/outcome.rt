@@ -1,7 +1,7 @@
 //! What a call comes to: a result, a user exception or a system exception (OMG's Trading Object
 //! Service; CORBA, chapter "Standard Exceptions").
 
-use td_cdr::{List, Octets, Text};
+use td_cdr::{Boxed, List, Octets, Text};
 use td_exceptions::UserException;
 use td_value::{
     FollowOption, IncarnationNumber, Ior, LinkInfo, Offer, OfferInfo, ProxyInfo, TypeStruct,
@@ -34,7 +34,7 @@ pub enum Reply {
     Names(List<Text>),
     Offer(OfferInfo),
     Link(LinkInfo),
-    Proxy(ProxyInfo),
+    Proxy(Boxed<ProxyInfo>),
     Typed(TypeStruct),
     /// The answer to a query: the iterator, nil where nothing is left, has the offers behind these.
     Found {

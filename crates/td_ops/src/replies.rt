@@ -96,7 +96,7 @@ fn put_reply(alloc: Global, w: &mut Writer, reply: &Reply) -> Result<(), Memory>
         Reply::Names(names) => names.write(alloc, w),
         Reply::Offer(offer) => offer.write(alloc, w),
         Reply::Link(link) => link.write(alloc, w),
-        Reply::Proxy(proxy) => proxy.write(alloc, w),
+        Reply::Proxy(proxy) => proxy.get().write(alloc, w),
         Reply::Typed(described) => described.write(alloc, w),
         Reply::Found {
             offers,

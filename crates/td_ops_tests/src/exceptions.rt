@@ -12,13 +12,14 @@ pub fn exception(alloc: Global, word: &str) -> Result<Boxed<Outcome>, Memory> {
     match word {
         "NotImplemented" | "DefaultFollowTooPermissive" | "LimitingFollowTooPermissive" =>
             Boxed::new(alloc, Outcome::User(of_none(word))),
-        "PolicyTypeMismatch" | "InvalidPolicyValue" => of_one(alloc, word, b"Cost"),
+        "PolicyTypeMismatch" | "InvalidPolicyValue" => of_policy(alloc, word),
+        "DPEvalFailure" => of_failure(alloc),
         "MissingMandatoryProperty"
         | "ReadonlyDynamicProperty"
         | "MandatoryProperty"
         | "ReadonlyProperty"
         | "HasSubTypes" => of_two(alloc, word, b"a", b"bcd"),
-        "PropertyTypeMismatch" => of_two(alloc, word, b"a", b"Cost"),
+        "PropertyTypeMismatch" => of_property(alloc),
         "IllegalTraderName" | "UnknownTraderName" => of_path(alloc, word),
         "InvalidLookupRef" | "InvalidObjectRef" | "InterfaceTypeMismatch" => of_reference(
             alloc, word,
@@ -62,18 +63,6 @@ fn named(word: &str, name: Text) -> UserException {
         "DuplicatePolicyName" => UserException::DuplicatePolicyName { name },
         "IllegalPreference" => UserException::IllegalPreference { preference: name },
         "IllegalPolicyName" => UserException::IllegalPolicyName { name },
-        "PolicyTypeMismatch" => UserException::PolicyTypeMismatch {
-            policy: Policy {
-                name,
-                value: number(7),
-            },
-        },
-        "InvalidPolicyValue" => UserException::InvalidPolicyValue {
-            policy: Policy {
-                name,
-                value: number(7),
-            },
-        },
         "UnknownPropertyName" => UserException::UnknownPropertyName { name },
         "ProxyOfferId" => UserException::ProxyOfferId { id: name },
         "NoMatchingOffers" => UserException::NoMatchingOffers { constraint: name },
@@ -81,7 +70,7 @@ fn named(word: &str, name: Text) -> UserException {
     }
 }
 
-/// The exceptions of links, of proxy offers, of evaluators and of the repository of types.
+/// The exceptions of links, of proxy offers and of the repository of types.
 fn named_above(word: &str, name: Text) -> UserException {
     match word {
         "IllegalLinkName" => UserException::IllegalLinkName { name },
@@ -89,11 +78,6 @@ fn named_above(word: &str, name: Text) -> UserException {
         "DuplicateLinkName" => UserException::DuplicateLinkName { name },
         "IllegalRecipe" => UserException::IllegalRecipe { recipe: name },
         "NotProxyOfferId" => UserException::NotProxyOfferId { id: name },
-        "DPEvalFailure" => UserException::DPEvalFailure {
-            name,
-            returned_type: TypeCode::ULong,
-            extra_info: number(9),
-        },
         "ServiceTypeExists" => UserException::ServiceTypeExists { name },
         "AlreadyMasked" => UserException::AlreadyMasked { name },
         "NotMasked" => UserException::NotMasked { name },
@@ -125,17 +109,51 @@ fn of_two(
         "ReadonlyDynamicProperty" => UserException::ReadonlyDynamicProperty { service_type, name },
         "MandatoryProperty" => UserException::MandatoryProperty { service_type, name },
         "ReadonlyProperty" => UserException::ReadonlyProperty { service_type, name },
-        "HasSubTypes" => UserException::HasSubTypes {
+        _ => UserException::HasSubTypes {
             the_type: service_type,
             sub_type: name,
         },
-        _ => UserException::PropertyTypeMismatch {
-            service_type,
-            property: Property {
-                name,
-                value: number(7),
-            },
-        },
+    };
+    Boxed::new(alloc, Outcome::User(exception))
+}
+
+/// An exception of a policy.
+fn of_policy(alloc: Global, word: &str) -> Result<Boxed<Outcome>, Memory> {
+    let policy = Policy {
+        name: Text::from_slice(alloc, b"Cost")?,
+        value: number(7),
+    };
+    let policy = Boxed::new(alloc, policy)?;
+    let exception = match word {
+        "PolicyTypeMismatch" => UserException::PolicyTypeMismatch { policy },
+        _ => UserException::InvalidPolicyValue { policy },
+    };
+    Boxed::new(alloc, Outcome::User(exception))
+}
+
+/// PropertyTypeMismatch.
+fn of_property(alloc: Global) -> Result<Boxed<Outcome>, Memory> {
+    let property = Property {
+        name: Text::from_slice(alloc, b"Cost")?,
+        value: number(7),
+    };
+    let property = Boxed::new(alloc, property)?;
+    let service_type = Text::from_slice(alloc, b"a")?;
+    let exception = UserException::PropertyTypeMismatch {
+        service_type,
+        property,
+    };
+    Boxed::new(alloc, Outcome::User(exception))
+}
+
+/// DPEvalFailure.
+fn of_failure(alloc: Global) -> Result<Boxed<Outcome>, Memory> {
+    let extra_info = Boxed::new(alloc, number(9))?;
+    let returned_type = Boxed::new(alloc, TypeCode::ULong)?;
+    let exception = UserException::DPEvalFailure {
+        name: Text::from_slice(alloc, b"a")?,
+        returned_type,
+        extra_info,
     };
     Boxed::new(alloc, Outcome::User(exception))
 }

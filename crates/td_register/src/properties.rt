@@ -11,7 +11,7 @@ use crate::refusal::{Fault, Refusal, raised};
 use crate::typing::{is_typed, mode_of, property_named};
 use std::alloc::Global;
 use std::collections::BTreeSet;
-use td_cdr::{List, Memory, Text, Twin, copy_two, is_identifier, nothing_seen, see};
+use td_cdr::{Boxed, List, Memory, Text, Twin, copy_two, is_identifier, nothing_seen, see};
 use td_exceptions::UserException;
 use td_types::{MOST_BYTES, MOST_PROPERTIES, is_mandatory, is_readonly};
 use td_value::{Ior, PropStruct, Property, is_dynamic, offer_size};
@@ -107,7 +107,8 @@ pub fn check_value(
     ensures { Judges (value_cause supported type_name.now demanded.now property.now) result }
 {
     if mismatches(alloc, supported, demanded, property)? {
-        let (service_type, property) = copy_two(alloc, type_name, property)?;
+        let property = Boxed::copy_of(alloc, property)?;
+        let service_type = type_name.copy(alloc)?;
         return Err(raised(UserException::PropertyTypeMismatch {
             service_type,
             property,

@@ -13,7 +13,7 @@ use crate::ids::number_in;
 use crate::refusal::{Fault, Refusal, raised, refused};
 use crate::register::is_proxy;
 use std::alloc::Global;
-use td_cdr::{List, Memory, Text, Twin, copy_three, copy_two};
+use td_cdr::{Boxed, List, Memory, Text, Twin, copy_three, copy_two};
 use td_exceptions::UserException;
 use td_ops::{Change, Outcome, Reply};
 use td_store::{OfferRecord, Offers, ProxyPart, Store};
@@ -134,7 +134,10 @@ pub fn describe_proxy(alloc: Global, store: &Store, id: &Text) -> Result<Outcome
         return Ok(refused(Refusal::NotSupported));
     }
     match proxy(alloc, &store.offers, id) {
-        Ok(offer) => Ok(Outcome::Done(Reply::Proxy(proxy_info(alloc, offer)?))),
+        Ok(offer) => {
+            let info = Boxed::new(alloc, proxy_info(alloc, offer)?)?;
+            Ok(Outcome::Done(Reply::Proxy(info)))
+        }
         Err(Fault::Refused(refusal)) => Ok(refused(refusal)),
         Err(Fault::Memory) => Err(Memory),
     }

@@ -16,7 +16,7 @@ ghost use Rattle.td_trader.specs.Reading.{IsRaised, Reads};
 ghost use Rattle.td_register.specs.Registers.{asked_in, no_more};
 
 use std::alloc::Global;
-use td_cdr::{List, Text, Twin, is_identifier, is_word_name, nothing_seen, see};
+use td_cdr::{Boxed, List, Text, Twin, is_identifier, is_word_name, nothing_seen, see};
 use td_changes::Bounds;
 use td_exceptions::UserException;
 use td_lang::{Constraint, LangFault, Preference, read_constraint, read_preference};
@@ -187,10 +187,10 @@ fn policy_fault(fault: PolicyFault) -> Fault
         }),
         PolicyFault::IllegalPolicyName(name) => raised(UserException::IllegalPolicyName { name }),
         PolicyFault::PolicyTypeMismatch(policy) => raised(UserException::PolicyTypeMismatch {
-            policy: policy.into_inner(),
+            policy,
         }),
         PolicyFault::InvalidPolicyValue(policy) => raised(UserException::InvalidPolicyValue {
-            policy: policy.into_inner(),
+            policy,
         }),
         PolicyFault::Memory => Fault::Memory,
     }
@@ -280,7 +280,7 @@ fn refuse_start(alloc: Global, policies: &[Policy]) -> Result<(), Fault>
     match start_policy(policies) {
         None => Ok(()),
         Some(policy) => Err(raised(UserException::InvalidPolicyValue {
-            policy: policy.copy(alloc)?,
+            policy: Boxed::copy_of(alloc, policy)?,
         })),
     }
 }

@@ -30,7 +30,7 @@ fn is_system(kind: SystemKind, told: &str) -> bool {
 fn is_raised(exception: &UserException, told: &str) -> bool {
     let (id, name) = told.split_once(' ').unwrap_or((told, ""));
     let policy = match exception {
-        UserException::InvalidPolicyValue { policy } => policy.name.as_slice(),
+        UserException::InvalidPolicyValue { policy } => policy.get().name.as_slice(),
         _ => b"".as_slice(),
     };
     let behind = user_id(exception).strip_prefix(b"IDL:omg.org/CosTrading");
@@ -52,7 +52,7 @@ pub fn is_reply(reply: &Reply, told: &str) -> bool {
         Reply::Names(names) => ("names", are_names(names.as_slice(), rest)),
         Reply::Ids { ids, .. } => ("ids", are_names(ids.as_slice(), rest)),
         Reply::Offer(info) => ("offer", is_offer(info, rest)),
-        Reply::Proxy(info) => ("proxy", is_proxy(info, rest)),
+        Reply::Proxy(info) => ("proxy", is_proxy(info.get(), rest)),
         Reply::Link(info) => ("rules", has_rules(info, rest)),
         Reply::Typed(described) => ("type", described.if_name.as_slice() == rest.as_bytes()),
         _ => ("", false),

@@ -15,7 +15,7 @@ use crate::fault::{RepoFault, TypesFault};
 use crate::modes::is_at_least;
 use std::alloc::Global;
 use std::collections::BTreeMap;
-use td_cdr::{Boxed, Memory, Text, Twin, copy_two};
+use td_cdr::{Boxed, Memory, Text, copy_two};
 use td_sameness::same_type;
 use td_value::PropStruct;
 
@@ -103,14 +103,7 @@ fn check_definition<'a>(
     }
 }
 
-/// A copy of a definition, in a block of its own.
-fn boxed_copy(alloc: Global, definition: &PropStruct) -> Result<Boxed<PropStruct>, Memory>
-    ensures { IfOk result (λ copy. copy ≡ definition.now) }
-{
-    let copy = definition.copy(alloc)?;
-    Boxed::new(alloc, copy)
-}
-
+/// Copies of two definitions, each in a block of its own.
 fn boxed_copies(
     alloc: Global,
     first: &PropStruct,
@@ -118,8 +111,8 @@ fn boxed_copies(
 ) -> Result<(Boxed<PropStruct>, Boxed<PropStruct>), Memory>
     ensures { IfOk result (λ copies. copies ≡ (first.now, second.now)) }
 {
-    let first = boxed_copy(alloc, first)?;
-    let second = boxed_copy(alloc, second)?;
+    let first = Boxed::copy_of(alloc, first)?;
+    let second = Boxed::copy_of(alloc, second)?;
     Ok((first, second))
 }
 
