@@ -1,6 +1,7 @@
 -- Each operation of an object is found by its name.
 use Rattle.std.proofs.Common.{◌≡◌, ℕ, List, [], ◌∷◌, ◌++◌, Bool, true, false, if◌then◌else◌, Option, Some, None, Err}
-use Rattle.std.proofs.Common.{codes, refl, map}
+use Rattle.std.proofs.Common.{codes, refl, map, sym, subst, ◌∙◌}
+use Rattle.std.proofs.lemmas.Slice.Eq.{bytes_eq-Decides}
 use Rattle.std.specs.List.{IsDistinct, AllByRecursion}
 use Rattle.std.specs.Str.{bytes_eq}
 use Rattle.td_cdr.specs.Place.{At}
@@ -8,8 +9,9 @@ use Rattle.td_cdr.specs.Format.{value_named}
 use Rattle.td_value.specs.declared.key.Kind.{Kind}
 use Rattle.td_value.specs.declared.key.Kind.TheVariants as kind
 use Rattle.td_ops.specs.declared.fault.OpsFault.TheVariants.{NoImplement}
-use Rattle.td_ops.specs.declared.operation.Operation.TheVariants.{NonExistent}
-use Rattle.td_ops.specs.Operations.{name_of, operations, operation_named}
+use Rattle.td_ops.specs.declared.operation.Operation.{Operation}
+use Rattle.td_ops.specs.declared.operation.Operation.TheVariants.{IsA, NonExistent}
+use Rattle.td_ops.specs.Operations.{name_of, object_operations, operations, operation_named}
 use Rattle.td_ops.specs.Calls.{call_read}
 
 -- ---- a list in two parts
@@ -97,3 +99,41 @@ second-found (kind.Iterator n) = refl
 
 pub repository-kept : (a : At) → call_read kind.Admin (codes "set_type_repos") a ≡ Err NoImplement
 repository-kept a = refl
+
+-- ---- what is asked of every object
+
+is_a-found : (k : Kind) → value_named name_of (operations k) (codes "_is_a") ≡ Some IsA
+is_a-found kind.Lookup = refl
+is_a-found kind.Register = refl
+is_a-found kind.Link = refl
+is_a-found kind.Proxy = refl
+is_a-found kind.Admin = refl
+is_a-found kind.Types = refl
+is_a-found (kind.Iterator n) = refl
+
+non_existent-found : (k : Kind) → value_named name_of (operations k) (codes "_non_existent") ≡ Some NonExistent
+non_existent-found kind.Lookup = refl
+non_existent-found kind.Register = refl
+non_existent-found kind.Link = refl
+non_existent-found kind.Proxy = refl
+non_existent-found kind.Admin = refl
+non_existent-found kind.Types = refl
+non_existent-found (kind.Iterator n) = refl
+
+of_two : (k : Kind) (name : List ℕ) (o : Operation) (a b : Bool) → bytes_eq name (codes "_is_a") ≡ a
+    → bytes_eq name (codes "_non_existent") ≡ b
+    → (if a then Some IsA else if b then Some NonExistent else None) ≡ Some o
+    → value_named name_of (operations k) name ≡ Some o
+of_two k name o true b e f h =
+    subst (λ (n : List ℕ). value_named name_of (operations k) n ≡ Some o)
+    (sym ((bytes_eq-Decides name (codes "_is_a")).0 e)) (is_a-found k ∙ h)
+of_two k name o false true e f h =
+    subst (λ (n : List ℕ). value_named name_of (operations k) n ≡ Some o)
+    (sym ((bytes_eq-Decides name (codes "_non_existent")).0 f)) (non_existent-found k ∙ h)
+of_two k name o false false e f h = absurd cc
+
+-- is in the table of each kind, and nothing else is there under its name
+pub every_object : (k : Kind) (name : List ℕ) (o : Operation)
+    → value_named name_of object_operations name ≡ Some o → value_named name_of (operations k) name ≡ Some o
+every_object k name o h =
+    of_two k name o (bytes_eq name (codes "_is_a")) (bytes_eq name (codes "_non_existent")) refl refl h

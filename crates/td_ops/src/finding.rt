@@ -21,11 +21,26 @@ use crate::operation::{
 use td_cdr::find_named;
 use td_value::Kind;
 
-/// The operation of an object that has this name in a request.
+/// The operation of an object that has this name in a request. What is asked of every object is found
+/// without a look into the table of its kind.
+#[tactic(auto, using(crate::proofs::Named::every_object))]
 pub fn operation_named(kind: &Kind, name: &[u8]) -> Option<Operation>
     ensures { result ≡ operation_named kind.now name.now }
 {
     let name = first_name(name);
+    if !name.starts_with(b"_") {
+        return of_kind(kind, name);
+    }
+    match of_object(name) {
+        Some(operation) => Some(operation),
+        None => of_kind(kind, name),
+    }
+}
+
+/// The operation of this name in the table of a kind.
+fn of_kind(kind: &Kind, name: &[u8]) -> Option<Operation>
+    ensures { result ≡ value_named name_of (operations kind.now) name.now }
+{
     match kind {
         Kind::Lookup => of_lookup(name),
         Kind::Register => of_register(name),
