@@ -4,6 +4,7 @@
 ghost use Rattle.std.specs.Prelude.{◌≡◌, IfOk};
 ghost use Rattle.td_register.specs.Ids.{id_of, number_in};
 
+use itoa::Buffer;
 use std::alloc::Global;
 use td_cdr::{Memory, Text};
 use td_ior::number_up_to;
@@ -19,10 +20,8 @@ const LAST_NUMBER: u64 = 4294967295;
 pub fn id_of(alloc: Global, number: u32) -> Result<Text, Memory>
     ensures { IfOk result (λ id. id ≡ id_of number) }
 {
-    match format!(in alloc; "{number}") {
-        Ok(text) => Ok(Text::from_vec(text.into_bytes())),
-        Err(_) => Err(Memory),
-    }
+    let mut digits = Buffer::new();
+    Text::from_slice(alloc, digits.format(number).as_bytes())
 }
 
 /// The number that an id spells, from 1 to 4,294,967,295, in decimal without leading zeros.
