@@ -1,173 +1,157 @@
--- The subcommands with one word and with two.
-use Rattle.std.proofs.Common.{◌≡◌, ◌∙◌, refl, ap, true, codes, List, [], ◌∷◌, Some}
-use Rattle.clap.specs.Words.{Row, Shape, Text, subcommand_of, takes}
-use Rattle.clap.specs.Simple.{inherited, built_leaf, with_leaf_noted, marked_built, names_of, entered}
-use Rattle.clap.specs.Walk.{Held, Walk, idle, walked, walk, walk_from, nothing_held, finished}
-use Rattle.clap.specs.Takes.{walk_passes}
-use Rattle.clap.specs.declared.parser.matches.ValueSource.TheVariants.{CommandLine}
+-- The subcommands without options: their words stand in places, and behind those of some more words may stand.
+use Rattle.std.proofs.Common.{◌≡◌, ◌≤◌, refl, ap, subst, true, false, codes, length, List, [], ◌∷◌, ◌++◌, Some}
+use Rattle.std.proofs.Common.{append-nil}
+use Rattle.std.specs.List.{list_all}
+use Rattle.clap.specs.Lexer.{usize_max}
+use Rattle.clap.specs.Words.{Row, Shape, Text}
+use Rattle.clap.specs.Walk.{has_row, idle, is_empty, is_pending, nothing_held, walk_from, walked}
+use Rattle.clap.specs.Takes.{default_passes, is_valid}
 use Rattle.td_tool.specs.Forms.{is_plain}
-use Rattle.td_tool.specs.Matches.{read_matches, read_named}
-use Rattle.td_tool.specs.Stages.{tool_app}
-use Rattle.td_tool.specs.Tool.{withdraw_app, describe_app, links_app, types_app}
-use Rattle.td_tool.specs.Wishes.{withdraw, describe, links, types}
+use Rattle.td_tool.specs.Matches.{read_matches}
+use Rattle.td_tool.specs.Tool.{addtype_app, describe_app, export_app, link_app, links_app, types_app, withdraw_app}
+use Rattle.td_tool.specs.Wishes.{Asked, addtype, describe, export, link, links, types, withdraw}
+use Rattle.td_tool.proofs.Places.{AreMany, ArePlaces, Ended, Stage, ended, held_behind, many_read, many_rows, many_rule}
+use Rattle.td_tool.proofs.Places.{next_place, placed, rows_in, words_in}
+use Rattle.td_tool.proofs.Moves.{Moves, moves_on}
 use Rattle.td_tool.proofs.Plain.{at}
-use Rattle.td_tool.proofs.Walks.{row, holds}
-use Rattle.td_tool.proofs.Ends.{T, stopped_at, stopped_runs, stopped_passes, level_from}
-use Rattle.td_tool.proofs.Moves.{Moves, moves_on, place_step}
+use Rattle.td_tool.proofs.Subcommands.{IsComplete, IsNamed, Reads, leaf, reads, skip_all}
 
--- what is held behind the first word, and behind the second
-abbrev first_held : Text → Held
-first_held a = holds [] (codes "ref") (a ∷ []) 0
+-- ---- words in places, and more words
 
-abbrev second_held : Text → Text → Held
-second_held a b = holds (row (codes "ref") CommandLine (a ∷ []) ∷ []) (codes "id") (b ∷ []) 0
+-- nothing has a default, and what has to be there is
+record Ends (s : Shape) (rows : List Row) : Type 0 where
+  passes : list_all default_passes s.rules ≡ true
+  none : list_all (λ a. is_empty a.defaults) s.rules ≡ true
+  valid : is_valid s rows false ≡ true
 
-abbrev one_row : Text → List Row
-one_row a = row (codes "ref") CommandLine (a ∷ []) ∷ []
+complete : (s : Shape) (rows : List Row) → Ends s rows → IsComplete s rows rows
+complete s rows e = record { defaults = e.passes; filled = skip_all s.rules rows e.none; valid = e.valid }
 
-abbrev two_rows : Text → Text → List Row
-two_rows a b = row (codes "ref") CommandLine (a ∷ []) ∷ row (codes "id") CommandLine (b ∷ []) ∷ []
+none_held : (s : Shape) → Stage s [] nothing_held
+none_held s = record { settles = refl; passes = refl }
 
--- ---- withdraw
+few : (name : Text) (s : Shape) (ps : List (Text × Text)) (asked : Asked) → IsNamed name s → ArePlaces s 1 [] ps
+    → Ends s (rows_in ps) → read_matches (Some (s.name, rows_in ps)) ≡ Some asked
+    → list_all is_plain (words_in ps) ≡ true → Reads name (words_in ps) asked
+few name s ps asked named are ends read plain =
+    let then = placed s 1 nothing_held [] ps [] are plain (none_held s) in
+    let last = at idle (next_place 1 ps) (held_behind nothing_held [] ps) in
+    let end : Ended s (walk_from nothing_held) (words_in ps) (rows_in ps) = record {
+      walk = last;
+      stage = then.stage;
+      moves = subst (λ (ws : List Text). Moves s (walk_from nothing_held) ws last []) (append-nil (words_in ps))
+          then.moves;
+    } in
+    reads name s (words_in ps) (rows_in ps) (rows_in ps) asked named end (complete s (rows_in ps) ends) read
 
--- the command as it is built
-abbrev W : Shape
-W = built_leaf (inherited (with_leaf_noted (marked_built tool_app.top)) withdraw_app.top)
+some : (name : Text) (s : Shape) (ps : List (Text × Text)) (more : Text) (ws : List Text) (asked : Asked)
+    → IsNamed name s → ArePlaces s 1 [] ps → AreMany s (next_place 1 ps) more
+    → is_pending (many_rule (next_place 1 ps) more) (held_behind nothing_held [] ps).pending ≡ false
+    → has_row more (rows_in ps) ≡ false → Ends s (rows_in ps ++ many_rows more ws)
+    → read_matches (Some (s.name, rows_in ps ++ many_rows more ws)) ≡ Some asked
+    → list_all is_plain (words_in ps) ≡ true → list_all is_plain ws ≡ true → length ws ≤ usize_max
+    → Reads name (words_in ps ++ ws) asked
+some name s ps more ws asked named are many other fresh ends read plain plains short =
+    let rows = rows_in ps ++ many_rows more ws in
+    let then = placed s 1 nothing_held [] ps ws are plain (none_held s) in
+    let last =
+    ended s (next_place 1 ps) more (held_behind nothing_held [] ps) (rows_in ps) ws many other fresh plains short
+    then.stage in
+    let end : Ended s (walk_from nothing_held) (words_in ps ++ ws) rows = record {
+      walk = last.walk;
+      stage = last.stage;
+      moves = moves_on s _ _ _ _ _ _ then.moves last.moves;
+    } in
+    reads name s (words_in ps ++ ws) rows rows asked named end (complete s rows ends) read
 
-withdraw_moves : (a b : Text) → is_plain a ≡ true → is_plain b ≡ true
-    → Moves W (walk_from nothing_held) (a ∷ b ∷ []) (at idle 3 (second_held a b)) []
-withdraw_moves a b pa pb =
-    moves_on W _ _ _ _ _ _
-    (place_step W 1 nothing_held (at idle 2 (first_held a)) a (b ∷ []) pa refl refl)
-    (place_step W 2 (first_held a) (at idle 3 (second_held a b)) b [] pb refl refl)
+-- ---- each of them
 
-withdraw_stops : (words : List Text) → walk T.top.rules (names_of T) nothing_held (codes "withdraw" ∷ words)
-    ≡ stopped_at (walk_from nothing_held) (codes "withdraw") words
+pub withdraw_words : (a b : Text) → is_plain a ≡ true → is_plain b ≡ true
+    → Reads (codes "withdraw") (a ∷ b ∷ []) (withdraw a b)
 unfolding walked
-withdraw_stops words = stopped_runs T.top.rules (names_of T) (walk_from nothing_held) (codes "withdraw") [] words
+withdraw_words a b pa pb =
+    few (codes "withdraw") (leaf withdraw_app) ((codes "ref", a) ∷ (codes "id", b) ∷ []) (withdraw a b)
+    (record { found = refl; stops = refl; passes = refl })
+    ((refl, refl, refl), refl, ((refl, refl, refl), refl, tt))
+    (record { passes = refl; none = refl; valid = refl }) refl (rw (pa, pb) refl)
 
-withdraw_all : (words : List Text)
-    → walk_passes T.top (names_of T) (walk_from nothing_held) (codes "withdraw" ∷ words) ≡ true
-unfolding walked walk_passes
-withdraw_all words = stopped_passes T.top (names_of T) (walk_from nothing_held) (codes "withdraw") [] words
-
-pub withdraw_taken : (a b : Text) → is_plain a ≡ true → is_plain b ≡ true
-    → takes tool_app (codes "withdraw" ∷ a ∷ b ∷ []) ≡ true
-unfolding walk_passes
-withdraw_taken a b pa pb =
-    let moves = withdraw_moves a b pa pb in
-    let level = level_from W (a ∷ b ∷ []) (at idle 3 (second_held a b)) (two_rows a b) refl moves.runs
-    (moves.passes refl) refl refl refl refl in
-    rw (withdraw_stops (a ∷ b ∷ []), withdraw_all (a ∷ b ∷ []), level) refl
-
-pub withdraw_read : (a b : Text) → is_plain a ≡ true → is_plain b ≡ true
-    → read_matches (subcommand_of tool_app (codes "withdraw" ∷ a ∷ b ∷ [])) ≡ Some (withdraw a b)
-withdraw_read a b pa pb =
-    ap (λ (w : Walk). read_matches (entered T w.stopped)) (withdraw_stops (a ∷ b ∷ []))
-    ∙ ap (λ (w : Walk). read_named (codes "withdraw") (finished W.rules w.held)) (withdraw_moves a b pa pb).runs
-
--- ---- describe
-
--- the command as it is built
-abbrev D : Shape
-D = built_leaf (inherited (with_leaf_noted (marked_built tool_app.top)) describe_app.top)
-
-describe_moves : (a b : Text) → is_plain a ≡ true → is_plain b ≡ true
-    → Moves D (walk_from nothing_held) (a ∷ b ∷ []) (at idle 3 (second_held a b)) []
-describe_moves a b pa pb =
-    moves_on D _ _ _ _ _ _
-    (place_step D 1 nothing_held (at idle 2 (first_held a)) a (b ∷ []) pa refl refl)
-    (place_step D 2 (first_held a) (at idle 3 (second_held a b)) b [] pb refl refl)
-
-describe_stops : (words : List Text) → walk T.top.rules (names_of T) nothing_held (codes "describe" ∷ words)
-    ≡ stopped_at (walk_from nothing_held) (codes "describe") words
+pub describe_words : (a b : Text) → is_plain a ≡ true → is_plain b ≡ true
+    → Reads (codes "describe") (a ∷ b ∷ []) (describe a b)
 unfolding walked
-describe_stops words = stopped_runs T.top.rules (names_of T) (walk_from nothing_held) (codes "describe") [] words
+describe_words a b pa pb =
+    few (codes "describe") (leaf describe_app) ((codes "ref", a) ∷ (codes "id", b) ∷ []) (describe a b)
+    (record { found = refl; stops = refl; passes = refl })
+    ((refl, refl, refl), refl, ((refl, refl, refl), refl, tt))
+    (record { passes = refl; none = refl; valid = refl }) refl (rw (pa, pb) refl)
 
-describe_all : (words : List Text)
-    → walk_passes T.top (names_of T) (walk_from nothing_held) (codes "describe" ∷ words) ≡ true
-unfolding walked walk_passes
-describe_all words = stopped_passes T.top (names_of T) (walk_from nothing_held) (codes "describe") [] words
-
-pub describe_taken : (a b : Text) → is_plain a ≡ true → is_plain b ≡ true
-    → takes tool_app (codes "describe" ∷ a ∷ b ∷ []) ≡ true
-unfolding walk_passes
-describe_taken a b pa pb =
-    let moves = describe_moves a b pa pb in
-    let level = level_from D (a ∷ b ∷ []) (at idle 3 (second_held a b)) (two_rows a b) refl moves.runs
-    (moves.passes refl) refl refl refl refl in
-    rw (describe_stops (a ∷ b ∷ []), describe_all (a ∷ b ∷ []), level) refl
-
-pub describe_read : (a b : Text) → is_plain a ≡ true → is_plain b ≡ true
-    → read_matches (subcommand_of tool_app (codes "describe" ∷ a ∷ b ∷ [])) ≡ Some (describe a b)
-describe_read a b pa pb =
-    ap (λ (w : Walk). read_matches (entered T w.stopped)) (describe_stops (a ∷ b ∷ []))
-    ∙ ap (λ (w : Walk). read_named (codes "describe") (finished D.rules w.held)) (describe_moves a b pa pb).runs
-
--- ---- links
-
--- the command as it is built
-abbrev K : Shape
-K = built_leaf (inherited (with_leaf_noted (marked_built tool_app.top)) links_app.top)
-
-links_moves : (a : Text) → is_plain a ≡ true
-    → Moves K (walk_from nothing_held) (a ∷ []) (at idle 2 (first_held a)) []
-links_moves a pa = place_step K 1 nothing_held (at idle 2 (first_held a)) a [] pa refl refl
-
-links_stops : (words : List Text) → walk T.top.rules (names_of T) nothing_held (codes "links" ∷ words)
-    ≡ stopped_at (walk_from nothing_held) (codes "links") words
+pub links_words : (a : Text) → is_plain a ≡ true → Reads (codes "links") (a ∷ []) (links a)
 unfolding walked
-links_stops words = stopped_runs T.top.rules (names_of T) (walk_from nothing_held) (codes "links") [] words
+links_words a pa =
+    few (codes "links") (leaf links_app) ((codes "ref", a) ∷ []) (links a)
+    (record { found = refl; stops = refl; passes = refl }) ((refl, refl, refl), refl, tt)
+    (record { passes = refl; none = refl; valid = refl }) refl (rw pa refl)
 
-links_all : (words : List Text)
-    → walk_passes T.top (names_of T) (walk_from nothing_held) (codes "links" ∷ words) ≡ true
-unfolding walked walk_passes
-links_all words = stopped_passes T.top (names_of T) (walk_from nothing_held) (codes "links") [] words
-
-pub links_taken : (a : Text) → is_plain a ≡ true → takes tool_app (codes "links" ∷ a ∷ []) ≡ true
-unfolding walk_passes
-links_taken a pa =
-    let moves = links_moves a pa in
-    let level = level_from K (a ∷ []) (at idle 2 (first_held a)) (one_row a) refl moves.runs (moves.passes refl)
-    refl refl refl refl in
-    rw (links_stops (a ∷ []), links_all (a ∷ []), level) refl
-
-pub links_read : (a : Text) → is_plain a ≡ true
-    → read_matches (subcommand_of tool_app (codes "links" ∷ a ∷ [])) ≡ Some (links a)
-links_read a pa =
-    ap (λ (w : Walk). read_matches (entered T w.stopped)) (links_stops (a ∷ []))
-    ∙ ap (λ (w : Walk). read_named (codes "links") (finished K.rules w.held)) (links_moves a pa).runs
-
--- ---- types
-
--- the command as it is built
-abbrev Y : Shape
-Y = built_leaf (inherited (with_leaf_noted (marked_built tool_app.top)) types_app.top)
-
-types_moves : (a : Text) → is_plain a ≡ true
-    → Moves Y (walk_from nothing_held) (a ∷ []) (at idle 2 (first_held a)) []
-types_moves a pa = place_step Y 1 nothing_held (at idle 2 (first_held a)) a [] pa refl refl
-
-types_stops : (words : List Text) → walk T.top.rules (names_of T) nothing_held (codes "types" ∷ words)
-    ≡ stopped_at (walk_from nothing_held) (codes "types") words
+pub types_words : (a : Text) → is_plain a ≡ true → Reads (codes "types") (a ∷ []) (types a)
 unfolding walked
-types_stops words = stopped_runs T.top.rules (names_of T) (walk_from nothing_held) (codes "types") [] words
+types_words a pa =
+    few (codes "types") (leaf types_app) ((codes "ref", a) ∷ []) (types a)
+    (record { found = refl; stops = refl; passes = refl }) ((refl, refl, refl), refl, tt)
+    (record { passes = refl; none = refl; valid = refl }) refl (rw pa refl)
 
-types_all : (words : List Text)
-    → walk_passes T.top (names_of T) (walk_from nothing_held) (codes "types" ∷ words) ≡ true
-unfolding walked walk_passes
-types_all words = stopped_passes T.top (names_of T) (walk_from nothing_held) (codes "types") [] words
+pub link_words : (a b c d e : Text) → is_plain a ≡ true → is_plain b ≡ true → is_plain c ≡ true
+    → is_plain d ≡ true → is_plain e ≡ true
+    → Reads (codes "link") (a ∷ b ∷ c ∷ d ∷ e ∷ [])
+    (link (record { reference = a; name = b; target = c; def_pass_on = d; limiting = e }))
+unfolding walked
+link_words a b c d e pa pb pc pd pe =
+    few (codes "link") (leaf link_app)
+    ((codes "ref", a) ∷ (codes "name", b) ∷ (codes "target", c) ∷ (codes "def", d) ∷ (codes "limit", e) ∷ [])
+    (link (record { reference = a; name = b; target = c; def_pass_on = d; limiting = e }))
+    (record { found = refl; stops = refl; passes = refl }) (
+      (refl, refl, refl),
+      refl,
+      (
+        (refl, refl, refl),
+        refl,
+        (
+          (refl, refl, refl),
+          refl,
+          (
+            (refl, refl, refl),
+            refl,
+            ((refl, refl, refl), refl, tt),
+          ),
+        ),
+      ),
+    )
+    (record { passes = refl; none = refl; valid = refl }) refl (rw (pa, pb, pc, pd, pe) refl)
 
-pub types_taken : (a : Text) → is_plain a ≡ true → takes tool_app (codes "types" ∷ a ∷ []) ≡ true
-unfolding walk_passes
-types_taken a pa =
-    let moves = types_moves a pa in
-    let level = level_from Y (a ∷ []) (at idle 2 (first_held a)) (one_row a) refl moves.runs (moves.passes refl)
-    refl refl refl refl in
-    rw (types_stops (a ∷ []), types_all (a ∷ []), level) refl
+pub export_words : (a b c : Text) (ps : List Text) → is_plain a ≡ true → is_plain b ≡ true → is_plain c ≡ true
+    → list_all is_plain ps ≡ true → length ps ≤ usize_max
+    → Reads (codes "export") (a ∷ b ∷ c ∷ ps)
+    (export (record { reference = a; service = b; object = c; properties = ps }))
+unfolding walked
+export_words a b c ps pa pb pc pp short =
+    some (codes "export") (leaf export_app) ((codes "ref", a) ∷ (codes "type", b) ∷ (codes "object", c) ∷ [])
+    (codes "property") ps (export (record { reference = a; service = b; object = c; properties = ps }))
+    (record { found = refl; stops = refl; passes = refl })
+    ((refl, refl, refl), refl, ((refl, refl, refl), refl, ((refl, refl, refl), refl, tt))) (refl, refl) refl refl
+    (record { passes = refl; none = refl; valid = refl })
+    (ap (λ (xs : List Text). Some (export (record { reference = a; service = b; object = c; properties = xs })))
+    (many_read (codes "property") ps))
+    (rw (pa, pb, pc) refl) pp short
 
-pub types_read : (a : Text) → is_plain a ≡ true
-    → read_matches (subcommand_of tool_app (codes "types" ∷ a ∷ [])) ≡ Some (types a)
-types_read a pa =
-    ap (λ (w : Walk). read_matches (entered T w.stopped)) (types_stops (a ∷ []))
-    ∙ ap (λ (w : Walk). read_named (codes "types") (finished Y.rules w.held)) (types_moves a pa).runs
+pub addtype_words : (a b c : Text) (ps : List Text) → is_plain a ≡ true → is_plain b ≡ true → is_plain c ≡ true
+    → list_all is_plain ps ≡ true → length ps ≤ usize_max
+    → Reads (codes "addtype") (a ∷ b ∷ c ∷ ps)
+    (addtype (record { reference = a; name = b; interface = c; items = ps }))
+unfolding walked
+addtype_words a b c ps pa pb pc pp short =
+    some (codes "addtype") (leaf addtype_app) ((codes "ref", a) ∷ (codes "name", b) ∷ (codes "interface", c) ∷ [])
+    (codes "item") ps (addtype (record { reference = a; name = b; interface = c; items = ps }))
+    (record { found = refl; stops = refl; passes = refl })
+    ((refl, refl, refl), refl, ((refl, refl, refl), refl, ((refl, refl, refl), refl, tt))) (refl, refl) refl refl
+    (record { passes = refl; none = refl; valid = refl })
+    (ap (λ (xs : List Text). Some (addtype (record { reference = a; name = b; interface = c; items = xs })))
+    (many_read (codes "item") ps))
+    (rw (pa, pb, pc) refl) pp short

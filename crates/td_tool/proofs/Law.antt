@@ -9,12 +9,9 @@ use Rattle.td_tool.specs.Forms.{of_addtype, option_words}
 use Rattle.td_tool.specs.Matches.{read_matches}
 use Rattle.td_tool.specs.Stages.{tool_app}
 use Rattle.td_tool.specs.Wishes.{Asked}
-use Rattle.td_tool.proofs.Ends.{query_words}
-use Rattle.td_tool.proofs.Few.{withdraw_taken, withdraw_read, describe_taken, describe_read, links_taken, links_read}
-use Rattle.td_tool.proofs.Few.{types_taken, types_read}
-use Rattle.td_tool.proofs.Linking.{link_taken, link_read}
-use Rattle.td_tool.proofs.Exporting.{export_taken, export_read}
-use Rattle.td_tool.proofs.Typing.{addtype_taken, addtype_read}
+use Rattle.td_tool.proofs.Few.{addtype_words, describe_words, export_words, link_words, links_words, types_words}
+use Rattle.td_tool.proofs.Few.{withdraw_words}
+use Rattle.td_tool.proofs.Query.{query_words}
 
 shorter : (xs ys : List Text) (a b c d q : Text) (n : ℕ) → length (q ∷ (xs ++ (a ∷ b ∷ c ∷ d ∷ ys))) ≤ n
     → length ys ≤ n
@@ -28,20 +25,15 @@ pub reads_closed : (words : List Text) (asked : Asked) → Spells words asked �
 reads_closed words asked (of_query cs a b c d names apart plain pa pb pc pd pn) short =
     query_words cs a b c d names apart plain pa pb pc pd pn
     (shorter (option_words cs) names a b c d (codes "query") usize_max short)
-reads_closed words asked (of_export a b c ps pa pb pc pp) short = (
-  export_taken a b c ps pa pb pc pp (shorter_by_four ps a b c (codes "export") usize_max short),
-  export_read a b c ps pa pb pc pp,
-)
-reads_closed words asked (of_withdraw a b pa pb) short = (withdraw_taken a b pa pb, withdraw_read a b pa pb)
-reads_closed words asked (of_describe a b pa pb) short = (describe_taken a b pa pb, describe_read a b pa pb)
-reads_closed words asked (of_link a b c d e pa pb pc pd pe) short =
-    (link_taken a b c d e pa pb pc pd pe, link_read a b c d e pa pb pc pd pe)
-reads_closed words asked (of_links a pa) short = (links_taken a pa, links_read a pa)
-reads_closed words asked (of_types a pa) short = (types_taken a pa, types_read a pa)
-reads_closed words asked (of_addtype a b c ps pa pb pc pp) short = (
-  addtype_taken a b c ps pa pb pc pp (shorter_by_four ps a b c (codes "addtype") usize_max short),
-  addtype_read a b c ps pa pb pc pp,
-)
+reads_closed words asked (of_export a b c ps pa pb pc pp) short =
+    export_words a b c ps pa pb pc pp (shorter_by_four ps a b c (codes "export") usize_max short)
+reads_closed words asked (of_withdraw a b pa pb) short = withdraw_words a b pa pb
+reads_closed words asked (of_describe a b pa pb) short = describe_words a b pa pb
+reads_closed words asked (of_link a b c d e pa pb pc pd pe) short = link_words a b c d e pa pb pc pd pe
+reads_closed words asked (of_links a pa) short = links_words a pa
+reads_closed words asked (of_types a pa) short = types_words a pa
+reads_closed words asked (of_addtype a b c ps pa pb pc pp) short =
+    addtype_words a b c ps pa pb pc pp (shorter_by_four ps a b c (codes "addtype") usize_max short)
 
 pub reads : (words : List Text) (asked : Asked) → Spells words asked → length words ≤ usize_max
     → (is_taken words ≡ true) × (asked_of words ≡ Some asked)

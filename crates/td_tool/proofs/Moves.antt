@@ -16,7 +16,7 @@ pub moves_on : (s : Shape) (u v w : Walk) (xs ys zs : List Text) → Moves s u x
     → Moves s u xs w zs
 moves_on s u v w xs ys zs a b = record { runs = a.runs ∙ b.runs; passes = λ e. a.passes (b.passes e) }
 
-moves_step : (s : Shape) (w v : Walk) (word : Text) (rest : List Text) → walked s.rules [] w word ≡ v
+pub moves_step : (s : Shape) (w v : Walk) (word : Text) (rest : List Text) → walked s.rules [] w word ≡ v
     → turn_passes s [] w word ≡ true → Moves s w (word ∷ rest) v rest
 unfolding walk_passes
 moves_step s w v word rest is turn = record {

@@ -44,10 +44,7 @@ same_choice exact exact = true
 same_choice _ _ = false
 
 abbrev pub words_of : Choice → List Text
-words_of (given how_many v) = codes "--how-many" ∷ v ∷ []
-words_of (given hops v) = codes "--hops" ∷ v ∷ []
-words_of (given follow v) = codes "--follow" ∷ v ∷ []
-words_of (given id v) = codes "--id" ∷ v ∷ []
+words_of (given k v) = (codes "--" ++ name_of k) ∷ v ∷ []
 words_of exact = codes "--exact" ∷ []
 
 abbrev pub option_words : List Choice → List Text
