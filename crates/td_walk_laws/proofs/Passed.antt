@@ -6,7 +6,7 @@ use Rattle.std.proofs.lemmas.Bool.{ltb-false}
 use Rattle.td_policy.proofs.ReadBack.{number_back}
 use Rattle.td_policy.specs.Rules.{pass_on}
 use Rattle.td_policy.specs.Stated.{stated}
-use Rattle.td_policy.specs.Values.{Kind, number, octets, policy, rule, truth}
+use Rattle.td_policy.specs.Values.{Kind, number, octets, policy, rule}
 use Rattle.td_policy.specs.declared.stated.Stated.{Stated}
 use Rattle.td_store.specs.declared.local.Local.{Local}
 use Rattle.td_store.specs.declared.record.LinkRecord.{LinkRecord}
@@ -17,10 +17,9 @@ use Rattle.td_walk.proofs.Held.{held}
 use Rattle.td_walk.specs.Passing.{is_named, policy_named, with_policy, replaced, along_path, start_policy}
 use Rattle.td_walk.specs.Passing.{number_in, is_less, states_less, stands, with_passed, with_all_passed}
 use Rattle.td_walk.specs.SubQueries.{link_query, proxy_query, stated_rule}
+use Rattle.td_walk_laws.proofs.Fields as field
+use Rattle.td_walk_laws.proofs.Fields.{Field, is-stated}
 use Rattle.td_walk_laws.specs.SubQueryLaws.{KeepsOthers, OverALink, ToAProxy, AlongAPath, in_its_place, some_left}
-use Rattle.td_walk_laws.proofs.Fields.{exact-stated, hops-stated, follow-stated, match_card-stated, return_card-stated}
-use Rattle.td_walk_laws.proofs.Fields.{search_card-stated, use_dynamic-stated, use_modifiable-stated, use_proxy-stated}
-use Rattle.td_walk_laws.proofs.Fields.{request_id-stated}
 use Rattle.td_walk_laws.proofs.Named.{same-name, put-is-named, others-stay, taken-is-gone}
 use Rattle.td_walk_laws.proofs.Replaced.{hops-there, start-gone, replaced-stays, identifier-there, follow-there}
 use Rattle.td_walk_laws.proofs.Replaced.{path-stays, card-there, card-untouched, states-card}
@@ -45,29 +44,19 @@ keeps-others : (ps qs : List Policy) (before s : Stated) → stated ps ≡ Ok be
     → bytes_eq (codes "starting_trader") name ≡ false → policy_named qs name ≡ policy_named ps name)
     → KeepsOthers before s
 keeps-others ps qs before s d e stays = record {
-  exact =
-      kept truth (codes "exact_type_match") ps qs before.exact s.exact
-      (stays (codes "exact_type_match") refl refl refl refl refl refl) (exact-stated ps before d) (exact-stated qs s e);
-  match_card =
-      kept number (codes "match_card") ps qs before.match_card s.match_card
-      (stays (codes "match_card") refl refl refl refl refl refl) (match_card-stated ps before d) (match_card-stated qs s e);
-  search_card =
-      kept number (codes "search_card") ps qs before.search_card s.search_card
-      (stays (codes "search_card") refl refl refl refl refl refl) (search_card-stated ps before d)
-      (search_card-stated qs s e);
-  use_dynamic =
-      kept truth (codes "use_dynamic_properties") ps qs before.use_dynamic s.use_dynamic
-      (stays (codes "use_dynamic_properties") refl refl refl refl refl refl) (use_dynamic-stated ps before d)
-      (use_dynamic-stated qs s e);
-  use_modifiable =
-      kept truth (codes "use_modifiable_properties") ps qs before.use_modifiable s.use_modifiable
-      (stays (codes "use_modifiable_properties") refl refl refl refl refl refl) (use_modifiable-stated ps before d)
-      (use_modifiable-stated qs s e);
-  use_proxy =
-      kept truth (codes "use_proxy_offers") ps qs before.use_proxy s.use_proxy
-      (stays (codes "use_proxy_offers") refl refl refl refl refl refl) (use_proxy-stated ps before d)
-      (use_proxy-stated qs s e);
+  exact = at field.exact (stays (field.name_of field.exact) refl refl refl refl refl refl);
+  match_card = at field.match_card (stays (field.name_of field.match_card) refl refl refl refl refl refl);
+  search_card = at field.search_card (stays (field.name_of field.search_card) refl refl refl refl refl refl);
+  use_dynamic = at field.use_dynamic (stays (field.name_of field.use_dynamic) refl refl refl refl refl refl);
+  use_modifiable = at field.use_modifiable (stays (field.name_of field.use_modifiable) refl refl refl refl refl refl);
+  use_proxy = at field.use_proxy (stays (field.name_of field.use_proxy) refl refl refl refl refl refl);
 }
+  where
+    at : (f : Field) → policy_named qs (field.name_of f) ≡ policy_named ps (field.name_of f)
+        → field.value_in f s ≡ field.value_in f before
+    at f same =
+        kept (field.kind_of f) (field.name_of f) ps qs (field.value_in f before) (field.value_in f s) same
+        (is-stated f ps before d) (is-stated f qs s e)
 
 -- ---- over a link
 
@@ -79,7 +68,7 @@ card-in-its-place None l r s e d =
     let qs = replaced l.effective.hops r l.identifier None l.query.policies in
     kept number (codes "return_card") l.query.policies qs l.stated.return_card s.return_card
     (card-untouched l.effective.hops r l.identifier l.query.policies)
-    (return_card-stated l.query.policies l.stated d) (return_card-stated qs s e)
+    (is-stated field.return_card l.query.policies l.stated d) (is-stated field.return_card qs s e)
 card-in-its-place (Some n) l r s e d =
     states-card n (replaced l.effective.hops r l.identifier (Some n) l.query.policies) s
     (card-there l.effective.hops r l.identifier n l.query.policies) e
@@ -246,7 +235,7 @@ to_a_proxy l wanted part constraint s e =
           states-few (codes "hop_count") (l.effective.hops - 1) all s.hops
           (few-kept (is_some wanted) (codes "hop_count") (hops-stand (is_some wanted)) (l.effective.hops - 1)
           part.policies ps (replaced-has-hops l.effective.hops r l.identifier wanted l.query.policies))
-          (hops-stated all s e);
+          (is-stated field.hops all s e);
       identifier =
           λ id is. states-identifier id all s
           (identifier-kept (is_some wanted) part.policies ps
@@ -259,7 +248,7 @@ to_a_proxy l wanted part constraint s e =
           (few-kept true (codes "return_card") card-stands n part.policies
           (replaced l.effective.hops r l.identifier (Some n) l.query.policies)
           (replaced-has-card l.effective.hops r l.identifier n l.query.policies)))
-          (return_card-stated all s e);
+          (is-stated field.return_card all s e);
     }
 
 -- ---- along a path
@@ -278,17 +267,17 @@ along_a_path left ps before s d e =
       start = path-start left ps s e;
       hops =
           kept number (codes "hop_count") ps qs before.hops s.hops (path-stays (codes "hop_count") left ps refl refl)
-          (hops-stated ps before d) (hops-stated qs s e);
+          (is-stated field.hops ps before d) (is-stated field.hops qs s e);
       rule =
           kept rule (codes "link_follow_rule") ps qs before.follow s.follow
-          (path-stays (codes "link_follow_rule") left ps refl refl) (follow-stated ps before d) (follow-stated qs s e);
+          (path-stays (codes "link_follow_rule") left ps refl refl) (is-stated field.follow ps before d) (is-stated field.follow qs s e);
       identifier =
           kept (octets 256) (codes "request_id") ps qs before.request_id s.request_id
-          (path-stays (codes "request_id") left ps refl refl) (request_id-stated ps before d)
-          (request_id-stated qs s e);
+          (path-stays (codes "request_id") left ps refl refl) (is-stated field.request_id ps before d)
+          (is-stated field.request_id qs s e);
       card =
           kept number (codes "return_card") ps qs before.return_card s.return_card
-          (path-stays (codes "return_card") left ps refl refl) (return_card-stated ps before d)
-          (return_card-stated qs s e);
+          (path-stays (codes "return_card") left ps refl refl) (is-stated field.return_card ps before d)
+          (is-stated field.return_card qs s e);
       others = keeps-others ps qs before s d e (λ name o a b c f g. path-stays name left ps g f);
     }

@@ -5,7 +5,7 @@ use Rattle.std.specs.Str.{bytes_eq}
 use Rattle.td_policy.proofs.ReadBack.{number_back, rule_back}
 use Rattle.td_policy.specs.Rules.{lesser}
 use Rattle.td_policy.specs.Stated.{nothing, stated, stated_after, stated_value}
-use Rattle.td_policy.specs.Values.{Kind, number, policy, rule, texts, truth}
+use Rattle.td_policy.specs.Values.{Kind, number, policy, rule, texts}
 use Rattle.td_policy.specs.declared.stated.Stated.{Stated}
 use Rattle.td_store.specs.declared.local.Local.{Local}
 use Rattle.td_store.specs.declared.record.ProxyPart.{ProxyPart}
@@ -16,10 +16,9 @@ use Rattle.td_walk.proofs.Held.{held}
 use Rattle.td_walk.specs.Passing.{is_named, policy_named, with_policy, replaced, number_in}
 use Rattle.td_walk.specs.Passing.{follow_in, is_less, states_less, stands, with_passed, with_all_passed}
 use Rattle.td_walk.specs.SubQueries.{proxy_query, stated_rule}
+use Rattle.td_walk_laws.proofs.Fields as field
+use Rattle.td_walk_laws.proofs.Fields.{Field, is-stated}
 use Rattle.td_walk_laws.specs.SubQueryLaws.{WithPassed, in_its_place, fewer, fewer_wanted, stricter}
-use Rattle.td_walk_laws.proofs.Fields.{hops-stated, follow-stated, start-stated, exact-stated}
-use Rattle.td_walk_laws.proofs.Fields.{match_card-stated, return_card-stated}
-use Rattle.td_walk_laws.proofs.Fields.{search_card-stated, use_dynamic-stated, use_modifiable-stated, use_proxy-stated}
 use Rattle.td_walk_laws.proofs.Named.{same-name, put-is-named, others-stay}
 use Rattle.td_walk_laws.proofs.Passed.{apart, card-stands, hops-stand}
 use Rattle.td_walk_laws.proofs.Replaced.{hops-there, start-gone, replaced-stays, follow-there, rule-untouched}
@@ -241,7 +240,7 @@ rule-before l wanted d = by_rule l.stated.follow refl
         (sym (rule-untouched l.effective.hops l.identifier wanted l.query.policies))
         (subst
         (λ (o : Option FollowOption). IsStatedBy rule (policy_named l.query.policies (codes "link_follow_rule")) None o)
-        is (follow-stated l.query.policies l.stated d))
+        is (is-stated field.follow l.query.policies l.stated d))
 
 -- ---- the law
 
@@ -255,30 +254,32 @@ and-false true = refl
 and-false false = refl
 
 -- any other policy
-passed-on : {A : Type 0} (l : Local) (wanted : Option ℕ) (part : ProxyPart) (passed : Stated) → stated part.policies ≡ Ok passed
-    → (kind : Kind A) (name : List ℕ) (x y z : Option A) → bytes_eq name (codes "request_id") ≡ false
-    → bytes_eq name (codes "hop_count") ≡ false → bytes_eq name (codes "link_follow_rule") ≡ false
-    → bytes_eq (codes "request_id") name ≡ false → bytes_eq (codes "link_follow_rule") name ≡ false
-    → bytes_eq (codes "hop_count") name ≡ false → bytes_eq name (codes "starting_trader") ≡ false
-    → bytes_eq name (codes "return_card") ≡ false → bytes_eq (codes "return_card") name ≡ false
-    → IsStatedBy kind (policy_named part.policies name) None x
-    → IsStatedBy kind (policy_named l.query.policies name) None y
-    → IsStatedBy kind
-    (policy_named
-    (with_all_passed (is_some wanted) part.policies
-    (replaced l.effective.hops (stated_rule l.stated.follow l.attributes.max_follow_policy) l.identifier
-    wanted l.query.policies)) name) None z
-    → z ≡ in_its_place x y
-passed-on l wanted part passed p kind name x y z a b c e f g i u v h k m =
-    let r = stated_rule l.stated.follow l.attributes.max_follow_policy in
-    let ps = replaced l.effective.hops r l.identifier wanted l.query.policies in
-    in-place kind (policy_named part.policies name) (policy_named l.query.policies name) x y z h k
-    (subst (λ (o : Option Policy). IsStatedBy kind o None z)
-    (all-chosen (is_some wanted) name replaces
-    (replaces-by-one (is_some wanted) name a b c
-    (ap (λ (t : Bool). is_some wanted && t) u ∙ and-false (is_some wanted))) [] nothing passed part.policies ps p
-    ∙ ap (chosen replaces (policy_named part.policies name))
-    (replaced-stays l.effective.hops r l.identifier wanted l.query.policies name v e f g i)) m)
+module _ (l : Local) (wanted : Option ℕ) (part : ProxyPart) (passed s : Stated)
+    (d : stated l.query.policies ≡ Ok l.stated) (p : stated part.policies ≡ Ok passed)
+    (e : stated (with_all_passed (is_some wanted) part.policies (replaced l.effective.hops
+    (stated_rule l.stated.follow l.attributes.max_follow_policy) l.identifier wanted l.query.policies)) ≡ Ok s) where
+  passed-on : (f : Field) → (let name = field.name_of f in
+      bytes_eq name (codes "request_id") ≡ false
+      → bytes_eq name (codes "hop_count") ≡ false → bytes_eq name (codes "link_follow_rule") ≡ false
+      → bytes_eq (codes "request_id") name ≡ false → bytes_eq (codes "link_follow_rule") name ≡ false
+      → bytes_eq (codes "hop_count") name ≡ false → bytes_eq name (codes "starting_trader") ≡ false
+      → bytes_eq name (codes "return_card") ≡ false → bytes_eq (codes "return_card") name ≡ false
+      → field.value_in f s ≡ in_its_place (field.value_in f passed) (field.value_in f l.stated))
+  passed-on f a b c g h i j u v =
+      let name = field.name_of f in
+      let r = stated_rule l.stated.follow l.attributes.max_follow_policy in
+      let ps = replaced l.effective.hops r l.identifier wanted l.query.policies in
+      let all = with_all_passed (is_some wanted) part.policies ps in
+      in-place (field.kind_of f) (policy_named part.policies name) (policy_named l.query.policies name)
+      (field.value_in f passed) (field.value_in f l.stated) (field.value_in f s)
+      (is-stated f part.policies passed p) (is-stated f l.query.policies l.stated d)
+      (subst (λ (o : Option Policy). IsStatedBy (field.kind_of f) o None (field.value_in f s))
+      (all-chosen (is_some wanted) name replaces
+      (replaces-by-one (is_some wanted) name a b c
+      (ap (λ (t : Bool). is_some wanted && t) u ∙ and-false (is_some wanted))) [] nothing passed part.policies ps p
+      ∙ ap (chosen replaces (policy_named part.policies name))
+      (replaced-stays l.effective.hops r l.identifier wanted l.query.policies name v g h i j))
+      (is-stated f all s e))
 
 -- how many offers are to be returned
 card-passed-on : (wanted : Option ℕ) (l : Local) (part : ProxyPart) (passed : Stated) (z : Option ℕ)
@@ -294,7 +295,7 @@ card-passed-on None l part passed z p d m =
     let ps = replaced l.effective.hops r l.identifier None l.query.policies in
     in-place number (policy_named part.policies (codes "return_card"))
     (policy_named l.query.policies (codes "return_card")) passed.return_card l.stated.return_card z
-    (return_card-stated part.policies passed p) (return_card-stated l.query.policies l.stated d)
+    (is-stated field.return_card part.policies passed p) (is-stated field.return_card l.query.policies l.stated d)
     (subst (λ (o : Option Policy). IsStatedBy number o None z)
     (all-chosen false (codes "return_card") replaces (replaces-by-one false (codes "return_card") refl refl refl refl)
     [] nothing passed part.policies ps p
@@ -304,7 +305,7 @@ card-passed-on (Some n) l part passed z p d m =
     let r = stated_rule l.stated.follow l.attributes.max_follow_policy in
     let ps = replaced l.effective.hops r l.identifier (Some n) l.query.policies in
     number-states (codes "return_card") (policy_named part.policies (codes "return_card")) n passed.return_card z
-    (return_card-stated part.policies passed p)
+    (is-stated field.return_card part.policies passed p)
     (subst (λ (o : Option Policy). IsStatedBy number o None z)
     (all-chosen true (codes "return_card") (least_by number_in)
     (least-by-one true (codes "return_card") number_in card-stands) [] nothing passed part.policies ps p
@@ -319,68 +320,42 @@ with_passed_on l wanted part constraint passed s d p e =
     let r = stated_rule l.stated.follow l.attributes.max_follow_policy in
     let ps = replaced l.effective.hops r l.identifier wanted l.query.policies in
     let all = with_all_passed (is_some wanted) part.policies ps in
+    let on = passed-on l wanted part passed s d p e in
     record {
       hops =
           number-states (codes "hop_count") (policy_named part.policies (codes "hop_count")) (l.effective.hops - 1) passed.hops s.hops
-          (hops-stated part.policies passed p)
+          (is-stated field.hops part.policies passed p)
           (subst (λ (o : Option Policy). IsStatedBy number o None s.hops)
           (all-chosen (is_some wanted) (codes "hop_count") (least_by number_in)
           (least-by-one (is_some wanted) (codes "hop_count") number_in (hops-stand (is_some wanted))) []
           nothing passed part.policies ps p
           ∙ ap (chosen (least_by number_in) (policy_named part.policies (codes "hop_count")))
           (hops-there l.effective.hops r l.identifier wanted l.query.policies))
-          (hops-stated all s e));
+          (is-stated field.hops all s e));
       rule =
           rules-state (policy_named part.policies (codes "link_follow_rule"))
           (policy_named ps (codes "link_follow_rule")) passed.follow r s.follow
-          (follow-stated part.policies passed p) (rule-before l wanted d)
+          (is-stated field.follow part.policies passed p) (rule-before l wanted d)
           (subst (λ (o : Option Policy). IsStatedBy rule o None s.follow)
           (all-chosen (is_some wanted) (codes "link_follow_rule") (least_by follow_in)
           (least-by-one (is_some wanted) (codes "link_follow_rule") follow_in (rules-stand (is_some wanted))) [] nothing passed part.policies ps p)
-          (follow-stated all s e));
+          (is-stated field.follow all s e));
       start =
           in-place (texts 64) (policy_named part.policies (codes "starting_trader")) None passed.start None s.start
-          (start-stated part.policies passed p) refl
+          (is-stated field.start part.policies passed p) refl
           (subst (λ (o : Option Policy). IsStatedBy (texts 64) o None s.start)
           (all-chosen (is_some wanted) (codes "starting_trader") replaces
           (replaces-by-one (is_some wanted) (codes "starting_trader") refl refl refl (and-false (is_some wanted))) []
           nothing passed part.policies ps p
           ∙ ap (chosen replaces (policy_named part.policies (codes "starting_trader")))
           (start-gone l.effective.hops r l.identifier wanted l.query.policies))
-          (start-stated all s e))
+          (is-stated field.start all s e))
           ∙ kept-start passed.start;
-      exact =
-          passed-on l wanted part passed p truth (codes "exact_type_match") passed.exact l.stated.exact s.exact
-          refl refl refl refl refl refl refl refl refl
-          (exact-stated part.policies passed p)
-          (exact-stated l.query.policies l.stated d) (exact-stated all s e);
-      match_card =
-          passed-on l wanted part passed p number (codes "match_card") passed.match_card l.stated.match_card s.match_card
-          refl refl refl refl refl refl refl refl refl
-          (match_card-stated part.policies passed p)
-          (match_card-stated l.query.policies l.stated d) (match_card-stated all s e);
-      return_card = card-passed-on wanted l part passed s.return_card p d (return_card-stated all s e);
-      search_card =
-          passed-on l wanted part passed p number (codes "search_card") passed.search_card l.stated.search_card s.search_card
-          refl refl refl refl refl refl refl refl refl
-          (search_card-stated part.policies passed p)
-          (search_card-stated l.query.policies l.stated d) (search_card-stated all s e);
-      use_dynamic =
-          passed-on l wanted part passed p truth (codes "use_dynamic_properties")
-          passed.use_dynamic l.stated.use_dynamic s.use_dynamic
-          refl refl refl refl refl refl refl refl refl
-          (use_dynamic-stated part.policies passed p)
-          (use_dynamic-stated l.query.policies l.stated d) (use_dynamic-stated all s e);
-      use_modifiable =
-          passed-on l wanted part passed p truth (codes "use_modifiable_properties")
-          passed.use_modifiable l.stated.use_modifiable s.use_modifiable
-          refl refl refl refl refl refl refl refl refl
-          (use_modifiable-stated part.policies passed p)
-          (use_modifiable-stated l.query.policies l.stated d) (use_modifiable-stated all s e);
-      use_proxy =
-          passed-on l wanted part passed p truth (codes "use_proxy_offers")
-          passed.use_proxy l.stated.use_proxy s.use_proxy
-          refl refl refl refl refl refl refl refl refl
-          (use_proxy-stated part.policies passed p)
-          (use_proxy-stated l.query.policies l.stated d) (use_proxy-stated all s e);
+      exact = on field.exact refl refl refl refl refl refl refl refl refl;
+      match_card = on field.match_card refl refl refl refl refl refl refl refl refl;
+      return_card = card-passed-on wanted l part passed s.return_card p d (is-stated field.return_card all s e);
+      search_card = on field.search_card refl refl refl refl refl refl refl refl refl;
+      use_dynamic = on field.use_dynamic refl refl refl refl refl refl refl refl refl;
+      use_modifiable = on field.use_modifiable refl refl refl refl refl refl refl refl refl;
+      use_proxy = on field.use_proxy refl refl refl refl refl refl refl refl refl;
     }

@@ -19,8 +19,8 @@ use Rattle.td_value.specs.declared.enumerations.FollowOption.{FollowOption}
 use Rattle.td_value.specs.declared.structures.Policy.{Policy}
 use Rattle.td_walk.specs.Passing.{policy_named, with_policy, with_optional, without_policy, hop_policy, follow_policy}
 use Rattle.td_walk.specs.Passing.{identifier_policy, start_policy, card_policy, replaced, along_path}
-use Rattle.td_walk_laws.proofs.Fields.{hops-stated, follow-stated, start-stated, return_card-stated}
-use Rattle.td_walk_laws.proofs.Fields.{request_id-stated}
+use Rattle.td_walk_laws.proofs.Fields as field
+use Rattle.td_walk_laws.proofs.Fields.{is-stated}
 use Rattle.td_walk_laws.proofs.Named.{put-is-named, others-stay, taken-is-gone, others-are-left}
 use Rattle.td_walk_laws.proofs.Stating.{IsStatedBy, ok-is}
 
@@ -142,7 +142,7 @@ gone kind o before now is h = subst (λ (q : Option Policy). IsStatedBy kind q b
 pub states-hops : (n : ℕ) (ps : List Policy) (s : Stated)
     → policy_named ps (codes "hop_count") ≡ Some (hop_policy n) → stated ps ≡ Ok s → s.hops ≡ Some n
 states-hops n ps s is e =
-    let h = there number (policy_named ps (codes "hop_count")) (hop_policy n) None s.hops is (hops-stated ps s e) in
+    let h = there number (policy_named ps (codes "hop_count")) (hop_policy n) None s.hops is (is-stated field.hops ps s e) in
     ok-is s.hops (Some n) (sym h ∙ number_back (codes "hop_count") n)
 
 pub states-card : (n : ℕ) (ps : List Policy) (s : Stated)
@@ -150,20 +150,20 @@ pub states-card : (n : ℕ) (ps : List Policy) (s : Stated)
 states-card n ps s is e =
     let h =
     there number (policy_named ps (codes "return_card")) (card_policy n) None s.return_card is
-    (return_card-stated ps s e) in
+    (is-stated field.return_card ps s e) in
     ok-is s.return_card (Some n) (sym h ∙ number_back (codes "return_card") n)
 
 pub states-follow : (r : FollowOption) (ps : List Policy) (s : Stated)
     → policy_named ps (codes "link_follow_rule") ≡ Some (follow_policy r) → stated ps ≡ Ok s → s.follow ≡ Some r
 states-follow r ps s is e =
     let h =
-    there rule (policy_named ps (codes "link_follow_rule")) (follow_policy r) None s.follow is (follow-stated ps s e) in
+    there rule (policy_named ps (codes "link_follow_rule")) (follow_policy r) None s.follow is (is-stated field.follow ps s e) in
     ok-is s.follow (Some r) (sym h ∙ rule_back (codes "link_follow_rule") r)
 
 pub states-no-start : (ps : List Policy) (s : Stated) → policy_named ps (codes "starting_trader") ≡ None
     → stated ps ≡ Ok s → s.start ≡ None
 states-no-start ps s is e =
-    gone (texts 64) (policy_named ps (codes "starting_trader")) None s.start is (start-stated ps s e)
+    gone (texts 64) (policy_named ps (codes "starting_trader")) None s.start is (is-stated field.start ps s e)
 
 not-both : {A F : Type 0} (x : A) (f : F) → (let r : Result A F = Ok x in r) ≡ Err f → ⊥
 not-both x f e = cc
@@ -199,7 +199,7 @@ pub states-identifier : (id : List ℕ) (ps : List Policy) (s : Stated)
 states-identifier id ps s is e =
     let h =
     there (octets 256) (policy_named ps (codes "request_id")) (identifier_policy id) None s.request_id is
-    (request_id-stated ps s e) in
+    (is-stated field.request_id ps s e) in
     elim (cases_lt 256 (length id)) [
       | inl lt ↦ absurd
           (not-both s.request_id (fault.InvalidPolicyValue (identifier_policy id)) (sym h ∙ too-long id lt))
@@ -211,7 +211,7 @@ pub states-start : (xs : List (List ℕ)) (ps : List Policy) (s : Stated)
 states-start xs ps s is e =
     let h =
     there (texts 64) (policy_named ps (codes "starting_trader")) (start_policy xs) None s.start is
-    (start-stated ps s e) in
+    (is-stated field.start ps s e) in
     elim (cases_lt 64 (length xs)) [
       | inl lt ↦ absurd (not-both s.start (fault.InvalidPolicyValue (start_policy xs)) (sym h ∙ too-many xs lt))
       | inr le ↦ ok-is s.start (Some xs) (sym h ∙ texts_back (codes "starting_trader") xs 64 le)

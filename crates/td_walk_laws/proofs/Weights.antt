@@ -23,11 +23,12 @@ use Rattle.td_walk.specs.Visits.{next_of}
 use Rattle.td_walk.specs.declared.answer.Next.TheVariants.{Forward}
 use Rattle.td_walk.specs.declared.answer.StepAnswer.{StepAnswer}
 use Rattle.td_walk.proofs.Held.{held}
+use Rattle.td_walk_laws.proofs.Fields as field
+use Rattle.td_walk_laws.proofs.Fields.{is-stated}
 use Rattle.td_walk_laws.specs.Reach.{weight_of, reach_by, reach_of, IsPassed, over_link, to_proxy}
 use Rattle.td_walk_laws.specs.Reach.{along_path, IsReadFor}
 use Rattle.td_walk_laws.specs.Reach.{IsRead, StartsPath}
 use Rattle.td_walk_laws.specs.SubQueryLaws.{some_left}
-use Rattle.td_walk_laws.proofs.Fields.{start-stated}
 use Rattle.td_walk_laws.proofs.Passed.{over_a_link, to_a_proxy, along_a_path}
 use Rattle.td_walk_laws.proofs.Questions.{only_passed}
 use Rattle.td_walk_laws.proofs.Stating.{IsStatedBy, some-is}
@@ -77,7 +78,7 @@ few-stated (Some p) start h =
     rw is.1 (few-named p is.0 is.2)
 
 few-names : (ps : List Policy) (s : Stated) → stated ps ≡ Ok s → length (unwrap_or s.start []) ≤ 64
-few-names ps s e = few-stated (policy_named ps (codes "starting_trader")) s.start (start-stated ps s e)
+few-names ps s e = few-stated (policy_named ps (codes "starting_trader")) s.start (is-stated field.start ps s e)
 
 -- ---- over plain numbers
 
