@@ -8,10 +8,14 @@ use Rattle.td_ops.specs.declared.outcome.Reply.TheVariants as reply
 use Rattle.td_store.specs.LinkLists.{most_links}
 use Rattle.td_store.specs.declared.record.LinkRecord.{LinkRecord}
 use Rattle.td_value.specs.declared.enumerations.FollowOption.{FollowOption}
-use Rattle.td_register.specs.Causes.{Cause, limit_if, unless, ◌otherwise◌}
+use Rattle.td_register.specs.Causes.{Cause, Comes, limit_if, unless, unless_full, ◌otherwise◌}
+use Rattle.td_register.specs.Entries.{entry}
+use Rattle.td_register.specs.declared.history.Accepted.{Accepted}
+use Rattle.td_register.specs.declared.refusal.Refusal.TheVariants.{Limit}
+use Rattle.td_ops.specs.declared.call.Change.{Change}
 use Rattle.td_register.specs.Judged.{Accepts, IsMet}
 use Rattle.td_admin.specs.LinkJudged.{IsLinked, link_cause}
-use Rattle.td_admin.specs.Links.{add_link, add_link_cause, name_cause, new_links, rules_cause, target_cause}
+use Rattle.td_admin.specs.Links.{add_link_cause, name_cause, new_links, rules_cause, target_cause}
 use Rattle.td_register.specs.Stores.{Store}
 use Rattle.td_register.specs.declared.refusal.Fault.{Fault}
 use Rattle.td_register.specs.declared.refusal.Fault.TheVariants.{Refused, Memory}
@@ -54,39 +58,44 @@ module _ (s : Store) (name : List ℕ) (target : Ior) (def_pass_on limiting : Fo
   abbrev after : Store
   after = record s { links = s.links ++ new_links name target def_pass_on limiting register }
 
+  abbrev c : Change
+  c = change.AddLink name target def_pass_on limiting register
+
   -- no link is made, and the change is refused
-  pub not_made : (f : Fault) → IsMet cause f →
-      Accepts (change.AddLink name target def_pass_on limiting register) (add_link s name target def_pass_on limiting
-      register) s s (Err f)
-  unfolding add_link
-  not_made f h =
-      is_refused (change.AddLink name target def_pass_on limiting register) whole reply.Nothing s after f
+  pub not_made : (full : Bool) (f : Fault) → IsMet cause f →
+      Accepts c (unless_full full whole reply.Nothing after) s s (Err f)
+  not_made full f h =
+      is_refused c full whole reply.Nothing s after f
       (limited-met (name_cause s.links name) (target_cause target register) (rules_cause
       s.attributes.max_link_follow_policy def_pass_on limiting) passed f h)
 
-  is_full : most_links ≤ length s.links → passed ≡ true
-  is_full h = grind (arith, nat_tests)
+  -- no more changes are accepted; whether there is room for the link doesn't matter
+  pub not_counted : (full : Bool) → cause ≡ None → full ≡ true →
+      Accepts c (unless_full full whole reply.Nothing after) s s (Err (Refused Limit))
+  not_counted full none e = (rw (whole-is none, e) (by passed), refl)
+    where
+      by : (b : Bool) → ◌≡◌ {A = Comes} (unless (limit_if b otherwise limit_if true) reply.Nothing after) (Err Limit)
+      by true = refl
+      by false = refl
+
+  has_none_left : most_links ≤ length s.links → passed ≡ true
+  has_none_left h = grind (arith, nat_tests)
 
   is_not_full : length s.links < most_links → passed ≡ false
   is_not_full h = grind (arith, nat_tests)
 
   -- a link is made, and there is no room for it
-  pub not_added : (l : LinkRecord) (new : Store) (f : Fault) → cause ≡ None → IsLinked {X = Unit {0}} l s new (Err f) →
-      Accepts (change.AddLink name target def_pass_on limiting register) (add_link s name target def_pass_on limiting
-      register) s new (Err f)
-  unfolding add_link
-  not_added l new (Refused x) none k =
-      let is : whole ≡ Some x = whole-is none ∙ (ap limit_if (is_full k.0) ∙ ap (λ (y : Refusal). Some y) (sym k.1)) in
-      (ap (λ (w : Cause). unless w reply.Nothing after) is, k.2)
-  not_added l new Memory none k = k
+  pub not_added : (full : Bool) (l : LinkRecord) (new : Store) (f : Fault) → cause ≡ None →
+      IsLinked {X = Unit {0}} l s new (Err f) → Accepts c (unless_full full whole reply.Nothing after) s new (Err f)
+  not_added full l new (Refused x) none k =
+      let is : whole ≡ Some x = whole-is none ∙ (ap limit_if (has_none_left k.0) ∙ ap (λ (y : Refusal). Some y) (sym k.1)) in
+      (ap (λ (w : Cause). unless_full full w reply.Nothing after) is, k.2)
+  not_added full l new Memory none k = k
 
   -- a link is made, and added
-  pub is_added : (l : LinkRecord) (new : Store) → cause ≡ None →
+  pub is_added : (full : Bool) (l : LinkRecord) (a : Accepted) (new : Store) → cause ≡ None → full ≡ false →
       new_links name target def_pass_on limiting register ≡ l ∷ [] → IsLinked {X = Unit {0}} l s new (Ok tt) →
-      add_link s name target def_pass_on limiting register ≡ Ok (reply.Nothing, new)
-  unfolding add_link
-  is_added l new none made k =
-      is_accepted whole reply.Nothing after
-      (whole-is none ∙ ap limit_if (is_not_full k.0))
-      ∙ (ap (λ (ls : List LinkRecord). Ok (reply.Nothing, record s { links = s.links ++ ls })) made
-      ∙ ap (λ (x : Store). Ok (reply.Nothing, x)) (sym k.1))
+      a ≡ entry c reply.Nothing → Accepts c (unless_full full whole reply.Nothing after) s new (Ok a)
+  is_added full l a new none e made k is =
+      is_accepted c full whole reply.Nothing s after a new (whole-is none ∙ ap limit_if (is_not_full k.0)) e is
+      (k.1 ∙ ap (λ (ls : List LinkRecord). record s { links = s.links ++ ls }) (sym made))

@@ -1,6 +1,6 @@
 -- What Admin sets and lists, and the attributes that all objects tell (OMG's Trading Object Service, interfaces
 -- TraderComponents, SupportAttributes, ImportAttributes, LinkAttributes and Admin).
-use Rattle.std.specs.Prelude.{ℕ, nat_lt, Bool, true, false, if◌then◌else◌, List, length, map, filter, None}
+use Rattle.std.specs.Prelude.{ℕ, nat_lt, Bool, true, false, if◌then◌else◌, List, length, map, filter}
 use Rattle.td_codes.specs.declared.reference.Ior.{Ior}
 use Rattle.td_exceptions.specs.declared.exception.UserException.TheVariants.{NotImplemented}
 use Rattle.td_ior.specs.Nil.{nil}
@@ -28,7 +28,7 @@ use Rattle.td_ops.specs.declared.outcome.Reply.{Reply}
 use Rattle.td_ops.specs.declared.outcome.Reply.TheVariants as reply
 use Rattle.td_store.specs.OfferLists.{is_of_kind}
 use Rattle.td_store.specs.declared.record.OfferRecord.{OfferRecord}
-use Rattle.td_register.specs.Causes.{Comes, limit_if, unless}
+use Rattle.td_register.specs.Causes.{Cause, limit_if}
 use Rattle.td_register.specs.Ids.{id_of}
 use Rattle.td_register.specs.Stores.{Store}
 
@@ -94,25 +94,11 @@ with_stem v a = record a { request_id_stem = v }
 abbrev pub set_attributes : Store → Attributes → Store
 set_attributes s a = record s { attributes = a }
 
-unfoldable pub set_truth : Store → TruthAttribute → Bool → Comes
-set_truth s which v = unless None (reply.Truth (truth_of which s.attributes))
-    (set_attributes s (with_truth which v s.attributes))
-
-unfoldable pub set_number : Store → NumberAttribute → ℕ → Comes
-set_number s which v = unless None (reply.Number (number_of which s.attributes))
-    (set_attributes s (with_number which v s.attributes))
-
-unfoldable pub set_follow : Store → FollowAttribute → FollowOption → Comes
-set_follow s which v = unless None (reply.Follow (follow_of which s.attributes))
-    (set_attributes s (with_follow which v s.attributes))
-
 abbrev pub longest_stem : ℕ
 longest_stem = 64
 
-unfoldable pub set_request_id_stem : Store → List ℕ → Comes
-set_request_id_stem s v =
-    unless (limit_if (nat_lt longest_stem (length v)))
-    (reply.Stem s.attributes.request_id_stem) (set_attributes s (with_stem v s.attributes))
+abbrev pub stem_cause : List ℕ → Cause
+stem_cause v = limit_if (nat_lt longest_stem (length v))
 
 -- ---- an attribute is read
 

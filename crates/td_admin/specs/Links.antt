@@ -16,8 +16,7 @@ use Rattle.td_ops.specs.declared.outcome.Reply.TheVariants as reply
 use Rattle.td_store.specs.LinkLists.{link_of, without_link, ruled, most_links}
 use Rattle.td_store.specs.Stores.{link_info_of}
 use Rattle.td_store.specs.declared.record.LinkRecord.{LinkRecord}
-use Rattle.td_register.specs.Causes.{Cause, Found, Comes, raise, raise_if, limit_if, ◌otherwise◌, there, given, tells}
-use Rattle.td_register.specs.Causes.{unless}
+use Rattle.td_register.specs.Causes.{Cause, Found, raise, raise_if, limit_if, ◌otherwise◌, there, given, tells}
 use Rattle.td_register.specs.Stores.{Store}
 
 -- the link of a name
@@ -70,20 +69,18 @@ new_links name target def_pass_on limiting (Some register) =
       limiting = limiting;
     } ∷ []
 
-unfoldable pub add_link : Store → (name : List ℕ) → Ior → (def_pass_on limiting : FollowOption)
-    → Option Ior → Comes
-add_link s name target def_pass_on limiting register =
-    unless (add_link_cause s name target def_pass_on limiting register) reply.Nothing
-    (record s { links = s.links ++ new_links name target def_pass_on limiting register })
+abbrev pub with_link : Store → (name : List ℕ) → Ior → (def_pass_on limiting : FollowOption)
+    → Option Ior → Store
+with_link s name target def_pass_on limiting register =
+    record s { links = s.links ++ new_links name target def_pass_on limiting register }
 
 -- ---- remove_link
 
 abbrev pub remove_link_cause : Store → List ℕ → Cause
 remove_link_cause s name = given (linked s.links name) (λ l. None)
 
-unfoldable pub remove_link : Store → List ℕ → Comes
-remove_link s name = unless (remove_link_cause s name) reply.Nothing
-    (record s { links = without_link name s.links })
+abbrev pub without_named : Store → List ℕ → Store
+without_named s name = record s { links = without_link name s.links }
 
 -- ---- modify_link
 
@@ -92,10 +89,9 @@ modify_link_cause s name def_pass_on limiting =
     given (linked s.links name)
     (λ l. rules_cause s.attributes.max_link_follow_policy def_pass_on limiting)
 
-unfoldable pub modify_link : Store → List ℕ → (def_pass_on limiting : FollowOption) → Comes
-modify_link s name def_pass_on limiting =
-    unless (modify_link_cause s name def_pass_on limiting) reply.Nothing
-    (record s { links = map (ruled name def_pass_on limiting) s.links })
+abbrev pub with_rules : Store → List ℕ → (def_pass_on limiting : FollowOption) → Store
+with_rules s name def_pass_on limiting =
+    record s { links = map (ruled name def_pass_on limiting) s.links }
 
 -- ---- describe_link, list_links
 

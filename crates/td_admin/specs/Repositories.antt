@@ -1,8 +1,7 @@
 -- What the type repository answers, as outcomes (OMG's Trading Object Service, interface
 -- CosTradingRepos::ServiceTypeRepository).
-use Rattle.std.specs.Prelude.{ℕ, ◌+◌, ◌*◌, ◌^◌, List, Option, None, Some, Ok, Err}
+use Rattle.std.specs.Prelude.{ℕ, ◌+◌, ◌-◌, ◌*◌, ◌^◌, min, List, Option, None, Some, Ok, Err}
 use Rattle.td_value.specs.declared.structures.IncarnationNumber.{IncarnationNumber}
-use Rattle.td_value.specs.declared.structures.PropStruct.{PropStruct}
 use Rattle.td_value.specs.declared.unions.SpecifiedServiceTypes.{SpecifiedServiceTypes}
 use Rattle.td_value.specs.declared.unions.SpecifiedServiceTypes.TheVariants as listed
 use Rattle.td_types.specs.Calls as types
@@ -19,7 +18,7 @@ use Rattle.td_ops.specs.declared.outcome.Outcome.{Outcome}
 use Rattle.td_ops.specs.declared.outcome.Outcome.TheVariants.{Done}
 use Rattle.td_ops.specs.declared.outcome.Reply.{Reply}
 use Rattle.td_ops.specs.declared.outcome.Reply.TheVariants as reply
-use Rattle.td_register.specs.Causes.{Comes, refused}
+use Rattle.td_register.specs.Causes.{Cause, refused}
 use Rattle.td_register.specs.Stores.{Store}
 use Rattle.td_register.specs.declared.refusal.Refusal.{Refusal}
 use Rattle.td_register.specs.declared.refusal.Refusal.TheVariants.{Raised, Limit}
@@ -54,28 +53,28 @@ refusal_of (Raises f) = Raised (exception_of f)
 refusal_of Full = Limit
 refusal_of Memory = Limit
 
--- a change of the repository, as one of the store that it is in
-abbrev pub changes_types : Store → types.Comes → Comes
-changes_types s (Ok answer) = Ok (reply_of answer.0, record s { types = answer.1 })
-changes_types s (Err f) = Err (refusal_of f)
+-- why the repository refuses a change, if it does
+abbrev pub types_cause : types.Comes → Cause
+types_cause (Ok answer) = None
+types_cause (Err f) = Some (refusal_of f)
+
+-- the store with the repository behind it
+abbrev pub with_types : Store → types.Comes → Store
+with_types s (Ok answer) = record s { types = answer.1 }
+with_types s (Err f) = s
+
+-- The next incarnation. It stays far below 2^64, where it would stand still.
+abbrev pub next_incarnation : ℕ → ℕ
+next_incarnation last = min (last + 1) (2 ^ 64 - 1)
+
+-- with what a type that is added is answered
+abbrev pub added_reply : Store → Reply
+added_reply s = reply.Incarnation (halves (next_incarnation s.types.last))
 
 -- a look at the repository
 abbrev pub outcome_of : types.Comes → Outcome
 outcome_of (Ok answer) = Done (reply_of answer.0)
 outcome_of (Err f) = refused (refusal_of f)
-
-unfoldable pub add_type : Store → (name if_name : List ℕ) → List PropStruct → List (List ℕ) → Comes
-add_type s name if_name props super_types = changes_types s
-    (types.add_type s.types name if_name props super_types)
-
-unfoldable pub remove_type : Store → List ℕ → Comes
-remove_type s name = changes_types s (types.remove_type s.types name)
-
-unfoldable pub mask_type : Store → List ℕ → Comes
-mask_type s name = changes_types s (types.mask_type s.types name)
-
-unfoldable pub unmask_type : Store → List ℕ → Comes
-unmask_type s name = changes_types s (types.unmask_type s.types name)
 
 -- ---- looks
 

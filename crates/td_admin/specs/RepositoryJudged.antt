@@ -7,6 +7,7 @@ use Rattle.td_types.specs.declared.reply.TypesReply.{TypesReply}
 use Rattle.td_types.specs.declared.reply.TypesReply.TheVariants as told
 use Rattle.td_register.specs.declared.refusal.Fault.{Fault}
 use Rattle.td_register.specs.declared.refusal.Fault.TheVariants.{Refused, Memory}
+use Rattle.td_register.specs.declared.refusal.Refusal.TheVariants.{Limit}
 use Rattle.td_admin.specs.Repositories.{reply_of, refusal_of}
 
 -- the repository's answer, as a reply or a refusal
@@ -14,6 +15,12 @@ abbrev pub IsAnswer : Result TypesReply TypesFault → Result Reply Fault → Ty
 IsAnswer (Ok answer) result = result ≡ Ok (reply_of answer)
 IsAnswer (Err types.Memory) result = result ≡ Err Memory
 IsAnswer (Err f) result = result ≡ Err (Refused (refusal_of f))
+
+-- the fault of this judgement, or IMP_LIMIT where it is accepted
+abbrev pub IsFullFault : {X : Type 0} → Result X TypesFault → Fault → Type 0
+IsFullFault (Ok x) f = f ≡ Refused Limit
+IsFullFault (Err types.Memory) f = f ≡ Memory
+IsFullFault (Err e) f = f ≡ Refused (refusal_of e)
 
 -- it is no answer to a look
 abbrev pub IsOfChange : Result TypesReply TypesFault → Type 0

@@ -1,11 +1,13 @@
 //! What Admin sets, and the attributes that all objects tell (OMG's Trading Object Service, interfaces
 //! TraderComponents, SupportAttributes, ImportAttributes, LinkAttributes and Admin).
 
-ghost use Rattle.std.specs.Prelude.{◌≡◌, IfOk};
+ghost use Rattle.std.specs.Prelude.{◌≡◌, None, IfOk};
 ghost use Rattle.td_ops.specs.declared.call.Change.TheVariants as change;
-ghost use Rattle.td_admin.specs.Administration.{attribute_reply, follow_of, get, number_of, reference_of, set_follow};
-ghost use Rattle.td_admin.specs.Administration.{set_number, set_request_id_stem, set_truth, truth_of, with_follow};
-ghost use Rattle.td_admin.specs.Administration.{with_number, with_truth};
+ghost use Rattle.td_ops.specs.declared.outcome.Reply.TheVariants as reply;
+ghost use Rattle.td_admin.specs.Administration.{attribute_reply, follow_of, get, number_of, reference_of};
+ghost use Rattle.td_admin.specs.Administration.{set_attributes, stem_cause, truth_of, with_follow, with_number};
+ghost use Rattle.td_admin.specs.Administration.{with_stem, with_truth};
+ghost use Rattle.td_register.specs.Causes.{unless_full};
 ghost use Rattle.td_register.specs.Judged.{Accepts, Tells};
 ghost use Rattle.td_register.specs.Needs.{NeedsNone};
 
@@ -117,17 +119,22 @@ fn put_follow(which: FollowAttribute, value: FollowOption, a: &mut Attributes)
 ///
 /// # Errors
 ///
-/// None: no truth value is refused.
-#[tactic(auto, unfolding(crate::specs::Administration::set_truth))]
+/// IMP_LIMIT where no more changes are accepted: no truth value is refused.
 pub fn set_truth(
     store: &mut Store,
+    full: bool,
     attribute: TruthAttribute,
     value: bool,
 ) -> Result<Accepted, Fault>
     ensures accepts { Accepts (change.SetTruth attribute value)
-        (set_truth store.old attribute value) store.old store.new result }
+        (unless_full full None (reply.Truth (truth_of attribute store.old.attributes))
+        (set_attributes store.old (with_truth attribute value store.old.attributes)))
+        store.old store.new result }
     ensures free { NeedsNone result }
 {
+    if full {
+        return Err(Fault::Refused(Refusal::Limit));
+    }
     let old = truth_of(attribute, &store.attributes);
     put_truth(attribute, value, &mut store.attributes);
     Ok(entry_of(
@@ -140,17 +147,22 @@ pub fn set_truth(
 ///
 /// # Errors
 ///
-/// None: no number is refused.
-#[tactic(auto, unfolding(crate::specs::Administration::set_number))]
+/// IMP_LIMIT where no more changes are accepted: no number is refused.
 pub fn set_number(
     store: &mut Store,
+    full: bool,
     attribute: NumberAttribute,
     value: u32,
 ) -> Result<Accepted, Fault>
     ensures accepts { Accepts (change.SetNumber attribute value)
-        (set_number store.old attribute value) store.old store.new result }
+        (unless_full full None (reply.Number (number_of attribute store.old.attributes))
+        (set_attributes store.old (with_number attribute value store.old.attributes)))
+        store.old store.new result }
     ensures free { NeedsNone result }
 {
+    if full {
+        return Err(Fault::Refused(Refusal::Limit));
+    }
     let old = number_of(attribute, &store.attributes);
     put_number(attribute, value, &mut store.attributes);
     Ok(entry_of(
@@ -163,17 +175,22 @@ pub fn set_number(
 ///
 /// # Errors
 ///
-/// None: no rule is refused.
-#[tactic(auto, unfolding(crate::specs::Administration::set_follow))]
+/// IMP_LIMIT where no more changes are accepted: no rule is refused.
 pub fn set_follow(
     store: &mut Store,
+    full: bool,
     attribute: FollowAttribute,
     value: FollowOption,
 ) -> Result<Accepted, Fault>
     ensures accepts { Accepts (change.SetFollow attribute value)
-        (set_follow store.old attribute value) store.old store.new result }
+        (unless_full full None (reply.Follow (follow_of attribute store.old.attributes))
+        (set_attributes store.old (with_follow attribute value store.old.attributes)))
+        store.old store.new result }
     ensures free { NeedsNone result }
 {
+    if full {
+        return Err(Fault::Refused(Refusal::Limit));
+    }
     let old = follow_of(attribute, &store.attributes);
     put_follow(attribute, value, &mut store.attributes);
     Ok(entry_of(
@@ -186,17 +203,22 @@ pub fn set_follow(
 ///
 /// # Errors
 ///
-/// IMP_LIMIT above 64 octets; `Memory` for want of memory.
-#[tactic(auto, unfolding(crate::specs::Administration::set_request_id_stem))]
+/// IMP_LIMIT above 64 octets, and where no more changes are accepted; `Memory` for want of memory.
 pub fn set_request_id_stem(
     alloc: Global,
     store: &mut Store,
+    full: bool,
     value: Octets,
 ) -> Result<Accepted, Fault>
-    ensures { Accepts (change.SetRequestIdStem value) (set_request_id_stem store.old value)
-        store.old store.new result }
+    ensures { Accepts (change.SetRequestIdStem value)
+        (unless_full full (stem_cause value) (reply.Stem store.old.attributes.request_id_stem)
+        (set_attributes store.old (with_stem value store.old.attributes))) store.old store.new
+        result }
 {
     if value.len() > LONGEST_STEM {
+        return Err(Fault::Refused(Refusal::Limit));
+    }
+    if full {
         return Err(Fault::Refused(Refusal::Limit));
     }
     let stem = value.copy(alloc)?;

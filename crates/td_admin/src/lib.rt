@@ -12,11 +12,10 @@ mod ruling;
 pub use admin::{
     follow_of, get, number_of, set_follow, set_number, set_request_id_stem, set_truth, truth_of,
 };
-pub use linking::{add_link, check_link};
+pub use linking::add_link;
 pub use links::{describe_link, list_links, remove_link};
 pub use listing::{list_offers, list_proxies};
 pub use repository::{
-    add_type, describe_type, exception_of, fully_describe_type, list_types, mask_type, remove_type,
-    unmask_type,
+    add_type, describe_type, fully_describe_type, list_types, mask_type, remove_type, unmask_type,
 };
-pub use ruling::{modify_link, ruled_name};
+pub use ruling::modify_link;

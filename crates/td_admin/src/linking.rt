@@ -3,10 +3,12 @@
 ghost use Rattle.std.specs.Prelude.{◌≡◌, None, Some, MatchResult, is_some};
 ghost use Rattle.td_ior.specs.Profiles.{iiop_of};
 ghost use Rattle.td_ops.specs.declared.call.Change.TheVariants as change;
+ghost use Rattle.td_ops.specs.declared.outcome.Reply.TheVariants as reply;
 ghost use Rattle.td_store.specs.LinkLists.{link_of};
 ghost use Rattle.td_register.specs.Judged.{Accepts, IsMet, Judges};
 ghost use Rattle.td_admin.specs.LinkJudged.{IsLinked, IsNewLink, link_cause};
-ghost use Rattle.td_admin.specs.Links.{add_link, name_cause, permits_more, rules_cause, target_cause};
+ghost use Rattle.td_register.specs.Causes.{unless_full};
+ghost use Rattle.td_admin.specs.Links.{add_link_cause, name_cause, permits_more, rules_cause, target_cause, with_link};
 ghost use Rattle.td_register.specs.Needs.{NeedsNone};
 
 use std::alloc::Global;
@@ -118,29 +120,6 @@ fn known_register<'a>(
     Ok(known)
 }
 
-/// Refuses a link that can't be added, whatever the number of links is.
-///
-/// # Errors
-///
-/// As [`add_link`], but for the number of links.
-pub fn check_link(
-    alloc: Global,
-    store: &Store,
-    name: &Text,
-    target: &Ior,
-    def_pass_on: FollowOption,
-    limiting: FollowOption,
-    register: &Option<Ior>,
-) -> Result<(), Fault>
-    ensures { Judges (link_cause store.now name.now target.now def_pass_on limiting register.now)
-        result }
-{
-    match known_register(alloc, store, name, target, def_pass_on, limiting, register) {
-        Ok(_) => Ok(()),
-        Err(fault) => Err(fault),
-    }
-}
-
 /// The link that is added, where nothing is at fault.
 fn new_link(
     alloc: Global,
@@ -181,10 +160,12 @@ fn insert_link(alloc: Global, store: &mut Store, link: LinkRecord) -> Result<(),
 /// # Errors
 ///
 /// `IllegalLinkName`, `DuplicateLinkName`; `InvalidLookupRef`; `DefaultFollowTooPermissive`,
-/// `LimitingFollowTooPermissive`; IMP_LIMIT; `Memory` for want of memory.
+/// `LimitingFollowTooPermissive`; IMP_LIMIT for too many links, and where no more changes are accepted;
+/// `Memory` for want of memory.
 pub fn add_link(
     alloc: Global,
     store: &mut Store,
+    full: bool,
     name: Text,
     target: Ior,
     def_pass_on: FollowOption,
@@ -192,7 +173,9 @@ pub fn add_link(
     register: Option<Ior>,
 ) -> Result<Accepted, Fault>
     ensures { Accepts (change.AddLink name target def_pass_on limiting register)
-        (add_link store.old name target def_pass_on limiting register) store.old store.new result }
+        (unless_full full (add_link_cause store.old name target def_pass_on limiting register)
+        reply.Nothing (with_link store.old name target def_pass_on limiting register))
+        store.old store.new result }
 {
     let link = new_link(
         alloc,
@@ -203,6 +186,9 @@ pub fn add_link(
         limiting,
         &register,
     )?;
+    if full {
+        return Err(Fault::Refused(Refusal::Limit));
+    }
     insert_link(alloc, store, link)?;
     Ok(entry_of(
         Change::AddLink {

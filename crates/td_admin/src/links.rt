@@ -2,16 +2,18 @@
 
 ghost use Rattle.std.specs.Prelude.{◌≡◌, Ok, MatchResult, IfOk};
 ghost use Rattle.td_ops.specs.declared.call.Change.TheVariants as change;
+ghost use Rattle.td_ops.specs.declared.outcome.Reply.TheVariants as reply;
 ghost use Rattle.td_register.specs.Judged.{IsAbsent, Accepts, Tells};
 ghost use Rattle.td_store.specs.Stores.{link_info_of};
 ghost use Rattle.td_register.specs.Needs.{NeedsNone};
-ghost use Rattle.td_admin.specs.Links.{describe_link, linked, list_links, remove_link};
+ghost use Rattle.td_register.specs.Causes.{unless_full};
+ghost use Rattle.td_admin.specs.Links.{describe_link, linked, list_links, remove_link_cause, without_named};
 
 use std::alloc::Global;
 use td_cdr::{Memory, Text, Twin, is_word_name};
 use td_exceptions::UserException;
 use td_ops::{Change, Outcome, Reply};
-use td_register::{Accepted, ChangeReply, Fault, entry_of, raised, refused};
+use td_register::{Accepted, ChangeReply, Fault, Refusal, entry_of, raised, refused};
 use td_store::{LinkRecord, Links, Store};
 use td_value::LinkInfo;
 
@@ -37,11 +39,11 @@ fn linked<'a>(alloc: Global, links: &'a Links, name: &Text) -> Result<&'a LinkRe
 ///
 /// # Errors
 ///
-/// `IllegalLinkName`, `UnknownLinkName`.
-#[tactic(auto, unfolding(crate::specs::Links::remove_link))]
-pub fn remove_link(store: &mut Store, name: Text) -> Result<Accepted, Fault>
+/// `IllegalLinkName`, `UnknownLinkName`; IMP_LIMIT where no more changes are accepted.
+pub fn remove_link(store: &mut Store, full: bool, name: Text) -> Result<Accepted, Fault>
     ensures accepts { Accepts (change.RemoveLink name)
-        (remove_link store.old name) store.old store.new result }
+        (unless_full full (remove_link_cause store.old name) reply.Nothing
+        (without_named store.old name)) store.old store.new result }
     ensures free { NeedsNone result }
 {
     if !is_word_name(name.as_slice()) {
@@ -49,6 +51,9 @@ pub fn remove_link(store: &mut Store, name: Text) -> Result<Accepted, Fault>
     }
     if store.links.get(&name).is_none() {
         return Err(raised(UserException::UnknownLinkName { name }));
+    }
+    if full {
+        return Err(Fault::Refused(Refusal::Limit));
     }
     store.links.remove(&name);
     Ok(entry_of(Change::RemoveLink { name }, ChangeReply::nothing()))

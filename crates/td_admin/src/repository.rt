@@ -3,19 +3,20 @@
 
 ghost use Rattle.std.specs.Prelude.{◌≡◌, Ok, Err};
 ghost use Rattle.td_ops.specs.declared.call.Change.TheVariants as change;
+ghost use Rattle.td_ops.specs.declared.outcome.Reply.TheVariants as reply;
 ghost use Rattle.td_types.specs.Calls as types;
 ghost use Rattle.td_types.specs.Repository.{Repository};
 ghost use Rattle.td_register.specs.declared.refusal.Fault.TheVariants as fault;
 ghost use Rattle.td_register.specs.declared.refusal.Refusal.TheVariants as refusal;
 ghost use Rattle.td_register.specs.Judged.{Accepts, Tells};
-ghost use Rattle.td_admin.specs.RepositoryJudged.{IsAnswer, IsOfChange};
+ghost use Rattle.td_admin.specs.RepositoryJudged.{IsAnswer, IsFullFault, IsOfChange};
 ghost use Rattle.td_register.specs.Needs.{NeedsNone};
-ghost use Rattle.td_admin.specs.Repositories.{add_type, describe_type, exception_of};
-ghost use Rattle.td_admin.specs.Repositories.{fully_describe_type, list_types, mask_type, number_of, outcome_of};
-ghost use Rattle.td_admin.specs.Repositories.{remove_type, reply_of, since, unmask_type};
+ghost use Rattle.td_register.specs.Causes.{unless_full};
+ghost use Rattle.td_admin.specs.Repositories.{describe_type, exception_of, fully_describe_type, list_types, added_reply};
+ghost use Rattle.td_admin.specs.Repositories.{number_of, outcome_of, reply_of, since, types_cause, with_types};
 
 use std::alloc::Global;
-use td_cdr::{List, Memory, Text, copy_four};
+use td_cdr::{List, Memory, Text, Twin, copy_four};
 use td_exceptions::UserException;
 use td_ops::{Change, Outcome, Reply};
 use td_register::{
@@ -31,19 +32,30 @@ use td_value::{IncarnationNumber, PropStruct, SpecifiedServiceTypes};
 ///
 /// `IllegalServiceType`, `ServiceTypeExists`; `IllegalPropertyName`, `DuplicatePropertyName`;
 /// `UnknownServiceType`, `DuplicateServiceTypeName`, `InterfaceTypeMismatch` for a supertype;
-/// `ValueTypeRedefinition`; IMP_LIMIT; `Memory` for want of memory.
-#[tactic(auto, unfolding(crate::specs::Repositories::add_type))]
+/// `ValueTypeRedefinition`; IMP_LIMIT past a limit, and where no more changes are accepted; `Memory` for
+/// want of memory.
 pub fn add_type(
     alloc: Global,
     store: &mut Store,
+    full: bool,
     name: Text,
     if_name: Text,
     props: List<PropStruct>,
     super_types: List<Text>,
 ) -> Result<Accepted, Fault>
     ensures { Accepts (change.AddType name if_name props super_types)
-        (add_type store.old name if_name props super_types) store.old store.new result }
+        (unless_full full
+        (types_cause (types.add_type store.old.types name if_name props super_types))
+        (added_reply store.old)
+        (with_types store.old (types.add_type store.old.types name if_name props super_types)))
+        store.old store.new result }
 {
+    if full {
+        let judged = store
+            .types
+            .judge_add(alloc, &name, &if_name, &props, &super_types);
+        return Err(full_fault(judged));
+    }
     let (name_twin, (if_twin, (props_twin, supers_twin))) = copy_four(
         alloc,
         &name,
@@ -68,30 +80,58 @@ pub fn add_type(
 ///
 /// # Errors
 ///
-/// `IllegalServiceType`, `UnknownServiceType`; `HasSubTypes`; `Memory` for want of memory.
-#[tactic(auto, unfolding(crate::specs::Repositories::remove_type))]
-pub fn remove_type(store: &mut Store, name: Text) -> Result<Accepted, Fault>
+/// `IllegalServiceType`, `UnknownServiceType`; `HasSubTypes`; IMP_LIMIT where no more changes are accepted;
+/// `Memory` for want of memory.
+pub fn remove_type(
+    alloc: Global,
+    store: &mut Store,
+    full: bool,
+    name: Text,
+) -> Result<Accepted, Fault>
     ensures { Accepts (change.RemoveType name)
-        (remove_type store.old name) store.old store.new result }
+        (unless_full full (types_cause (types.remove_type store.old.types name)) reply.Nothing
+        (with_types store.old (types.remove_type store.old.types name))) store.old store.new
+        result }
 {
-    let answer = store.types.remove(&name);
-    let reply = change_reply(answer)?;
-    Ok(entry_of(Change::RemoveType { name }, reply))
+    match store.types.judge_remove(&name) {
+        Judgement::Accepted => {
+            if full {
+                return Err(Fault::Refused(Refusal::Limit));
+            }
+            let answer = store.types.remove(&name);
+            let reply = change_reply(answer)?;
+            Ok(entry_of(Change::RemoveType { name }, reply))
+        }
+        Judgement::IllegalServiceType => Err(illegal_type(name)),
+        Judgement::UnknownServiceType => Err(unknown_type(name)),
+        Judgement::HasSubTypes(sub_type) => {
+            let sub_type = sub_type.copy(alloc)?;
+            Err(raised(UserException::HasSubTypes {
+                the_type: name,
+                sub_type,
+            }))
+        }
+        Judgement::AlreadyMasked => Err(raised(UserException::AlreadyMasked { name })),
+        Judgement::NotMasked => Err(raised(UserException::NotMasked { name })),
+    }
 }
 
 /// Masks a type (mask_type). Takes no memory.
 ///
 /// # Errors
 ///
-/// `IllegalServiceType`, `UnknownServiceType`; `AlreadyMasked`.
-#[tactic(auto, unfolding(crate::specs::Repositories::mask_type))]
-pub fn mask_type(store: &mut Store, name: Text) -> Result<Accepted, Fault>
+/// `IllegalServiceType`, `UnknownServiceType`; `AlreadyMasked`; IMP_LIMIT where no more changes are accepted.
+pub fn mask_type(store: &mut Store, full: bool, name: Text) -> Result<Accepted, Fault>
     ensures accepts { Accepts (change.MaskType name)
-        (mask_type store.old name) store.old store.new result }
+        (unless_full full (types_cause (types.mask_type store.old.types name)) reply.Nothing
+        (with_types store.old (types.mask_type store.old.types name))) store.old store.new result }
     ensures free { NeedsNone result }
 {
     match store.types.judge_mask(&name) {
         Judgement::Accepted => {
+            if full {
+                return Err(Fault::Refused(Refusal::Limit));
+            }
             let answer = store.types.mask(&name);
             let reply = change_reply(answer)?;
             Ok(entry_of(Change::MaskType { name }, reply))
@@ -108,15 +148,18 @@ pub fn mask_type(store: &mut Store, name: Text) -> Result<Accepted, Fault>
 ///
 /// # Errors
 ///
-/// `IllegalServiceType`, `UnknownServiceType`; `NotMasked`.
-#[tactic(auto, unfolding(crate::specs::Repositories::unmask_type))]
-pub fn unmask_type(store: &mut Store, name: Text) -> Result<Accepted, Fault>
+/// `IllegalServiceType`, `UnknownServiceType`; `NotMasked`; IMP_LIMIT where no more changes are accepted.
+pub fn unmask_type(store: &mut Store, full: bool, name: Text) -> Result<Accepted, Fault>
     ensures accepts { Accepts (change.UnmaskType name)
-        (unmask_type store.old name) store.old store.new result }
+        (unless_full full (types_cause (types.unmask_type store.old.types name)) reply.Nothing
+        (with_types store.old (types.unmask_type store.old.types name))) store.old store.new result }
     ensures free { NeedsNone result }
 {
     match store.types.judge_unmask(&name) {
         Judgement::Accepted => {
+            if full {
+                return Err(Fault::Refused(Refusal::Limit));
+            }
             let answer = store.types.unmask(&name);
             let reply = change_reply(answer)?;
             Ok(entry_of(Change::UnmaskType { name }, reply))
@@ -137,6 +180,16 @@ fn fault_from(fault: TypesFault) -> Fault
         TypesFault::User(fault) => raised(exception_of(fault)),
         TypesFault::Full => Fault::Refused(Refusal::Limit),
         TypesFault::Memory => Fault::Memory,
+    }
+}
+
+/// Why a type that was judged so isn't added where no more changes are accepted.
+fn full_fault(judged: Result<(), TypesFault>) -> Fault
+    ensures { IsFullFault judged result }
+{
+    match judged {
+        Ok(()) => Fault::Refused(Refusal::Limit),
+        Err(fault) => fault_from(fault),
     }
 }
 
@@ -177,7 +230,7 @@ fn reply_of(reply: TypesReply) -> Reply
 }
 
 /// The exception by which the repository's fault is raised (interface CosTradingRepos::ServiceTypeRepository).
-pub fn exception_of(fault: RepoFault) -> UserException
+fn exception_of(fault: RepoFault) -> UserException
     ensures { result ≡ exception_of fault }
 {
     match fault {

@@ -2,24 +2,22 @@
 
 ghost use Rattle.std.specs.Prelude.{◌≡◌, None, MatchResult};
 ghost use Rattle.td_ops.specs.declared.call.Change.TheVariants as change;
+ghost use Rattle.td_ops.specs.declared.outcome.Reply.TheVariants as reply;
 ghost use Rattle.td_register.specs.Judged.{Accepts, IsMet};
-ghost use Rattle.td_admin.specs.Links.{modify_link, modify_link_cause};
+ghost use Rattle.td_register.specs.Causes.{unless_full};
+ghost use Rattle.td_admin.specs.Links.{modify_link_cause, with_rules};
 ghost use Rattle.td_register.specs.Needs.{NeedsNone};
 
 use crate::linking::check_rules;
 use td_cdr::{Text, is_word_name};
 use td_exceptions::UserException;
 use td_ops::Change;
-use td_register::{Accepted, ChangeReply, Fault, entry_of, raised};
+use td_register::{Accepted, ChangeReply, Fault, Refusal, entry_of, raised};
 use td_store::Store;
 use td_value::FollowOption;
 
 /// The name of the link, where it may have these rules. Takes no memory.
-///
-/// # Errors
-///
-/// As [`modify_link`].
-pub fn ruled_name(
+fn ruled_name(
     store: &Store,
     name: Text,
     def_pass_on: FollowOption,
@@ -50,19 +48,24 @@ pub fn ruled_name(
 ///
 /// # Errors
 ///
-/// `IllegalLinkName`, `UnknownLinkName`; `DefaultFollowTooPermissive`, `LimitingFollowTooPermissive`.
-#[tactic(auto, unfolding(crate::specs::Links::modify_link))]
+/// `IllegalLinkName`, `UnknownLinkName`; `DefaultFollowTooPermissive`, `LimitingFollowTooPermissive`;
+/// IMP_LIMIT where no more changes are accepted.
 pub fn modify_link(
     store: &mut Store,
+    full: bool,
     name: Text,
     def_pass_on: FollowOption,
     limiting: FollowOption,
 ) -> Result<Accepted, Fault>
     ensures accepts { Accepts (change.ModifyLink name def_pass_on limiting)
-        (modify_link store.old name def_pass_on limiting) store.old store.new result }
+        (unless_full full (modify_link_cause store.old name def_pass_on limiting) reply.Nothing
+        (with_rules store.old name def_pass_on limiting)) store.old store.new result }
     ensures free { NeedsNone result }
 {
     let name = ruled_name(store, name, def_pass_on, limiting)?;
+    if full {
+        return Err(Fault::Refused(Refusal::Limit));
+    }
     store.links.set_rules(&name, def_pass_on, limiting);
     Ok(entry_of(
         Change::ModifyLink {

@@ -5,8 +5,8 @@ use Rattle.std.proofs.Common.{Option, None, Some, Result, Ok, Err, refl, sym, ap
 use Rattle.std.specs.List.{AllByRecursion}
 use Rattle.std.specs.Option.{option_and_then, option_map}
 use Rattle.std.specs.Str.{bytes_eq}
-use Rattle.td_admin.specs.Links.{add_link, add_link_cause, new_links}
-use Rattle.td_admin.specs.Repositories.{add_type, changes_types}
+use Rattle.td_admin.specs.Links.{add_link_cause, new_links}
+use Rattle.td_admin.specs.Repositories.{types_cause, with_types}
 use Rattle.td_cdr.specs.Reading.{◌>>=◌}
 use Rattle.td_changes.specs.Applying.{comes_to}
 use Rattle.td_changes.specs.Histories.{after_all}
@@ -35,7 +35,7 @@ use Rattle.td_ops.specs.declared.outcome.Reply.{Reply}
 use Rattle.td_ops.specs.declared.outcome.Reply.TheVariants as told
 use Rattle.td_register.specs.Causes.{Cause, Comes, applied, unless}
 use Rattle.td_register.specs.Ids.{id_of}
-use Rattle.td_register.specs.Registers.{export, export_cause, exported, with_offer}
+use Rattle.td_register.specs.Registers.{export_cause, exported, with_offer}
 use Rattle.td_register.specs.Stores.{Store}
 use Rattle.td_register.specs.declared.refusal.Refusal.TheVariants.{Raised, Limit, NotSupported}
 use Rattle.td_trader.specs.PlainTraders.{PlainTrader, opened}
@@ -129,17 +129,18 @@ unless-kept : (P : Store → Type 0) (c : Cause) (r : Reply) (after : Store) →
 unless-kept P None r after h = h
 unless-kept P (Some f) r after h = tt
 
-types-kept : (n : ℕ) (s : Store) (c : types.Comes) → SparseBy n s → Kept (SparseBy n) (changes_types s c)
+types-kept : (n : ℕ) (s : Store) (c : types.Comes) → SparseBy n s → SparseBy n (with_types s c)
 types-kept n s (Ok answer) h = record { offers = h.offers; small = h.small; links = h.links; hops = h.hops }
-types-kept n s (Err f) h = tt
+types-kept n s (Err f) h = h
 
 step-kept : (home : Address) (n : ℕ) (s : Store) (e : Entry) (m : ℕ) → RingEntry e m → SparseBy n s
     → Kept (SparseBy (n + m)) (comes_to s (change_of home e))
-unfolding comes_to add_type export add_link
+unfolding comes_to
 step-kept home n s e m (typed name if_name props supers) h =
     subst (λ (k : ℕ). Kept (SparseBy k) (comes_to s (change.AddType name if_name props supers)))
     (let same : n ≡ n + 0 = omega arith in same)
-    (types-kept n s (types.add_type s.types name if_name props supers) h)
+    (let c = types.add_type s.types name if_name props supers in
+    unless-kept (SparseBy n) (types_cause c) _ (with_types s c) (types-kept n s c h))
 step-kept home n s e m (offered r name amount small) h =
     subst (λ (k : ℕ). Kept (SparseBy k) (comes_to s (change.Export r name (costing amount ∷ []))))
     (let same : n ≡ n + 0 = omega arith in same)

@@ -1,11 +1,13 @@
 -- Histories that grow by a change.
-use Rattle.std.proofs.Common.{◌≡◌, ℕ, suc, ◌+◌, Bool, true, false, List, [], ◌∷◌, ◌++◌, length, take, cond, slice_get}
-use Rattle.std.proofs.Common.{Some, Ok, Err, refl, sym, ap, subst, ◌∙◌, arith}
+use Rattle.std.proofs.Common.{◌≡◌, ℕ, suc, ◌+◌, List, [], ◌∷◌, ◌++◌, length, take, slice_get}
+use Rattle.std.proofs.Common.{Some, None, Err, refl, sym, ap, subst, ◌∙◌, arith}
 use Rattle.td_ops.specs.declared.call.Change.{Change}
 use Rattle.td_ops.specs.declared.outcome.Outcome.TheVariants.{Done}
 use Rattle.td_ops.specs.declared.outcome.Reply.{Reply}
-use Rattle.td_changes.specs.Applying.{apply, apply_counted, comes_to, counted, is_at_limit}
-use Rattle.td_register.specs.Causes.{Comes, applied, refused}
+use Rattle.td_changes.specs.Applying.{apply, apply_counted, cause_of, comes_to, counted, is_at_limit, with_change}
+use Rattle.td_changes.specs.Replies.{acceptance}
+use Rattle.td_register.proofs.NoCause.{no-first}
+use Rattle.td_register.specs.Causes.{Cause, applied, limit_if, refused, unless, ◌otherwise◌}
 use Rattle.td_changes.specs.Histories.{after_all, at, Legal, LegalFrom, noted}
 use Rattle.td_register.specs.Entries.{entry}
 use Rattle.td_changes.specs.Laws.{Extends, applied_after}
@@ -61,39 +63,36 @@ refusal bounds s history c f l = record {
   stands = λ told h. absurd (refused-not_done f told h);
 }
 
--- the choice at the limit
-at_limit : (bounds : Bounds) (s : Store) (history : List Accepted) (c : Change) (accepted : Reply × Store) (full :
-    Bool) →
-    is_at_limit bounds (length history) ≡ full → comes_to (after_all s history) c ≡ Ok accepted →
+by_cause : (bounds : Bounds) (s : Store) (history : List Accepted) (c : Change) (cause : Cause) →
+    (cause_of (after_all s history) c otherwise limit_if (is_at_limit bounds (length history))) ≡ cause →
     Legal bounds s history →
-    Extends bounds s history c (applied (after_all s history) (cond full (Err Limit) (Ok accepted))) (noted history c
-    (applied (after_all s history) (cond full (Err Limit) (Ok accepted))).outcome)
-at_limit bounds s history c accepted true full is l = refusal bounds s history c Limit l
-at_limit bounds s history c accepted false full is l =
+    Extends bounds s history c (applied (after_all s history) (unless cause (acceptance (after_all s history) c)
+    (with_change (after_all s history) c))) (noted history c (applied (after_all s history) (unless cause (acceptance
+    (after_all s history) c) (with_change (after_all s history) c))).outcome)
+unfolding comes_to counted
+by_cause bounds s history c (Some f) is l = refusal bounds s history c f l
+by_cause bounds s history c None is l =
     let behind = after_all s history in
-    let came : (apply_counted bounds (length history) behind c).outcome ≡ Done accepted.0 =
-    ap (λ (r : Comes). (applied behind (counted bounds (length history) r)).outcome) is ∙ ap (λ (b : Bool).
-    (applied behind (cond b (Err Limit) (Ok accepted))).outcome) full in
+    let told = acceptance behind c in
+    let none = no-first (cause_of behind c) (limit_if (is_at_limit bounds (length history))) is in
+    let came : (apply_counted bounds (length history) behind c).outcome ≡ Done told =
+    ap (λ (x : Cause). (applied behind (unless x told (with_change behind c))).outcome) is in
     record {
-      legal = legal-snoc bounds 0 s history c accepted.0 l (subst (λ (n : ℕ). (apply_counted bounds n behind
-          c).outcome ≡ Done accepted.0) (omega arith) came);
-      store = after-snoc s history (entry c accepted.0) ∙ ap (λ (r : Comes). (applied behind r).store) is;
-      stands = λ told h. let same : accepted.0 ≡ told = cc in stands-last history (entry c accepted.0) ∙ ap (λ (t :
+      legal = legal-snoc bounds 0 s history c told l (subst (λ (n : ℕ). (apply_counted bounds n behind
+          c).outcome ≡ Done told) (omega arith) came);
+      store = after-snoc s history (entry c told)
+          ∙ ap (λ (x : Cause). (applied behind (unless x told (with_change behind c))).store) none;
+      stands = λ reply h. let same : told ≡ reply = cc in stands-last history (entry c told) ∙ ap (λ (t :
           Reply). Some (entry c t)) same;
     }
-
-came : (bounds : Bounds) (s : Store) (history : List Accepted) (c : Change) (r : Comes) →
-    comes_to (after_all s history) c ≡ r → Legal bounds s history →
-    Extends bounds s history c (applied (after_all s history) (counted bounds (length history) r)) (noted history c
-    (applied (after_all s history) (counted bounds (length history) r)).outcome)
-came bounds s history c (Ok accepted) is l = at_limit bounds s history c accepted (is_at_limit bounds (length
-    history)) refl is l
-came bounds s history c (Err f) is l = refusal bounds s history c f l
 
 pub extended : (bounds : Bounds) (s : Store) (history : List Accepted) (c : Change) → Legal bounds s history →
     Extends bounds s history c (applied_after bounds s history c) (noted history c (applied_after bounds s history
     c).outcome)
-extended bounds s history c l = came bounds s history c (comes_to (after_all s history) c) refl l
+unfolding counted
+extended bounds s history c l =
+    by_cause bounds s history c (cause_of (after_all s history) c otherwise limit_if (is_at_limit bounds (length
+    history))) refl l
 
 pub taken-all : (history : List Accepted) → take (length history) history ≡ history
 taken-all [] = refl

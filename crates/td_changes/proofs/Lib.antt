@@ -1,8 +1,8 @@
-pub mod Acceptances
-pub mod Accepting
 pub mod Answering
-pub mod Barred
 pub mod Entering
 pub mod Extending
+pub mod Limit
+pub mod Numbered
 pub mod Refusing
 pub mod Shapes
+pub mod Steps

@@ -11,7 +11,7 @@ use Rattle.td_register.specs.Causes.{Cause, Comes, applied, refused, unless}
 use Rattle.td_changes.specs.Histories.{is_done}
 use Rattle.td_register.specs.Ids.{id_of}
 use Rattle.td_changes.specs.Laws.{TakesNext}
-use Rattle.td_register.specs.Registers.{export, export_cause, exported, with_offer}
+use Rattle.td_register.specs.Registers.{export_cause, exported, with_offer}
 use Rattle.td_register.specs.Stores.{Store}
 use Rattle.td_register.specs.declared.refusal.Refusal.{Refusal}
 use Rattle.td_register.specs.declared.refusal.Refusal.TheVariants.{Raised, NotSupported, Limit}
@@ -50,6 +50,6 @@ unless-next s reference type_name properties (Some f) told h = absurd (refused-n
 pub next : (s : Store) (reference : Ior) (type_name : List ℕ) (properties : List Property) (told : Reply) →
     (apply s (change.Export reference type_name properties)).outcome ≡ Done told →
     TakesNext s reference type_name properties told (apply s (change.Export reference type_name properties)).store
-unfolding comes_to export
+unfolding comes_to
 next s reference type_name properties told h = unless-next s reference type_name properties (export_cause s reference
     type_name properties) told h

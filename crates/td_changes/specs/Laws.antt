@@ -1,5 +1,5 @@
 -- What holds of every trader's changes and of its history.
-use Rattle.std.specs.Prelude.{◌≡◌, ℕ, ◌+◌, List, [], ◌∷◌, ◌++◌, length}
+use Rattle.std.specs.Prelude.{◌≡◌, ℕ, ◌+◌, List, [], ◌∷◌, ◌++◌, length, Ok, Err}
 use Rattle.td_codes.specs.declared.reference.Ior.{Ior}
 use Rattle.td_ops.specs.declared.call.Change.{Change}
 use Rattle.td_ops.specs.declared.outcome.Outcome.TheVariants.{Done}
@@ -7,13 +7,14 @@ use Rattle.td_ops.specs.declared.outcome.Reply.{Reply}
 use Rattle.td_ops.specs.declared.outcome.Reply.TheVariants as reply
 use Rattle.td_value.specs.declared.structures.Property.{Property}
 use Rattle.td_changes.specs.Applying.{apply_counted}
-use Rattle.td_register.specs.Causes.{Applied}
+use Rattle.td_register.specs.Causes.{Applied, Comes}
 use Rattle.td_changes.specs.Histories.{after_all, Legal, StandsAt}
 use Rattle.td_register.specs.Ids.{id_of}
 use Rattle.td_register.specs.Registers.{exported}
 use Rattle.td_register.specs.Stores.{Store}
 use Rattle.td_changes.specs.declared.bounds.Bounds.{Bounds}
 use Rattle.td_register.specs.declared.history.Accepted.{Accepted}
+use Rattle.td_register.specs.declared.refusal.Refusal.TheVariants.{Limit}
 
 -- The reply is the next number as an id, and that offer is the last one in the store.
 pub record TakesNext (s : Store) (reference : Ior) (type_name : List ℕ) (properties : List Property)
@@ -34,3 +35,8 @@ pub record Extends (bounds : Bounds) (opening : Store) (history : List Accepted)
 abbrev pub applied_after : Bounds → (opening : Store) → List Accepted → Change → Applied
 applied_after bounds opening history c = apply_counted bounds (length history)
     (after_all opening history) c
+
+-- what a change comes to where none is accepted: what else refuses it comes first, and IMP_LIMIT last
+abbrev pub barred : Comes → Comes
+barred (Ok accepted) = Err Limit
+barred (Err f) = Err f

@@ -1,5 +1,4 @@
 pub mod Applying
-pub mod Barring
 pub mod Examples
 pub mod Histories
 pub mod Kinds

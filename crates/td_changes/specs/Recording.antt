@@ -3,8 +3,8 @@ use Rattle.std.specs.Prelude.{◌≡◌, ℕ, ◌<◌, Bool, true, false, if◌t
 use Rattle.td_cdr.specs.declared.memory.Memory.{Memory as Wanting}
 use Rattle.td_ops.specs.declared.call.Change.{Change}
 use Rattle.td_ops.specs.declared.outcome.Outcome.{Outcome}
-use Rattle.td_changes.specs.Applying.{apply}
 use Rattle.td_changes.specs.Histories.{is_done, noted}
+use Rattle.td_register.specs.Causes.{Applied}
 use Rattle.td_register.specs.Stores.{Store}
 use Rattle.td_register.specs.declared.history.Accepted.{Accepted}
 
@@ -14,9 +14,8 @@ HasRoom reserved count capacity = reserved ≡ true → count < capacity
 
 -- The outcome and the store are as said, and an accepted change is the last entry, in the room that was reserved; or
 -- memory was wanted, and nothing changed.
-abbrev pub Records : Change → (s t : Store) → (h k : List Accepted) → (r q : Bool)
+abbrev pub Records : Change → Applied → (s t : Store) → (h k : List Accepted) → (r q : Bool)
     → Result Outcome Wanting → Type 0
-Records c s t h k r q (Ok o) =
-    ((apply s c).outcome ≡ o) × ((apply s c).store ≡ t) × (k ≡ noted h c o)
-    × (q ≡ (if is_done o then false else r))
-Records c s t h k r q (Err e) = (t ≡ s) × (k ≡ h) × (q ≡ r)
+Records c a s t h k r q (Ok o) =
+    (a.outcome ≡ o) × (a.store ≡ t) × (k ≡ noted h c o) × (q ≡ (if is_done o then false else r))
+Records c a s t h k r q (Err e) = (t ≡ s) × (k ≡ h) × (q ≡ r)

@@ -1,7 +1,7 @@
 //! Changes that are done to a store.
 
 ghost use Rattle.std.specs.Prelude.{◌≡◌, true};
-ghost use Rattle.td_changes.specs.Applying.{apply, comes_to};
+ghost use Rattle.td_changes.specs.Applying.{apply, comes_where};
 ghost use Rattle.td_register.specs.Judged.{Accepts, Applies};
 ghost use Rattle.td_changes.specs.Kinds.{is_free};
 ghost use Rattle.td_register.specs.Needs.{NeedsNone};
@@ -21,15 +21,16 @@ use td_ops::{Change, Outcome};
 use td_register::{Accepted, Fault, refused, withdraw, withdraw_proxy};
 use td_store::Store;
 
-/// Does a change, and gives it back with its reply.
+/// Does a change, and gives it back with its reply; where no more changes are accepted, only what refuses it is
+/// looked for.
 ///
 /// # Errors
 ///
-/// The refusal, which leaves the store as it was; `Memory` for want of memory, and then too.
-#[tactic(auto, unfolding(crate::specs::Applying::comes_to))]
-pub fn perform(alloc: Global, store: &mut Store, c: Change) -> Result<Accepted, Fault>
+/// The refusal, which leaves the store as it was: IMP_LIMIT where nothing else refuses the change and no more
+/// are accepted. `Memory` for want of memory; the store is then as it was, too.
+pub fn perform(alloc: Global, store: &mut Store, full: bool, c: Change) -> Result<Accepted, Fault>
     requires { AreNumbered store.old }
-    ensures accepts { Accepts c (comes_to store.old c) store.old store.new result }
+    ensures accepts { Accepts c (comes_where full store.old c) store.old store.new result }
     ensures free { is_free c ≡ true → NeedsNone result }
 {
     match c {
@@ -37,30 +38,39 @@ pub fn perform(alloc: Global, store: &mut Store, c: Change) -> Result<Accepted, 
             reference,
             service_type,
             properties,
-        } => export(alloc, store, reference, service_type, properties),
-        Change::Withdraw { id } => withdraw(store, id),
+        } => export(alloc, store, full, reference, service_type, properties),
+        Change::Withdraw { id } => withdraw(store, full, id),
         Change::Modify {
             id,
             deleted,
             changed,
-        } => modify(alloc, store, id, deleted, changed),
+        } => modify(alloc, store, full, id, deleted, changed),
         Change::WithdrawUsingConstraint {
             service_type,
             constraint,
-        } => withdraw_using_constraint(alloc, store, service_type, constraint),
+        } => withdraw_using_constraint(alloc, store, full, service_type, constraint),
         Change::AddLink {
             name,
             target,
             def_pass_on,
             limiting,
             register,
-        } => add_link(alloc, store, name, target, def_pass_on, limiting, register),
-        Change::RemoveLink { name } => remove_link(store, name),
+        } => add_link(
+            alloc,
+            store,
+            full,
+            name,
+            target,
+            def_pass_on,
+            limiting,
+            register,
+        ),
+        Change::RemoveLink { name } => remove_link(store, full, name),
         Change::ModifyLink {
             name,
             def_pass_on,
             limiting,
-        } => modify_link(store, name, def_pass_on, limiting),
+        } => modify_link(store, full, name, def_pass_on, limiting),
         Change::ExportProxy {
             target,
             service_type,
@@ -71,6 +81,7 @@ pub fn perform(alloc: Global, store: &mut Store, c: Change) -> Result<Accepted, 
         } => export_proxy(
             alloc,
             store,
+            full,
             target,
             service_type,
             properties,
@@ -78,20 +89,20 @@ pub fn perform(alloc: Global, store: &mut Store, c: Change) -> Result<Accepted, 
             recipe,
             policies,
         ),
-        Change::WithdrawProxy { id } => withdraw_proxy(store, id),
-        Change::SetTruth { attribute, value } => set_truth(store, attribute, value),
-        Change::SetNumber { attribute, value } => set_number(store, attribute, value),
-        Change::SetFollow { attribute, value } => set_follow(store, attribute, value),
-        Change::SetRequestIdStem { value } => set_request_id_stem(alloc, store, value),
+        Change::WithdrawProxy { id } => withdraw_proxy(store, full, id),
+        Change::SetTruth { attribute, value } => set_truth(store, full, attribute, value),
+        Change::SetNumber { attribute, value } => set_number(store, full, attribute, value),
+        Change::SetFollow { attribute, value } => set_follow(store, full, attribute, value),
+        Change::SetRequestIdStem { value } => set_request_id_stem(alloc, store, full, value),
         Change::AddType {
             name,
             if_name,
             props,
             super_types,
-        } => add_type(alloc, store, name, if_name, props, super_types),
-        Change::RemoveType { name } => remove_type(store, name),
-        Change::MaskType { name } => mask_type(store, name),
-        Change::UnmaskType { name } => unmask_type(store, name),
+        } => add_type(alloc, store, full, name, if_name, props, super_types),
+        Change::RemoveType { name } => remove_type(alloc, store, full, name),
+        Change::MaskType { name } => mask_type(store, full, name),
+        Change::UnmaskType { name } => unmask_type(store, full, name),
     }
 }
 
@@ -121,7 +132,7 @@ pub fn apply(alloc: Global, store: &mut Store, c: Change) -> Result<Outcome, Mem
     ensures numbered { AreNumbered store.new }
 {
     let told = acceptance(alloc, store, &c)?;
-    match perform(alloc, store, c) {
+    match perform(alloc, store, false, c) {
         Ok(accepted) => {
             drop(accepted);
             Ok(Outcome::Done(told))

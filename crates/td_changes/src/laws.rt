@@ -10,13 +10,13 @@ ghost use Rattle.td_ops.specs.declared.outcome.Reply.TheVariants as reply;
 ghost use Rattle.td_ops.specs.declared.outcome.SystemKind.TheVariants as limit;
 ghost use Rattle.td_exceptions.specs.declared.exception.UserException.TheVariants as user;
 ghost use Rattle.td_value.specs.declared.structures.Property.{Property};
-ghost use Rattle.td_changes.specs.Applying.{apply, apply_counted};
+ghost use Rattle.td_changes.specs.Applying.{apply, apply_counted, comes_to, counted, is_at_limit};
 ghost use Rattle.td_register.specs.Causes.{system};
 ghost use Rattle.td_register.specs.ChangeReplies.{answers_change};
 ghost use Rattle.td_changes.specs.Examples.{export_printer, masked, modify_all, opening, printer, with_printer};
 ghost use Rattle.td_changes.specs.Histories.{Legal, after_all, at, is_done, noted};
 ghost use Rattle.td_register.specs.Ids.{id_of};
-ghost use Rattle.td_changes.specs.Laws.{Extends, TakesNext, applied_after};
+ghost use Rattle.td_changes.specs.Laws.{Extends, TakesNext, applied_after, barred};
 ghost use Rattle.td_register.specs.Stores.{Store};
 ghost use Rattle.td_changes.specs.declared.bounds.Bounds.{Bounds};
 ghost use Rattle.td_register.specs.declared.history.Accepted.{Accepted};
@@ -28,6 +28,15 @@ pub fn refused_changes_leave_the_store()
         → (apply_counted bounds count s c).store ≡ s }
     ensures uncounted { (s : Store) (c : Change) → is_done (apply s c).outcome ≡ false
         → (apply s c).store ≡ s }
+{}
+
+/// Where no more changes are accepted, a change is refused for what refuses it anyway, or else with IMP_LIMIT;
+/// before that it comes to the same as where they aren't counted.
+pub fn the_limit_comes_last()
+    ensures full { (bounds : Bounds) (count : ℕ) (s : Store) (c : Change) →
+        is_at_limit bounds count ≡ true → counted bounds count s c ≡ barred (comes_to s c) }
+    ensures below { (bounds : Bounds) (count : ℕ) (s : Store) (c : Change) →
+        is_at_limit bounds count ≡ false → counted bounds count s c ≡ comes_to s c }
 {}
 
 /// An accepted export takes the number behind the last one that was given, also where that offer is

@@ -4,7 +4,8 @@
 ghost use Rattle.std.specs.Prelude.{◌≡◌, ◌+◌, true, IfOk, IsOk};
 ghost use Rattle.td_register.specs.Ids.{id_of};
 ghost use Rattle.td_changes.specs.Kinds.{is_free};
-ghost use Rattle.td_changes.specs.Replies.{acceptance, next_incarnation};
+ghost use Rattle.td_admin.specs.Repositories.{next_incarnation};
+ghost use Rattle.td_changes.specs.Replies.{acceptance};
 
 use std::alloc::Global;
 use td_admin::{follow_of, number_of, truth_of};

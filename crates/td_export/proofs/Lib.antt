@@ -1,4 +1,3 @@
 pub mod Exports
 pub mod PolicyNames
-pub mod ProxyExports
 pub mod RecipeTest

@@ -1,15 +1,17 @@
 //! Offers that are exported (OMG's Trading Object Service, interface Register, export).
 
-ghost use Rattle.std.specs.Prelude.{◌≡◌, ◌≤◌, ◌<◌, Ok, Err, IfOk, MatchResult};
+ghost use Rattle.std.specs.Prelude.{◌≡◌, ◌≤◌, ◌<◌, None, length, IfOk};
 ghost use Rattle.std.specs.List.{AllByRecursion};
 ghost use Rattle.td_ior.specs.Nil.{is_nil};
 ghost use Rattle.td_ops.specs.declared.call.Change.TheVariants as change;
+ghost use Rattle.td_ops.specs.declared.outcome.Reply.TheVariants as reply;
 ghost use Rattle.td_exceptions.specs.declared.exception.UserException.TheVariants as user;
+ghost use Rattle.td_store.specs.OfferLists.{most_offers};
 ghost use Rattle.td_store.specs.declared.record.OfferRecord.{OfferRecord as Kept};
-ghost use Rattle.td_register.specs.Causes.{raise_if};
-ghost use Rattle.td_register.specs.Judged.{Accepts, IsAdded, Judges, front_cause, size_cause};
-ghost use Rattle.td_register.specs.Registers.{export, exported, incarnation_now, last_number};
-ghost use Rattle.td_register.specs.Registers.{offer_cause};
+ghost use Rattle.td_register.specs.Causes.{limit_if, raise_if, unless_full};
+ghost use Rattle.td_register.specs.Judged.{Accepts, IsAdded, Judges};
+ghost use Rattle.td_register.specs.Registers.{export_cause, exported, incarnation_now, last_number, next_id};
+ghost use Rattle.td_register.specs.Registers.{offer_cause, passes_limit, with_offer};
 
 use std::alloc::Global;
 use td_cdr::{List, Memory, Shared, Text, Twin, copy_three};
@@ -22,6 +24,9 @@ use td_register::{
 };
 use td_store::{OfferRecord, Store, StoreFault};
 use td_value::{Ior, Property};
+
+/// How many offers there are at most.
+const MOST_OFFERS: usize = 1_000_000;
 
 /// Refuses a nil reference.
 fn check_reference(alloc: Global, reference: &Ior) -> Result<(), Fault>
@@ -56,15 +61,18 @@ pub(crate) fn check_offer(
     check_missing(alloc, type_name, demanded, properties)
 }
 
-/// Refuses an offer where no number is left, or that is too large.
+/// Refuses an offer where there are as many as may be, where no number is left, or that is too large.
 pub(crate) fn check_limits(
     alloc: Global,
     store: &Store,
     reference: &Ior,
     properties: &List<Property>,
 ) -> Result<(), Fault>
-    ensures { Judges (size_cause store.now reference.now properties.now) result }
+    ensures { Judges (limit_if (passes_limit store.now reference.now properties.now)) result }
 {
+    if store.offers.len() >= MOST_OFFERS {
+        return Err(Fault::Refused(Refusal::Limit));
+    }
     if store.last_offer == u32::MAX {
         return Err(Fault::Refused(Refusal::Limit));
     }
@@ -73,20 +81,14 @@ pub(crate) fn check_limits(
 }
 
 /// Refuses an offer that can't be exported.
-///
-/// # Errors
-///
-/// `InvalidObjectRef`; `IllegalServiceType`, `UnknownServiceType`; `InterfaceTypeMismatch`; what is at
-/// fault with a property; IMP_LIMIT where no number is left or the offer is too large; `Memory` for want of
-/// memory.
-pub fn check_export(
+fn check_export(
     alloc: Global,
     store: &Store,
     reference: &Ior,
     type_name: &Text,
     properties: &List<Property>,
 ) -> Result<(), Fault>
-    ensures { Judges (front_cause store.now reference.now type_name.now properties.now) result }
+    ensures { Judges (export_cause store.now reference.now type_name.now properties.now) result }
 {
     check_reference(alloc, reference)?;
     check_open(alloc, &store.types, type_name)?;
@@ -131,8 +133,9 @@ fn new_offer(
 }
 
 /// Adds an offer of the next number, and answers its id.
-pub(crate) fn add_offer(store: &mut Store, offer: OfferRecord) -> Result<ChangeReply, Fault>
-    requires { AllByRecursion (λ (o : Kept). o.number < offer.number) store.old.offers }
+pub(crate) fn add_offer(store: &mut Store, offer: OfferRecord) -> Result<ChangeReply, Memory>
+    requires above { AllByRecursion (λ (o : Kept). o.number < offer.number) store.old.offers }
+    requires few { length store.old.offers < most_offers }
     ensures { IsAdded offer store.old store.new result }
 {
     let number = offer.number;
@@ -141,29 +144,25 @@ pub(crate) fn add_offer(store: &mut Store, offer: OfferRecord) -> Result<ChangeR
             store.last_offer = number;
             Ok(ChangeReply::id(number))
         }
-        Err(StoreFault::Full) => Err(Fault::Refused(Refusal::Limit)),
-        Err(StoreFault::Memory) => Err(Fault::Memory),
+        Err(StoreFault::Full) => unreachable!(),
+        Err(StoreFault::Memory) => Err(Memory),
     }
 }
 
-/// Exports an offer where nothing is at fault with it, and answers its id.
+/// Adds the offer that is exported, and answers its id.
 fn add_export(
     alloc: Global,
     store: &mut Store,
     reference: &Shared<Ior>,
     service_type: &Shared<Text>,
     properties: &Shared<List<Property>>,
-) -> Result<ChangeReply, Fault>
+) -> Result<ChangeReply, Memory>
     requires given { AllByRecursion (λ (o : Kept). (0 < o.number)
         × (o.number ≤ store.old.last_offer)) store.old.offers }
-    ensures { MatchResult result
-        (λ told. export store.old reference.now service_type.now properties.now
-        ≡ Ok (told, store.new)) (λ f.
-        Accepts (change.Export reference.now service_type.now properties.now)
-        (export store.old reference.now service_type.now properties.now) store.old store.new
-        (Err f)) }
+    requires none { export_cause store.old reference.now service_type.now properties.now ≡ None }
+    ensures { IsAdded (exported store.old reference.now service_type.now properties.now) store.old
+        store.new result }
 {
-    check_export(alloc, store, reference, service_type, properties)?;
     let offer = new_offer(alloc, store, reference, service_type, properties)?;
     add_offer(store, offer)
 }
@@ -173,10 +172,12 @@ fn add_export(
 /// # Errors
 ///
 /// `InvalidObjectRef`; `IllegalServiceType`, `UnknownServiceType`; `InterfaceTypeMismatch`; what is at
-/// fault with a property; IMP_LIMIT; `Memory` for want of memory.
+/// fault with a property; IMP_LIMIT past a limit, and where no more changes are accepted; `Memory` for want
+/// of memory.
 pub fn export(
     alloc: Global,
     store: &mut Store,
+    full: bool,
     reference: Shared<Ior>,
     service_type: Shared<Text>,
     properties: Shared<List<Property>>,
@@ -185,8 +186,15 @@ pub fn export(
     requires given { AllByRecursion (λ (o : Kept). (0 < o.number)
         × (o.number ≤ store.old.last_offer)) store.old.offers }
     ensures { Accepts (change.Export reference service_type properties)
-        (export store.old reference service_type properties) store.old store.new result }
+        (unless_full full (export_cause store.old reference service_type properties)
+        (reply.Id (next_id store.old))
+        (with_offer store.old (exported store.old reference service_type properties)))
+        store.old store.new result }
 {
+    check_export(alloc, store, &reference, &service_type, &properties)?;
+    if full {
+        return Err(Fault::Refused(Refusal::Limit));
+    }
     let reply = add_export(alloc, store, &reference, &service_type, &properties)?;
     Ok(entry_of(
         Change::Export {

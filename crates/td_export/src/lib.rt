@@ -5,5 +5,5 @@
 mod exporting;
 mod proxy_exporting;
 
-pub use exporting::{check_export, export};
-pub use proxy_exporting::{check_export_proxy, export_proxy};
+pub use exporting::export;
+pub use proxy_exporting::export_proxy;

@@ -1,16 +1,16 @@
 //! Proxy offers that are exported (OMG's Trading Object Service, interface Proxy, export_proxy).
 
-ghost use Rattle.std.specs.Prelude.{◌≡◌, ◌≤◌, ◌<◌, not, is_some, [], Ok, Err, IfOk, MatchResult};
+ghost use Rattle.std.specs.Prelude.{◌≡◌, ◌≤◌, ◌<◌, not, is_some, [], None, IfOk};
 ghost use Rattle.std.specs.List.{AllByRecursion};
 ghost use Rattle.td_exceptions.specs.declared.exception.UserException.TheVariants as user;
 ghost use Rattle.td_ior.specs.Profiles.{iiop_of};
 ghost use Rattle.td_ops.specs.declared.call.Change.TheVariants as change;
+ghost use Rattle.td_ops.specs.declared.outcome.Reply.TheVariants as reply;
 ghost use Rattle.td_store.specs.declared.record.OfferRecord.{OfferRecord as Kept};
-ghost use Rattle.td_register.specs.Causes.{raise_if, given, unless_supported};
-ghost use Rattle.td_register.specs.Judged.{Accepts, Judges, proxy_front_cause};
-ghost use Rattle.td_register.specs.Judged.{told};
-ghost use Rattle.td_register.specs.Proxies.{export_proxy, exported_proxy, is_recipe, policies_cause};
-ghost use Rattle.td_register.specs.Registers.{last_number};
+ghost use Rattle.td_register.specs.Causes.{raise_if, given, unless_full, unless_supported};
+ghost use Rattle.td_register.specs.Judged.{Accepts, IsAdded, Judges, told};
+ghost use Rattle.td_register.specs.Proxies.{export_proxy_cause, exported_proxy, is_recipe, policies_cause};
+ghost use Rattle.td_register.specs.Registers.{last_number, next_id, with_offer};
 
 use crate::exporting::{add_offer, check_limits, check_offer, incarnation_now};
 use std::alloc::Global;
@@ -109,13 +109,7 @@ fn check_policies(alloc: Global, policies: &[Policy]) -> Result<(), Fault>
 }
 
 /// Refuses a proxy offer that can't be exported.
-///
-/// # Errors
-///
-/// NO_IMPLEMENT; `IllegalServiceType`, `UnknownServiceType`; `InvalidLookupRef`; what is at fault with a
-/// property; `IllegalRecipe`; `DuplicatePolicyName`; IMP_LIMIT where no number is left or the offer is too
-/// large; `Memory` for want of memory.
-pub fn check_export_proxy(
+fn check_export_proxy(
     alloc: Global,
     store: &Store,
     target: &Ior,
@@ -123,7 +117,7 @@ pub fn check_export_proxy(
     properties: &List<Property>,
     part: &ProxyPart,
 ) -> Result<(), Fault>
-    ensures { Judges (proxy_front_cause store.now target.now type_name.now properties.now
+    ensures { Judges (export_proxy_cause store.now target.now type_name.now properties.now
         part.now.recipe part.now.policies) result }
 {
     check_supported(store.attributes.supports_proxy_offers)?;
@@ -161,7 +155,7 @@ fn new_proxy(
     })
 }
 
-/// Exports a proxy offer where nothing is at fault with it, and answers its id.
+/// Adds the proxy offer that is exported, and answers its id.
 fn add_proxy(
     alloc: Global,
     store: &mut Store,
@@ -169,18 +163,14 @@ fn add_proxy(
     service_type: &Shared<Text>,
     properties: &Shared<List<Property>>,
     part: &ProxyPart,
-) -> Result<ChangeReply, Fault>
+) -> Result<ChangeReply, Memory>
     requires given { AllByRecursion (λ (o : Kept). (0 < o.number)
         × (o.number ≤ store.old.last_offer)) store.old.offers }
-    ensures { MatchResult result
-        (λ told. export_proxy store.old target.now service_type.now properties.now
-        part.now.if_match_all part.now.recipe part.now.policies ≡ Ok (told, store.new))
-        (λ f. Accepts (change.ExportProxy target.now service_type.now properties.now
-        part.now.if_match_all part.now.recipe part.now.policies)
-        (export_proxy store.old target.now service_type.now properties.now part.now.if_match_all
-        part.now.recipe part.now.policies) store.old store.new (Err f)) }
+    requires none { export_proxy_cause store.old target.now service_type.now properties.now
+        part.now.recipe part.now.policies ≡ None }
+    ensures { IsAdded (exported_proxy store.old target.now service_type.now properties.now part.now)
+        store.old store.new result }
 {
-    check_export_proxy(alloc, store, target, service_type, properties, part)?;
     let offer = new_proxy(alloc, store, target, service_type, properties, part)?;
     add_offer(store, offer)
 }
@@ -190,10 +180,12 @@ fn add_proxy(
 /// # Errors
 ///
 /// NO_IMPLEMENT; `IllegalServiceType`, `UnknownServiceType`; `InvalidLookupRef`; what is at fault with a
-/// property; `IllegalRecipe`; `DuplicatePolicyName`; IMP_LIMIT; `Memory` for want of memory.
+/// property; `IllegalRecipe`; `DuplicatePolicyName`; IMP_LIMIT past a limit, and where no more changes are
+/// accepted; `Memory` for want of memory.
 pub fn export_proxy(
     alloc: Global,
     store: &mut Store,
+    full: bool,
     target: Shared<Ior>,
     service_type: Shared<Text>,
     properties: Shared<List<Property>>,
@@ -205,14 +197,21 @@ pub fn export_proxy(
     requires given { AllByRecursion (λ (o : Kept). (0 < o.number)
         × (o.number ≤ store.old.last_offer)) store.old.offers }
     ensures { Accepts (change.ExportProxy target service_type properties if_match_all recipe
-        policies) (export_proxy store.old target service_type properties if_match_all recipe
-        policies) store.old store.new result }
+        policies) (unless_full full (export_proxy_cause store.old target service_type properties
+        recipe policies) (reply.Id (next_id store.old)) (with_offer store.old
+        (exported_proxy store.old target service_type properties
+        (record { if_match_all = if_match_all; recipe = recipe; policies = policies }))))
+        store.old store.new result }
 {
     let part = ProxyPart {
         if_match_all,
         recipe,
         policies,
     };
+    check_export_proxy(alloc, store, &target, &service_type, &properties, &part)?;
+    if full {
+        return Err(Fault::Refused(Refusal::Limit));
+    }
     let reply = add_proxy(alloc, store, &target, &service_type, &properties, &part)?;
     Ok(entry_of(
         Change::ExportProxy {

@@ -1,16 +1,18 @@
 -- A change that the lines of a file tell, and that is accepted, can be written: its names are names, and its lists are
 -- short.
-use Rattle.std.proofs.Common.{◌≡◌, ℕ, zero, suc, ◌+◌, ◌^◌, ◌<◌, ◌≤◌, nat_eq, nat_le, nat_lt, Bool, true, false, not}
+use Rattle.std.proofs.Common.{◌≡◌, ℕ, zero, suc, ◌+◌, ◌^◌, ◌<◌, ◌≤◌, nat_eq, nat_le, Bool, true, false, not}
 use Rattle.std.proofs.Common.{◌&&◌, ◌||◌, cond, List, [], ◌∷◌, ◌++◌, length, map, filter, is_some}
-use Rattle.std.proofs.Common.{Option, Some, None, refl, sym, subst, ◌∙◌, arith, ltb-false}
+use Rattle.std.proofs.Common.{Option, Some, None, refl, sym, subst, ◌∙◌, arith}
 use Rattle.std.proofs.lemmas.Bool.{and_parts, ne_eqb}
 use Rattle.std.proofs.lemmas.List.{length-append}
 use Rattle.std.proofs.lemmas.Slice.Eq.{bytes_eq-Decides}
 use Rattle.std.specs.List.{AllByRecursion, list_all}
 use Rattle.std.specs.Str.{bytes_eq}
-use Rattle.td_admin.specs.Links.{add_link, add_link_cause, name_cause as link_name_cause, new_links, rules_cause}
+use Rattle.td_admin.specs.Links.{name_cause as link_name_cause, rules_cause}
 use Rattle.td_admin.specs.Links.{target_cause}
-use Rattle.td_changes.specs.Applying.{apply, comes_to}
+use Rattle.td_changes.specs.Applying.{apply, cause_of, comes_to, with_change}
+use Rattle.td_changes.specs.Replies.{acceptance}
+use Rattle.td_ops.specs.declared.call.Change.{Change}
 use Rattle.td_changes.specs.Histories.{is_done}
 use Rattle.td_cdr.specs.Format.{number, row}
 use Rattle.td_cdr.specs.Names.{identifier, is_letter, is_printing, is_word, word_name}
@@ -23,29 +25,23 @@ use Rattle.td_codes.specs.Values.{any_value}
 use Rattle.td_codes.specs.declared.reference.Ior.{Ior}
 use Rattle.td_exceptions.specs.declared.exception.UserException.TheVariants as user
 use Rattle.td_exceptions.specs.declared.exception.UserException.{UserException}
-use Rattle.td_ior.specs.Nil.{is_nil}
-use Rattle.td_ior.specs.Profiles.{iiop_of}
 use Rattle.td_lines.specs.Told.{AreToldProperties, IsToldOffer, IsToldRegister}
 use Rattle.td_ops.specs.declared.call.Change.TheVariants as change
 use Rattle.td_ops.specs.declared.outcome.Reply.TheVariants as reply
 use Rattle.td_ops.specs.declared.outcome.Reply.{Reply}
 use Rattle.td_register.specs.Causes.{Cause, Found, applied, given, limit_if, raise, raise_if, there, unless}
-use Rattle.td_register.specs.Causes.{unless_supported, ◌otherwise◌}
-use Rattle.td_register.specs.Ids.{id_of}
+use Rattle.td_register.specs.Causes.{◌otherwise◌}
 use Rattle.td_register.specs.Named.{open_type, unmasked}
 use Rattle.td_register.specs.Properties.{encoded, is_too_large, missing, missing_cause, name_cause, properties_cause}
 use Rattle.td_register.specs.Properties.{value_cause}
-use Rattle.td_register.specs.Proxies.{export_proxy, export_proxy_cause, exported_proxy, is_recipe, policies_cause}
-use Rattle.td_register.specs.Registers.{export, export_cause, exported, interface_cause, last_number, no_more, offer_cause}
-use Rattle.td_register.specs.Registers.{passes_limit, with_offer}
+use Rattle.td_register.specs.Registers.{interface_cause, no_more, offer_cause}
 use Rattle.td_register.specs.Stores.{Store}
 use Rattle.td_register.specs.declared.refusal.Refusal.TheVariants.{Raised, NotSupported, Limit}
 use Rattle.td_store.specs.LinkLists.{link_of, most_links}
-use Rattle.td_store.specs.OfferLists.{most_offers}
-use Rattle.td_store.specs.Stores.{most_bytes, most_properties}
+use Rattle.td_store.specs.Stores.{most_bytes}
 use Rattle.td_trader.proofs.ReadAdmitted.{follow-admitted}
 use Rattle.td_trader.specs.Admitted.{AdmitsChange, AdmitsRegister}
-use Rattle.td_trader_laws.proofs.Admitting.{no-first, no-later, no-limit, not-raised, three-false, two-false}
+use Rattle.td_register.proofs.NoCause.{no-first, no-later, not-raised, no_export_cause, no_proxy_cause, small}
 use Rattle.td_types.proofs.Sequences.{filter-length, sequence-from, then-second}
 use Rattle.td_types.specs.Properties.{full_properties}
 use Rattle.td_types.specs.Repository.{has_type, is_among, is_named, type_named}
@@ -109,6 +105,10 @@ done-none s None told after h = refl
 done-none s (Some (Raised e)) told after h = absurd (let bad : ⊥ = cc in bad)
 done-none s (Some NotSupported) told after h = absurd (let bad : ⊥ = cc in bad)
 done-none s (Some Limit) told after h = absurd (let bad : ⊥ = cc in bad)
+
+none-of : (s : Store) (c : Change) → is_done (apply s c).outcome ≡ true → cause_of s c ≡ None
+unfolding comes_to
+none-of s c h = done-none s (cause_of s c) (acceptance s c) (with_change s c) h
 
 open-when : (b : Bool) (found : Found ServiceType) (e : UserException) (cause : ServiceType → Cause)
     → given (cond b found (raise e)) cause ≡ None → b ≡ true
@@ -174,25 +174,12 @@ both-of : (ps : List Property) → AllByRecursion (λ (p : Property). HasNoNul p
 both-of [] names values = tt
 both-of (p ∷ ps) names values = ((names.0, values.0), both-of ps names.1 values.1)
 
-small : (object : Ior) (ps : List Property) → is_too_large object ps ≡ false
-    → (length ps ≤ most_properties) × (encoded object ps ≤ most_bytes)
-small object ps h =
-    let b = two-false (nat_lt most_properties (length ps)) (nat_lt most_bytes (encoded object ps)) h in
-    (ltb-false most_properties (length ps) b.0, ltb-false most_bytes (encoded object ps) b.1)
-
-within : (s : Store) (object : Ior) (ps : List Property) → limit_if (passes_limit s object ps) ≡ None
-    → (length ps ≤ most_properties) × (encoded object ps ≤ most_bytes)
-within s object ps h =
-    small object ps
-    (three-false (nat_le most_offers (length s.offers)) (nat_le last_number s.last_offer) (is_too_large object ps)
-    (no-limit (passes_limit s object ps) h)).2
-
 module _ (s : Store) (object : Ior) (type_name : List ℕ) (ps : List Property) (told : IsToldOffer object ps) where
-  properties-admitted : offer_cause s type_name ps ≡ None → limit_if (passes_limit s object ps) ≡ None
+  properties-admitted : offer_cause s type_name ps ≡ None → is_too_large object ps ≡ false
       → (sequence property).format.admits ps
-  properties-admitted fit limit =
+  properties-admitted fit fits =
       let ds = full_properties s.types.types type_name in
-      let few = within s object ps limit in
+      let few = small object ps fits in
       let count = few.0 in
       sequence-from property ps (omega (arith, count))
       (both-of ps
@@ -203,22 +190,12 @@ module _ (s : Store) (object : Ior) (type_name : List ℕ) (ps : List Property) 
 
   pub exports : is_done (apply s (change.Export object type_name ps)).outcome ≡ true
       → AdmitsChange (change.Export object type_name ps)
-  unfolding comes_to export
   exports h =
-      let none =
-      done-none s (export_cause s object type_name ps) (reply.Id (id_of (s.last_offer + 1)))
-      (with_offer s (exported s object type_name ps)) h in
-      let nil = raise_if (is_nil object) (user.InvalidObjectRef object) in
-      let typed = given (open_type s.types.types type_name) (interface_cause s type_name object) in
-      let fit = offer_cause s type_name ps in
-      let limit = limit_if (passes_limit s object ps) in
-      let behind = no-later nil (typed otherwise fit otherwise limit) none in
-      let last = no-later typed (fit otherwise limit) behind in (
+      let none = no_export_cause s object type_name ps (none-of s (change.Export object type_name ps) h) in (
         told.target,
         (
-          open-named s.types.types type_name (interface_cause s type_name object)
-              (no-first typed (fit otherwise limit) behind),
-          properties-admitted (no-first fit limit last) (no-later fit limit last),
+          open-named s.types.types type_name (interface_cause s type_name object) none.typed,
+          properties-admitted none.offer none.room.fits,
         ),
       )
 
@@ -226,32 +203,17 @@ module _ (s : Store) (object : Ior) (type_name : List ℕ) (ps : List Property) 
       → policies ≡ []
       → is_done (apply s (change.ExportProxy object type_name ps if_match_all recipe policies)).outcome ≡ true
       → AdmitsChange (change.ExportProxy object type_name ps if_match_all recipe policies)
-  unfolding comes_to export_proxy
   exports-proxy if_match_all recipe policies plain empty h =
-      let none =
-      done-none s (export_proxy_cause s object type_name ps recipe policies) (reply.Id (id_of (s.last_offer + 1)))
-      (with_offer s (exported_proxy s object type_name ps
-      (record { if_match_all = if_match_all; recipe = recipe; policies = policies }))) h in
-      let can = unless_supported s.attributes.supports_proxy_offers in
-      let typed = given (open_type s.types.types type_name) no_more in
-      let reached = raise_if (not (is_some (iiop_of object))) (user.InvalidLookupRef object) in
-      let fit = offer_cause s type_name ps in
-      let spelled = raise_if (not (is_recipe recipe)) (user.IllegalRecipe recipe) in
-      let named = policies_cause [] policies in
-      let limit = limit_if (passes_limit s object ps) in
-      let a =
-      no-later can (typed otherwise reached otherwise fit otherwise spelled otherwise named otherwise limit) none in
-      let b = no-later typed (reached otherwise fit otherwise spelled otherwise named otherwise limit) a in
-      let d = no-later reached (fit otherwise spelled otherwise named otherwise limit) b in
-      let e = no-later fit (spelled otherwise named otherwise limit) d in
-      let f = no-later named limit (no-later spelled (named otherwise limit) e) in
-      let name =
-      open-named s.types.types type_name no_more
-      (no-first typed (reached otherwise fit otherwise spelled otherwise named otherwise limit) a) in
-      let each = properties-admitted (no-first fit (spelled otherwise named otherwise limit) d) f in
+      let c = change.ExportProxy object type_name ps if_match_all recipe policies in
+      let none = no_proxy_cause s object type_name ps recipe policies (none-of s c h) in
       let none_passed : (sequence policy).format.admits policies =
-      subst (sequence policy).format.admits (sym empty) (sequence-from policy [] (omega arith) tt) in
-      (told.target, (name, (each, (tt, (plain, none_passed)))))
+      subst (sequence policy).format.admits (sym empty) (sequence-from policy [] (omega arith) tt) in (
+        told.target,
+        (
+          open-named s.types.types type_name no_more none.typed,
+          (properties-admitted none.offer none.room.fits, (tt, (plain, none_passed))),
+        ),
+      )
 
 -- ---- links
 
@@ -263,11 +225,8 @@ pub links : (s : Store) (name : List ℕ) (target : Ior) (def_pass_on limiting :
     → reference.format.admits target → IsToldRegister register
     → is_done (apply s (change.AddLink name target def_pass_on limiting register)).outcome ≡ true
     → AdmitsChange (change.AddLink name target def_pass_on limiting register)
-unfolding comes_to add_link
 links s name target def_pass_on limiting register t r h =
-    let none =
-    done-none s (add_link_cause s name target def_pass_on limiting register) reply.Nothing
-    (record s { links = s.links ++ new_links name target def_pass_on limiting register }) h in
+    let none = none-of s (change.AddLink name target def_pass_on limiting register) h in
     let named = link_name_cause s.links name in
     let rest =
     target_cause target register otherwise rules_cause s.attributes.max_link_follow_policy def_pass_on limiting

@@ -5,7 +5,7 @@ use Rattle.std.proofs.Common.{refl, ap, ◌∙◌, arith, ltb-false}
 use Rattle.std.proofs.lemmas.List.{length-append}
 use Rattle.std.specs.List.{AllByRecursion}
 use Rattle.std.specs.Str.{bytes_eq}
-use Rattle.td_admin.specs.Repositories.{add_type, changes_types}
+use Rattle.td_admin.specs.Repositories.{types_cause, with_types}
 use Rattle.td_changes.specs.Applying.{apply, comes_to}
 use Rattle.td_changes.specs.Histories.{is_done}
 use Rattle.td_cdr.specs.Names.{identifier, word_name}
@@ -17,11 +17,13 @@ use Rattle.td_file_laws.proofs.Accepting.{still-there, word-clean}
 use Rattle.td_lines.specs.Told.{AreToldTypes, IsTold}
 use Rattle.td_ops.specs.declared.call.Change.{Change}
 use Rattle.td_ops.specs.declared.call.Change.TheVariants as change
-use Rattle.td_register.specs.Causes.{applied}
+use Rattle.td_register.specs.Causes.{applied, unless as unless_cause}
+use Rattle.td_ops.specs.declared.outcome.Reply.{Reply}
 use Rattle.td_register.specs.Stores.{Store}
 use Rattle.td_trader.proofs.ReadAdmitted.{follow-admitted}
 use Rattle.td_trader.specs.Admitted.{AdmitsChange}
-use Rattle.td_trader_laws.proofs.Admitting.{two-false}
+use Rattle.td_register.proofs.NoCause.{two-false}
+use Rattle.td_register.proofs.NoFault.{is-so, no-first, no-later, not-so, there-is}
 use Rattle.td_types.proofs.Adds.{full_of_new}
 use Rattle.td_types.proofs.Outcomes.{after_adding}
 use Rattle.td_types.proofs.Sequences.{sequence-from}
@@ -44,24 +46,6 @@ use Rattle.td_value.specs.Structures.{prop_struct, type_struct}
 use Rattle.td_value.specs.declared.enumerations.PropertyMode.{PropertyMode}
 use Rattle.td_value.specs.declared.enumerations.PropertyMode.TheVariants as mode
 use Rattle.td_value.specs.declared.structures.PropStruct.{PropStruct}
-
--- ---- no cause
-
-no-first : {X : Type 0} (a b : Option X) → or_else a b ≡ None → a ≡ None
-no-first None b h = refl
-no-first (Some x) b h = absurd (let bad : ⊥ = cc in bad)
-
-no-later : {X : Type 0} (a b : Option X) → or_else a b ≡ None → b ≡ None
-no-later None b h = h
-no-later (Some x) b h = absurd (let bad : ⊥ = cc in bad)
-
-not-so : {X : Type 0} (b : Bool) (x : X) (rest : Option X) → cond b (Some x) rest ≡ None → (b ≡ false) × (rest ≡ None)
-not-so true x rest h = absurd (let bad : ⊥ = cc in bad)
-not-so false x rest h = (refl, h)
-
-is-so : {X : Type 0} (b : Bool) (x : X) (rest : Option X) → cond b rest (Some x) ≡ None → (b ≡ true) × (rest ≡ None)
-is-so true x rest h = (refl, h)
-is-so false x rest h = absurd (let bad : ⊥ = cc in bad)
 
 -- ---- own properties
 
@@ -100,17 +84,6 @@ record AreSupers (types : List ServiceType) (before supers : List (List ℕ)) : 
   there : AllByRecursion (λ (s : List ℕ). has_type types s ≡ true) supers
   fresh : AllByRecursion (λ (s : List ℕ). is_among s before ≡ false) supers
   apart : AreApart supers
-
-named-when : (b : Bool) (x t : ServiceType) (later : Option ServiceType) (any : Bool) → (later ≡ Some t → any ≡ true)
-    → cond b (Some x) later ≡ Some t → (b || any) ≡ true
-named-when true x t later any k h = refl
-named-when false x t later any k h = k h
-
-there-is : (ts : List ServiceType) (name : List ℕ) (t : ServiceType) → type_named ts name ≡ Some t
-    → has_type ts name ≡ true
-there-is [] name t h = absurd (let bad : ⊥ = cc in bad)
-there-is (x ∷ ts) name t h =
-    named-when (is_named name x) x t (type_named ts name) (has_type ts name) (there-is ts name t) h
 
 split-fresh : (s : List ℕ) (before ss : List (List ℕ))
     → AllByRecursion (λ (o : List ℕ). is_among o (s ∷ before) ≡ false) ss
@@ -184,12 +157,13 @@ third-of false true c d h = absurd (let bad : ⊥ = cc in bad)
 third-of false false true d h = absurd (let bad : ⊥ = cc in bad)
 third-of false false false d h = refl
 
-added : (s : Store) (r : Comes) → is_done (applied s (changes_types s r)).outcome ≡ true
+added : (s : Store) (told : Reply) (r : Comes)
+    → is_done (applied s (unless_cause (types_cause r) told (with_types s r))).outcome ≡ true
     → (a : TypesReply × Repository) × (r ≡ Ok a)
-added s (Ok a) h = (a, refl)
-added s (Err (Raises f)) h = absurd (let bad : ⊥ = cc in bad)
-added s (Err Full) h = absurd (let bad : ⊥ = cc in bad)
-added s (Err Memory) h = absurd (let bad : ⊥ = cc in bad)
+added s told (Ok a) h = (a, refl)
+added s told (Err (Raises f)) h = absurd (let bad : ⊥ = cc in bad)
+added s told (Err Full) h = absurd (let bad : ⊥ = cc in bad)
+added s told (Err Memory) h = absurd (let bad : ⊥ = cc in bad)
 
 record IsWithin (r : Repository) (t : ServiceType) : Type 0 where
   types : length r.types ≤ most_types
@@ -223,10 +197,10 @@ module _ (s : Store) (name if_name : List ℕ) (props : List PropStruct) (supers
   pub types : HasNoNul if_name → AreToldTypes props
       → is_done (apply s (change.AddType name if_name props supers)).outcome ≡ true
       → AreWritable name if_name props supers
-  unfolding comes_to add_type
+  unfolding comes_to
   types plain told h =
       let t = new_type s.types name if_name props supers in
-      let is = added s (add_to s.types name if_name props supers) h in
+      let is = added s _ (add_to s.types name if_name props supers) h in
       let f = after_adding s.types name if_name props supers is.0.0 is.0.1 is.1 in
       let behind =
       or_else (supers_fault s.types name if_name [] supers)

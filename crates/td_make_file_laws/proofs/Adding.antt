@@ -1,13 +1,15 @@
 -- The two types of a generated trader are added.
-use Rattle.std.proofs.Common.{◌≡◌, ℕ, Bool, true, false, if◌then◌else◌, List, [], ◌∷◌, codes, Option, None, Ok, Err}
+use Rattle.std.proofs.Common.{◌≡◌, ℕ, Bool, false, if◌then◌else◌, List, [], ◌∷◌, codes, Option, None, Ok, Err}
 use Rattle.std.proofs.Common.{refl, ap, ◌∙◌}
 use Rattle.std.proofs.lemmas.Bool.{le-ltb}
-use Rattle.td_admin.specs.Repositories.{add_type as add_type_of, changes_types, reply_of}
+use Rattle.td_admin.specs.Repositories.{types_cause, with_types}
 use Rattle.td_changes.specs.Applying.{comes_to}
+use Rattle.td_changes.specs.Replies.{acceptance}
 use Rattle.td_make_file_laws.proofs.AtMost.{root-short, sub-short}
 use Rattle.td_make_file_laws.proofs.Going.{Becomes}
 use Rattle.td_make_laws.specs.Said.{cost_demanded}
 use Rattle.td_ops.specs.declared.call.Change.TheVariants.{AddType}
+use Rattle.td_register.specs.Causes.{Comes as StoreComes, unless as unless_cause}
 use Rattle.td_register.specs.Stores.{Store}
 use Rattle.td_types.specs.Adding.{new_type, passes_limit, with_type}
 use Rattle.td_types.specs.Calls.{Comes, add_fault, add_type, unless}
@@ -45,13 +47,16 @@ store-added : (s : Store) (r : Repository) (name if_name : List ℕ) (props : Li
     → passes_limit (with_type r (new_type r name if_name props supers)) (new_type r name if_name props supers) ≡ false
     → Becomes s (AddType name if_name props supers)
     (record s { types = with_type r (new_type r name if_name props supers) })
-unfolding comes_to add_type_of
+unfolding comes_to
 store-added s r name if_name props supers e none within = record {
-  reply = reply_of (told.Added (new_type r name if_name props supers).incarnation);
+  reply = acceptance s (AddType name if_name props supers);
   is =
-      ap (λ (x : Repository). changes_types s (add_type x name if_name props supers)) e
-      ∙ ap (λ (c : Comes). changes_types s c) (added r name if_name props supers none within);
+      ap (λ (x : Repository). adds (add_type x name if_name props supers)) e
+      ∙ ap (λ (c : Comes). adds c) (added r name if_name props supers none within);
 }
+  where
+    adds : Comes → StoreComes
+    adds c = unless_cause (types_cause c) (acceptance s (AddType name if_name props supers)) (with_types s c)
 
 -- ---- Base and Sub
 

@@ -1,6 +1,6 @@
 -- The ten offers of a generated trader are exported.
 use Rattle.std.proofs.Common.{◌≡◌, ℕ, zero, suc, ◌+◌, ◌≤◌, ◌%◌, nat_eq, nat_le, Bool, true, false, not, ◌||◌}
-use Rattle.std.proofs.Common.{if◌then◌else◌, List, [], ◌∷◌, ◌++◌, codes, length, None, Ok, refl, sym, ap, subst, ◌∙◌}
+use Rattle.std.proofs.Common.{if◌then◌else◌, List, [], ◌∷◌, ◌++◌, codes, length, None, refl, ap, ◌∙◌}
 use Rattle.std.proofs.Common.{arith, length-append}
 use Rattle.std.proofs.lemmas.Bool.{le-ltb, lt-leb}
 use Rattle.td_changes.specs.Applying.{comes_to}
@@ -17,17 +17,15 @@ use Rattle.td_exceptions.specs.declared.exception.UserException.TheVariants.{Int
 use Rattle.td_ior.specs.Nil.{is_nil}
 use Rattle.td_ops.specs.declared.call.Change.TheVariants.{Export}
 use Rattle.td_ops.specs.declared.outcome.Reply.TheVariants as told
-use Rattle.td_policy.specs.declared.attributes.Attributes.{Attributes}
 use Rattle.td_register.proofs.Otherwise.{neither}
 use Rattle.td_register.specs.Causes.{Cause, given, limit_if, raise_if, unless, ◌otherwise◌}
 use Rattle.td_register.specs.Ids.{id_of}
 use Rattle.td_register.specs.Named.{open_type}
 use Rattle.td_register.specs.Properties.{is_too_large, missing, missing_cause, properties_cause, value_cause}
-use Rattle.td_register.specs.Registers.{export, export_cause, exported, interface_cause, offer_cause, passes_limit}
+use Rattle.td_register.specs.Registers.{export_cause, exported, interface_cause, offer_cause, passes_limit}
 use Rattle.td_register.specs.Registers.{with_offer}
 use Rattle.td_register.specs.Stores.{Store}
 use Rattle.td_store.proofs.Shapes.{shape-ulong}
-use Rattle.td_store.specs.declared.record.LinkRecord.{LinkRecord}
 use Rattle.td_types.specs.Interfaces.{interface_conforms}
 use Rattle.td_types.specs.Properties.{full_properties}
 use Rattle.td_types.specs.Repository.{Repository}
@@ -38,7 +36,7 @@ use Rattle.td_walk.specs.declared.trace.Address.{Address}
 -- an offer that nothing is at fault with
 export-becomes : (s : Store) (r : Ior) (name : List ℕ) (ps : List Property) → export_cause s r name ps ≡ None
     → Becomes s (Export r name ps) (with_offer s (exported s r name ps))
-unfolding comes_to export
+unfolding comes_to
 export-becomes s r name ps none = record {
   reply = told.Id (id_of (s.last_offer + 1));
   is =

@@ -1,8 +1,8 @@
 -- The two links of a generated trader are added.
-use Rattle.std.proofs.Common.{◌≡◌, ℕ, suc, ◌+◌, ◌≤◌, ◌<◌, ◌^◌, nat_le, Bool, true, false, not, is_some, List, [], ◌∷◌}
-use Rattle.std.proofs.Common.{◌++◌, codes, length, Option, Some, None, refl, sym, ap, subst, ◌∙◌, arith, length-append}
+use Rattle.std.proofs.Common.{◌≡◌, ℕ, ◌+◌, ◌≤◌, ◌<◌, ◌^◌, nat_le, not, is_some, List, [], ◌∷◌}
+use Rattle.std.proofs.Common.{◌++◌, codes, length, Option, Some, None, refl, ap, arith, length-append}
 use Rattle.std.proofs.lemmas.Bool.{lt-leb}
-use Rattle.td_admin.specs.Links.{add_link, add_link_cause, name_cause, new_links, rules_cause, target_cause}
+use Rattle.td_admin.specs.Links.{add_link_cause, name_cause, rules_cause, target_cause}
 use Rattle.td_changes.specs.Applying.{comes_to}
 use Rattle.td_codes.specs.declared.reference.Ior.{Ior}
 use Rattle.td_exceptions.specs.declared.exception.UserException.TheVariants.{InvalidLookupRef}
@@ -15,9 +15,7 @@ use Rattle.td_make_file_laws.proofs.AtMost.{counted-short, made-short}
 use Rattle.td_make_file_laws.proofs.Going.{Becomes, Goes, local_address}
 use Rattle.td_make_laws.specs.Said.{link_entry, name_of}
 use Rattle.td_objects.specs.References.{lookup_reference, register_reference}
-use Rattle.td_ops.specs.declared.call.Change.TheVariants.{AddLink}
 use Rattle.td_ops.specs.declared.outcome.Reply.TheVariants as told
-use Rattle.td_policy.specs.declared.attributes.Attributes.{Attributes}
 use Rattle.td_register.proofs.Otherwise.{neither}
 use Rattle.td_register.specs.Causes.{Cause, limit_if, raise_if, unless, ◌otherwise◌}
 use Rattle.td_register.specs.Stores.{Store}
@@ -86,7 +84,7 @@ module _ (s : Store) (name : List ℕ) (trader : ℕ) (most : trader ≤ 64) (fr
 
   pub link-added : Becomes s (link_to local_address name (name_of trader) Always Always)
       (record s { links = s.links ++ record_of name trader ∷ [] })
-  unfolding comes_to add_link
+  unfolding comes_to
   link-added = record {
     reply = told.Nothing;
     is =

@@ -5,5 +5,5 @@
 mod modifying;
 mod withdrawing;
 
-pub use modifying::{modify, renewal};
-pub use withdrawing::{check_withdraw_met, withdraw_using_constraint};
+pub use modifying::modify;
+pub use withdrawing::withdraw_using_constraint;

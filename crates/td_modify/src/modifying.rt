@@ -3,13 +3,14 @@
 ghost use Rattle.std.specs.Prelude.{◌≡◌, ◌++◌, List, ℕ, [], IfOk, OnOk, map, filter, not};
 ghost use Rattle.td_cdr.specs.Seen.{HaveSeen};
 ghost use Rattle.td_ops.specs.declared.call.Change.TheVariants as change;
+ghost use Rattle.td_ops.specs.declared.outcome.Reply.TheVariants as reply;
 ghost use Rattle.td_types.specs.Repository.{is_among};
 ghost use Rattle.td_value.specs.declared.structures.Property.{Property as Kept};
-ghost use Rattle.td_register.specs.Causes.{◌otherwise◌};
+ghost use Rattle.td_register.specs.Causes.{unless_full, ◌otherwise◌};
 ghost use Rattle.td_register.specs.Judged.{Accepts, IsRenewal, Judges, Yields};
 ghost use Rattle.td_register.specs.Properties.{carries};
-ghost use Rattle.td_register.specs.Registers.{changes_cause, deletion_cause, deletions_cause, modified, modify};
-ghost use Rattle.td_register.specs.Registers.{offer_changes_cause, readonly_cause, renewed};
+ghost use Rattle.td_register.specs.Registers.{changes_cause, deletion_cause, deletions_cause, modified, modify_cause};
+ghost use Rattle.td_register.specs.Registers.{offer_changes_cause, readonly_cause, renewed, with_modified};
 
 use std::alloc::Global;
 use std::collections::BTreeSet;
@@ -17,8 +18,8 @@ use td_cdr::{List, Memory, Shared, Text, Twin, copy_two, nothing_seen};
 use td_exceptions::UserException;
 use td_ops::{Change, is_among};
 use td_register::{
-    Accepted, ChangeReply, Fault, carries, check_name, check_size, check_value, demanded, entry_of,
-    mode_of, ordinary, push_copy, raised,
+    Accepted, ChangeReply, Fault, Refusal, carries, check_name, check_size, check_value, demanded,
+    entry_of, mode_of, ordinary, push_copy, raised,
 };
 use td_store::{OfferRecord, Store};
 use td_types::{is_mandatory, is_readonly};
@@ -215,13 +216,8 @@ fn new_properties(
     }
 }
 
-/// The number of the offer, and its properties as they are afterwards.
-///
-/// # Errors
-///
-/// `NotImplemented`; `IllegalOfferId`, `UnknownOfferId`, `ProxyOfferId`; what is at fault with a name
-/// that is to be deleted, and then with a property; IMP_LIMIT; `Memory` for want of memory.
-pub fn renewal(
+/// The number of the offer, and its properties as they are afterwards, where nothing is at fault.
+fn renewal(
     alloc: Global,
     store: &Store,
     id: &Text,
@@ -244,19 +240,24 @@ pub fn renewal(
 /// # Errors
 ///
 /// `NotImplemented`; `IllegalOfferId`, `UnknownOfferId`, `ProxyOfferId`; what is at fault with a name
-/// that is to be deleted, and then with a property; IMP_LIMIT; `Memory` for want of memory.
-#[tactic(auto, unfolding(td_register::specs::Registers::modify))]
+/// that is to be deleted, and then with a property; IMP_LIMIT past a limit, and where no more changes are
+/// accepted; `Memory` for want of memory.
 pub fn modify(
     alloc: Global,
     store: &mut Store,
+    full: bool,
     id: Text,
     deleted: List<Text>,
     changed: List<Property>,
 ) -> Result<Accepted, Fault>
-    ensures { Accepts (change.Modify id deleted changed) (modify store.old id deleted changed)
-        store.old store.new result }
+    ensures { Accepts (change.Modify id deleted changed)
+        (unless_full full (modify_cause store.old id deleted changed) reply.Nothing
+        (with_modified store.old id deleted changed)) store.old store.new result }
 {
     let (number, properties) = renewal(alloc, store, &id, deleted.as_slice(), changed.as_slice())?;
+    if full {
+        return Err(Fault::Refused(Refusal::Limit));
+    }
     store.offers.modify(number, properties);
     Ok(entry_of(
         Change::Modify {

@@ -3,12 +3,13 @@
 
 ghost use Rattle.std.specs.Prelude.{◌≡◌, None, Ok, filter, map, not, IfOk, MatchResult};
 ghost use Rattle.td_ops.specs.declared.call.Change.TheVariants as change;
+ghost use Rattle.td_ops.specs.declared.outcome.Reply.TheVariants as reply;
 ghost use Rattle.td_store.specs.Candidates.{has_conforming_type};
-ghost use Rattle.td_register.specs.Causes.{given};
+ghost use Rattle.td_register.specs.Causes.{given, unless_full};
 ghost use Rattle.td_register.specs.Judged.{Accepts, IsAbsent, IsMet, Judges};
 ghost use Rattle.td_register.specs.Named.{known};
 ghost use Rattle.td_register.specs.Registers.{asked_in, is_met, no_more, none_met, static_properties};
-ghost use Rattle.td_register.specs.Registers.{withdraw_met_cause, withdraw_using_constraint};
+ghost use Rattle.td_register.specs.Registers.{withdraw_met_cause, without_met};
 ghost use Rattle.td_modify.specs.Withdrawals.{IsWithdrawal, meets, without_offers};
 
 use std::alloc::Global;
@@ -20,7 +21,7 @@ use td_exceptions::UserException;
 use td_lang::{Constraint, LangFault, read_constraint};
 use td_ops::Change;
 use td_register::{
-    Accepted, ChangeReply, Fault, entry_of, illegal_type, push_copy, raised, unknown_type,
+    Accepted, ChangeReply, Fault, Refusal, entry_of, illegal_type, push_copy, raised, unknown_type,
 };
 use td_store::{OfferRecord, Offers, Steps, Store};
 use td_types::Types;
@@ -169,26 +170,6 @@ fn met_numbers(
     numbers
 }
 
-/// Refuses a type that isn't known, a text that is no constraint, and where no offer matches.
-///
-/// # Errors
-///
-/// `IllegalServiceType`, `UnknownServiceType`; `IllegalConstraint`; `NoMatchingOffers`; `Memory` for want of
-/// memory.
-pub fn check_withdraw_met(
-    alloc: Global,
-    store: &Store,
-    service_type: &Text,
-    constraint: &Text,
-) -> Result<(), Fault>
-    ensures { Judges (withdraw_met_cause store.now service_type.now constraint.now) result }
-{
-    match met_numbers(alloc, store, service_type, constraint) {
-        Ok(_) => Ok(()),
-        Err(fault) => Err(fault),
-    }
-}
-
 /// Takes the offers of these numbers away. Takes no memory.
 fn remove_all(offers: &mut Offers, numbers: &[u32])
     ensures { offers.new ≡ without_offers numbers.now offers.old }
@@ -204,19 +185,23 @@ fn remove_all(offers: &mut Offers, numbers: &[u32])
 ///
 /// # Errors
 ///
-/// `IllegalServiceType`, `UnknownServiceType`; `IllegalConstraint`; `NoMatchingOffers`; `Memory` for want of
-/// memory.
-#[tactic(auto, unfolding(td_register::specs::Registers::withdraw_using_constraint))]
+/// `IllegalServiceType`, `UnknownServiceType`; `IllegalConstraint`; `NoMatchingOffers`; IMP_LIMIT where no
+/// more changes are accepted; `Memory` for want of memory.
 pub fn withdraw_using_constraint(
     alloc: Global,
     store: &mut Store,
+    full: bool,
     service_type: Text,
     constraint: Text,
 ) -> Result<Accepted, Fault>
     ensures { Accepts (change.WithdrawUsingConstraint service_type constraint)
-        (withdraw_using_constraint store.old service_type constraint) store.old store.new result }
+        (unless_full full (withdraw_met_cause store.old service_type constraint) reply.Nothing
+        (without_met store.old service_type constraint)) store.old store.new result }
 {
     let numbers = met_numbers(alloc, store, &service_type, &constraint)?;
+    if full {
+        return Err(Fault::Refused(Refusal::Limit));
+    }
     remove_all(&mut store.offers, numbers.as_slice());
     Ok(entry_of(
         Change::WithdrawUsingConstraint {

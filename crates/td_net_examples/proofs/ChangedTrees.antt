@@ -1,6 +1,6 @@
 -- The trees of calls between which traders are changed, from the last call on.
 use Rattle.std.proofs.Common.{◌≡◌, ℕ, suc, false, List, [], ◌∷◌, map, Option, Some, None, refl, codes}
-use Rattle.td_changes.specs.Applying.{comes_to}
+use Rattle.td_changes.specs.Applying.{comes_to, counted}
 use Rattle.td_changes.specs.Histories.{after_all}
 use Rattle.td_codes.specs.declared.reference.Ior.{Ior}
 use Rattle.td_eval.specs.Mentioning.{with_names}
@@ -11,7 +11,6 @@ use Rattle.td_net_examples.specs.Fixtures.{AreInside, answered, asks, call, foun
 use Rattle.td_net_examples.specs.Trees.{WorkedChanges, changed, top}
 use Rattle.td_net_laws.specs.Arrivals.{head_of}
 use Rattle.td_net_laws.specs.Trees.{IsTree, visited}
-use Rattle.td_register.specs.Registers.{withdraw}
 use Rattle.td_walk.specs.Answers.{IsAnswer}
 use Rattle.td_walk.specs.Resolving.{resolved}
 use Rattle.td_walk.specs.SubQueries.{link_query, link_step, proxy_step}
@@ -21,7 +20,7 @@ use Rattle.td_walk.specs.declared.answer.StepAnswer.TheVariants.{Offers}
 module _ (to : List ℕ → Ior) (inside : Ior → Option ℕ) (words : List ℕ) (at : AreInside inside to) where
   changed-2 : (f : ℕ) → IsTree (suc f) (changed to) inside words 2 (found (codes "e"))
   unfolding next_of visit_of steps link_step link_query proxy_step with_names resolved IsAnswer after_all comes_to
-      withdraw number_below
+      counted number_below
   changed-2 f =
       let here = is-here (without_first (unlinked (codes "C") (kept 1 (codes "c") ∷ kept 2 (codes "e") ∷ []))) 2 7
       refl in
@@ -33,7 +32,7 @@ module _ (to : List ℕ → Ior) (inside : Ior → Option ℕ) (words : List ℕ
 
   changed-1 : (f : ℕ) → IsTree (suc f) (changed to) inside words 1 (found (codes "b"))
   unfolding next_of visit_of steps link_step link_query proxy_step with_names resolved IsAnswer after_all comes_to
-      withdraw number_below
+      counted number_below
   changed-1 f =
       let here = is-here (unlinked (codes "B") (kept 1 (codes "b") ∷ [])) 2 8 refl in
       let before : visited (map head_of (changed to)) 1 0 1 ≡ false = rw here refl in
@@ -44,7 +43,7 @@ module _ (to : List ℕ → Ior) (inside : Ior → Option ℕ) (words : List ℕ
 
   changed-0 : (f : ℕ) → IsTree (suc (suc f)) (changed to) inside words 0 (found (codes "abe"))
   unfolding next_of visit_of steps link_step link_query proxy_step with_names resolved IsAnswer after_all comes_to
-      withdraw number_below
+      counted number_below
   changed-0 f =
       let here = is-here (top to) 3 9 refl in
       let before : visited (map head_of (changed to)) 0 0 0 ≡ false = rw here refl in

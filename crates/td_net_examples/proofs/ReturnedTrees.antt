@@ -1,6 +1,6 @@
 -- The trees of a call that comes back, from the last call on.
 use Rattle.std.proofs.Common.{◌≡◌, ℕ, suc, true, false, List, [], ◌∷◌, map, Option, Some, None, refl, codes}
-use Rattle.td_changes.specs.Applying.{comes_to}
+use Rattle.td_changes.specs.Applying.{comes_to, counted}
 use Rattle.td_changes.specs.Histories.{after_all}
 use Rattle.td_codes.specs.declared.reference.Ior.{Ior}
 use Rattle.td_eval.specs.Mentioning.{with_names}
@@ -12,7 +12,6 @@ use Rattle.td_net_examples.specs.Fixtures.{without_first}
 use Rattle.td_net_examples.specs.Trees.{WorkedReturn, returned}
 use Rattle.td_net_laws.specs.Arrivals.{head_of}
 use Rattle.td_net_laws.specs.Trees.{IsTree, visited}
-use Rattle.td_register.specs.Registers.{withdraw}
 use Rattle.td_walk.specs.Answers.{IsAnswer}
 use Rattle.td_walk.specs.Resolving.{resolved}
 use Rattle.td_walk.specs.SubQueries.{link_query, link_step, proxy_step}
@@ -22,7 +21,7 @@ use Rattle.td_walk.specs.declared.answer.StepAnswer.TheVariants.{Offers}
 module _ (to : List ℕ → Ior) (inside : Ior → Option ℕ) (words : List ℕ) (at : AreInside inside to) where
   returned-2 : (f : ℕ) → IsTree (suc f) (returned to) inside words 2 (found [])
   unfolding next_of visit_of steps link_step link_query proxy_step with_names resolved IsAnswer after_all comes_to
-      withdraw number_below
+      counted number_below
   returned-2 f =
       let here = is-here (linked to (codes "A") (codes "a") (codes "B")) 3 9 refl in
       let before : visited (map head_of (returned to)) 0 0 2 ≡ true = rw here refl in
@@ -32,7 +31,7 @@ module _ (to : List ℕ → Ior) (inside : Ior → Option ℕ) (words : List ℕ
 
   returned-1 : (f : ℕ) → IsTree (suc (suc f)) (returned to) inside words 1 (found (codes "b"))
   unfolding next_of visit_of steps link_step link_query proxy_step with_names resolved IsAnswer after_all comes_to
-      withdraw number_below
+      counted number_below
   returned-1 f =
       let here = is-here (linked to (codes "B") (codes "b") (codes "A")) 2 8 refl in
       let before : visited (map head_of (returned to)) 1 0 1 ≡ false = rw here refl in
@@ -49,7 +48,7 @@ module _ (to : List ℕ → Ior) (inside : Ior → Option ℕ) (words : List ℕ
 
   returned-0 : (f : ℕ) → IsTree (suc (suc (suc f))) (returned to) inside words 0 (found (codes "ab"))
   unfolding next_of visit_of steps link_step link_query proxy_step with_names resolved IsAnswer after_all comes_to
-      withdraw number_below
+      counted number_below
   returned-0 f =
       let here = is-here (linked to (codes "A") (codes "a") (codes "B")) 3 9 refl in
       let here2 = is-here (without_first (searched (codes "q") (linked to (codes "A") (codes "a") (codes "B")))) 1 7

@@ -1,4 +1,5 @@
 pub mod InOrder
-pub mod Limits
+pub mod NoCause
+pub mod NoFault
 pub mod OneByOne
 pub mod Otherwise

@@ -8,15 +8,17 @@ use Rattle.td_types.specs.Repository.{mask_in, type_named}
 use Rattle.td_types.specs.declared.entry.ServiceType.{ServiceType}
 use Rattle.td_ops.specs.declared.call.Change.{Change}
 use Rattle.td_ops.specs.declared.outcome.Reply.{Reply}
-use Rattle.td_register.specs.Causes.{Cause, Found, given, raise, raise_if, there, unless, ◌otherwise◌}
+use Rattle.td_register.specs.Causes.{Cause, Found, given, raise, raise_if, there, unless_full, ◌otherwise◌}
+use Rattle.td_register.specs.Entries.{entry}
 use Rattle.td_register.specs.Judged.{Accepts, IsMet, Judges}
 use Rattle.td_register.specs.Named.{open_type, unmasked}
 use Rattle.td_register.specs.Registers.{no_more}
+use Rattle.td_register.specs.declared.history.Accepted.{Accepted}
 use Rattle.td_register.specs.declared.refusal.Fault.{Fault}
 use Rattle.td_register.specs.declared.refusal.Fault.TheVariants.{Refused, Memory}
 use Rattle.td_register.specs.Stores.{Store}
 use Rattle.td_register.specs.declared.refusal.Refusal.{Refusal}
-use Rattle.td_register.specs.declared.refusal.Refusal.TheVariants.{Raised}
+use Rattle.td_register.specs.declared.refusal.Refusal.TheVariants.{Limit, Raised}
 
 -- the first of two causes is met
 pub first : (a b : Cause) (f : Fault) → IsMet a f → IsMet (a otherwise b) f
@@ -57,14 +59,19 @@ carries a b Memory on h = tt
 
 -- ---- a change that is refused or accepted
 
-pub is_refused : (c : Change) (cause : Cause) (told : Reply) (s after : Store) (f : Fault) → IsMet cause f →
-    Accepts c (unless cause told after) s s (Err f)
-is_refused c cause told s after (Refused x) h = (rw h refl, refl)
-is_refused c cause told s after Memory h = refl
+module _ (c : Change) (full : Bool) (cause : Cause) (told : Reply) (s after : Store) where
+  pub is_refused : (f : Fault) → IsMet cause f → Accepts c (unless_full full cause told after) s s (Err f)
+  is_refused (Refused x) h = (rw h refl, refl)
+  is_refused Memory h = refl
 
-pub is_accepted : (cause : Cause) (told : Reply) (after : Store) → cause ≡ None →
-    unless cause told after ≡ Ok (told, after)
-is_accepted cause told after h = rw h refl
+  -- nothing is at fault, but no more changes are accepted
+  pub is_full : cause ≡ None → full ≡ true →
+      Accepts c (unless_full full cause told after) s s (Err (Refused Limit))
+  is_full h e = (rw (h, e) refl, refl)
+
+  pub is_accepted : (a : Accepted) (new : Store) → cause ≡ None → full ≡ false → a ≡ entry c told → new ≡ after →
+      Accepts c (unless_full full cause told after) s new (Ok a)
+  is_accepted a new h e is same = rw (is, same) (refl, rw (h, e) refl)
 
 -- ---- what may be there
 

@@ -78,6 +78,10 @@ abbrev pub unless : Cause → Reply → Store → Comes
 unless None reply after = Ok (reply, after)
 unless (Some f) reply after = Err f
 
+-- the same; where no more changes are accepted, that is the last cause
+abbrev pub unless_full : (full : Bool) → Cause → Reply → Store → Comes
+unless_full full cause reply after = unless (cause otherwise limit_if full) reply after
+
 -- an outcome, and the store behind it
 pub record Applied : Type 0 where
   pub outcome : Outcome

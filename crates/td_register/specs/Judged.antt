@@ -1,35 +1,24 @@
 -- What the functions behind a change answer.
-use Rattle.std.specs.Prelude.{◌≡◌, ℕ, ◌<◌, ◌≤◌, ◌||◌, not, nat_le, is_some, List, [], length, None, Some}
+use Rattle.std.specs.Prelude.{◌≡◌, ℕ, List, None, Some}
 use Rattle.std.specs.Prelude.{Result, Ok, Err, Bool, false}
 use Rattle.td_cdr.specs.declared.memory.Memory.{Memory as Wanting}
 use Rattle.td_ops.specs.declared.call.Change.{Change}
 use Rattle.td_ops.specs.declared.outcome.Outcome.{Outcome}
 use Rattle.td_ops.specs.declared.outcome.Reply.{Reply}
 use Rattle.td_ops.specs.declared.outcome.Reply.TheVariants.{Id}
-use Rattle.td_codes.specs.declared.reference.Ior.{Ior}
-use Rattle.td_exceptions.specs.declared.exception.UserException.TheVariants.{IllegalRecipe, InvalidLookupRef}
-use Rattle.td_exceptions.specs.declared.exception.UserException.TheVariants.{InvalidObjectRef}
-use Rattle.td_ior.specs.Nil.{is_nil}
-use Rattle.td_ior.specs.Profiles.{iiop_of}
 use Rattle.td_lang.specs.declared.fault.LangFault.{LangFault}
 use Rattle.td_lang.specs.declared.fault.LangFault.TheVariants as lang
-use Rattle.td_store.specs.OfferLists.{most_offers, with_properties}
+use Rattle.td_store.specs.OfferLists.{with_properties}
 use Rattle.td_store.specs.declared.record.OfferRecord.{OfferRecord}
-use Rattle.td_value.specs.declared.structures.Policy.{Policy}
 use Rattle.td_value.specs.declared.structures.Property.{Property}
-use Rattle.td_register.specs.Causes.{Cause, Found, Comes, Applied, given, limit_if, raise_if, unless_supported}
-use Rattle.td_register.specs.Causes.{◌otherwise◌}
+use Rattle.td_register.specs.Causes.{Cause, Found, Comes, Applied, given}
 use Rattle.td_register.specs.Ids.{id_of, ordinary}
-use Rattle.td_register.specs.Named.{open_type}
-use Rattle.td_register.specs.Properties.{is_too_large}
-use Rattle.td_register.specs.Proxies.{is_recipe, policies_cause}
-use Rattle.td_register.specs.Registers.{interface_cause, last_number, modify_cause, no_more, offer_cause}
+use Rattle.td_register.specs.Registers.{modify_cause}
 use Rattle.td_register.specs.Registers.{offers_modified, with_offer}
 use Rattle.td_register.specs.Stores.{Store}
 use Rattle.td_register.specs.declared.history.Accepted.{Accepted}
 use Rattle.td_register.specs.declared.refusal.Fault.{Fault}
 use Rattle.td_register.specs.declared.refusal.Fault.TheVariants.{Refused, Memory}
-use Rattle.td_register.specs.declared.refusal.Refusal.TheVariants.{Limit}
 
 -- this is at fault; or memory was wanted, which says nothing
 abbrev pub IsMet : Cause → Fault → Type 0
@@ -70,26 +59,10 @@ Tells told (Err e) = Unit {0}
 
 -- ---- a new offer
 
--- an offer is too large, or no number is left
-abbrev pub size_cause : Store → Ior → List Property → Cause
-size_cause s reference properties = limit_if (nat_le last_number s.last_offer
-    || is_too_large reference properties)
-
--- what may be at fault with an export besides the number of offers
-abbrev pub front_cause : Store → Ior → (type_name : List ℕ) → List Property → Cause
-front_cause s reference type_name properties =
-    raise_if (is_nil reference) (InvalidObjectRef reference)
-    otherwise given (open_type s.types.types type_name) (interface_cause s type_name reference)
-    otherwise offer_cause s type_name properties
-    otherwise size_cause s reference properties
-
--- The offer came last, its number was given, and its id is the reply; or there are as many offers as may be, or memory was
--- wanted, and nothing changed.
-abbrev pub IsAdded : OfferRecord → (old new : Store) → Result Reply Fault → Type 0
-IsAdded o old new (Ok told) =
-    (length old.offers < most_offers) × (told ≡ Id (id_of o.number)) × (new ≡ with_offer old o)
-IsAdded o old new (Err (Refused f)) = (most_offers ≤ length old.offers) × (f ≡ Limit) × (new ≡ old)
-IsAdded o old new (Err Memory) = new ≡ old
+-- The offer came last, its number was given, and its id is the reply; or memory was wanted, and nothing changed.
+abbrev pub IsAdded : OfferRecord → (old new : Store) → Result Reply Wanting → Type 0
+IsAdded o old new (Ok told) = (told ≡ Id (id_of o.number)) × (new ≡ with_offer old o)
+IsAdded o old new (Err e) = new ≡ old
 
 -- ---- an offer that is modified
 
@@ -102,25 +75,7 @@ IsRenewal s id deleted changed (Ok new) =
     ≡ with_properties new.0 new.1 s.offers)
 IsRenewal s id deleted changed (Err f) = IsMet (modify_cause s id deleted changed) f
 
--- ---- a new proxy offer
-
--- what may be at fault with a new proxy offer besides its type, its target and the number of offers
-abbrev pub later_proxy_cause : Store → Ior → (type_name : List ℕ) → List Property
-    → (recipe : List ℕ) → List Policy → Cause
-later_proxy_cause s target type_name properties recipe policies =
-    offer_cause s type_name properties
-    otherwise raise_if (not (is_recipe recipe)) (IllegalRecipe recipe)
-    otherwise policies_cause [] policies
-    otherwise size_cause s target properties
-
--- the same with these two
-abbrev pub proxy_front_cause : Store → Ior → (type_name : List ℕ) → List Property
-    → (recipe : List ℕ) → List Policy → Cause
-proxy_front_cause s target type_name properties recipe policies =
-    unless_supported s.attributes.supports_proxy_offers
-    otherwise given (open_type s.types.types type_name) no_more
-    otherwise raise_if (not (is_some (iiop_of target))) (InvalidLookupRef target)
-    otherwise later_proxy_cause s target type_name properties recipe policies
+-- ---- recipes
 
 -- A text with this fault is no recipe; for want of memory nothing is told.
 abbrev pub told : LangFault → Result Bool Wanting

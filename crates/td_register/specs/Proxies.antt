@@ -1,5 +1,5 @@
 -- Proxy offers (OMG's Trading Object Service, interface Proxy).
-use Rattle.std.specs.Prelude.{ℕ, Bool, false, not, ◌+◌, is_some, if◌then◌else◌, List, [], ◌∷◌, Option, None, Some}
+use Rattle.std.specs.Prelude.{ℕ, Bool, false, not, is_some, if◌then◌else◌, List, [], ◌∷◌, Option, None, Some}
 use Rattle.td_codes.specs.declared.reference.Ior.{Ior}
 use Rattle.td_exceptions.specs.declared.exception.UserException.TheVariants.{InvalidLookupRef, IllegalRecipe}
 use Rattle.td_exceptions.specs.declared.exception.UserException.TheVariants.{DuplicatePolicyName}
@@ -14,11 +14,10 @@ use Rattle.td_ops.specs.declared.outcome.Reply.TheVariants as reply
 use Rattle.td_register.specs.declared.refusal.Refusal.TheVariants.{NotSupported}
 use Rattle.td_store.specs.declared.record.OfferRecord.{OfferRecord}
 use Rattle.td_store.specs.declared.record.ProxyPart.{ProxyPart}
-use Rattle.td_register.specs.Causes.{Cause, Comes, refused, raise_if, limit_if, unless_supported, ◌otherwise◌, given}
-use Rattle.td_register.specs.Causes.{tells, unless}
-use Rattle.td_register.specs.Ids.{id_of, number_in, proxy}
+use Rattle.td_register.specs.Causes.{Cause, refused, raise_if, limit_if, unless_supported, ◌otherwise◌, given, tells}
+use Rattle.td_register.specs.Ids.{proxy}
 use Rattle.td_register.specs.Named.{open_type}
-use Rattle.td_register.specs.Registers.{offer_cause, passes_limit, with_offer, exported, offers_without, no_more}
+use Rattle.td_register.specs.Registers.{offer_cause, passes_limit, exported, no_more}
 use Rattle.td_register.specs.Stores.{Store}
 
 -- ---- recipes
@@ -53,28 +52,11 @@ exported_proxy s target type_name properties part = record (exported s target ty
       part;
 }
 
-unfoldable pub export_proxy : Store → Ior → (type_name : List ℕ) → List Property
-    → (if_match_all : Bool) → (recipe : List ℕ) → List Policy → Comes
-export_proxy s target type_name properties if_match_all recipe policies =
-    unless (export_proxy_cause s target type_name properties recipe policies)
-    (reply.Id (id_of (s.last_offer + 1)))
-    (with_offer s (exported_proxy s target type_name properties (record {
-      if_match_all = if_match_all;
-      recipe =
-          recipe;
-      policies = policies;
-    })))
-
 -- ---- withdraw_proxy
 
 abbrev pub withdraw_proxy_cause : Store → List ℕ → Cause
 withdraw_proxy_cause s id = unless_supported s.attributes.supports_proxy_offers otherwise given
     (proxy s.offers id) no_more
-
-unfoldable pub withdraw_proxy : Store → List ℕ → Comes
-withdraw_proxy s id =
-    unless (withdraw_proxy_cause s id) reply.Nothing
-    (record s { offers = offers_without s.offers (number_in id) })
 
 -- ---- describe_proxy
 

@@ -27,7 +27,7 @@ use Rattle.td_store.specs.Candidates.{belongs, is_dynamic}
 use Rattle.td_store.specs.OfferLists.{without_offer, with_properties, most_offers}
 use Rattle.td_store.specs.Stores.{offer_info_of}
 use Rattle.td_store.specs.declared.record.OfferRecord.{OfferRecord}
-use Rattle.td_register.specs.Causes.{Cause, Found, Comes, raise, raise_if, limit_if, ◌otherwise◌, given, tells, unless}
+use Rattle.td_register.specs.Causes.{Cause, Found, raise, raise_if, limit_if, ◌otherwise◌, given, tells}
 use Rattle.td_register.specs.Ids.{id_of, number_in, ordinary}
 use Rattle.td_register.specs.Named.{known, open_type, demanded}
 use Rattle.td_register.specs.Properties.{carries, mode_of, name_cause, value_cause, properties_cause}
@@ -82,11 +82,9 @@ exported s reference type_name properties = record {
   proxy = None;
 }
 
-unfoldable pub export : Store → Ior → (type_name : List ℕ) → List Property → Comes
-export s reference type_name properties =
-    unless (export_cause s reference type_name properties)
-    (reply.Id (id_of (s.last_offer + 1)))
-    (with_offer s (exported s reference type_name properties))
+-- the next number as an id
+abbrev pub next_id : Store → List ℕ
+next_id s = id_of (s.last_offer + 1)
 
 -- ---- withdraw
 
@@ -100,10 +98,8 @@ abbrev pub offers_without : List OfferRecord → Option ℕ → List OfferRecord
 offers_without offers None = offers
 offers_without offers (Some number) = without_offer number offers
 
-unfoldable pub withdraw : Store → List ℕ → Comes
-withdraw s id =
-    unless (withdraw_cause s id) reply.Nothing
-    (record s { offers = offers_without s.offers (number_in id) })
+abbrev pub without_id : Store → List ℕ → Store
+without_id s id = record s { offers = offers_without s.offers (number_in id) }
 
 -- ---- describe
 
@@ -173,10 +169,9 @@ offers_modified offers deleted changed (Err f) = offers
 offers_modified offers deleted changed (Ok o) = with_properties o.number
     (modified o.properties deleted changed) offers
 
-unfoldable pub modify : Store → List ℕ → List (List ℕ) → List Property → Comes
-modify s id deleted changed =
-    unless (modify_cause s id deleted changed) reply.Nothing
-    (record s { offers = offers_modified s.offers deleted changed (ordinary s.offers id) })
+abbrev pub with_modified : Store → List ℕ → List (List ℕ) → List Property → Store
+with_modified s id deleted changed =
+    record s { offers = offers_modified s.offers deleted changed (ordinary s.offers id) }
 
 -- ---- withdraw_using_constraint
 
@@ -211,7 +206,5 @@ abbrev pub offers_not_met : Store → (type_name : List ℕ) → Found Constrain
 offers_not_met s type_name (Err f) = s.offers
 offers_not_met s type_name (Ok c) = filter (λ o. not (is_met s.types.types type_name c o)) s.offers
 
-unfoldable pub withdraw_using_constraint : Store → (type_name text : List ℕ) → Comes
-withdraw_using_constraint s type_name text =
-    unless (withdraw_met_cause s type_name text) reply.Nothing
-    (record s { offers = offers_not_met s type_name (asked_in text) })
+abbrev pub without_met : Store → (type_name text : List ℕ) → Store
+without_met s type_name text = record s { offers = offers_not_met s type_name (asked_in text) }

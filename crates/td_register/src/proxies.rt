@@ -2,10 +2,13 @@
 
 ghost use Rattle.std.specs.Prelude.{◌≡◌, None, Ok, Some, IfOk, MatchResult};
 ghost use Rattle.td_ops.specs.declared.call.Change.TheVariants as change;
+ghost use Rattle.td_ops.specs.declared.outcome.Reply.TheVariants as reply;
+ghost use Rattle.td_register.specs.Causes.{unless_full};
 ghost use Rattle.td_register.specs.Ids.{proxy};
 ghost use Rattle.td_register.specs.Judged.{Accepts, IsAbsent, Tells};
 ghost use Rattle.td_register.specs.Needs.{NeedsNone};
-ghost use Rattle.td_register.specs.Proxies.{describe_proxy, proxy_info, proxy_info_of, withdraw_proxy};
+ghost use Rattle.td_register.specs.Proxies.{describe_proxy, proxy_info, proxy_info_of, withdraw_proxy_cause};
+ghost use Rattle.td_register.specs.Registers.{without_id};
 
 use crate::change_reply::ChangeReply;
 use crate::history::{Accepted, entry_of};
@@ -47,11 +50,11 @@ fn proxy<'a>(alloc: Global, offers: &'a Offers, id: &Text) -> Result<&'a OfferRe
 /// # Errors
 ///
 /// NO_IMPLEMENT where proxy offers aren't supported; `IllegalOfferId`, `UnknownOfferId`,
-/// `NotProxyOfferId`.
-#[tactic(auto, unfolding(crate::specs::Proxies::withdraw_proxy))]
-pub fn withdraw_proxy(store: &mut Store, id: Text) -> Result<Accepted, Fault>
+/// `NotProxyOfferId`; IMP_LIMIT where no more changes are accepted.
+pub fn withdraw_proxy(store: &mut Store, full: bool, id: Text) -> Result<Accepted, Fault>
     ensures accepts { Accepts (change.WithdrawProxy id)
-        (withdraw_proxy store.old id) store.old store.new result }
+        (unless_full full (withdraw_proxy_cause store.old id) reply.Nothing
+        (without_id store.old id)) store.old store.new result }
     ensures free { NeedsNone result }
 {
     if !store.attributes.supports_proxy_offers {
@@ -64,6 +67,9 @@ pub fn withdraw_proxy(store: &mut Store, id: Text) -> Result<Accepted, Fault>
         None => Err(raised(UserException::UnknownOfferId { id })),
         Some(false) => Err(raised(UserException::NotProxyOfferId { id })),
         Some(true) => {
+            if full {
+                return Err(Fault::Refused(Refusal::Limit));
+            }
             store.offers.remove(number);
             Ok(entry_of(Change::WithdrawProxy { id }, ChangeReply::nothing()))
         }

@@ -2,17 +2,19 @@
 
 ghost use Rattle.std.specs.Prelude.{◌≡◌, Ok, is_some, option_map, IfOk, MatchResult};
 ghost use Rattle.td_ops.specs.declared.call.Change.TheVariants as change;
+ghost use Rattle.td_ops.specs.declared.outcome.Reply.TheVariants as reply;
 ghost use Rattle.td_store.specs.OfferLists.{offer_of};
 ghost use Rattle.td_store.specs.Stores.{offer_info_of};
+ghost use Rattle.td_register.specs.Causes.{unless_full};
 ghost use Rattle.td_register.specs.Ids.{ordinary};
 ghost use Rattle.td_register.specs.Judged.{Accepts, IsAbsent, Tells};
 ghost use Rattle.td_register.specs.Needs.{NeedsNone};
-ghost use Rattle.td_register.specs.Registers.{describe, withdraw};
+ghost use Rattle.td_register.specs.Registers.{describe, withdraw_cause, without_id};
 
 use crate::change_reply::ChangeReply;
 use crate::history::{Accepted, entry_of};
 use crate::ids::number_in;
-use crate::refusal::{Fault, raised, refused};
+use crate::refusal::{Fault, Refusal, raised, refused};
 use std::alloc::Global;
 use td_cdr::{Memory, Text, Twin, copy_three};
 use td_exceptions::UserException;
@@ -61,11 +63,10 @@ pub fn ordinary<'a>(alloc: Global, offers: &'a Offers, id: &Text) -> Result<&'a 
 ///
 /// # Errors
 ///
-/// `IllegalOfferId`, `UnknownOfferId`, `ProxyOfferId`.
-#[tactic(auto, unfolding(crate::specs::Registers::withdraw))]
-pub fn withdraw(store: &mut Store, id: Text) -> Result<Accepted, Fault>
-    ensures accepts { Accepts (change.Withdraw id)
-        (withdraw store.old id) store.old store.new result }
+/// `IllegalOfferId`, `UnknownOfferId`, `ProxyOfferId`; IMP_LIMIT where no more changes are accepted.
+pub fn withdraw(store: &mut Store, full: bool, id: Text) -> Result<Accepted, Fault>
+    ensures accepts { Accepts (change.Withdraw id) (unless_full full (withdraw_cause store.old id)
+        reply.Nothing (without_id store.old id)) store.old store.new result }
     ensures free { NeedsNone result }
 {
     let Some(number) = number_in(id.as_slice()) else {
@@ -75,6 +76,9 @@ pub fn withdraw(store: &mut Store, id: Text) -> Result<Accepted, Fault>
         None => Err(raised(UserException::UnknownOfferId { id })),
         Some(true) => Err(raised(UserException::ProxyOfferId { id })),
         Some(false) => {
+            if full {
+                return Err(Fault::Refused(Refusal::Limit));
+            }
             store.offers.remove(number);
             Ok(entry_of(Change::Withdraw { id }, ChangeReply::nothing()))
         }

@@ -3,7 +3,7 @@
 ghost use Rattle.std.specs.Prelude.{◌≡◌, ◌≤◌, ◌<◌, true, false, length, vec_len, vec_capacity, IfOk, OnOk, OnErr, IsOk};
 ghost use Rattle.td_cdr.specs.Marks.{Orderly};
 ghost use Rattle.td_marks.specs.Keeping.{IsKept as AreMarks};
-ghost use Rattle.td_changes.specs.Applying.{is_at_limit, seek};
+ghost use Rattle.td_changes.specs.Applying.{apply_counted, is_at_limit, seek};
 ghost use Rattle.td_changes.specs.Histories.{Legal};
 ghost use Rattle.td_changes.specs.Kinds.{is_free};
 ghost use Rattle.td_changes.specs.Numbering.{AreNumbered};
@@ -19,7 +19,7 @@ use std::alloc::Global;
 use std::marker::Model;
 use std::snapshot::Snapshot;
 use td_cdr::{Memory, Octets, Text};
-use td_changes::{Bounds, MOST_CHANGES, acceptance, barred_outcome, not_done, perform, seek};
+use td_changes::{Bounds, MOST_CHANGES, acceptance, not_done, perform, seek};
 use td_marks::Ring;
 use td_ops::{Change, Look, Outcome, Query};
 use td_register::Accepted;
@@ -219,10 +219,7 @@ impl Trader {
             cache,
             ..
         } = self;
-        if is_at_limit(bounds, history.len()) {
-            return barred_outcome(*alloc, store, c);
-        }
-        record_change(*alloc, store, cache, history, reserved, c)
+        record_change(*alloc, bounds, store, cache, history, reserved, c)
     }
 
     /// How a query begins at the store as it is now, whose offers are within their limits. Where it is
@@ -258,10 +255,12 @@ fn is_at_limit(bounds: &Bounds, count: usize) -> bool
 }
 
 /// Does a change, and puts it at the end of the history if it is accepted; nothing that queries were
-/// served with is kept then. Room for the entry and for the outcome is taken first.
+/// served with is kept then. Room for the entry and for the outcome is taken first. Where so many changes
+/// were accepted that no more is, only what else refuses it is looked for.
 #[tactic(auto, using(crate::proofs::Cached::nothing_kept))]
 fn record_change(
     alloc: Global,
+    bounds: &Bounds,
     store: &mut Store,
     cache: &mut Cache,
     history: &mut Vec<Accepted>,
@@ -271,15 +270,16 @@ fn record_change(
     requires numbered { AreNumbered store.old }
     requires cache { IsCacheOf store.old cache.old }
     requires room { HasRoom reserved.old (vec_len history.old) (vec_capacity history.old) }
-    ensures records { Records c store.old store.new history.old.items history.new.items reserved.old
-        reserved.new result }
+    ensures records { Records c (apply_counted bounds.now (length history.old.items) store.old c)
+        store.old store.new history.old.items history.new.items reserved.old reserved.new result }
     ensures room { HasRoom reserved.new (vec_len history.new) (vec_capacity history.new) }
     ensures free { reserved.old ≡ true → is_free c ≡ true → IsOk result }
     ensures cache { IsCacheOf store.new cache.new }
 {
     history.reserve(1)?;
+    let full = is_at_limit(bounds, history.len());
     let told = acceptance(alloc, store, &c)?;
-    match perform(alloc, store, c) {
+    match perform(alloc, store, full, c) {
         Ok(accepted) => {
             history.push_reserved(accepted);
             *reserved = false;

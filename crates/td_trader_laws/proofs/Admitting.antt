@@ -1,5 +1,5 @@
 -- Causes and outcomes whose members can be written.
-use Rattle.std.proofs.Common.{◌≡◌, ℕ, zero, suc, ◌^◌, ◌<◌, Bool, true, false, cond, ◌||◌, List, [], ◌∷◌}
+use Rattle.std.proofs.Common.{◌≡◌, ℕ, zero, suc, ◌^◌, ◌<◌, Bool, true, false, cond, List, [], ◌∷◌}
 use Rattle.std.proofs.Common.{Option, Some, None, Ok, Err, nat_le, nat_eq, refl, arith}
 use Rattle.std.proofs.lemmas.Bool.{and_parts, ne_eqb}
 use Rattle.std.specs.Fmt.{decimal}
@@ -14,13 +14,11 @@ use Rattle.td_ops.specs.declared.operation.Operation.{Operation}
 use Rattle.td_ops.specs.declared.outcome.Outcome.TheVariants.{Done}
 use Rattle.td_ops.specs.declared.outcome.Reply.{Reply}
 use Rattle.td_register.specs.Causes.{Cause, Comes, Found, applied, given, limit_if, raise_if, refused, tells, there}
-use Rattle.td_register.specs.Causes.{unless, unless_supported, ◌otherwise◌}
+use Rattle.td_register.specs.Causes.{unless, unless_full, unless_supported, ◌otherwise◌}
 use Rattle.td_register.specs.Stores.{Store}
 use Rattle.td_register.specs.declared.refusal.Refusal.{Refusal}
 use Rattle.td_register.specs.declared.refusal.Refusal.TheVariants.{Raised, NotSupported, Limit}
-use Rattle.td_changes.specs.Applying.{counted, is_at_limit}
 use Rattle.td_trader_laws.specs.Writable.{IsWritableStore}
-use Rattle.td_changes.specs.declared.bounds.Bounds.{Bounds}
 
 -- ---- refusals
 
@@ -86,33 +84,6 @@ pub tells-admitted : {X : Type 0} (o : Operation) (P : X → Type 0) (found : Fo
 tells-admitted o P (Ok x) told h k = k x h
 tells-admitted o P (Err f) told h k = refused-admitted o f h
 
--- ---- no cause
-
-pub no-first : (a b : Cause) → (a otherwise b) ≡ None → a ≡ None
-no-first None b h = refl
-no-first (Some f) b h = absurd (let bad : ⊥ = cc in bad)
-
-pub no-later : (a b : Cause) → (a otherwise b) ≡ None → b ≡ None
-no-later None b h = h
-no-later (Some f) b h = absurd (let bad : ⊥ = cc in bad)
-
-pub no-limit : (passed : Bool) → limit_if passed ≡ None → passed ≡ false
-no-limit true h = absurd (let bad : ⊥ = cc in bad)
-no-limit false h = refl
-
-pub not-raised : (so : Bool) (e : UserException) → raise_if so e ≡ None → so ≡ false
-not-raised true e h = absurd (let bad : ⊥ = cc in bad)
-not-raised false e h = refl
-
-pub two-false : (a b : Bool) → (a || b) ≡ false → (a ≡ false) × (b ≡ false)
-two-false true b h = absurd (let bad : ⊥ = cc in bad)
-two-false false b h = (refl, h)
-
-pub three-false : (a b c : Bool) → (a || b || c) ≡ false → (a ≡ false) × (b ≡ false) × (c ≡ false)
-three-false true b c h = absurd (let bad : ⊥ = cc in bad)
-three-false false true c h = absurd (let bad : ⊥ = cc in bad)
-three-false false false c h = (refl, refl, h)
-
 -- ---- what a change comes to
 
 abbrev pub AdmitsComes : Operation → Comes → Type 0
@@ -140,15 +111,12 @@ pub applied-store : (o : Operation) (s : Store) (r : Comes) → IsWritableStore 
 applied-store o s (Ok a) w h = h.1
 applied-store o s (Err f) w h = w
 
-at-limit : (o : Operation) (full : Bool) (a : Reply × Store) → AdmitsComes o (Ok a)
-    → AdmitsComes o (cond full (Err Limit) (Ok a))
-at-limit o true a h = tt
-at-limit o false a h = h
-
-pub counted-admitted : (o : Operation) (bounds : Bounds) (count : ℕ) (r : Comes) → AdmitsComes o r
-    → AdmitsComes o (counted bounds count r)
-counted-admitted o bounds count (Ok a) h = at-limit o (is_at_limit bounds count) a h
-counted-admitted o bounds count (Err f) h = h
+-- the same where no more changes are accepted
+pub counted-admitted : (o : Operation) (full : Bool) (cause : Cause) (told : Reply) (after : Store)
+    → AdmitsComes o (unless cause told after) → AdmitsComes o (unless_full full cause told after)
+counted-admitted o true None told after h = tt
+counted-admitted o false None told after h = h
+counted-admitted o full (Some f) told after h = h
 
 -- ---- values that can always be written
 

@@ -1,5 +1,7 @@
 -- Attributes: what their changes come to can be written.
-use Rattle.std.proofs.Common.{ℕ, Bool, List, length, nat_lt, None, refl}
+use Rattle.std.proofs.Common.{◌≡◌, ℕ, Bool, List, [], ◌∷◌, length, nat_lt, refl, subst, sym}
+use Rattle.std.specs.List.{AllByRecursion}
+use Rattle.td_codes.specs.declared.reference.Ior.{Ior}
 use Rattle.td_cdr.specs.Sound.{ulong}
 use Rattle.td_codes.specs.References.{reference}
 use Rattle.td_ops.specs.declared.attribute.FollowAttribute.{FollowAttribute}
@@ -16,11 +18,9 @@ use Rattle.td_ops.specs.declared.outcome.Reply.TheVariants as reply
 use Rattle.td_policy.specs.declared.attributes.Attributes.{Attributes}
 use Rattle.td_store.specs.Stores.{AdmitsAttributes}
 use Rattle.td_value.specs.declared.enumerations.FollowOption.{FollowOption}
-use Rattle.td_register.specs.Causes.{limit_if}
 use Rattle.td_register.specs.Stores.{Store}
-use Rattle.td_admin.specs.Administration.{follow_of, longest_stem, number_of, reference_of, set_attributes}
-use Rattle.td_admin.specs.Administration.{set_follow, set_number, set_request_id_stem, set_truth, truth_of}
-use Rattle.td_admin.specs.Administration.{with_follow, with_number, with_stem, with_truth}
+use Rattle.td_admin.specs.Administration.{follow_of, longest_stem, number_of, reference_of, set_attributes, stem_cause}
+use Rattle.td_admin.specs.Administration.{truth_of, with_follow, with_number, with_stem, with_truth}
 use Rattle.td_changes.specs.Applying.{comes_to}
 use Rattle.td_trader_laws.specs.Writable.{AreUlongs, IsWritableStore}
 use Rattle.td_trader_laws.proofs.Admitting.{AdmitsComes, came, limited}
@@ -51,308 +51,102 @@ reference-admitted reference_attribute.TypeRepos a h = h.type_repos
 
 -- ---- attributes with another value
 
-truth-references : (which : TruthAttribute) (value : Bool) (a : Attributes) → AdmitsAttributes a
-    → AdmitsAttributes (with_truth which value a)
-truth-references truth.SupportsModifiableProperties value a h = record {
-  lookup_if = h.lookup_if;
-  register_if = h.register_if;
-  link_if = h.link_if;
-  proxy_if = h.proxy_if;
-  admin_if = h.admin_if;
-  type_repos = h.type_repos;
-}
-truth-references truth.SupportsDynamicProperties value a h = record {
-  lookup_if = h.lookup_if;
-  register_if = h.register_if;
-  link_if = h.link_if;
-  proxy_if = h.proxy_if;
-  admin_if = h.admin_if;
-  type_repos = h.type_repos;
-}
-truth-references truth.SupportsProxyOffers value a h = record {
-  lookup_if = h.lookup_if;
-  register_if = h.register_if;
-  link_if = h.link_if;
-  proxy_if = h.proxy_if;
-  admin_if = h.admin_if;
-  type_repos = h.type_repos;
+abbrev references : Attributes → List Ior
+references a = a.lookup_if ∷ a.register_if ∷ a.link_if ∷ a.proxy_if ∷ a.admin_if ∷ a.type_repos ∷ []
+
+abbrev numbers : Attributes → List ℕ
+numbers a =
+    a.def_search_card ∷ a.max_search_card ∷ a.def_match_card ∷ a.max_match_card ∷ a.def_return_card
+    ∷ a.max_return_card ∷ a.max_list ∷ a.def_hop_count ∷ a.max_hop_count ∷ []
+
+abbrev AreAdmitted : List ℕ → Type 0
+AreAdmitted ns = AllByRecursion ulong.format.admits ns
+
+same-references : (a b : Attributes) → references b ≡ references a → AdmitsAttributes a → AdmitsAttributes b
+same-references a b e h =
+    let all =
+    subst (AllByRecursion reference.format.admits) (sym e)
+    (h.lookup_if, (h.register_if, (h.link_if, (h.proxy_if, (h.admin_if, (h.type_repos, tt)))))) in
+    record {
+      lookup_if = all.0;
+      register_if = all.1.0;
+      link_if = all.1.1.0;
+      proxy_if = all.1.1.1.0;
+      admin_if = all.1.1.1.1.0;
+      type_repos = all.1.1.1.1.1.0;
+    }
+
+ulongs : (a : Attributes) → AreUlongs a → AreAdmitted (numbers a)
+ulongs a h = (
+  h.def_search_card,
+  (
+    h.max_search_card,
+    (
+      h.def_match_card,
+      (
+        h.max_match_card,
+        (h.def_return_card, (h.max_return_card, (h.max_list, (h.def_hop_count, (h.max_hop_count, tt))))),
+      ),
+    ),
+  ),
+)
+
+are-ulongs : (a : Attributes) → AreAdmitted (numbers a) → AreUlongs a
+are-ulongs a h = record {
+  def_search_card = h.0;
+  max_search_card = h.1.0;
+  def_match_card = h.1.1.0;
+  max_match_card = h.1.1.1.0;
+  def_return_card = h.1.1.1.1.0;
+  max_return_card = h.1.1.1.1.1.0;
+  max_list = h.1.1.1.1.1.1.0;
+  def_hop_count = h.1.1.1.1.1.1.1.0;
+  max_hop_count = h.1.1.1.1.1.1.1.1.0;
 }
 
-truth-numbers : (which : TruthAttribute) (value : Bool) (a : Attributes) → AreUlongs a
-    → AreUlongs (with_truth which value a)
-truth-numbers truth.SupportsModifiableProperties value a h = record {
-  def_search_card = h.def_search_card;
-  max_search_card = h.max_search_card;
-  def_match_card = h.def_match_card;
-  max_match_card = h.max_match_card;
-  def_return_card = h.def_return_card;
-  max_return_card = h.max_return_card;
-  max_list = h.max_list;
-  def_hop_count = h.def_hop_count;
-  max_hop_count = h.max_hop_count;
-}
-truth-numbers truth.SupportsDynamicProperties value a h = record {
-  def_search_card = h.def_search_card;
-  max_search_card = h.max_search_card;
-  def_match_card = h.def_match_card;
-  max_match_card = h.max_match_card;
-  def_return_card = h.def_return_card;
-  max_return_card = h.max_return_card;
-  max_list = h.max_list;
-  def_hop_count = h.def_hop_count;
-  max_hop_count = h.max_hop_count;
-}
-truth-numbers truth.SupportsProxyOffers value a h = record {
-  def_search_card = h.def_search_card;
-  max_search_card = h.max_search_card;
-  def_match_card = h.def_match_card;
-  max_match_card = h.max_match_card;
-  def_return_card = h.def_return_card;
-  max_return_card = h.max_return_card;
-  max_list = h.max_list;
-  def_hop_count = h.def_hop_count;
-  max_hop_count = h.max_hop_count;
-}
+same-numbers : (a b : Attributes) → numbers b ≡ numbers a → AreUlongs a → AreUlongs b
+same-numbers a b e h = are-ulongs b (subst AreAdmitted (sym e) (ulongs a h))
 
-follow-references : (which : FollowAttribute) (value : FollowOption) (a : Attributes) → AdmitsAttributes a
-    → AdmitsAttributes (with_follow which value a)
-follow-references follow.DefFollowPolicy value a h = record {
-  lookup_if = h.lookup_if;
-  register_if = h.register_if;
-  link_if = h.link_if;
-  proxy_if = h.proxy_if;
-  admin_if = h.admin_if;
-  type_repos = h.type_repos;
-}
-follow-references follow.MaxFollowPolicy value a h = record {
-  lookup_if = h.lookup_if;
-  register_if = h.register_if;
-  link_if = h.link_if;
-  proxy_if = h.proxy_if;
-  admin_if = h.admin_if;
-  type_repos = h.type_repos;
-}
-follow-references follow.MaxLinkFollowPolicy value a h = record {
-  lookup_if = h.lookup_if;
-  register_if = h.register_if;
-  link_if = h.link_if;
-  proxy_if = h.proxy_if;
-  admin_if = h.admin_if;
-  type_repos = h.type_repos;
-}
+truth-apart : (which : TruthAttribute) (value : Bool) (a : Attributes)
+    → (references (with_truth which value a) ≡ references a) × (numbers (with_truth which value a) ≡ numbers a)
+truth-apart truth.SupportsModifiableProperties value a = (refl, refl)
+truth-apart _ value a = (refl, refl)
 
-follow-numbers : (which : FollowAttribute) (value : FollowOption) (a : Attributes) → AreUlongs a
-    → AreUlongs (with_follow which value a)
-follow-numbers follow.DefFollowPolicy value a h = record {
-  def_search_card = h.def_search_card;
-  max_search_card = h.max_search_card;
-  def_match_card = h.def_match_card;
-  max_match_card = h.max_match_card;
-  def_return_card = h.def_return_card;
-  max_return_card = h.max_return_card;
-  max_list = h.max_list;
-  def_hop_count = h.def_hop_count;
-  max_hop_count = h.max_hop_count;
-}
-follow-numbers follow.MaxFollowPolicy value a h = record {
-  def_search_card = h.def_search_card;
-  max_search_card = h.max_search_card;
-  def_match_card = h.def_match_card;
-  max_match_card = h.max_match_card;
-  def_return_card = h.def_return_card;
-  max_return_card = h.max_return_card;
-  max_list = h.max_list;
-  def_hop_count = h.def_hop_count;
-  max_hop_count = h.max_hop_count;
-}
-follow-numbers follow.MaxLinkFollowPolicy value a h = record {
-  def_search_card = h.def_search_card;
-  max_search_card = h.max_search_card;
-  def_match_card = h.def_match_card;
-  max_match_card = h.max_match_card;
-  def_return_card = h.def_return_card;
-  max_return_card = h.max_return_card;
-  max_list = h.max_list;
-  def_hop_count = h.def_hop_count;
-  max_hop_count = h.max_hop_count;
-}
+follow-apart : (which : FollowAttribute) (value : FollowOption) (a : Attributes)
+    → (references (with_follow which value a) ≡ references a) × (numbers (with_follow which value a) ≡ numbers a)
+follow-apart follow.DefFollowPolicy value a = (refl, refl)
+follow-apart _ value a = (refl, refl)
 
-number-references : (which : NumberAttribute) (value : ℕ) (a : Attributes) → AdmitsAttributes a
-    → AdmitsAttributes (with_number which value a)
-number-references number.DefSearchCard value a h = record {
-  lookup_if = h.lookup_if;
-  register_if = h.register_if;
-  link_if = h.link_if;
-  proxy_if = h.proxy_if;
-  admin_if = h.admin_if;
-  type_repos = h.type_repos;
-}
-number-references number.MaxSearchCard value a h = record {
-  lookup_if = h.lookup_if;
-  register_if = h.register_if;
-  link_if = h.link_if;
-  proxy_if = h.proxy_if;
-  admin_if = h.admin_if;
-  type_repos = h.type_repos;
-}
-number-references number.DefMatchCard value a h = record {
-  lookup_if = h.lookup_if;
-  register_if = h.register_if;
-  link_if = h.link_if;
-  proxy_if = h.proxy_if;
-  admin_if = h.admin_if;
-  type_repos = h.type_repos;
-}
-number-references number.MaxMatchCard value a h = record {
-  lookup_if = h.lookup_if;
-  register_if = h.register_if;
-  link_if = h.link_if;
-  proxy_if = h.proxy_if;
-  admin_if = h.admin_if;
-  type_repos = h.type_repos;
-}
-number-references number.DefReturnCard value a h = record {
-  lookup_if = h.lookup_if;
-  register_if = h.register_if;
-  link_if = h.link_if;
-  proxy_if = h.proxy_if;
-  admin_if = h.admin_if;
-  type_repos = h.type_repos;
-}
-number-references number.MaxReturnCard value a h = record {
-  lookup_if = h.lookup_if;
-  register_if = h.register_if;
-  link_if = h.link_if;
-  proxy_if = h.proxy_if;
-  admin_if = h.admin_if;
-  type_repos = h.type_repos;
-}
-number-references number.MaxList value a h = record {
-  lookup_if = h.lookup_if;
-  register_if = h.register_if;
-  link_if = h.link_if;
-  proxy_if = h.proxy_if;
-  admin_if = h.admin_if;
-  type_repos = h.type_repos;
-}
-number-references number.DefHopCount value a h = record {
-  lookup_if = h.lookup_if;
-  register_if = h.register_if;
-  link_if = h.link_if;
-  proxy_if = h.proxy_if;
-  admin_if = h.admin_if;
-  type_repos = h.type_repos;
-}
-number-references number.MaxHopCount value a h = record {
-  lookup_if = h.lookup_if;
-  register_if = h.register_if;
-  link_if = h.link_if;
-  proxy_if = h.proxy_if;
-  admin_if = h.admin_if;
-  type_repos = h.type_repos;
-}
+number-apart : (which : NumberAttribute) (value : ℕ) (a : Attributes)
+    → references (with_number which value a) ≡ references a
+number-apart number.DefSearchCard value a = refl
+number-apart _ value a = refl
 
-number-numbers : (which : NumberAttribute) (value : ℕ) (a : Attributes) → ulong.format.admits value → AreUlongs a
-    → AreUlongs (with_number which value a)
-number-numbers number.DefSearchCard value a v h = record {
-  def_search_card = v;
-  max_search_card = h.max_search_card;
-  def_match_card = h.def_match_card;
-  max_match_card = h.max_match_card;
-  def_return_card = h.def_return_card;
-  max_return_card = h.max_return_card;
-  max_list = h.max_list;
-  def_hop_count = h.def_hop_count;
-  max_hop_count = h.max_hop_count;
-}
-number-numbers number.MaxSearchCard value a v h = record {
-  def_search_card = h.def_search_card;
-  max_search_card = v;
-  def_match_card = h.def_match_card;
-  max_match_card = h.max_match_card;
-  def_return_card = h.def_return_card;
-  max_return_card = h.max_return_card;
-  max_list = h.max_list;
-  def_hop_count = h.def_hop_count;
-  max_hop_count = h.max_hop_count;
-}
-number-numbers number.DefMatchCard value a v h = record {
-  def_search_card = h.def_search_card;
-  max_search_card = h.max_search_card;
-  def_match_card = v;
-  max_match_card = h.max_match_card;
-  def_return_card = h.def_return_card;
-  max_return_card = h.max_return_card;
-  max_list = h.max_list;
-  def_hop_count = h.def_hop_count;
-  max_hop_count = h.max_hop_count;
-}
-number-numbers number.MaxMatchCard value a v h = record {
-  def_search_card = h.def_search_card;
-  max_search_card = h.max_search_card;
-  def_match_card = h.def_match_card;
-  max_match_card = v;
-  def_return_card = h.def_return_card;
-  max_return_card = h.max_return_card;
-  max_list = h.max_list;
-  def_hop_count = h.def_hop_count;
-  max_hop_count = h.max_hop_count;
-}
-number-numbers number.DefReturnCard value a v h = record {
-  def_search_card = h.def_search_card;
-  max_search_card = h.max_search_card;
-  def_match_card = h.def_match_card;
-  max_match_card = h.max_match_card;
-  def_return_card = v;
-  max_return_card = h.max_return_card;
-  max_list = h.max_list;
-  def_hop_count = h.def_hop_count;
-  max_hop_count = h.max_hop_count;
-}
-number-numbers number.MaxReturnCard value a v h = record {
-  def_search_card = h.def_search_card;
-  max_search_card = h.max_search_card;
-  def_match_card = h.def_match_card;
-  max_match_card = h.max_match_card;
-  def_return_card = h.def_return_card;
-  max_return_card = v;
-  max_list = h.max_list;
-  def_hop_count = h.def_hop_count;
-  max_hop_count = h.max_hop_count;
-}
-number-numbers number.MaxList value a v h = record {
-  def_search_card = h.def_search_card;
-  max_search_card = h.max_search_card;
-  def_match_card = h.def_match_card;
-  max_match_card = h.max_match_card;
-  def_return_card = h.def_return_card;
-  max_return_card = h.max_return_card;
-  max_list = v;
-  def_hop_count = h.def_hop_count;
-  max_hop_count = h.max_hop_count;
-}
-number-numbers number.DefHopCount value a v h = record {
-  def_search_card = h.def_search_card;
-  max_search_card = h.max_search_card;
-  def_match_card = h.def_match_card;
-  max_match_card = h.max_match_card;
-  def_return_card = h.def_return_card;
-  max_return_card = h.max_return_card;
-  max_list = h.max_list;
-  def_hop_count = v;
-  max_hop_count = h.max_hop_count;
-}
-number-numbers number.MaxHopCount value a v h = record {
-  def_search_card = h.def_search_card;
-  max_search_card = h.max_search_card;
-  def_match_card = h.def_match_card;
-  max_match_card = h.max_match_card;
-  def_return_card = h.def_return_card;
-  max_return_card = h.max_return_card;
-  max_list = h.max_list;
-  def_hop_count = h.def_hop_count;
-  max_hop_count = v;
-}
+number-set : (which : NumberAttribute) (value : ℕ) (a : Attributes) → ulong.format.admits value
+    → AreAdmitted (numbers a) → AreAdmitted (numbers (with_number which value a))
+number-set number.DefSearchCard value a v h = (v, h.1)
+number-set number.MaxSearchCard value a v h = (h.0, (v, h.1.1))
+number-set number.DefMatchCard value a v h = (h.0, (h.1.0, (v, h.1.1.1)))
+number-set number.MaxMatchCard value a v h = (h.0, (h.1.0, (h.1.1.0, (v, h.1.1.1.1))))
+number-set number.DefReturnCard value a v h = (h.0, (h.1.0, (h.1.1.0, (h.1.1.1.0, (v, h.1.1.1.1.1)))))
+number-set number.MaxReturnCard value a v h =
+    (h.0, (h.1.0, (h.1.1.0, (h.1.1.1.0, (h.1.1.1.1.0, (v, h.1.1.1.1.1.1))))))
+number-set number.MaxList value a v h =
+    (h.0, (h.1.0, (h.1.1.0, (h.1.1.1.0, (h.1.1.1.1.0, (h.1.1.1.1.1.0, (v, h.1.1.1.1.1.1.1)))))))
+number-set number.DefHopCount value a v h = (
+  h.0,
+  (h.1.0, (h.1.1.0, (h.1.1.1.0, (h.1.1.1.1.0, (h.1.1.1.1.1.0, (h.1.1.1.1.1.1.0, (v, h.1.1.1.1.1.1.1.1))))))),
+)
+number-set number.MaxHopCount value a v h = (
+  h.0,
+  (
+    h.1.0,
+    (
+      h.1.1.0,
+      (h.1.1.1.0, (h.1.1.1.1.0, (h.1.1.1.1.1.0, (h.1.1.1.1.1.1.0, (h.1.1.1.1.1.1.1.0, (v, tt)))))),
+    ),
+  ),
+)
 
 with-attributes : (s : Store) (a : Attributes) → IsWritableStore s → AdmitsAttributes a → AreUlongs a
     → IsWritableStore (set_attributes s a)
@@ -380,65 +174,47 @@ with-attributes s a w h n =
 
 pub sets-truth : (s : Store) (which : TruthAttribute) (value : Bool) → IsWritableStore s
     → AdmitsComes (SetTruth which) (comes_to s (change.SetTruth which value))
-unfolding comes_to set_truth
+unfolding comes_to
 sets-truth s which value w =
-    came (SetTruth which) None (reply.Truth (truth_of which s.attributes))
-    (set_attributes s (with_truth which value s.attributes)) tt (refl, (truth_of which s.attributes, refl, tt))
-    (λ none. with-attributes s (with_truth which value s.attributes) w
-    (truth-references which value s.attributes w.store.attributes) (truth-numbers which value s.attributes w.numbers))
+    let a = s.attributes in
+    let apart = truth-apart which value a in (
+      (refl, (truth_of which a, refl, tt)),
+      with-attributes s (with_truth which value a) w
+          (same-references a (with_truth which value a) apart.0 w.store.attributes)
+          (same-numbers a (with_truth which value a) apart.1 w.numbers),
+    )
 
 pub sets-number : (s : Store) (which : NumberAttribute) (value : ℕ) → IsWritableStore s → ulong.format.admits value
     → AdmitsComes (SetNumber which) (comes_to s (change.SetNumber which value))
-unfolding comes_to set_number
+unfolding comes_to
 sets-number s which value w v =
-    came (SetNumber which) None (reply.Number (number_of which s.attributes))
-    (set_attributes s (with_number which value s.attributes)) tt
-    (refl, (number_of which s.attributes, refl, number-admitted which s.attributes w.numbers))
-    (λ none. with-attributes s (with_number which value s.attributes) w
-    (number-references which value s.attributes w.store.attributes)
-    (number-numbers which value s.attributes v w.numbers))
+    let a = s.attributes in (
+      (refl, (number_of which a, refl, number-admitted which a w.numbers)),
+      with-attributes s (with_number which value a) w
+          (same-references a (with_number which value a) (number-apart which value a) w.store.attributes)
+          (are-ulongs (with_number which value a) (number-set which value a v (ulongs a w.numbers))),
+    )
 
 pub sets-follow : (s : Store) (which : FollowAttribute) (value : FollowOption) → IsWritableStore s
     → AdmitsComes (SetFollow which) (comes_to s (change.SetFollow which value))
-unfolding comes_to set_follow
+unfolding comes_to
 sets-follow s which value w =
-    let old = follow_of which s.attributes in
-    came (SetFollow which) None (reply.Follow old) (set_attributes s (with_follow which value s.attributes)) tt
-    (refl, (old, refl, follow-admitted old))
-    (λ none. with-attributes s (with_follow which value s.attributes) w
-    (follow-references which value s.attributes w.store.attributes)
-    (follow-numbers which value s.attributes w.numbers))
-
-stem-references : (value : List ℕ) (a : Attributes) → AdmitsAttributes a → AdmitsAttributes (with_stem value a)
-stem-references value a h = record {
-  lookup_if = h.lookup_if;
-  register_if = h.register_if;
-  link_if = h.link_if;
-  proxy_if = h.proxy_if;
-  admin_if = h.admin_if;
-  type_repos = h.type_repos;
-}
-
-stem-numbers : (value : List ℕ) (a : Attributes) → AreUlongs a → AreUlongs (with_stem value a)
-stem-numbers value a h = record {
-  def_search_card = h.def_search_card;
-  max_search_card = h.max_search_card;
-  def_match_card = h.def_match_card;
-  max_match_card = h.max_match_card;
-  def_return_card = h.def_return_card;
-  max_return_card = h.max_return_card;
-  max_list = h.max_list;
-  def_hop_count = h.def_hop_count;
-  max_hop_count = h.max_hop_count;
-}
+    let a = s.attributes in
+    let old = follow_of which a in
+    let apart = follow-apart which value a in (
+      (refl, (old, refl, follow-admitted old)),
+      with-attributes s (with_follow which value a) w
+          (same-references a (with_follow which value a) apart.0 w.store.attributes)
+          (same-numbers a (with_follow which value a) apart.1 w.numbers),
+    )
 
 pub sets-stem : (s : Store) (value : List ℕ) → IsWritableStore s
     → AdmitsComes SetRequestIdStem (comes_to s (change.SetRequestIdStem value))
-unfolding comes_to set_request_id_stem
+unfolding comes_to
 sets-stem s value w =
-    let old = s.attributes.request_id_stem in
-    came SetRequestIdStem (limit_if (nat_lt longest_stem (length value))) (reply.Stem old)
-    (set_attributes s (with_stem value s.attributes)) (limited (nat_lt longest_stem (length value)))
-    (refl, (old, refl, tt))
-    (λ none. with-attributes s (with_stem value s.attributes) w (stem-references value s.attributes w.store.attributes)
-    (stem-numbers value s.attributes w.numbers))
+    let a = s.attributes in
+    came SetRequestIdStem (stem_cause value) (reply.Stem a.request_id_stem) (set_attributes s (with_stem value a))
+    (limited (nat_lt longest_stem (length value))) (refl, (a.request_id_stem, refl, tt))
+    (λ none. with-attributes s (with_stem value a) w
+    (same-references a (with_stem value a) refl w.store.attributes)
+    (same-numbers a (with_stem value a) refl w.numbers))

@@ -21,13 +21,14 @@ use Rattle.td_value.specs.declared.enumerations.FollowOption.{FollowOption}
 use Rattle.td_register.specs.Causes.{limit_if, raise, raise_if, there, ◌otherwise◌}
 use Rattle.td_register.specs.Stores.{Store}
 use Rattle.td_changes.specs.Applying.{comes_to}
-use Rattle.td_admin.specs.Links.{add_link, add_link_cause, linked, modify_link, modify_link_cause, name_cause}
-use Rattle.td_admin.specs.Links.{new_links, permits_more, remove_link, remove_link_cause, rules_cause, target_cause}
+use Rattle.td_admin.specs.Links.{add_link_cause, linked, modify_link_cause, name_cause}
+use Rattle.td_admin.specs.Links.{new_links, permits_more, remove_link_cause, rules_cause, target_cause}
 use Rattle.td_trader_laws.specs.Writable.{IsWritableStore}
 use Rattle.td_trader.specs.Admitted.{AdmitsChange}
 use Rattle.td_trader_laws.proofs.Admitting.{AdmitsCause, AdmitsComes, AdmitsFound, came, found-when}
 use Rattle.td_trader.proofs.ReadAdmitted.{follow-admitted}
-use Rattle.td_trader_laws.proofs.Admitting.{given-admitted, limited, no-first, no-later, no-limit, not-raised, or-else}
+use Rattle.td_register.proofs.NoCause.{no-first, no-later, no-limit, not-raised}
+use Rattle.td_trader_laws.proofs.Admitting.{given-admitted, limited, or-else}
 use Rattle.td_trader_laws.proofs.Admitting.{raised, there-admitted}
 
 links-stay : (s : Store) (ls : List LinkRecord) → IsWritableStore s → IsStore (record s { links = ls })
@@ -105,7 +106,7 @@ module _ (s : Store) (name : List ℕ) (target : Ior) (def_pass_on limiting : Fo
 
   pub adds : (register : Option Ior) → AdmitsChange (change.AddLink name target def_pass_on limiting register)
       → AdmitsComes (Link link.AddLink) (comes_to s (change.AddLink name target def_pass_on limiting register))
-  unfolding comes_to add_link
+  unfolding comes_to
   adds register h =
       let named = name_cause s.links name in
       let reached = target_cause target register in
@@ -130,7 +131,7 @@ module _ (s : Store) (name : List ℕ) (target : Ior) (def_pass_on limiting : Fo
 
 pub removes : (s : Store) (name : List ℕ) → IsWritableStore s → text.format.admits name
     → AdmitsComes (Link link.RemoveLink) (comes_to s (change.RemoveLink name))
-unfolding comes_to remove_link
+unfolding comes_to
 removes s name w n =
     came (Link link.RemoveLink) (remove_link_cause s name) reply.Nothing
     (record s { links = without_link name s.links })
@@ -141,7 +142,7 @@ removes s name w n =
 pub rules : (s : Store) (name : List ℕ) (def_pass_on limiting : FollowOption) → IsWritableStore s
     → text.format.admits name
     → AdmitsComes (Link link.ModifyLink) (comes_to s (change.ModifyLink name def_pass_on limiting))
-unfolding comes_to modify_link
+unfolding comes_to
 rules s name def_pass_on limiting w n =
     let maximum = s.attributes.max_link_follow_policy in
     came (Link link.ModifyLink) (modify_link_cause s name def_pass_on limiting) reply.Nothing

@@ -1,8 +1,7 @@
 -- Offers and proxy offers: what their changes come to can be written.
 use Rattle.std.proofs.Common.{◌≡◌, ℕ, ◌+◌, ◌<◌, ◌≤◌, Bool, true, false, not, ◌&&◌, List, [], ◌∷◌}
-use Rattle.std.proofs.Common.{length, map, filter, find, Option, Some, None, Result, Ok, Err, is_some, nat_le}
-use Rattle.std.proofs.Common.{nat_lt, refl, subst, sym, ◌∙◌, arith, bytes_eq, ltb-false}
-use Rattle.std.proofs.lemmas.Bool.{leb-false}
+use Rattle.std.proofs.Common.{length, map, filter, find, Option, Some, None, Result, Ok, Err, is_some}
+use Rattle.std.proofs.Common.{refl, subst, sym, ◌∙◌, arith, bytes_eq}
 use Rattle.std.specs.List.{AllByRecursion, list_any}
 use Rattle.std.specs.Prelude.{unwrap_or}
 use Rattle.td_cdr.specs.Names.{identifier, word_name}
@@ -21,7 +20,7 @@ use Rattle.td_ops.specs.declared.operation.RegisterOperation.TheVariants as regi
 use Rattle.td_ops.specs.declared.outcome.Reply.TheVariants as reply
 use Rattle.td_store.specs.Candidates.{is_dynamic}
 use Rattle.td_store.specs.OfferLists.{is_numbered, most_offers, offer_of, with_properties}
-use Rattle.td_store.specs.Stores.{IsOffer, IsStore, most_bytes, most_properties}
+use Rattle.td_store.specs.Stores.{IsOffer, IsStore}
 use Rattle.td_store.specs.declared.record.OfferRecord.{OfferRecord}
 use Rattle.td_store.specs.declared.record.ProxyPart.{ProxyPart}
 use Rattle.td_store.proofs.Limits.{all-filter, rise-filter, with-changed, with-offer, without-offer}
@@ -42,23 +41,23 @@ use Rattle.td_register.specs.Causes.{Found, given, limit_if, raise, raise_if, th
 use Rattle.td_register.specs.Causes.{◌otherwise◌}
 use Rattle.td_register.specs.Ids.{id_of, identified, number_in, numbered, of_ordinary, of_proxies, ordinary, proxy}
 use Rattle.td_register.specs.Named.{demanded, known, open_type, unmasked}
-use Rattle.td_register.specs.Properties.{carries, encoded, is_too_large, mismatches, missing, missing_cause}
+use Rattle.td_register.specs.Properties.{carries, is_too_large, mismatches, missing, missing_cause}
 use Rattle.td_register.specs.Properties.{mode_of, name_cause, properties_cause, value_cause}
-use Rattle.td_register.specs.Proxies.{export_proxy, export_proxy_cause, exported_proxy, is_recipe, policies_cause}
-use Rattle.td_register.specs.Proxies.{withdraw_proxy, withdraw_proxy_cause}
-use Rattle.td_register.specs.Registers.{asked, asked_in, changes_cause, deletion_cause, deletions_cause, export}
+use Rattle.td_register.specs.Proxies.{export_proxy_cause, exported_proxy, is_recipe, policies_cause}
+use Rattle.td_register.specs.Proxies.{withdraw_proxy_cause}
+use Rattle.td_register.specs.Registers.{asked, asked_in, changes_cause, deletion_cause, deletions_cause}
 use Rattle.td_register.specs.Registers.{export_cause, exported, interface_cause, is_met, last_number, modified}
-use Rattle.td_register.specs.Registers.{modify, modify_cause, no_more, none_met, offer_cause, offer_changes_cause}
+use Rattle.td_register.specs.Registers.{modify_cause, no_more, none_met, offer_cause, offer_changes_cause}
 use Rattle.td_register.specs.Registers.{offers_modified, offers_not_met, offers_without, passes_limit, readonly_cause}
-use Rattle.td_register.specs.Registers.{renewed, with_offer, withdraw, withdraw_cause, withdraw_met_cause}
-use Rattle.td_register.specs.Registers.{withdraw_using_constraint}
+use Rattle.td_register.specs.Registers.{renewed, with_offer, withdraw_cause, withdraw_met_cause}
 use Rattle.td_register.specs.Stores.{Store}
 use Rattle.td_changes.specs.Applying.{comes_to}
 use Rattle.td_trader_laws.specs.Writable.{IsWritableStore}
 use Rattle.td_trader.specs.Admitted.{AdmitsChange}
 use Rattle.td_trader_laws.proofs.Admitting.{AdmitsCause, AdmitsComes, AdmitsFound, came, came-with, decimal-clean}
-use Rattle.td_trader_laws.proofs.Admitting.{found-when, given-admitted, limited, no-later, no-limit, or-else, raised}
-use Rattle.td_trader_laws.proofs.Admitting.{supported, there-admitted, three-false, two-false}
+use Rattle.td_trader_laws.proofs.Admitting.{found-when, given-admitted, limited, or-else, raised, supported}
+use Rattle.td_trader_laws.proofs.Admitting.{there-admitted}
+use Rattle.td_register.proofs.NoCause.{no-later, no-limit, no_export_cause, no_proxy_cause, small}
 
 abbrev IsText : List ℕ → Type 0
 IsText name = text.format.admits name
@@ -172,33 +171,6 @@ offer-cause s type_name ps valid t h =
 
 -- ---- a new offer
 
--- what no limit is passed by
-record IsWithin (s : Store) (object : Ior) (ps : List Property) : Type 0 where
-  few : length s.offers < most_offers
-  left : s.last_offer < last_number
-  properties : length ps ≤ most_properties
-  bytes : encoded object ps ≤ most_bytes
-
-small : (object : Ior) (ps : List Property) → is_too_large object ps ≡ false
-    → (length ps ≤ most_properties) × (encoded object ps ≤ most_bytes)
-small object ps h =
-    let b = two-false (nat_lt most_properties (length ps)) (nat_lt most_bytes (encoded object ps)) h in
-    (ltb-false most_properties (length ps) b.0, ltb-false most_bytes (encoded object ps) b.1)
-
-within : (s : Store) (object : Ior) (ps : List Property) → limit_if (passes_limit s object ps) ≡ None
-    → IsWithin s object ps
-within s object ps h =
-    let b =
-    three-false (nat_le most_offers (length s.offers)) (nat_le last_number s.last_offer) (is_too_large object ps)
-    (no-limit (passes_limit s object ps) h) in
-    let c = small object ps b.2 in
-    record {
-      few = leb-false most_offers (length s.offers) b.0;
-      left = leb-false last_number s.last_offer b.1;
-      properties = c.0;
-      bytes = c.1;
-    }
-
 -- the next number as an id
 next-id : (s : Store) → s.last_offer < last_number → IsText (id_of (s.last_offer + 1))
 next-id s h = decimal-clean (s.last_offer + 1) (omega (arith, h))
@@ -215,7 +187,7 @@ added s o w is offer few left = record {
 pub exports : (s : Store) (object : Ior) (type_name : List ℕ) (ps : List Property) → IsWritableStore s
     → AdmitsChange (change.Export object type_name ps)
     → AdmitsComes (Register register.Export) (comes_to s (change.Export object type_name ps))
-unfolding comes_to export
+unfolding comes_to
 exports s object type_name ps w h =
     let each = sequence-each property ps h.1.1 in
     let nil = raise_if (is_nil object) (user.InvalidObjectRef object) in
@@ -233,11 +205,11 @@ exports s object type_name ps w h =
     (user.InterfaceTypeMismatch type_name object) ((type_name, object), refl, (h.1.0, h.0))))
     (or-else fit limit (offer-cause s type_name ps w.store h.1.0 each) (limited (passes_limit s object ps)))))
     (λ none.
-    let k = within s object ps (no-later fit limit (no-later typed (fit otherwise limit)
-    (no-later nil (typed otherwise fit otherwise limit) none))) in
+    let k = (no_export_cause s object type_name ps none).room in
+    let small_enough = small object ps k.fits in
     let offer : IsOffer (exported s object type_name ps) = record {
-      properties = k.properties;
-      bytes = k.bytes;
+      properties = small_enough.0;
+      bytes = small_enough.1;
       admitted = record { info = h; proxy = tt };
     } in (
       (refl, (id_of (s.last_offer + 1), refl, next-id s k.left)),
@@ -259,7 +231,7 @@ pub exports-proxy : (s : Store) (target : Ior) (type_name : List ℕ) (ps : List
     → AdmitsChange (change.ExportProxy target type_name ps if_match_all recipe policies)
     → AdmitsComes (Proxy proxy_operation.ExportProxy)
     (comes_to s (change.ExportProxy target type_name ps if_match_all recipe policies))
-unfolding comes_to export_proxy
+unfolding comes_to
 exports-proxy s target type_name ps if_match_all recipe policies w h =
     let each = sequence-each property ps h.1.1.0 in
     let passed = sequence-each policy policies h.1.1.1.1.1 in
@@ -286,15 +258,11 @@ exports-proxy s target type_name ps if_match_all recipe policies w h =
     (raised (not (is_recipe recipe)) (user.IllegalRecipe recipe) (recipe, refl, h.1.1.1.1.0))
     (or-else named limit (policies-cause [] policies passed) (limited (passes_limit s target ps))))))))
     (λ none.
-    let k = within s target ps (no-later named limit (no-later spelled (named otherwise limit)
-    (no-later fit (spelled otherwise named otherwise limit)
-    (no-later reached (fit otherwise spelled otherwise named otherwise limit)
-    (no-later typed (reached otherwise fit otherwise spelled otherwise named otherwise limit)
-    (no-later can (typed otherwise reached otherwise fit otherwise spelled otherwise named otherwise limit)
-    none)))))) in
+    let k = (no_proxy_cause s target type_name ps recipe policies none).room in
+    let small_enough = small target ps k.fits in
     let offer : IsOffer o = record {
-      properties = k.properties;
-      bytes = k.bytes;
+      properties = small_enough.0;
+      bytes = small_enough.1;
       admitted = record { info = (h.0, (h.1.0, h.1.1.0)); proxy = (h.1.1.1.1.0, h.1.1.1.1.1) };
     } in (
       (refl, (id_of (s.last_offer + 1), refl, next-id s k.left)),
@@ -350,7 +318,7 @@ left s (Some n) w = offers-stay s (offers_without s.offers (Some n)) w (without-
 
 pub withdraws : (s : Store) (id : List ℕ) → IsWritableStore s → IsText id
     → AdmitsComes (Register register.Withdraw) (comes_to s (change.Withdraw id))
-unfolding comes_to withdraw
+unfolding comes_to
 withdraws s id w i =
     came (Register register.Withdraw) (withdraw_cause s id) reply.Nothing
     (record s { offers = offers_without s.offers (number_in id) })
@@ -359,7 +327,7 @@ withdraws s id w i =
 
 pub withdraws-proxy : (s : Store) (id : List ℕ) → IsWritableStore s → IsText id
     → AdmitsComes (Proxy proxy_operation.WithdrawProxy) (comes_to s (change.WithdrawProxy id))
-unfolding comes_to withdraw_proxy
+unfolding comes_to
 withdraws-proxy s id w i =
     came (Proxy proxy_operation.WithdrawProxy) (withdraw_proxy_cause s id) reply.Nothing
     (record s { offers = offers_without s.offers (number_in id) })
@@ -384,7 +352,7 @@ pub withdraws-met : (s : Store) (type_name constraint : List ℕ) → IsWritable
     → IsText constraint
     → AdmitsComes (Register register.WithdrawUsingConstraint)
     (comes_to s (change.WithdrawUsingConstraint type_name constraint))
-unfolding comes_to withdraw_using_constraint
+unfolding comes_to
 withdraws-met s type_name constraint w t h =
     let typed = given (known s.types.types type_name) no_more in
     let met = given (asked_in constraint) (none_met s type_name constraint) in
@@ -511,7 +479,7 @@ modified-stays s deleted changed (Ok o) w c h none =
 pub modifies : (s : Store) (id : List ℕ) (deleted : List (List ℕ)) (changed : List Property) → IsWritableStore s
     → AdmitsChange (change.Modify id deleted changed)
     → AdmitsComes (Register register.Modify) (comes_to s (change.Modify id deleted changed))
-unfolding comes_to modify
+unfolding comes_to
 modifies s id deleted changed w h =
     let names = sequence-each text deleted h.1.0 in
     let each = sequence-each property changed h.1.1 in

@@ -14,6 +14,8 @@ use Rattle.td_ops.specs.declared.operation.Operation.{Operation}
 use Rattle.td_ops.specs.declared.operation.Operation.TheVariants.{Types}
 use Rattle.td_ops.specs.declared.operation.TypesOperation.TheVariants as operation
 use Rattle.td_ops.specs.declared.outcome.Outcome.TheVariants.{Done}
+use Rattle.td_ops.specs.declared.outcome.Reply.{Reply}
+use Rattle.td_ops.specs.declared.outcome.Reply.TheVariants as reply
 use Rattle.td_types.specs.Adding.{base_fault, definitions, inherited_definitions, last_incarnation, name_fault}
 use Rattle.td_types.specs.Adding.{new_type, or_else, property_fault, redefinition, super_fault, supers_fault, with_type}
 use Rattle.td_types.specs.Calls as types
@@ -26,19 +28,19 @@ use Rattle.td_types.specs.declared.fault.RepoFault.{RepoFault}
 use Rattle.td_types.specs.declared.fault.RepoFault.TheVariants as fault
 use Rattle.td_types.specs.declared.fault.TypesFault.TheVariants.{User as Raises, Full, Memory}
 use Rattle.td_types.specs.declared.reply.TypesReply.{TypesReply}
-use Rattle.td_types.specs.declared.reply.TypesReply.TheVariants as told
 use Rattle.td_types.proofs.Additions.{adding-written}
 use Rattle.td_types.proofs.Admitted.{masking-written, removing-written, unmasking-written}
 use Rattle.td_types.proofs.Outcomes.{after_adding, masking, removal, unmasking}
 use Rattle.td_value.specs.Structures.{incarnation_number}
 use Rattle.td_value.specs.declared.structures.PropStruct.{PropStruct}
+use Rattle.td_register.proofs.NoFault.{no-first, no-later, there-is}
+use Rattle.td_register.specs.Causes.{unless}
 use Rattle.td_register.specs.Stores.{Store}
 use Rattle.td_changes.specs.Applying.{comes_to}
-use Rattle.td_admin.specs.Repositories.{add_type, changes_types, exception_of, mask_type, remove_type, reply_of}
-use Rattle.td_admin.specs.Repositories.{unmask_type}
+use Rattle.td_admin.specs.Repositories.{exception_of, next_incarnation, types_cause, with_types}
 use Rattle.td_trader_laws.specs.Writable.{IsWritableStore}
 use Rattle.td_trader_laws.proofs.Admitting.{AdmitsComes, AdmitsException}
-use Rattle.td_admin.proofs.TypesTold.{added-told, masked-told, removed-told, unmasked-told}
+use Rattle.td_admin.proofs.TypesTold.{added-told}
 
 -- ---- exceptions
 
@@ -59,15 +61,16 @@ fault-admitted (fault.NotMasked name) h = (name, refl, h)
 
 -- ---- a store with another repository
 
--- what besides is asked of an accepted call
-pub record IsAccepted (o : Operation) (a : TypesReply × Repository) : Type 0 where
-  pub reply : AdmitsOutcome o (Done (reply_of a.0))
-  pub valid : IsRepository a.1
-  pub last : a.1.last ≤ last_incarnation
+-- what besides is asked of the repository that an accepted call leaves
+pub record IsAccepted (o : Operation) (told : Reply) (r : Repository) : Type 0 where
+  pub reply : AdmitsOutcome o (Done told)
+  pub valid : IsRepository r
+  pub last : r.last ≤ last_incarnation
 
-changes : (s : Store) (o : Operation) (r : types.Comes) → IsWritableStore s → StaysWritable r
-    → ((a : TypesReply × Repository) → r ≡ Ok a → IsAccepted o a) → AdmitsComes o (changes_types s r)
-changes s o (Ok a) w h k =
+changes : (s : Store) (o : Operation) (told : Reply) (r : types.Comes) → IsWritableStore s → StaysWritable r
+    → ((a : TypesReply × Repository) → r ≡ Ok a → IsAccepted o told a.1)
+    → AdmitsComes o (unless (types_cause r) told (with_types s r))
+changes s o told (Ok a) w h k =
     let is = k a refl in
     let valid = w.store in (
       is.reply,
@@ -89,19 +92,11 @@ changes s o (Ok a) w h k =
         incarnation = is.last;
       },
     )
-changes s o (Err (Raises f)) w h k = fault-admitted f h
-changes s o (Err Full) w h k = tt
-changes s o (Err Memory) w h k = tt
+changes s o told (Err (Raises f)) w h k = fault-admitted f h
+changes s o told (Err Full) w h k = tt
+changes s o told (Err Memory) w h k = tt
 
 -- ---- a repository with one type more
-
-no-first : {X : Type 0} (a b : Option X) → or_else a b ≡ None → a ≡ None
-no-first None b h = refl
-no-first (Some x) b h = absurd (let bad : ⊥ = cc in bad)
-
-no-later : {X : Type 0} (a b : Option X) → or_else a b ≡ None → b ≡ None
-no-later None b h = h
-no-later (Some x) b h = absurd (let bad : ⊥ = cc in bad)
 
 turned : (a b : Bool) → (a || (b || false)) ≡ (b || a)
 turned true true = refl
@@ -114,17 +109,6 @@ any-reverse p [] = refl
 any-reverse p (x ∷ xs) =
     ap (list_any p) (reverse-append (x ∷ []) xs)
     ∙ (list_any-append p (reverse xs) (x ∷ []) ∙ (rw (any-reverse p xs) (turned (list_any p xs) (p x))))
-
-named-when : (b : Bool) (x t : ServiceType) (later : Option ServiceType) (any : Bool) → (later ≡ Some t → any ≡ true)
-    → cond b (Some x) later ≡ Some t → (b || any) ≡ true
-named-when true x t later any k h = refl
-named-when false x t later any k h = k h
-
-there-is : (ts : List ServiceType) (name : List ℕ) (t : ServiceType) → type_named ts name ≡ Some t
-    → has_type ts name ≡ true
-there-is [] name t h = absurd (let bad : ⊥ = cc in bad)
-there-is (x ∷ ts) name t h =
-    named-when (is_named name x) x t (type_named ts name) (has_type ts name) (there-is ts name t) h
 
 free-name : (named has : Bool) (x y : RepoFault) → cond (not named) (Some x) (cond has (Some y) None) ≡ None
     → has ≡ false
@@ -187,75 +171,56 @@ halves-admitted n h = (omega (arith, h), omega (arith, h))
 pub adds : (s : Store) (name if_name : List ℕ) (props : List PropStruct) (supers : List (List ℕ)) → IsWritableStore s
     → AreWritable name if_name props supers
     → AdmitsComes (Types operation.AddType) (comes_to s (change.AddType name if_name props supers))
-unfolding comes_to add_type
+unfolding comes_to
 adds s name if_name props supers w h =
-    changes s (Types operation.AddType) (types.add_type s.types name if_name props supers) w
+    let next = next_incarnation s.types.last in
+    changes s (Types operation.AddType) (reply.Incarnation (halves next))
+    (types.add_type s.types name if_name props supers) w
     (adding-written s.types name if_name props supers w.store.types_writable h)
     (λ a e.
-    let is = added-told s.types name if_name props supers a e in
-    let below = is.below in
+    let below = (added-told s.types name if_name props supers a e).below in
     let f = after_adding s.types name if_name props supers a.0 a.1 e in
     let after : with_type s.types (new_type s.types name if_name props supers) ≡ a.1 =
     ap (λ (p : TypesReply × Repository). p.1) f.1 in
     let last : s.types.last + 1 ≡ a.1.last = ap (λ (r : Repository). r.last) after in
     record {
-      reply =
-          subst (λ (x : TypesReply). AdmitsOutcome (Types operation.AddType) (Done (reply_of x))) (sym is.reply)
-          (refl, (halves (s.types.last + 1), refl, halves-admitted (s.types.last + 1) below));
+      reply = (refl, (halves next, refl, halves-admitted next (omega (arith, below))));
       valid = subst IsRepository after (valid-added s.types name if_name props supers w.store.types f.0);
       last = omega (arith, last, below);
     })
 
-nothing-told : (o : Operation) (told_is done : TypesReply) → told_is ≡ done
-    → AdmitsOutcome o (Done (reply_of done)) → AdmitsOutcome o (Done (reply_of told_is))
-nothing-told o told_is done e h = subst (λ (x : TypesReply). AdmitsOutcome o (Done (reply_of x))) (sym e) h
-
 pub removes : (s : Store) (name : List ℕ) → IsWritableStore s → text.format.admits name
     → AdmitsComes (Types operation.RemoveType) (comes_to s (change.RemoveType name))
-unfolding comes_to remove_type
+unfolding comes_to
 removes s name w n =
-    changes s (Types operation.RemoveType) (types.remove_type s.types name) w
+    changes s (Types operation.RemoveType) reply.Nothing (types.remove_type s.types name) w
     (removing-written s.types name w.store.types w.store.types_writable n)
     (λ a e.
     let is = removal s.types name a.0 a.1 w.store.types e in
     let last = is.last in
     let before = w.incarnation in
-    record {
-      reply =
-          nothing-told (Types operation.RemoveType) a.0 told.Removed (removed-told s.types name a e) (refl, refl);
-      valid = is.valid;
-      last = omega (arith, last, before);
-    })
+    record { reply = (refl, refl); valid = is.valid; last = omega (arith, last, before) })
 
 pub masks : (s : Store) (name : List ℕ) → IsWritableStore s → text.format.admits name
     → AdmitsComes (Types operation.MaskType) (comes_to s (change.MaskType name))
-unfolding comes_to mask_type
+unfolding comes_to
 masks s name w n =
-    changes s (Types operation.MaskType) (types.mask_type s.types name) w
+    changes s (Types operation.MaskType) reply.Nothing (types.mask_type s.types name) w
     (masking-written s.types name w.store.types_writable n)
     (λ a e.
     let is = masking s.types name a.0 a.1 w.store.types e in
     let last = is.last in
     let before = w.incarnation in
-    record {
-      reply = nothing-told (Types operation.MaskType) a.0 told.Masked (masked-told s.types name a e) (refl, refl);
-      valid = is.valid;
-      last = omega (arith, last, before);
-    })
+    record { reply = (refl, refl); valid = is.valid; last = omega (arith, last, before) })
 
 pub unmasks : (s : Store) (name : List ℕ) → IsWritableStore s → text.format.admits name
     → AdmitsComes (Types operation.UnmaskType) (comes_to s (change.UnmaskType name))
-unfolding comes_to unmask_type
+unfolding comes_to
 unmasks s name w n =
-    changes s (Types operation.UnmaskType) (types.unmask_type s.types name) w
+    changes s (Types operation.UnmaskType) reply.Nothing (types.unmask_type s.types name) w
     (unmasking-written s.types name w.store.types_writable n)
     (λ a e.
     let is = unmasking s.types name a.0 a.1 w.store.types e in
     let last = is.last in
     let before = w.incarnation in
-    record {
-      reply =
-          nothing-told (Types operation.UnmaskType) a.0 told.Unmasked (unmasked-told s.types name a e) (refl, refl);
-      valid = is.valid;
-      last = omega (arith, last, before);
-    })
+    record { reply = (refl, refl); valid = is.valid; last = omega (arith, last, before) })

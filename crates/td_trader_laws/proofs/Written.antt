@@ -7,7 +7,8 @@ use Rattle.td_ops.specs.declared.call.Change.TheVariants as change
 use Rattle.td_register.specs.Causes.{Comes, applied}
 use Rattle.td_register.specs.Stores.{Store}
 use Rattle.td_register.specs.declared.history.Accepted.{Accepted}
-use Rattle.td_changes.specs.Applying.{apply, comes_to, counted}
+use Rattle.td_changes.specs.Applying.{apply, cause_of, comes_to, counted, is_at_limit, with_change}
+use Rattle.td_changes.specs.Replies.{acceptance}
 use Rattle.td_changes.specs.Histories.{LegalFrom, after_all}
 use Rattle.td_trader_laws.specs.Writable.{ChangesStayWritable, CountedChangesStayWritable}
 use Rattle.td_trader.specs.Admitted.{AdmitsChange, AreAdmitted}
@@ -53,9 +54,11 @@ pub changes : ChangesStayWritable
 changes s c w h = written s c (comes_to s c) w (comes-admitted s c w h)
 
 pub counted-changes : CountedChangesStayWritable
+unfolding counted comes_to
 counted-changes bounds count s c w h =
-    written s c (counted bounds count (comes_to s c)) w
-    (counted-admitted (change_operation c) bounds count (comes_to s c) (comes-admitted s c w h))
+    written s c (counted bounds count s c) w
+    (counted-admitted (change_operation c) (is_at_limit bounds count) (cause_of s c) (acceptance s c) (with_change s c)
+    (comes-admitted s c w h))
 
 -- ---- histories
 

@@ -2,10 +2,10 @@ use Rattle.std.proofs.Common.{sym, subst, ◌∙◌}
 use Rattle.std.proofs.lemmas.Result.{err_from_is_err_and}
 use Rattle.td_exceptions.specs.declared.exception.UserException.TheVariants.{InvalidObjectRef}
 use Rattle.td_ior.specs.Nil.{is_nil}
-use Rattle.td_register.specs.Causes.{Cause, given, raise_if, ◌otherwise◌}
-use Rattle.td_register.specs.Judged.{IsMet, size_cause}
+use Rattle.td_register.specs.Causes.{Cause, given, limit_if, raise_if, ◌otherwise◌}
+use Rattle.td_register.specs.Judged.{IsMet}
 use Rattle.td_register.specs.Named.{open_type}
-use Rattle.td_register.specs.Registers.{interface_cause, no_more, offer_cause}
+use Rattle.td_register.specs.Registers.{interface_cause, no_more, offer_cause, passes_limit}
 use Rattle.td_register.proofs.Otherwise.{absent, carries, first, later, opened, second}
 use Rattle.td_export.proofs.exporting.check_export.Goals as goal
 
@@ -19,7 +19,7 @@ returns-in_err-check_reference c =
     let fits = interface_cause s name c.args.reference.now in
     let kind = given found fits in
     let offer = offer_cause s name c.args.properties.now in
-    let size = size_cause s c.args.reference.now c.args.properties.now in
+    let size = limit_if (passes_limit s c.args.reference.now c.args.properties.now) in
     let f = c.in_err-check_reference.field-0.0 in
     rw (p.1, p.2) (first nil (kind otherwise offer otherwise size) f c.in_err-check_reference.ensures)
 
@@ -34,7 +34,7 @@ returns-in_err-check_open c =
     let fits = interface_cause s name c.args.reference.now in
     let kind = given found fits in
     let offer = offer_cause s name c.args.properties.now in
-    let size = size_cause s c.args.reference.now c.args.properties.now in
+    let size = limit_if (passes_limit s c.args.reference.now c.args.properties.now) in
     let f = c.in_err-check_open.field-0.0 in
     rw (p.1, p.2) (second nil (kind otherwise offer otherwise size) f c.in_ok-check_reference.ensures
     (first kind (offer otherwise size) f (carries (given found no_more) kind f (absent found fits)
@@ -52,7 +52,7 @@ returns-in_err-check_interface c =
     let fits = interface_cause s name c.args.reference.now in
     let kind = given found fits in
     let offer = offer_cause s name c.args.properties.now in
-    let size = size_cause s c.args.reference.now c.args.properties.now in
+    let size = limit_if (passes_limit s c.args.reference.now c.args.properties.now) in
     let f = c.in_err-check_interface.field-0.0 in
     rw (p.1, p.2) (second nil (kind otherwise offer otherwise size) f c.in_ok-check_reference.ensures
     (first kind (offer otherwise size) f (subst (λ (x : Cause). IsMet x f) (sym (opened s.types.types name fits
@@ -69,7 +69,7 @@ returns-in_err-check_offer c =
     let fits = interface_cause s name c.args.reference.now in
     let kind = given found fits in
     let offer = offer_cause s name c.args.properties.now in
-    let size = size_cause s c.args.reference.now c.args.properties.now in
+    let size = limit_if (passes_limit s c.args.reference.now c.args.properties.now) in
     let f = c.in_err-check_offer.field-0.0 in
     rw (p.1, p.2) (second nil (kind otherwise offer otherwise size) f c.in_ok-check_reference.ensures
     (second kind (offer otherwise size) f (opened s.types.types name fits c.in_ok-check_open.ensures ∙
@@ -85,7 +85,7 @@ returns c =
     let fits = interface_cause s name c.args.reference.now in
     let kind = given found fits in
     let offer = offer_cause s name c.args.properties.now in
-    let size = size_cause s c.args.reference.now c.args.properties.now in
+    let size = limit_if (passes_limit s c.args.reference.now c.args.properties.now) in
     let r = c.check_limits.result in
     later nil (kind otherwise offer otherwise size) r c.in_ok-check_reference.ensures
     (later kind (offer otherwise size) r (opened s.types.types name fits c.in_ok-check_open.ensures ∙

@@ -2,11 +2,10 @@ use Rattle.std.proofs.Common.{[], is_some, not}
 use Rattle.std.proofs.lemmas.Result.{err_from_is_err_and}
 use Rattle.td_exceptions.specs.declared.exception.UserException.TheVariants.{IllegalRecipe, InvalidLookupRef}
 use Rattle.td_ior.specs.Profiles.{iiop_of}
-use Rattle.td_register.specs.Causes.{given, raise_if, unless_supported, ◌otherwise◌}
-use Rattle.td_register.specs.Judged.{size_cause}
+use Rattle.td_register.specs.Causes.{given, limit_if, raise_if, unless_supported, ◌otherwise◌}
 use Rattle.td_register.specs.Named.{open_type}
 use Rattle.td_register.specs.Proxies.{is_recipe, policies_cause}
-use Rattle.td_register.specs.Registers.{no_more, offer_cause}
+use Rattle.td_register.specs.Registers.{no_more, offer_cause, passes_limit}
 use Rattle.td_register.proofs.Otherwise.{first, later, second}
 use Rattle.td_export.proofs.proxy_exporting.check_export_proxy.Goals as goal
 
@@ -21,7 +20,7 @@ returns-in_err-check_supported c =
     let offer = offer_cause s c.args.type_name.now c.args.properties.now in
     let asked = raise_if (not (is_recipe part.recipe)) (IllegalRecipe part.recipe) in
     let named = policies_cause [] part.policies in
-    let size = size_cause s c.args.target.now c.args.properties.now in
+    let size = limit_if (passes_limit s c.args.target.now c.args.properties.now) in
     let f = c.in_err-check_supported.field-0.0 in
     rw (p.1, p.2) (first support (kind otherwise lookup otherwise offer otherwise asked otherwise named otherwise
     size) f c.in_err-check_supported.ensures)
@@ -38,7 +37,7 @@ returns-in_err-check_open c =
     let offer = offer_cause s c.args.type_name.now c.args.properties.now in
     let asked = raise_if (not (is_recipe part.recipe)) (IllegalRecipe part.recipe) in
     let named = policies_cause [] part.policies in
-    let size = size_cause s c.args.target.now c.args.properties.now in
+    let size = limit_if (passes_limit s c.args.target.now c.args.properties.now) in
     let f = c.in_err-check_open.field-0.0 in
     rw (p.1, p.2) (second support (kind otherwise lookup otherwise offer otherwise asked otherwise named otherwise
     size) f c.in_ok-check_supported.ensures
@@ -57,7 +56,7 @@ returns-in_err-check_target c =
     let offer = offer_cause s c.args.type_name.now c.args.properties.now in
     let asked = raise_if (not (is_recipe part.recipe)) (IllegalRecipe part.recipe) in
     let named = policies_cause [] part.policies in
-    let size = size_cause s c.args.target.now c.args.properties.now in
+    let size = limit_if (passes_limit s c.args.target.now c.args.properties.now) in
     let f = c.in_err-check_target.field-0.0 in
     rw (p.1, p.2) (second support (kind otherwise lookup otherwise offer otherwise asked otherwise named otherwise
     size) f c.in_ok-check_supported.ensures
@@ -76,7 +75,7 @@ returns-in_err-check_offer c =
     let offer = offer_cause s c.args.type_name.now c.args.properties.now in
     let asked = raise_if (not (is_recipe part.recipe)) (IllegalRecipe part.recipe) in
     let named = policies_cause [] part.policies in
-    let size = size_cause s c.args.target.now c.args.properties.now in
+    let size = limit_if (passes_limit s c.args.target.now c.args.properties.now) in
     let f = c.in_err-check_offer.field-0.0 in
     rw (p.1, p.2) (second support (kind otherwise lookup otherwise offer otherwise asked otherwise named otherwise
     size) f c.in_ok-check_supported.ensures
@@ -96,7 +95,7 @@ returns-in_err-check_recipe c =
     let offer = offer_cause s c.args.type_name.now c.args.properties.now in
     let asked = raise_if (not (is_recipe part.recipe)) (IllegalRecipe part.recipe) in
     let named = policies_cause [] part.policies in
-    let size = size_cause s c.args.target.now c.args.properties.now in
+    let size = limit_if (passes_limit s c.args.target.now c.args.properties.now) in
     let f = c.in_err-check_recipe.field-0.0 in
     rw (p.1, p.2) (second support (kind otherwise lookup otherwise offer otherwise asked otherwise named otherwise
     size) f c.in_ok-check_supported.ensures
@@ -118,7 +117,7 @@ returns-in_err-check_policies c =
     let offer = offer_cause s c.args.type_name.now c.args.properties.now in
     let asked = raise_if (not (is_recipe part.recipe)) (IllegalRecipe part.recipe) in
     let named = policies_cause [] part.policies in
-    let size = size_cause s c.args.target.now c.args.properties.now in
+    let size = limit_if (passes_limit s c.args.target.now c.args.properties.now) in
     let f = c.in_err-check_policies.field-0.0 in
     rw (p.1, p.2) (second support (kind otherwise lookup otherwise offer otherwise asked otherwise named otherwise
     size) f c.in_ok-check_supported.ensures
@@ -138,7 +137,7 @@ returns c =
     let offer = offer_cause s c.args.type_name.now c.args.properties.now in
     let asked = raise_if (not (is_recipe part.recipe)) (IllegalRecipe part.recipe) in
     let named = policies_cause [] part.policies in
-    let size = size_cause s c.args.target.now c.args.properties.now in
+    let size = limit_if (passes_limit s c.args.target.now c.args.properties.now) in
     let r = c.check_limits.result in
     later support (kind otherwise lookup otherwise offer otherwise asked otherwise named otherwise size) r
     c.in_ok-check_supported.ensures

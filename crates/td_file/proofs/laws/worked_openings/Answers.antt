@@ -1,7 +1,5 @@
 use Rattle.std.proofs.Common.{refl}
-use Rattle.td_admin.specs.Administration.{set_number}
 use Rattle.td_changes.specs.Applying.{comes_to}
-use Rattle.td_admin.specs.Repositories.{add_type}
 use Rattle.td_file.specs.Files.{opening_of}
 use Rattle.td_file.specs.Openings.{new_store}
 use Rattle.td_lines.proofs.OnLiterals.{links_on_literals, types_on_literals}
@@ -12,15 +10,15 @@ use Rattle.td_types.specs.Properties.{full_properties}
 use Rattle.td_file.proofs.laws.worked_openings.Goals as goal
 
 pub returns-clause-twice : goal.returns-clause-twice
-unfolding opening_of types_on_literals new_store comes_to add_type add ancestors full_properties interface_conforms
+unfolding opening_of types_on_literals new_store comes_to add ancestors full_properties interface_conforms
     leads_within
 returns-clause-twice c = refl
 
 pub returns-clause-first : goal.returns-clause-first
-unfolding opening_of types_on_literals new_store comes_to add_type add ancestors full_properties interface_conforms
+unfolding opening_of types_on_literals new_store comes_to add ancestors full_properties interface_conforms
     leads_within
 returns-clause-first c = refl
 
 pub returns-clause-set : goal.returns-clause-set
-unfolding opening_of links_on_literals new_store comes_to set_number
+unfolding opening_of links_on_literals new_store comes_to
 returns-clause-set c = refl

@@ -4,13 +4,12 @@ use Rattle.td_changes.specs.Applying.{comes_to}
 use Rattle.td_changes.specs.Examples.{printer}
 use Rattle.td_trader.specs.Queries.{refusal}
 use Rattle.td_trader.specs.QueryExamples.{asks, path}
-use Rattle.td_admin.specs.Repositories.{mask_type}
 use Rattle.td_types.specs.Calls.{mask_type as mask}
 use Rattle.td_trader.proofs.Worked.{cause_by, judged-path}
 use Rattle.td_trader.proofs.query_laws.worked_queries.Goals as goal
 
 pub returns-clause-masked : goal.returns-clause-masked
-unfolding refusal comes_to mask_type mask
+unfolding refusal comes_to mask
 returns-clause-masked c = refl
 
 pub returns-clause-illegal : goal.returns-clause-illegal
