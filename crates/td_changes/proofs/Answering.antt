@@ -6,8 +6,7 @@ use Rattle.td_ops.specs.declared.outcome.Outcome.TheVariants.{Done}
 use Rattle.td_ops.specs.declared.outcome.Reply.{Reply}
 use Rattle.td_register.specs.ChangeReplies.{answers_change}
 use Rattle.td_register.specs.Stores.{Store}
-use Rattle.td_changes.specs.Applying.{apply, comes_to}
-use Rattle.td_changes.specs.Replies.{acceptance}
+use Rattle.td_changes.specs.Applying.{acceptance, apply, comes_to}
 use Rattle.td_changes.proofs.Steps.{accepted}
 use Rattle.td_changes.proofs.Refusing.{done}
 

@@ -5,8 +5,8 @@ use Rattle.std.proofs.Common.{subst, ◌∙◌}
 use Rattle.td_ops.specs.declared.call.Change.{Change}
 use Rattle.td_ops.specs.declared.outcome.Outcome.TheVariants.{Done}
 use Rattle.td_ops.specs.declared.outcome.Reply.{Reply}
-use Rattle.td_changes.specs.Applying.{apply, apply_counted, cause_of, comes_to, comes_where, counted, is_at_limit}
-use Rattle.td_changes.specs.Applying.{with_change}
+use Rattle.td_changes.specs.Applying.{acceptance, apply, apply_counted, cause_of, comes_to, comes_where, counted}
+use Rattle.td_changes.specs.Applying.{is_at_limit, with_change}
 use Rattle.td_changes.specs.Histories.{is_done, noted}
 use Rattle.td_changes.specs.declared.bounds.Bounds.{Bounds}
 use Rattle.td_register.specs.declared.refusal.Refusal.{Refusal}
@@ -20,7 +20,6 @@ use Rattle.td_register.specs.Entries.{entry}
 use Rattle.td_register.specs.Judged.{Accepts, Applies}
 use Rattle.td_changes.specs.Numbering.{AreNumbered}
 use Rattle.td_changes.specs.Recording.{Records}
-use Rattle.td_changes.specs.Replies.{acceptance}
 use Rattle.td_register.specs.Stores.{Store}
 use Rattle.td_register.specs.declared.history.Accepted.{Accepted}
 use Rattle.td_register.specs.declared.refusal.Fault.{Fault}

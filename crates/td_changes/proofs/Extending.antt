@@ -4,8 +4,8 @@ use Rattle.std.proofs.Common.{Some, None, Err, refl, sym, ap, subst, ◌∙◌, 
 use Rattle.td_ops.specs.declared.call.Change.{Change}
 use Rattle.td_ops.specs.declared.outcome.Outcome.TheVariants.{Done}
 use Rattle.td_ops.specs.declared.outcome.Reply.{Reply}
-use Rattle.td_changes.specs.Applying.{apply, apply_counted, cause_of, comes_to, counted, is_at_limit, with_change}
-use Rattle.td_changes.specs.Replies.{acceptance}
+use Rattle.td_changes.specs.Applying.{acceptance, apply, apply_counted, cause_of, comes_to, counted, is_at_limit}
+use Rattle.td_changes.specs.Applying.{with_change}
 use Rattle.td_register.proofs.NoCause.{no-first}
 use Rattle.td_register.specs.Causes.{Cause, applied, limit_if, refused, unless, ◌otherwise◌}
 use Rattle.td_changes.specs.Histories.{after_all, at, Legal, LegalFrom, noted}

@@ -4,9 +4,8 @@ use Rattle.td_ops.specs.declared.call.Change.{Change}
 use Rattle.td_ops.specs.declared.outcome.Reply.{Reply}
 use Rattle.td_register.specs.Causes.{Cause, unless, unless_full}
 use Rattle.td_register.specs.Stores.{Store}
-use Rattle.td_changes.specs.Applying.{cause_of, comes_to, counted, is_at_limit, with_change}
+use Rattle.td_changes.specs.Applying.{acceptance, cause_of, comes_to, counted, is_at_limit, with_change}
 use Rattle.td_changes.specs.Laws.{barred}
-use Rattle.td_changes.specs.Replies.{acceptance}
 use Rattle.td_changes.specs.declared.bounds.Bounds.{Bounds}
 
 last : (cause : Cause) (told : Reply) (after : Store)

@@ -35,11 +35,10 @@ use Rattle.td_register.proofs.NoCause.{HasRoomFor, no_export_cause, no-first, no
 use Rattle.td_admin.specs.Administration.{longest_stem, set_attributes, with_follow, with_number, with_truth}
 use Rattle.td_admin.specs.Repositories.{types_cause, with_types}
 use Rattle.td_register.specs.declared.history.Accepted.{Accepted}
-use Rattle.td_changes.specs.Applying.{apply, apply_counted, cause_of, comes_to, comes_where, counted, is_at_limit}
-use Rattle.td_changes.specs.Applying.{with_change}
+use Rattle.td_changes.specs.Applying.{acceptance, apply, apply_counted, cause_of, comes_to, comes_where, counted}
+use Rattle.td_changes.specs.Applying.{is_at_limit, with_change}
 use Rattle.td_changes.specs.declared.bounds.Bounds.{Bounds}
 use Rattle.td_changes.specs.Histories.{after_all}
-use Rattle.td_changes.specs.Replies.{acceptance}
 
 -- the stem is the one before, or it isn't too long
 abbrev pub KeepsStem : Attributes → Attributes → Type 0

@@ -1,11 +1,13 @@
 -- What a trader's changes and looks come to. Each goes through its operation's causes of refusal in order, and the first
 -- that is met is the outcome; IMP_LIMIT is last.
-use Rattle.std.specs.Prelude.{ℕ, nat_le, Bool, ◌||◌, None}
+use Rattle.std.specs.Prelude.{ℕ, nat_le, Bool, true, false, ◌||◌, None}
 use Rattle.td_ops.specs.declared.call.Change.{Change}
 use Rattle.td_ops.specs.declared.call.Change.TheVariants as change
 use Rattle.td_ops.specs.declared.call.Look.{Look}
 use Rattle.td_ops.specs.declared.call.Look.TheVariants as look
 use Rattle.td_ops.specs.declared.outcome.Outcome.{Outcome}
+use Rattle.td_ops.specs.declared.outcome.Reply.{Reply}
+use Rattle.td_ops.specs.declared.outcome.Reply.TheVariants as reply
 use Rattle.td_types.specs.Calls as types
 use Rattle.td_register.specs.Causes.{Applied, Cause, Comes, applied, unless, unless_full}
 use Rattle.td_register.specs.Proxies as proxies
@@ -15,7 +17,6 @@ use Rattle.td_admin.specs.Administration as admin
 use Rattle.td_admin.specs.Links as links
 use Rattle.td_admin.specs.Repositories as repository
 use Rattle.td_admin.specs.Repositories.{types_cause, with_types}
-use Rattle.td_changes.specs.Replies.{acceptance}
 use Rattle.td_changes.specs.declared.bounds.Bounds.{Bounds}
 
 -- ---- changes
@@ -45,6 +46,21 @@ cause_of s (change.AddType name if_name props super_types) =
 cause_of s (change.RemoveType name) = types_cause (types.remove_type s.types name)
 cause_of s (change.MaskType name) = types_cause (types.mask_type s.types name)
 cause_of s (change.UnmaskType name) = types_cause (types.unmask_type s.types name)
+
+-- with what it is answered, where nothing refuses it
+abbrev pub acceptance : Store → Change → Reply
+acceptance s (change.Export reference service_type properties) = reply.Id (register.next_id s)
+acceptance s (change.ExportProxy target service_type properties if_match_all recipe policies) =
+    reply.Id (register.next_id s)
+acceptance s (change.SetTruth attribute value) = reply.Truth
+    (admin.truth_of attribute s.attributes)
+acceptance s (change.SetNumber attribute value) = reply.Number
+    (admin.number_of attribute s.attributes)
+acceptance s (change.SetFollow attribute value) = reply.Follow
+    (admin.follow_of attribute s.attributes)
+acceptance s (change.SetRequestIdStem value) = reply.Stem s.attributes.request_id_stem
+acceptance s (change.AddType name if_name props super_types) = repository.added_reply s
+acceptance s _ = reply.Nothing
 
 -- the store with the change, where nothing refuses it
 abbrev pub with_change : Store → Change → Store
@@ -91,6 +107,28 @@ comes_where full s c = unless_full full (cause_of s c) (acceptance s c) (with_ch
 -- the outcome of a change, and the store behind it
 abbrev pub apply : Store → Change → Applied
 apply s c = applied s (comes_to s c)
+
+-- ---- changes that take no memory once room for their entry in the history is there
+
+-- what only takes away, masks or sets a value of fixed size
+abbrev pub is_free : Change → Bool
+is_free (change.Export reference service_type properties) = false
+is_free (change.Withdraw id) = true
+is_free (change.Modify id deleted changed) = false
+is_free (change.WithdrawUsingConstraint service_type constraint) = false
+is_free (change.AddLink name target def_pass_on limiting register) = false
+is_free (change.RemoveLink name) = true
+is_free (change.ModifyLink name def_pass_on limiting) = true
+is_free (change.ExportProxy target service_type properties if_match_all recipe policies) = false
+is_free (change.WithdrawProxy id) = true
+is_free (change.SetTruth attribute value) = true
+is_free (change.SetNumber attribute value) = true
+is_free (change.SetFollow attribute value) = true
+is_free (change.SetRequestIdStem value) = false
+is_free (change.AddType name if_name props super_types) = false
+is_free (change.RemoveType name) = false
+is_free (change.MaskType name) = true
+is_free (change.UnmaskType name) = true
 
 -- ---- counted changes
 

@@ -1,9 +1,7 @@
 pub mod Applying
 pub mod Examples
 pub mod Histories
-pub mod Kinds
 pub mod Laws
 pub mod Numbering
 pub mod Outcomes
 pub mod Recording
-pub mod Replies

@@ -1,25 +1,76 @@
-//! Changes that are done to a store.
+//! With what changes are answered, and how they are done to a store.
 
-ghost use Rattle.std.specs.Prelude.{◌≡◌, true};
-ghost use Rattle.td_changes.specs.Applying.{apply, comes_where};
+ghost use Rattle.std.specs.Prelude.{◌≡◌, ◌+◌, true, IfOk, IsOk};
+ghost use Rattle.td_admin.specs.Repositories.{next_incarnation};
+ghost use Rattle.td_changes.specs.Applying.{acceptance, apply, comes_where, is_free};
+ghost use Rattle.td_register.specs.Ids.{id_of};
 ghost use Rattle.td_register.specs.Judged.{Accepts, Applies};
-ghost use Rattle.td_changes.specs.Kinds.{is_free};
 ghost use Rattle.td_register.specs.Needs.{NeedsNone};
 ghost use Rattle.td_changes.specs.Numbering.{AreNumbered};
 ghost use Rattle.td_changes.specs.Outcomes.{Ends};
 
-use crate::replying::acceptance;
 use std::alloc::Global;
 use td_admin::{
-    add_link, add_type, mask_type, modify_link, remove_link, remove_type, set_follow, set_number,
-    set_request_id_stem, set_truth, unmask_type,
+    add_link, add_type, follow_of, mask_type, modify_link, number_of, remove_link, remove_type,
+    set_follow, set_number, set_request_id_stem, set_truth, truth_of, unmask_type,
 };
-use td_cdr::Memory;
+use td_cdr::{Memory, Text, Twin};
 use td_export::{export, export_proxy};
 use td_modify::{modify, withdraw_using_constraint};
-use td_ops::{Change, Outcome};
+use td_ops::{Change, Outcome, Reply};
 use td_register::{Accepted, Fault, refused, withdraw, withdraw_proxy};
 use td_store::Store;
+use td_types::halves;
+
+/// The id of the next offer.
+fn next_id(alloc: Global, last: u32) -> Result<Text, Memory>
+    ensures { IfOk result (λ id. id ≡ id_of (last + 1)) }
+{
+    let number = u64::from(last) + 1;
+    match format!(in alloc; "{number}") {
+        Ok(text) => Ok(Text::from_vec(text.into_bytes())),
+        Err(_) => Err(Memory),
+    }
+}
+
+fn next_incarnation(last: u64) -> u64
+    ensures { result ≡ next_incarnation last }
+{
+    last.saturating_add(1)
+}
+
+/// With what the change is answered if it is accepted. It is made before the change is done, since it may want memory;
+/// the history keeps the reply in short ([`td_register::ChangeReply`]).
+///
+/// # Errors
+///
+/// `Memory` for want of memory alone; never for a change that takes none.
+pub fn acceptance(alloc: Global, store: &Store, c: &Change) -> Result<Reply, Memory>
+    ensures reply { IfOk result (λ r. r ≡ acceptance store.now c.now) }
+    ensures free { is_free c.now ≡ true → IsOk result }
+{
+    match c {
+        Change::Export { .. } => Ok(Reply::Id(next_id(alloc, store.last_offer)?)),
+        Change::ExportProxy { .. } => Ok(Reply::Id(next_id(alloc, store.last_offer)?)),
+        Change::SetTruth { attribute, .. } => {
+            Ok(Reply::Truth(truth_of(*attribute, &store.attributes)))
+        }
+        Change::SetNumber { attribute, .. } => {
+            Ok(Reply::Number(number_of(*attribute, &store.attributes)))
+        }
+        Change::SetFollow { attribute, .. } => {
+            Ok(Reply::Follow(follow_of(*attribute, &store.attributes)))
+        }
+        Change::SetRequestIdStem { .. } => {
+            Ok(Reply::Stem(store.attributes.request_id_stem.copy(alloc)?))
+        }
+        Change::AddType { .. } => {
+            let incarnation = next_incarnation(store.types.incarnation());
+            Ok(Reply::Incarnation(halves(incarnation)))
+        }
+        _ => Ok(Reply::Nothing),
+    }
+}
 
 /// Does a change, and gives it back with its reply; where no more changes are accepted, only what refuses it is
 /// looked for.

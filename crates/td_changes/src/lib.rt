@@ -5,14 +5,12 @@
 mod applying;
 mod bounds;
 mod laws;
-mod replying;
 mod seeking;
 
-pub use applying::{apply, not_done, perform};
+pub use applying::{acceptance, apply, not_done, perform};
 pub use bounds::{Bounds, MOST_CHANGES};
 pub use laws::{
     changes_have_their_replies, exports_take_the_next_number, histories_are_legal,
     points_lead_to_stores, refused_changes_leave_the_store, the_limit_comes_last, worked_examples,
 };
-pub use replying::acceptance;
 pub use seeking::seek;

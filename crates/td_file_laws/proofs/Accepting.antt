@@ -10,8 +10,7 @@ use Rattle.std.specs.List.{AllByRecursion, list_all}
 use Rattle.std.specs.Str.{bytes_eq}
 use Rattle.td_admin.specs.Links.{name_cause as link_name_cause, rules_cause}
 use Rattle.td_admin.specs.Links.{target_cause}
-use Rattle.td_changes.specs.Applying.{apply, cause_of, comes_to, with_change}
-use Rattle.td_changes.specs.Replies.{acceptance}
+use Rattle.td_changes.specs.Applying.{acceptance, apply, cause_of, comes_to, with_change}
 use Rattle.td_ops.specs.declared.call.Change.{Change}
 use Rattle.td_changes.specs.Histories.{is_done}
 use Rattle.td_cdr.specs.Format.{number, row}
@@ -192,10 +191,14 @@ module _ (s : Store) (object : Ior) (type_name : List ℕ) (ps : List Property) 
       → AdmitsChange (change.Export object type_name ps)
   exports h =
       let none = no_export_cause s object type_name ps (none-of s (change.Export object type_name ps) h) in (
-        told.target,
+        (object, (type_name, ps)),
+        refl,
         (
-          open-named s.types.types type_name (interface_cause s type_name object) none.typed,
-          properties-admitted none.offer none.room.fits,
+          told.target,
+          (
+            open-named s.types.types type_name (interface_cause s type_name object) none.typed,
+            properties-admitted none.offer none.room.fits,
+          ),
         ),
       )
 
@@ -208,10 +211,14 @@ module _ (s : Store) (object : Ior) (type_name : List ℕ) (ps : List Property) 
       let none = no_proxy_cause s object type_name ps recipe policies (none-of s c h) in
       let none_passed : (sequence policy).format.admits policies =
       subst (sequence policy).format.admits (sym empty) (sequence-from policy [] (omega arith) tt) in (
-        told.target,
+        (object, (type_name, (ps, (if_match_all, (recipe, policies))))),
+        refl,
         (
-          open-named s.types.types type_name no_more none.typed,
-          (properties-admitted none.offer none.room.fits, (tt, (plain, none_passed))),
+          told.target,
+          (
+            open-named s.types.types type_name no_more none.typed,
+            (properties-admitted none.offer none.room.fits, (tt, (plain, none_passed))),
+          ),
         ),
       )
 

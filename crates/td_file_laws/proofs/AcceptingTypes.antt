@@ -248,9 +248,10 @@ accepted s (change.ExportProxy target type_name ps if_match_all recipe policies)
     exports-proxy s target type_name ps t.0 if_match_all recipe policies t.1 t.2 h
 accepted s (change.AddLink name target def_pass_on limiting register) t h =
     links s name target def_pass_on limiting register t.0 t.1 h
-accepted s (change.AddType name if_name props supers) t h = types s name if_name props supers t.0 t.1 h
-accepted s (change.SetNumber attribute number) t h = t
-accepted s (change.SetTruth attribute truth) t h = tt
-accepted s (change.SetFollow attribute rule) t h = follow-admitted rule
-accepted s (change.SetRequestIdStem stem) t h = tt
+accepted s (change.AddType name if_name props supers) t h =
+    ((name, (if_name, (props, supers))), refl, types s name if_name props supers t.0 t.1 h)
+accepted s (change.SetNumber attribute number) t h = (number, refl, t)
+accepted s (change.SetTruth attribute truth) t h = (truth, refl, tt)
+accepted s (change.SetFollow attribute rule) t h = (rule, refl, follow-admitted rule)
+accepted s (change.SetRequestIdStem stem) t h = (stem, refl, tt)
 accepted s other t h = absurd t

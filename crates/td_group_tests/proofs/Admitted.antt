@@ -1,5 +1,5 @@
 -- The changes of the tests can be written.
-use Rattle.std.proofs.Common.{ℕ, ◌^◌, ◌<◌, List, [], arith}
+use Rattle.std.proofs.Common.{ℕ, ◌^◌, ◌<◌, List, [], refl, arith}
 use Rattle.td_cdr.specs.Sound.{text}
 use Rattle.td_cdr.specs.Text.{HasNoNul}
 use Rattle.td_codes.specs.References.{profile, reference}
@@ -11,12 +11,16 @@ use Rattle.td_value.specs.Structures.{prop_struct, property}
 
 pub added : (name if_name : List ℕ) → HasNoNul name → HasNoNul if_name
     → AdmitsChange (change.AddType name if_name [] [])
-added name if_name n i =
-    (n, (i, (sequence-from prop_struct [] (omega arith) tt, sequence-from text [] (omega arith) tt)))
+added name if_name n i = (
+  (name, (if_name, ([], []))),
+  refl,
+  (n, (i, (sequence-from prop_struct [] (omega arith) tt, sequence-from text [] (omega arith) tt))),
+)
 
 pub exported : (r : Ior) (service_type : List ℕ) → reference.format.admits r → HasNoNul service_type
     → AdmitsChange (change.Export r service_type [])
-exported r service_type h n = (h, (n, sequence-from property [] (omega arith) tt))
+exported r service_type h n =
+    ((r, (service_type, [])), refl, (h, (n, sequence-from property [] (omega arith) tt)))
 
 pub empty : (id : List ℕ) → HasNoNul id → reference.format.admits (record { id = id; profiles = [] })
 empty id n = (n, sequence-from profile [] (omega arith) tt)

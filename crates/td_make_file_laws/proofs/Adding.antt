@@ -3,8 +3,7 @@ use Rattle.std.proofs.Common.{◌≡◌, ℕ, Bool, false, if◌then◌else◌, 
 use Rattle.std.proofs.Common.{refl, ap, ◌∙◌}
 use Rattle.std.proofs.lemmas.Bool.{le-ltb}
 use Rattle.td_admin.specs.Repositories.{types_cause, with_types}
-use Rattle.td_changes.specs.Applying.{comes_to}
-use Rattle.td_changes.specs.Replies.{acceptance}
+use Rattle.td_changes.specs.Applying.{acceptance, comes_to}
 use Rattle.td_make_file_laws.proofs.AtMost.{root-short, sub-short}
 use Rattle.td_make_file_laws.proofs.Going.{Becomes}
 use Rattle.td_make_laws.specs.Said.{cost_demanded}

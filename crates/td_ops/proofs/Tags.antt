@@ -16,35 +16,21 @@ use Rattle.td_ops.specs.Called.{operation_in}
 use Rattle.td_ops.specs.Operations.{row}
 use Rattle.td_ops.specs.Calls.{body_of}
 
+-- one operation of each object is written out: the others are the cases that are left
 row-tag : (o : Operation) → (row o).body.tag ≡ o
 row-tag Query = refl
 row-tag (Register register.Export) = refl
-row-tag (Register register.Withdraw) = refl
-row-tag (Register register.Describe) = refl
-row-tag (Register register.Modify) = refl
-row-tag (Register register.WithdrawUsingConstraint) = refl
-row-tag (Register register.Resolve) = refl
+row-tag (Register _) = refl
 row-tag (Link link.AddLink) = refl
-row-tag (Link link.RemoveLink) = refl
-row-tag (Link link.DescribeLink) = refl
-row-tag (Link link.ListLinks) = refl
-row-tag (Link link.ModifyLink) = refl
+row-tag (Link _) = refl
 row-tag (Proxy proxy.ExportProxy) = refl
-row-tag (Proxy proxy.WithdrawProxy) = refl
-row-tag (Proxy proxy.DescribeProxy) = refl
+row-tag (Proxy _) = refl
 row-tag (Admin admin.ListOffers) = refl
-row-tag (Admin admin.ListProxies) = refl
-row-tag (Admin admin.SetTypeRepos) = refl
+row-tag (Admin _) = refl
 row-tag (Iterator iterator.MaxLeft) = refl
-row-tag (Iterator iterator.NextN) = refl
-row-tag (Iterator iterator.Destroy) = refl
+row-tag (Iterator _) = refl
 row-tag (Types types.AddType) = refl
-row-tag (Types types.RemoveType) = refl
-row-tag (Types types.ListTypes) = refl
-row-tag (Types types.DescribeType) = refl
-row-tag (Types types.FullyDescribeType) = refl
-row-tag (Types types.MaskType) = refl
-row-tag (Types types.UnmaskType) = refl
+row-tag (Types _) = refl
 row-tag (Get a) = refl
 row-tag (SetTruth a) = refl
 row-tag (SetNumber a) = refl

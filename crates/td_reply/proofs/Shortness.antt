@@ -7,9 +7,8 @@ use Rattle.std.specs.Prelude.{IsTrue}
 use Rattle.td_cdr.specs.Marks.{Marks}
 use Rattle.td_changes.proofs.Refusing.{done}
 use Rattle.td_changes.proofs.Steps.{Keeps, accepted_counted, added, fewer, history_keeps, linked, renewed, set, typed}
-use Rattle.td_changes.specs.Applying.{counted}
+use Rattle.td_changes.specs.Applying.{acceptance, counted}
 use Rattle.td_changes.specs.Histories.{after_all}
-use Rattle.td_changes.specs.Replies.{acceptance}
 use Rattle.td_ops.specs.Outcomes.{is_short, short_length}
 use Rattle.td_ops.specs.declared.call.Change.{Change}
 use Rattle.td_ops.specs.declared.call.Change.TheVariants as change

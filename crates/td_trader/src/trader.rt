@@ -3,9 +3,8 @@
 ghost use Rattle.std.specs.Prelude.{◌≡◌, ◌≤◌, ◌<◌, true, false, length, vec_len, vec_capacity, IfOk, OnOk, OnErr, IsOk};
 ghost use Rattle.td_cdr.specs.Marks.{Orderly};
 ghost use Rattle.td_marks.specs.Keeping.{IsKept as AreMarks};
-ghost use Rattle.td_changes.specs.Applying.{apply_counted, is_at_limit, seek};
+ghost use Rattle.td_changes.specs.Applying.{apply_counted, is_at_limit, is_free, seek};
 ghost use Rattle.td_changes.specs.Histories.{Legal};
-ghost use Rattle.td_changes.specs.Kinds.{is_free};
 ghost use Rattle.td_changes.specs.Numbering.{AreNumbered};
 ghost use Rattle.td_trader.specs.Caching.{IsCacheOf};
 ghost use Rattle.td_trader.specs.OfferLimits.{HasLimitedOffers};

@@ -5,7 +5,8 @@ use Rattle.std.proofs.Common.{refl, subst, sym, ◌∙◌, arith, bytes_eq}
 use Rattle.std.specs.List.{AllByRecursion, list_any}
 use Rattle.std.specs.Prelude.{unwrap_or}
 use Rattle.td_cdr.specs.Names.{identifier, word_name}
-use Rattle.td_cdr.specs.Sound.{text}
+use Rattle.td_cdr.specs.Sound.{◌&◌, boolean, sequence, text}
+use Rattle.td_codes.specs.References.{reference}
 use Rattle.td_codes.specs.declared.reference.Ior.{Ior}
 use Rattle.td_exceptions.specs.declared.exception.UserException.TheVariants as user
 use Rattle.td_ior.specs.Profiles.{iiop_of}
@@ -53,7 +54,6 @@ use Rattle.td_register.specs.Registers.{renewed, with_offer, withdraw_cause, wit
 use Rattle.td_register.specs.Stores.{Store}
 use Rattle.td_changes.specs.Applying.{comes_to}
 use Rattle.td_trader_laws.specs.Writable.{IsWritableStore}
-use Rattle.td_trader.specs.Admitted.{AdmitsChange}
 use Rattle.td_trader_laws.proofs.Admitting.{AdmitsCause, AdmitsComes, AdmitsFound, came, came-with, decimal-clean}
 use Rattle.td_trader_laws.proofs.Admitting.{found-when, given-admitted, limited, or-else, raised, supported}
 use Rattle.td_trader_laws.proofs.Admitting.{there-admitted}
@@ -185,7 +185,7 @@ added s o w is offer few left = record {
 }
 
 pub exports : (s : Store) (object : Ior) (type_name : List ℕ) (ps : List Property) → IsWritableStore s
-    → AdmitsChange (change.Export object type_name ps)
+    → (reference & text & sequence property).format.admits (object, (type_name, ps))
     → AdmitsComes (Register register.Export) (comes_to s (change.Export object type_name ps))
 unfolding comes_to
 exports s object type_name ps w h =
@@ -228,7 +228,8 @@ policies-cause before (p ∷ ps) h =
 
 pub exports-proxy : (s : Store) (target : Ior) (type_name : List ℕ) (ps : List Property) (if_match_all : Bool)
     (recipe : List ℕ) (policies : List Policy) → IsWritableStore s
-    → AdmitsChange (change.ExportProxy target type_name ps if_match_all recipe policies)
+    → (reference & text & sequence property & boolean & text & sequence policy).format.admits
+    (target, (type_name, (ps, (if_match_all, (recipe, policies)))))
     → AdmitsComes (Proxy proxy_operation.ExportProxy)
     (comes_to s (change.ExportProxy target type_name ps if_match_all recipe policies))
 unfolding comes_to
@@ -348,22 +349,22 @@ not-met s type_name (Ok c) w =
     let test : OfferRecord → Bool = λ o. not (is_met s.types.types type_name c o) in
     offers-stay s (filter test s.offers) w (filtered s test w.store)
 
-pub withdraws-met : (s : Store) (type_name constraint : List ℕ) → IsWritableStore s → IsText type_name
-    → IsText constraint
+pub withdraws-met : (s : Store) (type_name constraint : List ℕ) → IsWritableStore s
+    → (text & text).format.admits (type_name, constraint)
     → AdmitsComes (Register register.WithdrawUsingConstraint)
     (comes_to s (change.WithdrawUsingConstraint type_name constraint))
 unfolding comes_to
-withdraws-met s type_name constraint w t h =
+withdraws-met s type_name constraint w h =
     let typed = given (known s.types.types type_name) no_more in
     let met = given (asked_in constraint) (none_met s type_name constraint) in
     came (Register register.WithdrawUsingConstraint) (withdraw_met_cause s type_name constraint) reply.Nothing
     (record s { offers = offers_not_met s type_name (asked_in constraint) })
     (or-else typed met
-    (given-admitted IsAny (known s.types.types type_name) no_more (known-type s.types.types type_name t) (λ x _. tt))
+    (given-admitted IsAny (known s.types.types type_name) no_more (known-type s.types.types type_name h.0) (λ x _. tt))
     (given-admitted IsAny (asked_in constraint) (none_met s type_name constraint)
-    (asked-any constraint (constraint_of constraint) h)
+    (asked-any constraint (constraint_of constraint) h.1)
     (λ c _. raised (not (list_any (is_met s.types.types type_name c) s.offers)) (user.NoMatchingOffers constraint)
-    (constraint, refl, h))))
+    (constraint, refl, h.1))))
     (refl, refl) (λ none. not-met s type_name (asked_in constraint) w)
 
 -- ---- modifying
@@ -477,7 +478,7 @@ modified-stays s deleted changed (Ok o) w c h none =
     (some-same o x (sym h.found ∙ e)) offer))
 
 pub modifies : (s : Store) (id : List ℕ) (deleted : List (List ℕ)) (changed : List Property) → IsWritableStore s
-    → AdmitsChange (change.Modify id deleted changed)
+    → (text & sequence text & sequence property).format.admits (id, (deleted, changed))
     → AdmitsComes (Register register.Modify) (comes_to s (change.Modify id deleted changed))
 unfolding comes_to
 modifies s id deleted changed w h =
