@@ -10,10 +10,12 @@ use Rattle.td_codes.specs.Same.{same}
 use Rattle.td_value.specs.declared.structures.Policy.{Policy}
 use Rattle.td_policy.specs.Stated.{known, next_stated, nothing, policies, stated, stated_after, stated_value, states}
 use Rattle.td_policy.specs.Stated.{valid}
-use Rattle.td_policy.specs.Values.{Kind, truth, number, rule, texts, octets}
+use Rattle.td_policy.specs.Fields.{kind_of, put}
+use Rattle.td_policy.specs.Values.{Kind}
 use Rattle.td_policy.specs.declared.fault.PolicyFault.{PolicyFault}
 use Rattle.td_policy.specs.declared.fault.PolicyFault.TheVariants as fault
 use Rattle.td_policy.specs.declared.stated.Stated.{Stated}
+use Rattle.td_policy.proofs.Fields.{States, each}
 
 abbrev IsAnswered : {X : Type 0} → Result X PolicyFault → Type 0
 IsAnswered (Ok x) = Unit {0}
@@ -47,63 +49,30 @@ value-answered kind p =
     when (same p.value.code kind.code) (valid p (kind.value_of p.value.value)) (Err (fault.PolicyTypeMismatch p))
     (valid-answered p (kind.value_of p.value.value)) tt
 
-abbrev Entry : Type 0
-Entry = Policy → Stated → Result Stated PolicyFault
-
-abbrev Answers : Entry → Type 0
+abbrev Answers : States → Type 0
 Answers entry = (p : Policy) (s : Stated) → IsAnswered (entry p s)
 
 stating : {A : Type 0} (kind : Kind A) (put : Option A → Stated → Stated) → Answers (states kind put)
 stating kind put p s = bound (stated_value kind p) (λ x. Ok (put x s)) (value-answered kind p) (λ x. tt)
 
 each-answers : AllByRecursion (λ x. Answers x.1) policies
-each-answers = (
-  stating truth (λ x s. record s { exact = x }),
-  (
-    stating number (λ x s. record s { hops = x }),
-    (
-      stating rule (λ x s. record s { follow = x }),
-      (
-        stating number (λ x s. record s { match_card = x }),
-        (
-          stating number (λ x s. record s { return_card = x }),
-          (
-            stating number (λ x s. record s { search_card = x }),
-            (
-              stating (texts 64) (λ x s. record s { start = x }),
-              (
-                stating truth (λ x s. record s { use_dynamic = x }),
-                (
-                  stating truth (λ x s. record s { use_modifiable = x }),
-                  (
-                    stating truth (λ x s. record s { use_proxy = x }),
-                    (stating (octets 256) (λ x s. record s { request_id = x }), tt),
-                  ),
-                ),
-              ),
-            ),
-          ),
-        ),
-      ),
-    ),
-  ),
-)
+each-answers = each (λ x. Answers x.1) (λ f. stating (kind_of f) (put f))
 
-abbrev FoundAnswers : Option Entry → Type 0
+abbrev FoundAnswers : Option States → Type 0
 FoundAnswers None = Unit {0}
 FoundAnswers (Some entry) = Answers entry
 
-found-when : (b : Bool) (entry : Entry) (later : Option Entry) → Answers entry → FoundAnswers later
+found-when : (b : Bool) (entry : States) (later : Option States) → Answers entry → FoundAnswers later
     → FoundAnswers (cond b (Some entry) later)
 found-when true entry later h k = h
 found-when false entry later h k = k
 
-looked : (test : List ℕ → Bool) (entries : List (List ℕ × Entry)) → AllByRecursion (λ x. Answers x.1) entries
+looked : (test : List ℕ → Bool) (entries : List (List ℕ × States)) → AllByRecursion (λ x. Answers x.1) entries
     → FoundAnswers (lookup test entries)
 looked test [] h = tt
 looked test (x ∷ xs) h = found-when (test x.0) x.1 (lookup test xs) h.0 (looked test xs h.1)
 
-known-answered : (found : Option Entry) (p : Policy) (s : Stated) → FoundAnswers found → IsAnswered (known found p s)
+known-answered : (found : Option States) (p : Policy) (s : Stated) → FoundAnswers found → IsAnswered (known found p s)
 known-answered None p s h = tt
 known-answered (Some entry) p s h = h p s
 

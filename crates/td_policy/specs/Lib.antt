@@ -1,6 +1,7 @@
 pub mod Attributes
 pub mod Effective
 pub mod Faults
+pub mod Fields
 pub mod Laws
 pub mod Rules
 pub mod Stated

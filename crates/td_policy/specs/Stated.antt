@@ -1,6 +1,6 @@
 -- What an importer states by its policies (Trading Object Service, "Policies" and interface Lookup, query: the
 -- exceptions IllegalPolicyName, DuplicatePolicyName, PolicyTypeMismatch, InvalidPolicyValue).
-use Rattle.std.specs.Prelude.{ℕ, not, if◌then◌else◌, List, [], ◌∷◌, Option, Some, None, Result, Ok, Err, codes}
+use Rattle.std.specs.Prelude.{ℕ, not, if◌then◌else◌, List, [], ◌∷◌, map, Option, Some, None, Result, Ok, Err}
 use Rattle.std.specs.Map.{lookup}
 use Rattle.std.specs.Str.{bytes_eq}
 use Rattle.td_cdr.specs.Format.{◌>>=◌}
@@ -8,26 +8,12 @@ use Rattle.td_cdr.specs.Names.{identifier}
 use Rattle.td_cdr.specs.Seen.{is_among}
 use Rattle.td_codes.specs.Same.{same}
 use Rattle.td_value.specs.declared.structures.Policy.{Policy}
-use Rattle.td_policy.specs.Values.{Kind, truth, number, rule, texts, octets}
+use Rattle.td_policy.specs.Fields.{Field, fields, kind_of, name_of, put}
+use Rattle.td_policy.specs.Values.{Kind}
 use Rattle.td_policy.specs.declared.fault.PolicyFault.{PolicyFault}
 use Rattle.td_policy.specs.declared.fault.PolicyFault.TheVariants as fault
 use Rattle.td_policy.specs.declared.stated.Stated.{Stated}
-
--- nothing is stated
-abbrev pub nothing : Stated
-nothing = record {
-  exact = None;
-  hops = None;
-  follow = None;
-  match_card = None;
-  return_card = None;
-  search_card = None;
-  start = None;
-  use_dynamic = None;
-  use_modifiable = None;
-  use_proxy = None;
-  request_id = None;
-}
+pub use Rattle.td_policy.specs.Fields.{nothing}
 
 -- ---- one policy
 
@@ -47,20 +33,11 @@ abbrev pub states : {A : Type 0} → Kind A → (Option A → Stated → Stated)
 states kind put p s = stated_value kind p >>= λ x. Ok (put x s)
 
 -- the policies, by their names
+abbrev pub entry : Field → List ℕ × (Policy → Stated → Result Stated PolicyFault)
+entry f = (name_of f, states (kind_of f) (put f))
+
 abbrev pub policies : List (List ℕ × (Policy → Stated → Result Stated PolicyFault))
-policies =
-    (codes "exact_type_match", states truth (λ x s. record s { exact = x }))
-    ∷ (codes "hop_count", states number (λ x s. record s { hops = x }))
-    ∷ (codes "link_follow_rule", states rule (λ x s. record s { follow = x }))
-    ∷ (codes "match_card", states number (λ x s. record s { match_card = x }))
-    ∷ (codes "return_card", states number (λ x s. record s { return_card = x }))
-    ∷ (codes "search_card", states number (λ x s. record s { search_card = x }))
-    ∷ (codes "starting_trader", states (texts 64) (λ x s. record s { start = x }))
-    ∷ (codes "use_dynamic_properties", states truth (λ x s. record s { use_dynamic = x }))
-    ∷ (codes "use_modifiable_properties", states truth (λ x s. record s { use_modifiable = x }))
-    ∷ (codes "use_proxy_offers", states truth (λ x s. record s { use_proxy = x }))
-    ∷ (codes "request_id", states (octets 256) (λ x s. record s { request_id = x }))
-    ∷ []
+policies = map entry fields
 
 -- a policy of an unknown name states nothing
 abbrev pub known : Option (Policy → Stated → Result Stated PolicyFault) → Policy → Stated

@@ -10,20 +10,19 @@ use Rattle.td_cdr.specs.Names.{identifier}
 use Rattle.td_cdr.specs.Seen.{is_among}
 use Rattle.td_policy.specs.Stated.{known, next_stated, nothing, policies, stated_after, stated_value, states}
 use Rattle.td_policy.specs.Stated.{with_policy}
-use Rattle.td_policy.specs.Values.{Kind, truth, number, rule, octets}
+use Rattle.td_policy.specs.Fields.{Field, start, kind_of, name_of, put}
+use Rattle.td_policy.specs.Values.{Kind}
 use Rattle.td_policy.specs.declared.fault.PolicyFault.{PolicyFault}
 use Rattle.td_policy.specs.declared.fault.PolicyFault.TheVariants as fault
 use Rattle.td_policy.specs.declared.stated.Stated.{Stated}
+use Rattle.td_policy.proofs.Fields.{States, each}
 use Rattle.td_value.specs.declared.structures.Policy.{Policy}
 use Rattle.td_store.specs.LinkLists.{link_of}
 use Rattle.td_store.specs.declared.record.LinkRecord.{LinkRecord}
 use Rattle.td_trader.specs.Queries.{first_name, start_policy, start_cause, RefusesStart, UnknownStartsAreRefused}
 
-abbrev Entry : Type 0
-Entry = Policy → Stated → Result Stated PolicyFault
-
 -- the policy states another field
-abbrev Keeps : Entry → Type 0
+abbrev Keeps : States → Type 0
 Keeps entry = (p : Policy) (s t : Stated) → entry p s ≡ Ok t → t.start ≡ s.start
 
 same_ok : (s t : Stated) → ◌≡◌ {A = Result Stated PolicyFault} (Ok s) (Ok t) → s ≡ t
@@ -38,17 +37,17 @@ keeps : {A : Type 0} (kind : Kind A) (put : Option A → Stated → Stated)
     → ((x : Option A) (u : Stated) → (put x u).start ≡ u.start) → Keeps (states kind put)
 keeps kind put other p s t h = put_kept (stated_value kind p) put s t other h
 
-some_is : (d e : Entry) → ◌≡◌ {A = Option Entry} (Some d) (Some e) → d ≡ e
+some_is : (d e : States) → ◌≡◌ {A = Option States} (Some d) (Some e) → d ≡ e
 some_is d e h = cc
 
 -- what holds of each entry whose key passes the test holds of the one that is found
-chosen : (Q : Entry → Type 0) (b : Bool) (d e : Entry) (rest : Option Entry) → (b ≡ true → Q d)
+chosen : (Q : States → Type 0) (b : Bool) (d e : States) (rest : Option States) → (b ≡ true → Q d)
     → (rest ≡ Some e → Q e) → cond b (Some d) rest ≡ Some e → Q e
 chosen Q true d e rest here later h = subst Q (some_is d e h) (here refl)
 chosen Q false d e rest here later h = later h
 
-looked : (test : List ℕ → Bool) (Q : Entry → Type 0) (entries : List (List ℕ × Entry))
-    → AllByRecursion (λ x. test x.0 ≡ true → Q x.1) entries → (e : Entry) → lookup test entries ≡ Some e → Q e
+looked : (test : List ℕ → Bool) (Q : States → Type 0) (entries : List (List ℕ × States))
+    → AllByRecursion (λ x. test x.0 ≡ true → Q x.1) entries → (e : States) → lookup test entries ≡ Some e → Q e
 looked test Q [] all e h = absurd (let bad : ⊥ = cc in bad)
 looked test Q (x ∷ xs) all e h =
     chosen Q (test x.0) x.1 e (lookup test xs) all.0 (looked test Q xs all.1 e) h
@@ -57,47 +56,18 @@ module _ (name : List ℕ) where
   abbrev is_start : Type 0
   is_start = bytes_eq name (codes "starting_trader") ≡ true
 
-  abbrev KeepsOrStarts : Entry → Type 0
+  abbrev KeepsOrStarts : States → Type 0
   KeepsOrStarts entry = Keeps entry ⊎ is_start
 
   -- of all policies
-  each_keeps : AllByRecursion (λ x. bytes_eq name x.0 ≡ true → KeepsOrStarts x.1) policies
-  each_keeps = (
-    λ _. inl (keeps truth (λ x s. record s { exact = x }) (λ x u. refl)),
-    (
-      λ _. inl (keeps number (λ x s. record s { hops = x }) (λ x u. refl)),
-      (
-        λ _. inl (keeps rule (λ x s. record s { follow = x }) (λ x u. refl)),
-        (
-          λ _. inl (keeps number (λ x s. record s { match_card = x }) (λ x u. refl)),
-          (
-            λ _. inl (keeps number (λ x s. record s { return_card = x }) (λ x u. refl)),
-            (
-              λ _. inl (keeps number (λ x s. record s { search_card = x }) (λ x u. refl)),
-              (
-                λ h. inr h,
-                (
-                  λ _. inl (keeps truth (λ x s. record s { use_dynamic = x }) (λ x u. refl)),
-                  (
-                    λ _. inl (keeps truth (λ x s. record s { use_modifiable = x }) (λ x u. refl)),
-                    (
-                      λ _. inl (keeps truth (λ x s. record s { use_proxy = x }) (λ x u. refl)),
-                      (
-                        λ _. inl (keeps (octets 256) (λ x s. record s { request_id = x }) (λ x u. refl)),
-                        tt,
-                      ),
-                    ),
-                  ),
-                ),
-              ),
-            ),
-          ),
-        ),
-      ),
-    ),
-  )
+  by_field : (f : Field) → bytes_eq name (name_of f) ≡ true → KeepsOrStarts (states (kind_of f) (put f))
+  by_field start h = inr h
+  by_field f h = inl (keeps (kind_of f) (put f) (λ x s. refl))
 
-  known_keeps : (found : Option Entry) (p : Policy) (s t : Stated) → lookup (bytes_eq name) policies ≡ found
+  each_keeps : AllByRecursion (λ x. bytes_eq name x.0 ≡ true → KeepsOrStarts x.1) policies
+  each_keeps = each (λ x. bytes_eq name x.0 ≡ true → KeepsOrStarts x.1) by_field
+
+  known_keeps : (found : Option States) (p : Policy) (s t : Stated) → lookup (bytes_eq name) policies ≡ found
       → known found p s ≡ Ok t → (t.start ≡ s.start) ⊎ is_start
   known_keeps None p s t is h = inl (ap (λ (z : Stated). z.start) (sym (same_ok s t h)))
   known_keeps (Some e) p s t is h = either (looked (bytes_eq name) KeepsOrStarts policies each_keeps e is)

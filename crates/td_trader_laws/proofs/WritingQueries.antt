@@ -22,10 +22,12 @@ use Rattle.td_ops.specs.declared.operation.Operation.TheVariants as operation
 use Rattle.td_policy.specs.Effective.{effective_of}
 use Rattle.td_policy.specs.Stated.{known, next_stated, nothing, policies, stated, stated_after, stated_value, states}
 use Rattle.td_policy.specs.Stated.{valid}
-use Rattle.td_policy.specs.Values.{Kind, number, octets, rule, texts, truth}
+use Rattle.td_policy.specs.Fields.{kind_of, put}
+use Rattle.td_policy.specs.Values.{Kind}
 use Rattle.td_policy.specs.declared.fault.PolicyFault.{PolicyFault}
 use Rattle.td_policy.specs.declared.fault.PolicyFault.TheVariants as fault
 use Rattle.td_policy.specs.declared.stated.Stated.{Stated}
+use Rattle.td_policy.proofs.Fields.{States, each}
 use Rattle.td_store.specs.Candidates.{candidates, is_candidate}
 use Rattle.td_store.specs.LinkLists.{link_of}
 use Rattle.td_store.specs.Stores.{IsOffer}
@@ -85,63 +87,30 @@ value-stated kind p h =
     fault-when (same p.value.code kind.code) (valid p (kind.value_of p.value.value)) (Err (fault.PolicyTypeMismatch p))
     (value-valid p (kind.value_of p.value.value) h) (p, refl, h)
 
-abbrev Entry : Type 0
-Entry = Policy → Stated → Result Stated PolicyFault
-
-abbrev IsGood : Entry → Type 0
+abbrev IsGood : States → Type 0
 IsGood entry = (p : Policy) (s : Stated) → policy.format.admits p → FaultAdmitted (entry p s)
 
 good : {A : Type 0} (kind : Kind A) (put : Option A → Stated → Stated) → IsGood (states kind put)
 good kind put p s h = bound (stated_value kind p) (λ x. Ok (put x s)) (value-stated kind p h) (λ x. tt)
 
 each-good : AllByRecursion (λ x. IsGood x.1) policies
-each-good = (
-  good truth (λ x s. record s { exact = x }),
-  (
-    good number (λ x s. record s { hops = x }),
-    (
-      good rule (λ x s. record s { follow = x }),
-      (
-        good number (λ x s. record s { match_card = x }),
-        (
-          good number (λ x s. record s { return_card = x }),
-          (
-            good number (λ x s. record s { search_card = x }),
-            (
-              good (texts 64) (λ x s. record s { start = x }),
-              (
-                good truth (λ x s. record s { use_dynamic = x }),
-                (
-                  good truth (λ x s. record s { use_modifiable = x }),
-                  (
-                    good truth (λ x s. record s { use_proxy = x }),
-                    (good (octets 256) (λ x s. record s { request_id = x }), tt),
-                  ),
-                ),
-              ),
-            ),
-          ),
-        ),
-      ),
-    ),
-  ),
-)
+each-good = each (λ x. IsGood x.1) (λ f. good (kind_of f) (put f))
 
-abbrev FoundGood : Option Entry → Type 0
+abbrev FoundGood : Option States → Type 0
 FoundGood None = Unit {0}
 FoundGood (Some entry) = IsGood entry
 
-good-when : (b : Bool) (entry : Entry) (later : Option Entry) → IsGood entry → FoundGood later
+good-when : (b : Bool) (entry : States) (later : Option States) → IsGood entry → FoundGood later
     → FoundGood (cond b (Some entry) later)
 good-when true entry later h k = h
 good-when false entry later h k = k
 
-looked : (test : List ℕ → Bool) (entries : List (List ℕ × Entry)) → AllByRecursion (λ x. IsGood x.1) entries
+looked : (test : List ℕ → Bool) (entries : List (List ℕ × States)) → AllByRecursion (λ x. IsGood x.1) entries
     → FoundGood (lookup test entries)
 looked test [] h = tt
 looked test (x ∷ xs) h = good-when (test x.0) x.1 (lookup test xs) h.0 (looked test xs h.1)
 
-known-good : (found : Option Entry) (p : Policy) (s : Stated) → FoundGood found → policy.format.admits p
+known-good : (found : Option States) (p : Policy) (s : Stated) → FoundGood found → policy.format.admits p
     → FaultAdmitted (known found p s)
 known-good None p s g h = tt
 known-good (Some entry) p s g h = g p s h

@@ -17,9 +17,11 @@ use Rattle.td_walk.proofs.Held.{held}
 use Rattle.td_walk.specs.Passing.{is_named, policy_named, with_policy, replaced, along_path, start_policy}
 use Rattle.td_walk.specs.Passing.{number_in, is_less, states_less, stands, with_passed, with_all_passed}
 use Rattle.td_walk.specs.SubQueries.{link_query, proxy_query, stated_rule}
-use Rattle.td_walk_laws.proofs.Fields as field
-use Rattle.td_walk_laws.proofs.Fields.{Field, is-stated}
-use Rattle.td_walk_laws.specs.SubQueryLaws.{KeepsOthers, OverALink, ToAProxy, AlongAPath, in_its_place, some_left}
+use Rattle.td_policy.specs.Fields as field
+use Rattle.td_policy.specs.Fields.{Field}
+use Rattle.td_walk_laws.proofs.Fields.{is-stated}
+use Rattle.td_walk_laws.specs.SubQueryLaws.{KeepsOthers, OverALink, ToAProxy, AlongAPath, in_its_place, is_replaced}
+use Rattle.td_walk_laws.specs.SubQueryLaws.{some_left}
 use Rattle.td_walk_laws.proofs.Named.{same-name, put-is-named, others-stay, taken-is-gone}
 use Rattle.td_walk_laws.proofs.Replaced.{hops-there, start-gone, replaced-stays, identifier-there, follow-there}
 use Rattle.td_walk_laws.proofs.Replaced.{path-stays, card-there, card-untouched, states-card}
@@ -37,26 +39,44 @@ kept {A} kind name ps qs x y stays before after =
     same-stated kind (policy_named ps name) None y x
     (subst (λ (o : Option Policy). IsStatedBy kind o None y) stays after) before
 
+-- a name that is none of a policy that a sub-query replaces
+pub record IsOther (name : List ℕ) : Type 0 where
+  pub not_card : bytes_eq (codes "return_card") name ≡ false
+  pub not_identifier : bytes_eq (codes "request_id") name ≡ false
+  pub not_rule : bytes_eq (codes "link_follow_rule") name ≡ false
+  pub not_hops : bytes_eq (codes "hop_count") name ≡ false
+  pub not_start : bytes_eq (codes "starting_trader") name ≡ false
+  pub is_no_card : bytes_eq name (codes "return_card") ≡ false
+  pub is_no_identifier : bytes_eq name (codes "request_id") ≡ false
+  pub is_no_rule : bytes_eq name (codes "link_follow_rule") ≡ false
+  pub is_no_hops : bytes_eq name (codes "hop_count") ≡ false
+  pub is_no_start : bytes_eq name (codes "starting_trader") ≡ false
+
+pub other-name : (f : Field) → is_replaced f ≡ false → IsOther (field.name_of f)
+other-name field.hops h = absurd (let bad : ⊥ = cc in bad)
+other-name field.follow h = absurd (let bad : ⊥ = cc in bad)
+other-name field.return_card h = absurd (let bad : ⊥ = cc in bad)
+other-name field.start h = absurd (let bad : ⊥ = cc in bad)
+other-name field.request_id h = absurd (let bad : ⊥ = cc in bad)
+other-name _ h = record {
+  not_card = refl;
+  not_identifier = refl;
+  not_rule = refl;
+  not_hops = refl;
+  not_start = refl;
+  is_no_card = refl;
+  is_no_identifier = refl;
+  is_no_rule = refl;
+  is_no_hops = refl;
+  is_no_start = refl;
+}
+
 -- where the policies stay that nothing replaces, what they state does
 keeps-others : (ps qs : List Policy) (before s : Stated) → stated ps ≡ Ok before → stated qs ≡ Ok s
-    → ((name : List ℕ) → bytes_eq (codes "return_card") name ≡ false → bytes_eq (codes "request_id") name ≡ false
-    → bytes_eq (codes "link_follow_rule") name ≡ false → bytes_eq (codes "hop_count") name ≡ false → bytes_eq name (codes "starting_trader") ≡ false
-    → bytes_eq (codes "starting_trader") name ≡ false → policy_named qs name ≡ policy_named ps name)
-    → KeepsOthers before s
-keeps-others ps qs before s d e stays = record {
-  exact = at field.exact (stays (field.name_of field.exact) refl refl refl refl refl refl);
-  match_card = at field.match_card (stays (field.name_of field.match_card) refl refl refl refl refl refl);
-  search_card = at field.search_card (stays (field.name_of field.search_card) refl refl refl refl refl refl);
-  use_dynamic = at field.use_dynamic (stays (field.name_of field.use_dynamic) refl refl refl refl refl refl);
-  use_modifiable = at field.use_modifiable (stays (field.name_of field.use_modifiable) refl refl refl refl refl refl);
-  use_proxy = at field.use_proxy (stays (field.name_of field.use_proxy) refl refl refl refl refl refl);
-}
-  where
-    at : (f : Field) → policy_named qs (field.name_of f) ≡ policy_named ps (field.name_of f)
-        → field.value_in f s ≡ field.value_in f before
-    at f same =
-        kept (field.kind_of f) (field.name_of f) ps qs (field.value_in f before) (field.value_in f s) same
-        (is-stated f ps before d) (is-stated f qs s e)
+    → ((name : List ℕ) → IsOther name → policy_named qs name ≡ policy_named ps name) → KeepsOthers before s
+keeps-others ps qs before s d e stays f free =
+    kept (field.kind_of f) (field.name_of f) ps qs (field.value_in f before) (field.value_in f s)
+    (stays (field.name_of f) (other-name f free)) (is-stated f ps before d) (is-stated f qs s e)
 
 -- ---- over a link
 
@@ -91,8 +111,8 @@ over_a_link l wanted link s e =
       card = λ d. card-in-its-place wanted l (Some r) s e d;
       others =
           λ d. keeps-others l.query.policies ps l.stated s d e
-          (λ name o a b c f g. replaced-stays l.effective.hops (Some r) l.identifier wanted l.query.policies name
-          o a b c f);
+          (λ name o. replaced-stays l.effective.hops (Some r) l.identifier wanted l.query.policies name o.not_card
+          o.not_identifier o.not_rule o.not_hops o.is_no_start);
     }
 
 -- ---- to a proxy offer's trader
@@ -279,5 +299,5 @@ along_a_path left ps before s d e =
           kept number (codes "return_card") ps qs before.return_card s.return_card
           (path-stays (codes "return_card") left ps refl refl) (is-stated field.return_card ps before d)
           (is-stated field.return_card qs s e);
-      others = keeps-others ps qs before s d e (λ name o a b c f g. path-stays name left ps g f);
+      others = keeps-others ps qs before s d e (λ name o. path-stays name left ps o.not_start o.is_no_start);
     }

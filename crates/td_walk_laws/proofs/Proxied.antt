@@ -16,11 +16,12 @@ use Rattle.td_walk.proofs.Held.{held}
 use Rattle.td_walk.specs.Passing.{is_named, policy_named, with_policy, replaced, number_in}
 use Rattle.td_walk.specs.Passing.{follow_in, is_less, states_less, stands, with_passed, with_all_passed}
 use Rattle.td_walk.specs.SubQueries.{proxy_query, stated_rule}
-use Rattle.td_walk_laws.proofs.Fields as field
-use Rattle.td_walk_laws.proofs.Fields.{Field, is-stated}
-use Rattle.td_walk_laws.specs.SubQueryLaws.{WithPassed, in_its_place, fewer, fewer_wanted, stricter}
+use Rattle.td_policy.specs.Fields as field
+use Rattle.td_policy.specs.Fields.{Field}
+use Rattle.td_walk_laws.proofs.Fields.{is-stated}
+use Rattle.td_walk_laws.specs.SubQueryLaws.{WithPassed, in_its_place, fewer, fewer_wanted, is_replaced, stricter}
 use Rattle.td_walk_laws.proofs.Named.{same-name, put-is-named, others-stay}
-use Rattle.td_walk_laws.proofs.Passed.{apart, card-stands, hops-stand}
+use Rattle.td_walk_laws.proofs.Passed.{apart, card-stands, hops-stand, other-name}
 use Rattle.td_walk_laws.proofs.Replaced.{hops-there, start-gone, replaced-stays, follow-there, rule-untouched}
 use Rattle.td_walk_laws.proofs.Replaced.{card-there, card-untouched}
 use Rattle.td_walk_laws.proofs.Stating.{IsStatedBy, ok-is, met-once, same-stated}
@@ -258,15 +259,11 @@ module _ (l : Local) (wanted : Option ℕ) (part : ProxyPart) (passed s : Stated
     (d : stated l.query.policies ≡ Ok l.stated) (p : stated part.policies ≡ Ok passed)
     (e : stated (with_all_passed (is_some wanted) part.policies (replaced l.effective.hops
     (stated_rule l.stated.follow l.attributes.max_follow_policy) l.identifier wanted l.query.policies)) ≡ Ok s) where
-  passed-on : (f : Field) → (let name = field.name_of f in
-      bytes_eq name (codes "request_id") ≡ false
-      → bytes_eq name (codes "hop_count") ≡ false → bytes_eq name (codes "link_follow_rule") ≡ false
-      → bytes_eq (codes "request_id") name ≡ false → bytes_eq (codes "link_follow_rule") name ≡ false
-      → bytes_eq (codes "hop_count") name ≡ false → bytes_eq name (codes "starting_trader") ≡ false
-      → bytes_eq name (codes "return_card") ≡ false → bytes_eq (codes "return_card") name ≡ false
-      → field.value_in f s ≡ in_its_place (field.value_in f passed) (field.value_in f l.stated))
-  passed-on f a b c g h i j u v =
+  passed-on : (f : Field) → is_replaced f ≡ false
+      → field.value_in f s ≡ in_its_place (field.value_in f passed) (field.value_in f l.stated)
+  passed-on f free =
       let name = field.name_of f in
+      let o = other-name f free in
       let r = stated_rule l.stated.follow l.attributes.max_follow_policy in
       let ps = replaced l.effective.hops r l.identifier wanted l.query.policies in
       let all = with_all_passed (is_some wanted) part.policies ps in
@@ -275,10 +272,12 @@ module _ (l : Local) (wanted : Option ℕ) (part : ProxyPart) (passed s : Stated
       (is-stated f part.policies passed p) (is-stated f l.query.policies l.stated d)
       (subst (λ (o : Option Policy). IsStatedBy (field.kind_of f) o None (field.value_in f s))
       (all-chosen (is_some wanted) name replaces
-      (replaces-by-one (is_some wanted) name a b c
-      (ap (λ (t : Bool). is_some wanted && t) u ∙ and-false (is_some wanted))) [] nothing passed part.policies ps p
+      (replaces-by-one (is_some wanted) name o.is_no_identifier o.is_no_hops o.is_no_rule
+      (ap (λ (t : Bool). is_some wanted && t) o.is_no_card ∙ and-false (is_some wanted))) [] nothing passed part.policies
+      ps p
       ∙ ap (chosen replaces (policy_named part.policies name))
-      (replaced-stays l.effective.hops r l.identifier wanted l.query.policies name v g h i j))
+      (replaced-stays l.effective.hops r l.identifier wanted l.query.policies name o.not_card o.not_identifier
+      o.not_rule o.not_hops o.is_no_start))
       (is-stated f all s e))
 
 -- how many offers are to be returned
@@ -320,7 +319,6 @@ with_passed_on l wanted part constraint passed s d p e =
     let r = stated_rule l.stated.follow l.attributes.max_follow_policy in
     let ps = replaced l.effective.hops r l.identifier wanted l.query.policies in
     let all = with_all_passed (is_some wanted) part.policies ps in
-    let on = passed-on l wanted part passed s d p e in
     record {
       hops =
           number-states (codes "hop_count") (policy_named part.policies (codes "hop_count")) (l.effective.hops - 1) passed.hops s.hops
@@ -351,11 +349,6 @@ with_passed_on l wanted part constraint passed s d p e =
           (start-gone l.effective.hops r l.identifier wanted l.query.policies))
           (is-stated field.start all s e))
           ∙ kept-start passed.start;
-      exact = on field.exact refl refl refl refl refl refl refl refl refl;
-      match_card = on field.match_card refl refl refl refl refl refl refl refl refl;
       return_card = card-passed-on wanted l part passed s.return_card p d (is-stated field.return_card all s e);
-      search_card = on field.search_card refl refl refl refl refl refl refl refl refl;
-      use_dynamic = on field.use_dynamic refl refl refl refl refl refl refl refl refl;
-      use_modifiable = on field.use_modifiable refl refl refl refl refl refl refl refl refl;
-      use_proxy = on field.use_proxy refl refl refl refl refl refl refl refl refl;
+      others = passed-on l wanted part passed s d p e;
     }

@@ -19,7 +19,7 @@ use Rattle.td_value.specs.declared.enumerations.FollowOption.{FollowOption}
 use Rattle.td_value.specs.declared.structures.Policy.{Policy}
 use Rattle.td_walk.specs.Passing.{policy_named, with_policy, with_optional, without_policy, hop_policy, follow_policy}
 use Rattle.td_walk.specs.Passing.{identifier_policy, start_policy, card_policy, replaced, along_path}
-use Rattle.td_walk_laws.proofs.Fields as field
+use Rattle.td_policy.specs.Fields as field
 use Rattle.td_walk_laws.proofs.Fields.{is-stated}
 use Rattle.td_walk_laws.proofs.Named.{put-is-named, others-stay, taken-is-gone, others-are-left}
 use Rattle.td_walk_laws.proofs.Stating.{IsStatedBy, ok-is}

@@ -23,7 +23,7 @@ use Rattle.td_walk.specs.Visits.{next_of}
 use Rattle.td_walk.specs.declared.answer.Next.TheVariants.{Forward}
 use Rattle.td_walk.specs.declared.answer.StepAnswer.{StepAnswer}
 use Rattle.td_walk.proofs.Held.{held}
-use Rattle.td_walk_laws.proofs.Fields as field
+use Rattle.td_policy.specs.Fields as field
 use Rattle.td_walk_laws.proofs.Fields.{is-stated}
 use Rattle.td_walk_laws.specs.Reach.{weight_of, reach_by, reach_of, IsPassed, over_link, to_proxy}
 use Rattle.td_walk_laws.specs.Reach.{along_path, IsReadFor}

@@ -1,7 +1,10 @@
 -- What the policies of a sub-query state (OMG's Trading Object Service, "Policies", "Link Follow Behavior",
 -- starting_trader, and interface Proxy, policies_to_pass_on), where they can be read; else the trader that gets them
 -- refuses the query.
-use Rattle.std.specs.Prelude.{◌≡◌, ℕ, ◌-◌, ◌≤◌, nat_lt, if◌then◌else◌, List, [], ◌∷◌, Option, None, Some, Ok, codes}
+use Rattle.std.specs.Prelude.{◌≡◌, ℕ, ◌-◌, ◌≤◌, nat_lt, Bool, true, false, if◌then◌else◌, List, [], ◌∷◌, Option, None}
+use Rattle.std.specs.Prelude.{Some, Ok, codes}
+use Rattle.td_policy.specs.Fields as field
+use Rattle.td_policy.specs.Fields.{Field, value_in}
 use Rattle.td_policy.specs.Rules.{lesser, pass_on}
 use Rattle.td_policy.specs.Stated.{stated}
 use Rattle.td_policy.specs.declared.stated.Stated.{Stated}
@@ -17,14 +20,18 @@ abbrev pub in_its_place : {A : Type 0} → (passed before : Option A) → Option
 in_its_place None before = before
 in_its_place (Some x) before = Some x
 
+-- the fields whose policies a sub-query replaces or adds
+abbrev pub is_replaced : Field → Bool
+is_replaced field.hops = true
+is_replaced field.follow = true
+is_replaced field.return_card = true
+is_replaced field.start = true
+is_replaced field.request_id = true
+is_replaced _ = false
+
 -- the policies that nothing replaces are as they were stated
-pub record KeepsOthers (before s : Stated) : Type 0 where
-  pub exact : s.exact ≡ before.exact
-  pub match_card : s.match_card ≡ before.match_card
-  pub search_card : s.search_card ≡ before.search_card
-  pub use_dynamic : s.use_dynamic ≡ before.use_dynamic
-  pub use_modifiable : s.use_modifiable ≡ before.use_modifiable
-  pub use_proxy : s.use_proxy ≡ before.use_proxy
+abbrev pub KeepsOthers : (before s : Stated) → Type 0
+KeepsOthers before s = (f : Field) → is_replaced f ≡ false → value_in f s ≡ value_in f before
 
 -- over a link: one hop less, the rule that is passed on, the search's identifier, no start elsewhere, as many offers as
 -- are still wanted, where that is limited, and the rest as it was stated
@@ -70,13 +77,9 @@ pub record WithPassed (l : Local) (wanted : Option ℕ) (passed s : Stated) : Ty
   pub rule : s.follow ≡ stricter passed.follow
       (stated_rule l.stated.follow l.attributes.max_follow_policy)
   pub start : s.start ≡ passed.start
-  pub exact : s.exact ≡ in_its_place passed.exact l.stated.exact
-  pub match_card : s.match_card ≡ in_its_place passed.match_card l.stated.match_card
   pub return_card : s.return_card ≡ fewer_wanted wanted passed.return_card l.stated.return_card
-  pub search_card : s.search_card ≡ in_its_place passed.search_card l.stated.search_card
-  pub use_dynamic : s.use_dynamic ≡ in_its_place passed.use_dynamic l.stated.use_dynamic
-  pub use_modifiable : s.use_modifiable ≡ in_its_place passed.use_modifiable l.stated.use_modifiable
-  pub use_proxy : s.use_proxy ≡ in_its_place passed.use_proxy l.stated.use_proxy
+  pub others : (f : Field) → is_replaced f ≡ false
+      → value_in f s ≡ in_its_place (value_in f passed) (value_in f l.stated)
 
 -- ---- along a path
 
