@@ -3,7 +3,6 @@ use Rattle.std.proofs.Common.{◌≡◌, inl, inr, ℕ, ◌<◌, ◌^◌, List, 
 use Rattle.td_cdr.specs.Marks.{Marks}
 use Rattle.td_cdr.specs.Place.{At}
 use Rattle.td_cdr.specs.Writing.{Draft}
-use Rattle.td_cdr.specs.declared.order.Order.{Order}
 use Rattle.td_giop.specs.Heads.{Request}
 use Rattle.td_iter.specs.Desks.{Live}
 use Rattle.td_lookup.specs.Scenes.{Scene, scene}
@@ -18,8 +17,8 @@ use Rattle.td_reply.specs.declared.class.RequestClass.{RequestClass}
 use Rattle.td_reply.specs.declared.entry.Entry.{Entry}
 use Rattle.td_reply.specs.declared.judging.Judged.{Judged}
 use Rattle.td_reply.specs.declared.judging.Judged.TheVariants.{Call, Refused}
-use Rattle.td_serve.specs.ReplyBytes.{reply_to}
 use Rattle.td_serve.specs.Requests.{Answers, NotesNoCall, Served}
+use Rattle.td_serve.specs.declared.reply_to.ReplyTo.{ReplyTo}
 use Rattle.td_trader.specs.Worlds.{View}
 use Rattle.td_turns.specs.Turns.{FitsCode, minor_code}
 use Rattle.td_walk.specs.declared.trace.Address.{Address}
@@ -40,17 +39,17 @@ module _ (others : List Accepted → Type 0) (later : Marks → Marks → Type 0
   no_memory_fits (Call x c) = tt
 
   -- judging has left the kept iterators as they were
-  pub served_head : (order : Order) (minor : ℕ) (head : Request) (body : At) (w : List View) (d m : Live) (peers : PeersSeen)
+  pub served_head : (to : ReplyTo) (head : Request) (body : At) (w : List View) (d m : Live) (peers : PeersSeen)
       (words : ℕ → ℕ) (j : Judged) (o : Outcome) (e : Entry) (reply : List ℕ) (u : Scene) → m ≡ d
       → j ≡ judged w d head.key head.operation body
-      → Served others later home (reply_to order minor head) j (scene w m peers words) o e reply u
+      → Served others later home to j (scene w m peers words) o e reply u
       → ((c : RequestClass) → NotesNoCall c j e) → HasCode j
-      → ServesHead others later home order minor head body (scene w d peers words) e reply u
-  served_head order minor head body w d m peers words j o e reply u same asks h notes code = record {
+      → ServesHead others later home to head body (scene w d peers words) e reply u
+  served_head to head body w d m peers words j o e reply u same asks h notes code = record {
     noted = record { judged = j; outcome = o; entry = e };
     asks = asks;
     served =
-        subst (λ (x : Live). Served others later home (reply_to order minor head) j (scene w x peers words) o e reply u)
+        subst (λ (x : Live). Served others later home to j (scene w x peers words) o e reply u)
         same h;
     no_call = notes (request_class w d head.key head.operation);
     entry = refl;
@@ -63,16 +62,16 @@ module _ (others : List Accepted → Type 0) (later : Marks → Marks → Type 0
   no_call_noted (Call x asked) c e is = tt
 
   -- memory was wanted to read the call
-  pub refused_head : (order : Order) (minor : ℕ) (head : Request) (body : At) (w : List View) (d m : Live) (peers : PeersSeen)
+  pub refused_head : (to : ReplyTo) (head : Request) (body : At) (w : List View) (d m : Live) (peers : PeersSeen)
       (words : ℕ → ℕ) (c : RequestClass) (e : Entry) (reply : List ℕ) → m ≡ d
       → c ≡ request_class w d head.key head.operation → IsOfClass c (judged w d head.key head.operation body)
       → e ≡ unbegun_entry c
-      → ((j : Judged) (s : Scene) → IsOfClass c j → Served others later home (reply_to order minor head) j s no_memory e reply s)
-      → ServesHead others later home order minor head body (scene w d peers words) e reply (scene w m peers words)
-  refused_head order minor head body w d m peers words c e reply same told of_class is h =
+      → ((j : Judged) (s : Scene) → IsOfClass c j → Served others later home to j s no_memory e reply s)
+      → ServesHead others later home to head body (scene w d peers words) e reply (scene w m peers words)
+  refused_head to head body w d m peers words c e reply same told of_class is h =
       let s = scene w d peers words in
       let j = judged w d head.key head.operation body in
-      subst (λ (x : Live). ServesHead others later home order minor head body s e reply (scene w x peers words)) (sym same)
+      subst (λ (x : Live). ServesHead others later home to head body s e reply (scene w x peers words)) (sym same)
       (record {
         noted = record { judged = j; outcome = no_memory; entry = e };
         asks = refl;

@@ -12,6 +12,7 @@ use Rattle.td_reply.specs.Judging.{judged}
 use Rattle.td_reply.specs.declared.entry.Entry.{Entry}
 use Rattle.td_serve.specs.ReplyBytes.{reply_to}
 use Rattle.td_serve.specs.Requests.{NotesNoCall, Served}
+use Rattle.td_serve.specs.declared.reply_to.ReplyTo.{ReplyTo}
 use Rattle.td_reply.specs.declared.judging.Judged.{Judged}
 use Rattle.td_reply.specs.declared.judging.Judged.TheVariants.{Call, Refused}
 use Rattle.td_turns.specs.Turns.{FitsCode, Noted}
@@ -26,12 +27,11 @@ HasCode (Call x c) = Unit {0}
 module _ (others : List Accepted → Type 0) (later : Marks → Marks → Type 0) where
   -- The Request is judged and served at this scene; this is noted of it, and these bytes are its reply. Where it spells
   -- no call, the minor code that it is told is a ulong.
-  pub record ServesHead (home : Address) (order : Order) (minor : ℕ) (head : Request) (body : At)
-      (s : Scene) (e : Entry) (reply : List ℕ) (u : Scene) : Type 0 where
+  pub record ServesHead (home : Address) (to : ReplyTo) (head : Request) (body : At) (s : Scene)
+      (e : Entry) (reply : List ℕ) (u : Scene) : Type 0 where
     pub noted : Noted
     pub asks : noted.judged ≡ judged s.world s.desk head.key head.operation body
-    pub served : Served others later home (reply_to order minor head)
-        noted.judged s noted.outcome noted.entry reply u
+    pub served : Served others later home to noted.judged s noted.outcome noted.entry reply u
     pub no_call : NotesNoCall (request_class s.world s.desk head.key head.operation)
         noted.judged noted.entry
     pub entry : noted.entry ≡ e
@@ -41,7 +41,7 @@ module _ (others : List Accepted → Type 0) (later : Marks → Marks → Type 0
   pub record NotesHead (order : Order) (minor : ℕ) (head : Request) (body : At) (s : Stage)
       (reply : List ℕ) (u : Stage) : Type 0 where
     pub entry : Entry
-    pub serves : ServesHead s.home order minor head body s.scene entry reply u.scene
+    pub serves : ServesHead s.home (reply_to order minor head) head body s.scene entry reply u.scene
     pub journal : u.journal ≡ s.journal ++ entry ∷ []
     pub home : u.home ≡ s.home
     pub octets : AreOctets body.rest

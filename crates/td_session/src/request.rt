@@ -5,6 +5,7 @@ ghost use Rattle.td_cdr.specs.Lawful.{AreOctets};
 ghost use Rattle.td_giop.specs.declared.header.TheConstants.{NEWEST_MINOR};
 ghost use Rattle.td_objects.specs.References.{IsAddress};
 ghost use Rattle.td_serve.specs.Backends.{scene_of};
+ghost use Rattle.td_serve.specs.ReplyBytes.{IsWritable};
 ghost use Rattle.td_session.specs.Serving.{HasCode, NotesHead, ServesHead, Stays};
 ghost use Rattle.td_session.specs.Stages.{stage_in};
 ghost use Rattle.td_stream.specs.Heads.{asked_of};
@@ -44,14 +45,19 @@ pub(crate) fn answer_request<B: Backend, J: Journal>(
         (Stays (stage_in (B.seen backend.old) room.old) (stage_in (B.seen backend.new) room.new)) }
 {
     room.journal.take_room()?;
+    let to = ReplyTo {
+        order,
+        minor,
+        id: head.id,
+        answered: head.answered,
+    };
     let entry = serve_head(
         alloc,
         backend,
         &room.home,
         &mut room.desk,
         &mut room.replies,
-        order,
-        minor,
+        to,
         head,
     );
     room.journal.note(entry);
@@ -75,24 +81,17 @@ fn serve_head<B: Backend>(
     home: &Address,
     desk: &mut Desk,
     replies: &mut Replies,
-    order: Order,
-    minor: u8,
+    to: ReplyTo,
     head: &RequestHead,
 ) -> Entry
-    requires version { minor ≤ NEWEST_MINOR }
+    requires version { IsWritable to }
     requires home { IsAddress home.now }
     requires numbers { desk.old.1 < 2 ^ 63 }
     ensures same { B.same backend.old backend.new }
-    ensures serves { ServesHead B.others B.later home.now order minor (asked_of head.now)
-        head.now.body (scene_of (B.seen backend.old) desk.old) result replies.new
+    ensures serves { ServesHead B.others B.later home.now to (asked_of head.now) head.now.body
+        (scene_of (B.seen backend.old) desk.old) result replies.new
         (scene_of (B.seen backend.new) desk.new) }
 {
-    let to = ReplyTo {
-        order,
-        minor,
-        id: head.id,
-        answered: head.answered,
-    };
     match backend.judge(alloc, desk, head.key, head.operation, &head.body) {
         Ok(judged) => {
             code_bound(&judged);
