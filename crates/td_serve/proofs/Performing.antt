@@ -1,10 +1,8 @@
 -- What a call comes to, with the body of its reply.
-use Rattle.std.proofs.Common.{◌≡◌, inr, ℕ, true, List, [], ◌++◌, length, refl, sym, ap, subst, ◌∙◌}
+use Rattle.std.proofs.Common.{◌≡◌, inr, ℕ, true, List, length, refl, sym, ap, subst, ◌∙◌}
 use Rattle.td_cdr.specs.Marks.{Marks}
 use Rattle.td_cdr.specs.Writing.{Draft}
-use Rattle.td_cdr.specs.declared.order.Order.{Order}
 use Rattle.td_giop.proofs.Lengths.{reply_start_length}
-use Rattle.td_giop.specs.Written.{reply_start}
 use Rattle.td_lookup.specs.Scenes.{Scene}
 use Rattle.td_lookup.specs.Unserved.{Unserved, wanting}
 use Rattle.td_ops.specs.Outcomes.{is_short}
@@ -17,17 +15,16 @@ use Rattle.td_reply.specs.declared.answer.ReplyBody.TheVariants as reply_body
 use Rattle.td_reply.specs.declared.entry.Entry.{Entry}
 use Rattle.td_reply.specs.declared.entry.Entry.TheVariants.{Plain}
 use Rattle.td_reply.specs.declared.judging.Judged.{Judged}
+use Rattle.td_serve.specs.ReplyBytes.{BeginsReply}
 use Rattle.td_serve.specs.Requests.{Answers}
-use Rattle.td_serve.specs.Serving.{IsBodyOf, MayBeRefused, Performed, Performs}
+use Rattle.td_serve.specs.Serving.{IsBodyOf, MayBeRefused, Performs}
 use Rattle.td_serve.specs.declared.reply_to.ReplyTo.{ReplyTo}
 use Rattle.td_walk.specs.declared.trace.Address.{Address}
 
--- a Reply was begun with its head alone
-pub head_length : (before bytes : List ℕ) (order : Order) (minor id status : ℕ) → before ≡ []
-    → bytes ≡ before ++ reply_start order minor id status → length bytes ≡ 24
-head_length before bytes order minor id status none is =
-    ap (λ (xs : List ℕ). length xs) (is ∙ ap (λ (xs : List ℕ). xs ++ reply_start order minor id status) none)
-    ∙ reply_start_length order minor id status
+-- a writer that holds what stands before the body of a Reply
+pub begun_length : (to : ReplyTo) (draft : Draft) → BeginsReply to draft → length draft.bytes ≡ 24
+begun_length to draft begun =
+    ap (λ (xs : List ℕ). length xs) begun.bytes ∙ reply_start_length to.order to.minor to.id 0
 
 -- from one that holds of what can be taken back to another
 pub long_from : (b : ReplyBody) (P Q : Type 0) → (P → Q) → IfLong b P → IfLong b Q
@@ -67,20 +64,15 @@ module _ (others : List Accepted → Type 0) (later : Marks → Marks → Type 0
     taken_back = back;
   }
 
-  -- memory was wanted, and this is noted
-  memory_performs : (draft written : Draft) (e : Entry) → Unserved others later home j s no_memory e t
-      → Performs others later home j k draft s (reply_body.Outcome no_memory) e written t
-  memory_performs draft written e h = record {
+  -- memory was wanted, and nothing is noted
+  pub wanting_performs : (draft written : Draft) → Unserved others later home j s (wanting Plain) Plain t
+      → Performs others later home j k draft s (reply_body.Outcome no_memory) Plain written t
+  wanting_performs draft written h = record {
     outcome = no_memory;
     answers = inr h;
     body = refl;
     taken_back = λ long. absurd cc;
   }
-
-  -- and nothing is noted
-  pub wanting_performs : (draft written : Draft) → Unserved others later home j s (wanting Plain) Plain t
-      → Performs others later home j k draft s (reply_body.Outcome no_memory) Plain written t
-  wanting_performs draft written h = memory_performs draft written Plain h
 
   -- an outcome of few bytes
   pub short_performs : (draft written : Draft) (o : Outcome) (e : Entry) → is_short o ≡ true
@@ -91,14 +83,4 @@ module _ (others : List Accepted → Type 0) (later : Marks → Marks → Type 0
     answers = answers;
     body = refl;
     taken_back = λ long. absurd (let bad : ⊥ = cc in bad);
-  }
-
-  -- with one for whose beginning memory was wanted
-  pub unbegun_performed : (to : ReplyTo) (written : Draft) (e : Entry) → Unserved others later home j s no_memory e t
-      → Performed others later home to j k s (reply_body.Outcome no_memory) e written t
-  unbegun_performed to written e h = record {
-    draft = record { bytes = reply_start to.order to.minor to.id 0; order = to.order; room = 0 };
-    begun = record { bytes = refl; is_in = refl };
-    performs =
-        memory_performs (record { bytes = reply_start to.order to.minor to.id 0; order = to.order; room = 0 }) written e h;
   }

@@ -1,5 +1,5 @@
 -- A Request that was performed and whose reply was settled is served.
-use Rattle.std.proofs.Common.{◌≡◌, ◌⊎◌, inl, inr, ℕ, Bool, true, false, cond, List, [], ◌++◌, length, refl, sym}
+use Rattle.std.proofs.Common.{◌≡◌, ◌⊎◌, inl, inr, ℕ, cond, List, [], ◌++◌, length, refl, sym}
 use Rattle.std.proofs.Common.{ap, subst, ◌∙◌, arith, length-append}
 use Rattle.td_cdr.specs.Marks.{Marks}
 use Rattle.td_cdr.specs.Writing.{Draft}
@@ -25,17 +25,11 @@ use Rattle.td_reply.specs.declared.judging.Judged.TheVariants.{Refused}
 use Rattle.td_serve.proofs.Wanting.{not_begun}
 use Rattle.td_serve.specs.ReplyBytes.{BeginsReply, outcome_reply, reply_for}
 use Rattle.td_serve.specs.Requests.{Answers, Served}
-use Rattle.td_serve.specs.Serving.{HasHead, IsBodyOf, MayBeRefused, Performed, Settles}
+use Rattle.td_serve.specs.Serving.{HasHead, IsBodyOf, MayBeRefused, Performs, Settles}
 use Rattle.td_serve.specs.declared.reply_to.ReplyTo.{ReplyTo}
 use Rattle.td_walk.specs.declared.trace.Address.{Address}
 
 -- ---- the bytes
-
-expected : (to : ReplyTo) (o : Outcome) → to.answered ≡ true → reply_for to o ≡ outcome_reply to o
-expected to o e = ap (λ c. cond c (outcome_reply to o) []) e
-
-unexpected : (to : ReplyTo) (o : Outcome) → to.answered ≡ false → reply_for to o ≡ []
-unexpected to o e = ap (λ c. cond c (outcome_reply to o) []) e
 
 -- the Reply for a result whose body stands behind the head
 result_bytes : (order : Order) (minor id status : ℕ) (o : Outcome) (bytes : List ℕ) → status ≡ 0
@@ -91,41 +85,31 @@ module _ (others : List Accepted → Type 0) (later : Marks → Marks → Type 0
     reply = is;
   }
 
-  pub served : (j : Judged) (k : ℕ) (s t : Scene) (b : ReplyBody) (e settled : Entry) (written : Draft)
-      (bytes : List ℕ) → Performed others later home to j k s b e written t
+  -- the call was performed with a writer that was begun for the Reply, and its answer was settled
+  pub served : (j : Judged) (k : ℕ) (s t : Scene) (b : ReplyBody) (e settled : Entry) (draft written : Draft)
+      (bytes : List ℕ) → BeginsReply to draft → Performs others later home j k draft s b e written t
       → Settles t.world k to b e written settled bytes
       → (o : Outcome) × Served others later home to j s o settled bytes t
-  served j k s t (reply_body.Outcome told) e settled written bytes p (inl (yes_, inl whole)) =
-      let q = p.performs in (
-        q.outcome,
-        serves j s t q.outcome e settled p.draft bytes p.begun q.answers whole.0
-            (whole.1 ∙ ap (outcome_reply to) q.body ∙ sym (expected to q.outcome yes_)),
-      )
-  served j k s t (reply_body.Outcome told) e settled written bytes p (inl (yes_, inr vain)) =
-      let q = p.performs in (
-        wanting settled,
-        serves_in_vain j k s t e settled p.draft bytes p.begun (q.taken_back vain.0) vain.1
-            (vain.2 ∙ sym (expected to (wanting settled) yes_)),
-      )
-  served j k s t reply_body.Written e settled written bytes p (inl (yes_, whole)) =
-      let q = p.performs in (
-        q.outcome,
-        serves j s t q.outcome e settled p.draft bytes p.begun q.answers whole.0
-            (whole.1
-            ∙ written_bytes to q.outcome p.draft written p.begun q.body.0 q.body.1 q.body.2
-            ∙ sym (expected to q.outcome yes_)),
-      )
-  served j k s t b e settled written bytes p (inr none) =
-      let q = p.performs in (
-        q.outcome,
-        serves j s t q.outcome e settled p.draft bytes p.begun q.answers none.1
-            (none.2 ∙ sym (unexpected to q.outcome none.0)),
-      )
+  served j k s t (reply_body.Outcome told) e settled draft written bytes begun q (inl whole) = (
+    q.outcome,
+    serves j s t q.outcome e settled draft bytes begun q.answers whole.0 (whole.1 ∙ ap (reply_for to) q.body),
+  )
+  served j k s t (reply_body.Outcome told) e settled draft written bytes begun q (inr vain) = (
+    wanting settled,
+    serves_in_vain j k s t e settled draft bytes begun (q.taken_back vain.0) vain.1 vain.2,
+  )
+  served j k s t reply_body.Written e settled draft written bytes begun q h = (
+    q.outcome,
+    serves j s t q.outcome e settled draft bytes begun q.answers h.0
+        (h.1
+        ∙ ap (λ (xs : List ℕ). cond to.answered xs [])
+        (written_bytes to q.outcome draft written begun q.body.0 q.body.1 q.body.2)),
+  )
 
 -- ---- what settling asks for
 
 -- a body that is written stands behind a head
-head_before : (b : ReplyBody) (o : Outcome) (to : ReplyTo) (draft written : Draft)
+pub head_before : (b : ReplyBody) (o : Outcome) (to : ReplyTo) (draft written : Draft)
     → BeginsReply to draft → IsBodyOf o b draft written → HasHead b written
 head_before (reply_body.Outcome told) o to draft written begun h = tt
 head_before reply_body.Written o to draft written begun h =
@@ -136,11 +120,6 @@ head_before reply_body.Written o to draft written begun h =
       length-append draft.bytes (outcome_piece o draft.order (length draft.bytes)),
       reply_start_length to.order to.minor to.id 0,
     )
-
-module _ (others : List Accepted → Type 0) (later : Marks → Marks → Type 0) (home : Address) (to : ReplyTo)
-    (j : Judged) (k : ℕ) (s t : Scene) (b : ReplyBody) (e : Entry) (written : Draft) where
-  pub performed_head : Performed others later home to j k s b e written t → HasHead b written
-  performed_head p = head_before b p.performs.outcome to p.draft written p.begun p.performs.body
 
 -- ---- no call
 
@@ -172,7 +151,7 @@ module _ (others : List Accepted → Type 0) (later : Marks → Marks → Type 0
     reply = is;
   }
 
-  -- one of both
+  -- a refusal is told as it is, or NO_MEMORY is
   pub either_served : (o : Outcome) (e : Entry) (bytes : List ℕ) → e ≡ Plain
       → (bytes ≡ reply_for to o) ⊎ (bytes ≡ reply_for to no_memory)
       → (told : Outcome) × Served others later home to (Refused o) s told e bytes s

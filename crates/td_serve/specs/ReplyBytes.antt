@@ -41,7 +41,3 @@ pub record BeginsReply (to : ReplyTo) (draft : Draft) : Type 0 where
 abbrev pub locate_reply : Order → (minor : ℕ) → ℕ → (live : Bool) → List ℕ
 locate_reply order minor id live = sealed order
     (locate_reply_written order minor id (if live then 1 else 0))
-
--- the bytes of the writer that has the reply
-abbrev pub chosen : (is_long : Bool) → (short long : Draft) → List ℕ
-chosen is_long short long = if is_long then long.bytes else short.bytes

@@ -1,12 +1,12 @@
 -- How an answer becomes a reply.
-use Rattle.std.specs.Prelude.{◌≡◌, ◌⊎◌, ℕ, ◌<◌, ◌≤◌, ◌++◌, Bool, true, false, List, [], length, Result, Ok, Err}
+use Rattle.std.specs.Prelude.{◌≡◌, ◌⊎◌, ℕ, ◌<◌, ◌≤◌, ◌++◌, false, if◌then◌else◌, List, [], length, Result, Ok, Err}
 use Rattle.td_cdr.specs.Marks.{Marks}
 use Rattle.td_cdr.specs.Writing.{Draft}
 use Rattle.td_cdr.specs.declared.memory.Memory.{Memory as Wanting}
 use Rattle.td_giop.specs.Written.{sealed}
 use Rattle.td_lookup.specs.Scenes.{Scene}
 use Rattle.td_lookup.specs.Telling.{in_vain}
-use Rattle.td_lookup.specs.Unserved.{Unserved, unbegun_entry, wanting}
+use Rattle.td_lookup.specs.Unserved.{Unserved, wanting}
 use Rattle.td_ops.specs.Outcomes.{is_short, outcome_piece, outcome_status}
 use Rattle.td_ops.specs.declared.outcome.Outcome.{Outcome}
 use Rattle.td_register.specs.declared.history.Accepted.{Accepted}
@@ -14,10 +14,9 @@ use Rattle.td_reply.specs.Answers.{IfLong, no_memory, plain}
 use Rattle.td_reply.specs.declared.answer.Answer.{Answer}
 use Rattle.td_reply.specs.declared.answer.ReplyBody.{ReplyBody}
 use Rattle.td_reply.specs.declared.answer.ReplyBody.TheVariants as reply_body
-use Rattle.td_reply.specs.declared.class.RequestClass.{RequestClass}
 use Rattle.td_reply.specs.declared.entry.Entry.{Entry}
 use Rattle.td_reply.specs.declared.judging.Judged.{Judged}
-use Rattle.td_serve.specs.ReplyBytes.{BeginsReply, outcome_reply}
+use Rattle.td_serve.specs.ReplyBytes.{reply_for}
 use Rattle.td_serve.specs.Requests.{Answers}
 use Rattle.td_serve.specs.declared.reply_to.ReplyTo.{ReplyTo}
 use Rattle.td_trader.specs.Worlds.{View}
@@ -29,10 +28,6 @@ use Rattle.td_walk.specs.declared.trace.Address.{Address}
 abbrev pub OrNoMemory : Result Answer Wanting → Answer → Type 0
 OrNoMemory (Ok a) told = told ≡ a
 OrNoMemory (Err m) told = told ≡ plain no_memory
-
--- where memory is wanted before anything was done for a Request of a class
-abbrev pub not_begun : RequestClass → Answer
-not_begun c = record { body = reply_body.Outcome no_memory; entry = unbegun_entry c }
 
 -- The body is that of this outcome: it is still to be written; or the outcome is a result, and stands in the writer
 -- behind the draft.
@@ -60,13 +55,6 @@ module _ (others : List Accepted → Type 0) (later : Marks → Marks → Type 0
     pub body : IsBodyOf outcome b draft written
     pub taken_back : IfLong b (MayBeRefused home j k s e t)
 
-  -- the same, with a writer that was begun for the Reply
-  pub record Performed (home : Address) (to : ReplyTo) (j : Judged) (k : ℕ) (s : Scene)
-      (b : ReplyBody) (e : Entry) (written : Draft) (t : Scene) : Type 0 where
-    pub draft : Draft
-    pub begun : BeginsReply to draft
-    pub performs : Performs home j k draft s b e written t
-
 -- ---- replies
 
 -- a written body has a head in front of it
@@ -75,22 +63,14 @@ HasHead (reply_body.Outcome o) written = Unit {0}
 HasHead reply_body.Written written = 12 ≤ length written.bytes
 
 module _ (w : List View) (k : ℕ) (to : ReplyTo) where
-  -- The outcome was told, or memory was wanted for a long one.
-  abbrev pub SettlesOutcome : Outcome → Entry → (settled : Entry) → (bytes : List ℕ) → Type 0
-  SettlesOutcome o e settled bytes =
-      ((settled ≡ e) × (bytes ≡ outcome_reply to o))
-      ⊎ ((is_short o ≡ false) × (settled ≡ in_vain w k e)
-      × (bytes ≡ outcome_reply to (wanting settled)))
-
-  abbrev pub SettlesBody : ReplyBody → Entry → (written : Draft) → (settled : Entry)
-      → (bytes : List ℕ) → Type 0
-  SettlesBody (reply_body.Outcome o) e written settled bytes = SettlesOutcome o e settled bytes
-  SettlesBody reply_body.Written e written settled bytes =
-      (settled ≡ e) × (bytes ≡ sealed written.order written.bytes)
-
-  -- The body was sent, or what stands in its place; a Request that expects no reply gets no bytes.
+  -- The body was sent, or NO_MEMORY in place of one for which memory was wanted; a Request that expects no reply gets no
+  -- bytes.
   abbrev pub Settles : ReplyBody → Entry → (written : Draft) → (settled : Entry) → (bytes : List ℕ)
       → Type 0
-  Settles b e written settled bytes =
-      ((to.answered ≡ true) × SettlesBody b e written settled bytes)
-      ⊎ ((to.answered ≡ false) × (settled ≡ e) × (bytes ≡ []))
+  Settles (reply_body.Outcome o) e written settled bytes =
+      ((settled ≡ e) × (bytes ≡ reply_for to o))
+      ⊎ ((is_short o ≡ false) × (settled ≡ in_vain w k e)
+      × (bytes ≡ reply_for to (wanting settled)))
+  Settles reply_body.Written e written settled bytes =
+      (settled ≡ e)
+      × (bytes ≡ (if to.answered then sealed written.order written.bytes else []))

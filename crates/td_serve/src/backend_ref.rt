@@ -8,14 +8,14 @@ ghost use Rattle.td_serve.specs.Serving.{OrNoMemory};
 
 use crate::backend::Backend;
 use std::alloc::Global;
-use td_cdr::{List, Memory, Reader, Text, Writer};
+use td_cdr::{Memory, Reader, Writer};
 use td_iter::Desk;
 use td_lookup::{answer_query, answer_resolve, entry_in_vain};
-use td_ops::{AddLink, Change, IterCall, Look, Query};
+use td_ops::Call;
 use td_out::Words;
 use td_reply::{
-    Answer, Entry, Judged, Object, RequestClass, answer_add_link, answer_change, answer_iterator,
-    answer_look, find_object, judge, unserved,
+    Answer, Entry, Judged, Object, RequestClass, answer_add_link, answer_change, answer_is_a,
+    answer_iterator, answer_look, answer_non_existent, find_object, judge, unserved,
 };
 use td_trader::Traders;
 use td_value::Kind;
@@ -57,83 +57,53 @@ impl<'t, 'p, 'w, T: Traders, P: Peers, W: Words> Backend for BackendRef<'t, 'p, 
         judge(alloc, self.traders, desk, key, operation, body)
     }
 
-    fn serve_change(&mut self, object: Object, c: Change) -> Answer {
-        or_no_memory(answer_change(self.traders, object.trader, c))
-    }
-
-    fn serve_look(
+    // A look and a query are dropped by a call: their drops, written out here, are dear to prove.
+    fn answer_call(
         &mut self,
         alloc: Global,
         home: &Address,
         desk: &mut Desk,
         w: &mut Writer,
         object: Object,
-        look: Look,
+        call: Call,
     ) -> Answer {
-        let answer = answer_look(alloc, self.traders, home, object.trader, &look, desk, w);
-        drop(look);
-        or_no_memory(answer)
-    }
-
-    fn serve_add_link(
-        &mut self,
-        alloc: Global,
-        home: &Address,
-        object: Object,
-        link: AddLink,
-    ) -> Answer {
-        or_no_memory(answer_add_link(alloc, self.traders, home, object.trader, link, self.peers))
-    }
-
-    fn serve_iterator(
-        &self,
-        alloc: Global,
-        desk: &mut Desk,
-        w: &mut Writer,
-        object: Object,
-        iter: IterCall,
-    ) -> Answer {
-        let name = self.traders.name(object.trader);
-        let number = number_in(object.kind);
-        let answer = answer_iterator(alloc, desk, name, number, &iter, w);
-        drop(iter);
-        or_no_memory(answer)
-    }
-
-    fn serve_query(
-        &mut self,
-        alloc: Global,
-        home: &Address,
-        desk: &mut Desk,
-        w: &mut Writer,
-        object: Object,
-        query: Query,
-    ) -> Answer {
-        let answer = answer_query(
-            alloc,
-            self.traders,
-            home,
-            object.trader,
-            &query,
-            desk,
-            self.peers,
-            self.words,
-            w,
-        );
-        drop(query);
-        answer
-    }
-
-    fn serve_resolve(
-        &mut self,
-        alloc: Global,
-        home: &Address,
-        object: Object,
-        names: List<Text>,
-    ) -> Answer {
-        let answer = answer_resolve(alloc, self.traders, home, object.trader, &names, self.peers);
-        drop(names);
-        answer
+        let trader = object.trader;
+        match call {
+            Call::Change(c) => or_no_memory(answer_change(self.traders, trader, c)),
+            Call::Look(look) => {
+                let told = answer_look(alloc, self.traders, home, trader, &look, desk, w);
+                drop(look);
+                or_no_memory(told)
+            }
+            Call::AddLink(link) => {
+                or_no_memory(answer_add_link(alloc, self.traders, home, trader, link, self.peers))
+            }
+            Call::Iter(iter) => {
+                let name = self.traders.name(trader);
+                let number = number_in(object.kind);
+                or_no_memory(answer_iterator(alloc, desk, name, number, &iter, w))
+            }
+            Call::IsA(id) => answer_is_a(object.interface, id.as_slice()),
+            Call::NonExistent => answer_non_existent(),
+            Call::Query(query) => {
+                let told = answer_query(
+                    alloc,
+                    self.traders,
+                    home,
+                    trader,
+                    &query,
+                    desk,
+                    self.peers,
+                    self.words,
+                    w,
+                );
+                drop(query);
+                told
+            }
+            Call::Resolve(names) => {
+                answer_resolve(alloc, self.traders, home, trader, &names, self.peers)
+            }
+        }
     }
 
     fn entry_in_vain(&self, trader: usize, entry: Entry) -> Entry {

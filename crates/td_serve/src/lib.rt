@@ -1,7 +1,6 @@
 //! One Request of a session: what it comes to, the bytes of its reply, and what the journal notes of it.
 #![tactic(auto)]
 
-mod any_object;
 mod backend;
 mod backend_ref;
 mod laws;

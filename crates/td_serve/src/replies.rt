@@ -1,13 +1,14 @@
 //! Where the replies of a session are written.
 
-ghost use Rattle.std.specs.Prelude.{◌≡◌, ◌<◌, ◌≤◌, ◌^◌, [], length, IsTrue, IfOk, if◌then◌else◌};
+ghost use Rattle.std.specs.Prelude.{◌≡◌, ◌<◌, ◌≤◌, ◌^◌, false, [], length, IsTrue, IfOk, OnErr, OnOk};
+ghost use Rattle.std.specs.Prelude.{if◌then◌else◌};
 ghost use Rattle.td_giop.specs.Written.{sealed};
 ghost use Rattle.td_giop.specs.declared.header.TheConstants.{HEADER_SIZE, NEWEST_MINOR};
 ghost use Rattle.td_ops.specs.Outcomes.{is_short};
-ghost use Rattle.td_serve.specs.ReplyBytes.{BeginsReply, IsWritable, locate_reply, outcome_reply, reply_for};
+ghost use Rattle.td_serve.specs.ReplyBytes.{BeginsReply, IsWritable, locate_reply, reply_for};
 
 use crate::reply_to::ReplyTo;
-use crate::writing::{write_location, write_short};
+use crate::writing::{is_short, write_location, write_reply, write_short};
 use std::alloc::Global;
 use std::marker::Model;
 use std::mem;
@@ -19,18 +20,18 @@ use td_ops::Outcome;
 const RESERVED: usize = 512;
 
 /// The reply status of a result.
-pub(crate) const NO_EXCEPTION: u32 = 0;
+const NO_EXCEPTION: u32 = 0;
 
 /// Where a session writes the reply to the message in front: 512 bytes are reserved for short ones. Contracts see the
 /// bytes of the reply.
 #[derive(Drop)]
 pub struct Replies {
     /// A short reply.
-    pub(crate) short: Writer,
+    short: Writer,
     /// Any other reply.
-    pub(crate) long: Writer,
+    long: Writer,
     /// Whether the reply to the message in front is the long one.
-    pub(crate) is_long: bool,
+    is_long: bool,
 }
 
 impl Model for Replies {
@@ -96,10 +97,11 @@ impl Replies {
         requires short { IsTrue (is_short outcome.now) }
         ensures { self.new ≡ reply_for to outcome.now }
     {
+        self.is_long = false;
         if to.answered {
-            self.tell_short(alloc, to, outcome);
+            write_short(alloc, &mut self.short, to, outcome);
         } else {
-            self.clear();
+            self.short.clear();
         }
     }
 
@@ -149,14 +151,33 @@ impl Replies {
         self.long = writer;
     }
 
-    /// Leaves the Reply for a short outcome, for which there is always room.
-    pub(crate) fn tell_short(&mut self, alloc: Global, to: ReplyTo, outcome: &Outcome)
-        requires version { IsWritable to }
-        requires short { IsTrue (is_short outcome.now) }
-        ensures { self.new ≡ outcome_reply to outcome.now }
+    /// Leaves the Reply for an outcome; no bytes where none is expected.
+    ///
+    /// # Errors
+    ///
+    /// `Memory` for want of memory alone; there is none for a short outcome.
+    pub(crate) fn tell(
+        &mut self,
+        alloc: Global,
+        to: ReplyTo,
+        outcome: &Outcome,
+    ) -> Result<(), Memory>
+        requires { IsWritable to }
+        ensures ok { OnOk result (self.new ≡ reply_for to outcome.now) }
+        ensures err { OnErr result (is_short outcome.now ≡ false) }
     {
-        self.is_long = false;
-        write_short(alloc, &mut self.short, to, outcome);
+        if !to.answered {
+            self.clear();
+            return Ok(());
+        }
+        if is_short(outcome) {
+            self.is_long = false;
+            write_short(alloc, &mut self.short, to, outcome);
+            return Ok(());
+        }
+        self.is_long = true;
+        write_reply(alloc, &mut self.long, to, outcome)?;
+        Ok(())
     }
 }
 

@@ -1,189 +1,73 @@
-//! From an answer to the bytes of its reply.
+//! From an answer to its reply, and what is noted in the end.
 
-ghost use Rattle.std.specs.Prelude.{◌≡◌, ◌≤◌, ◌<◌, false, [], length, IfOk, OnErr};
+ghost use Rattle.std.specs.Prelude.{◌≡◌, ◌<◌, length};
 ghost use Rattle.td_lookup.specs.Telling.{in_vain};
 ghost use Rattle.td_lookup.specs.Unserved.{wanting};
-ghost use Rattle.td_ops.specs.Outcomes.{is_short};
 ghost use Rattle.td_reply.specs.Answers.{IfLong};
-ghost use Rattle.td_serve.specs.ReplyBytes.{IsWritable, chosen, outcome_reply};
-ghost use Rattle.td_serve.specs.Serving.{HasHead, Settles, SettlesBody, SettlesOutcome};
+ghost use Rattle.td_serve.specs.ReplyBytes.{IsWritable, reply_for};
+ghost use Rattle.td_serve.specs.Serving.{HasHead, Settles};
 
 use crate::backend::Backend;
+use crate::replies::Replies;
 use crate::reply_to::ReplyTo;
-use crate::writing::{is_short, write_reply, write_short};
 use std::alloc::Global;
-use td_cdr::{Memory, Writer};
-use td_giop::seal;
+use td_cdr::Writer;
 use td_lookup::wanting;
-use td_ops::Outcome;
 use td_reply::{Answer, Entry, ReplyBody};
 
-/// What is noted of a Request in the end, and whether the long writer has its reply.
-#[derive(Drop)]
-pub(crate) struct Settled {
-    pub entry: Entry,
-    pub is_long: bool,
-}
-
-/// Leaves the reply to a Request in one of the writers, or NO_MEMORY where memory is wanted for it; no bytes where none
-/// is expected.
+/// Leaves the reply for an answer, and tells what is noted. The writer that was begun for the Reply is taken back: it
+/// may hold the body already. Where memory is wanted for a long outcome, the reply is NO_MEMORY, and what is noted is
+/// what stands for the entry then.
 pub(crate) fn settle<B: Backend>(
     alloc: Global,
     backend: &B,
     trader: usize,
-    short: &mut Writer,
-    long: &mut Writer,
+    replies: &mut Replies,
     to: ReplyTo,
+    w: Writer,
     answer: Answer,
-) -> Settled
+) -> Entry
     requires version { IsWritable to }
-    requires reserved { 512 ≤ short.old.room }
-    requires head { HasHead answer.body long.old }
+    requires head { HasHead answer.body w }
     requires within { IfLong answer.body (trader < length (B.seen backend.now).world) }
-    ensures settles { Settles (B.seen backend.now).world trader to answer.body answer.entry long.old
-        result.entry (chosen result.is_long short.new long.new) }
-    ensures reserved { 512 ≤ short.new.room }
+    ensures { Settles (B.seen backend.now).world trader to answer.body answer.entry w result
+        replies.new }
 {
-    if to.answered {
-        settle_body(
-            alloc,
-            backend,
-            trader,
-            short,
-            long,
-            to,
-            answer.body,
-            answer.entry,
-        )
-    } else {
-        leave_none(short, answer.body, answer.entry)
-    }
-}
-
-/// No bytes.
-fn leave_none(short: &mut Writer, body: ReplyBody, entry: Entry) -> Settled
-    ensures entry { result.entry ≡ entry }
-    ensures short { result.is_long ≡ false }
-    ensures empty { short.new ≡ record short.old { bytes = [] } }
-{
-    drop(body);
-    short.clear();
-    Settled {
-        entry,
-        is_long: false,
-    }
-}
-
-/// The reply that is expected.
-fn settle_body<B: Backend>(
-    alloc: Global,
-    backend: &B,
-    trader: usize,
-    short: &mut Writer,
-    long: &mut Writer,
-    to: ReplyTo,
-    body: ReplyBody,
-    entry: Entry,
-) -> Settled
-    requires version { IsWritable to }
-    requires reserved { 512 ≤ short.old.room }
-    requires head { HasHead body long.old }
-    requires within { IfLong body (trader < length (B.seen backend.now).world) }
-    ensures settles { SettlesBody (B.seen backend.now).world trader to body entry long.old
-        result.entry (chosen result.is_long short.new long.new) }
-    ensures reserved { 512 ≤ short.new.room }
-{
+    let Answer { body, entry } = answer;
     match body {
-        ReplyBody::Outcome(outcome) => settle_outcome(
-            alloc, backend, trader, short, long, to, outcome, entry,
-        ),
         ReplyBody::Written => {
-            seal(long);
-            Settled {
-                entry,
-                is_long: true,
+            replies.finish(to, w);
+            entry
+        }
+        ReplyBody::Outcome(outcome) => {
+            replies.give_up(w);
+            let told = replies.tell(alloc, to, &outcome);
+            drop(outcome);
+            match told {
+                Ok(()) => entry,
+                Err(_) => settle_in_vain(alloc, backend, trader, replies, to, entry),
             }
         }
     }
 }
 
-/// The reply for an outcome that is still to be written.
-fn settle_outcome<B: Backend>(
-    alloc: Global,
-    backend: &B,
-    trader: usize,
-    short: &mut Writer,
-    long: &mut Writer,
-    to: ReplyTo,
-    outcome: Outcome,
-    entry: Entry,
-) -> Settled
-    requires version { IsWritable to }
-    requires reserved { 512 ≤ short.old.room }
-    requires within { is_short outcome ≡ false → trader < length (B.seen backend.now).world }
-    ensures settles { SettlesOutcome (B.seen backend.now).world trader to outcome entry result.entry
-        (chosen result.is_long short.new long.new) }
-    ensures reserved { 512 ≤ short.new.room }
-{
-    let told = tell_outcome(alloc, short, long, to, &outcome);
-    drop(outcome);
-    match told {
-        Ok(is_long) => Settled { entry, is_long },
-        Err(_) => settle_in_vain(alloc, backend, trader, short, to, entry),
-    }
-}
-
-/// Writes the reply for an outcome, a short one into the reserved bytes. Answers whether the long writer has it.
-///
-/// # Errors
-///
-/// `Memory` for want of memory alone; there is none for a short outcome.
-pub(crate) fn tell_outcome(
-    alloc: Global,
-    short: &mut Writer,
-    long: &mut Writer,
-    to: ReplyTo,
-    outcome: &Outcome,
-) -> Result<bool, Memory>
-    requires version { IsWritable to }
-    requires room { 512 ≤ short.old.room }
-    ensures ok { IfOk result (λ is_long. chosen is_long short.new long.new
-        ≡ outcome_reply to outcome.now) }
-    ensures err { OnErr result (is_short outcome.now ≡ false) }
-    ensures reserved { 512 ≤ short.new.room }
-{
-    if is_short(outcome) {
-        write_short(alloc, short, to, outcome);
-        Ok(false)
-    } else {
-        write_reply(alloc, long, to, outcome)?;
-        Ok(true)
-    }
-}
-
-/// NO_MEMORY, and what is noted then.
+/// Leaves NO_MEMORY in place of an answer with this entry, and tells what is noted then.
 fn settle_in_vain<B: Backend>(
     alloc: Global,
     backend: &B,
     trader: usize,
-    short: &mut Writer,
+    replies: &mut Replies,
     to: ReplyTo,
     entry: Entry,
-) -> Settled
+) -> Entry
     requires version { IsWritable to }
-    requires reserved { 512 ≤ short.old.room }
     requires within { trader < length (B.seen backend.now).world }
-    ensures entry { result.entry ≡ in_vain (B.seen backend.now).world trader entry }
-    ensures short { result.is_long ≡ false }
-    ensures bytes { short.new.bytes ≡ outcome_reply to (wanting result.entry) }
-    ensures reserved { 512 ≤ short.new.room }
+    ensures entry { result ≡ in_vain (B.seen backend.now).world trader entry }
+    ensures reply { replies.new ≡ reply_for to (wanting result) }
 {
     let entry = backend.entry_in_vain(trader, entry);
     let outcome = wanting(&entry);
-    write_short(alloc, short, to, &outcome);
+    replies.answer(alloc, to, &outcome);
     drop(outcome);
-    Settled {
-        entry,
-        is_long: false,
-    }
+    entry
 }
