@@ -54,33 +54,6 @@ pub fn serve_connection<T: Traders, S: Source, K: Sink, P: Peers, W: Words, J: J
         (outside (S.left source.new) (S.faults source.new) (K.written sink.new)
         (K.faults sink.new)) }
 {
-    serve_session(alloc, traders, room, source, sink, peers, words)
-}
-
-/// Serves a session, with a servant over what it is lent.
-fn serve_session<T: Traders, S: Source, K: Sink, P: Peers, W: Words, J: Journal>(
-    alloc: Global,
-    traders: &mut T,
-    room: &mut Room<J>,
-    source: &mut S,
-    sink: &mut K,
-    peers: &mut P,
-    words: &mut W,
-) -> End
-    requires { IsNew room.old }
-    ensures same { T.same traders.old traders.new }
-    ensures same_peers { P.same peers.old peers.new }
-    ensures same_words { W.same words.old words.new }
-    ensures serves { Serves T.others T.later room.old.home
-        (scene_in (backend_seen (T.world traders.old)
-        (peers_seen (P.calls peers.old) (P.faults peers.old)) (W.word words.old)) room.old)
-        (scene_in (backend_seen (T.world traders.new)
-        (peers_seen (P.calls peers.new) (P.faults peers.new)) (W.word words.new)) room.new)
-        room.new.journal result (outside (S.left source.old) (S.faults source.old)
-        (K.written sink.old) (K.faults sink.old))
-        (outside (S.left source.new) (S.faults source.new) (K.written sink.new)
-        (K.faults sink.new)) }
-{
     let mut servant = TraderServant {
         traders,
         room,
@@ -101,7 +74,7 @@ fn serve_session<T: Traders, S: Source, K: Sink, P: Peers, W: Words, J: Journal>
     end
 }
 
-/// The same, of what is lent.
+/// Serves a session of what its servant is lent.
 fn serve_lent<'t, 'r, 'p, 'w, T: Traders, S: Source, K: Sink, P: Peers, W: Words, J: Journal>(
     alloc: Global,
     servant: &mut TraderServant<'t, 'r, 'p, 'w, T, J, P, W>,
@@ -124,6 +97,17 @@ fn serve_lent<'t, 'r, 'p, 'w, T: Traders, S: Source, K: Sink, P: Peers, W: Words
         (peers_seen (P.calls servant.new.peers.now) (P.faults servant.new.peers.now))
         (W.word servant.new.words.now)) servant.new.room.now)
         servant.new.room.now.journal result
+        (outside (S.left source.old) (S.faults source.old) (K.written sink.old) (K.faults sink.old))
+        (outside (S.left source.new) (S.faults source.new) (K.written sink.new)
+        (K.faults sink.new)) }
+    ensures faults { P.faults servant.old.peers.now ≤ P.faults servant.new.peers.now }
+    ensures complete { Completes T.others T.later servant.old.room.now.home
+        (scene_in (backend_seen (T.world servant.old.traders.now)
+        (peers_seen (P.calls servant.old.peers.now) (P.faults servant.old.peers.now))
+        (W.word servant.old.words.now)) servant.old.room.now)
+        (scene_in (backend_seen (T.world servant.new.traders.now)
+        (peers_seen (P.calls servant.new.peers.now) (P.faults servant.new.peers.now))
+        (W.word servant.new.words.now)) servant.new.room.now) result
         (outside (S.left source.old) (S.faults source.old) (K.written sink.old) (K.faults sink.old))
         (outside (S.left source.new) (S.faults source.new) (K.written sink.new)
         (K.faults sink.new)) }

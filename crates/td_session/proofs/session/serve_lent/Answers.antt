@@ -2,10 +2,12 @@ use Rattle.td_reply.specs.Linking.{peers_seen}
 use Rattle.td_serve.specs.Backends.{backend_seen}
 use Rattle.td_session.specs.Serving.{ServesMessage, Stays}
 use Rattle.td_session.specs.Stages.{stage_in}
+use Rattle.td_session.proofs.Complete.{complete}
 use Rattle.td_session.proofs.Exchanged.{session_served}
 use Rattle.td_session.proofs.session.serve_lent.Goals as goal
 use Rattle.td_session.proofs.Messages.{first_number}
 use Rattle.td_stream.proofs.Mapped.{seen_so}
+use Rattle.td_turns.proofs.Running.{faults-rise}
 
 pub serve_stream-end-requires : goal.serve_stream-end-requires
 serve_stream-end-requires g c = first_number _ c.requires.desk
@@ -21,3 +23,9 @@ returns-clause-serves g c =
     v.room.now)
     _ _ (ServesMessage g.T.Traders.others g.T.Traders.later) Stays (λ s m r t x. x) (λ s t x. x) _ _ _ _ _
     c.serve_stream-end.ensures.streams)
+
+pub returns-clause-faults : goal.returns-clause-faults
+returns-clause-faults g c = faults-rise _ _ _ _ _ _ (returns-clause-serves g c).run
+
+pub returns-clause-complete : goal.returns-clause-complete
+returns-clause-complete g c = complete _ _ _ _ _ _ _ _ _ (returns-clause-serves g c)
