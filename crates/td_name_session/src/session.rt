@@ -38,25 +38,6 @@ pub fn serve_names<N: Names, S: Source, K: Sink>(
         (outside (S.left source.new) (S.faults source.new) (K.written sink.new)
         (K.faults sink.new)) }
 {
-    serve_session(alloc, names, room, source, sink)
-}
-
-/// Serves a session, with a servant over what it is lent.
-fn serve_session<N: Names, S: Source, K: Sink>(
-    alloc: Global,
-    names: &mut N,
-    room: &mut NameRoom,
-    source: &mut S,
-    sink: &mut K,
-) -> End
-    requires { IsNew room.old }
-    ensures same { N.same names.old names.new }
-    ensures serves { Serves N.others (scene (N.view names.old) room.old.desk)
-        (scene (N.view names.new) room.new.desk) room.new.journal result
-        (outside (S.left source.old) (S.faults source.old) (K.written sink.old) (K.faults sink.old))
-        (outside (S.left source.new) (S.faults source.new) (K.written sink.new)
-        (K.faults sink.new)) }
-{
     let mut servant = NameServant { names, room };
     let end = serve_lent(alloc, &mut servant, source, sink);
     let NameServant { names, room } = servant;
@@ -65,7 +46,7 @@ fn serve_session<N: Names, S: Source, K: Sink>(
     end
 }
 
-/// The same, of what is lent.
+/// Serves a session of what its servant is lent.
 fn serve_lent<'n, 'r, N: Names, S: Source, K: Sink>(
     alloc: Global,
     servant: &mut NameServant<'n, 'r, N>,
@@ -81,6 +62,12 @@ fn serve_lent<'n, 'r, N: Names, S: Source, K: Sink>(
         (scene (N.view servant.new.names.now) servant.new.room.now.desk)
         servant.new.room.now.journal result (outside (S.left source.old) (S.faults source.old)
         (K.written sink.old) (K.faults sink.old))
+        (outside (S.left source.new) (S.faults source.new) (K.written sink.new)
+        (K.faults sink.new)) }
+    ensures complete { Completes N.others
+        (scene (N.view servant.old.names.now) servant.old.room.now.desk)
+        (scene (N.view servant.new.names.now) servant.new.room.now.desk) result
+        (outside (S.left source.old) (S.faults source.old) (K.written sink.old) (K.faults sink.old))
         (outside (S.left source.new) (S.faults source.new) (K.written sink.new)
         (K.faults sink.new)) }
 {

@@ -1,3 +1,4 @@
+use Rattle.td_name_session.proofs.Complete.{complete}
 use Rattle.td_name_session.proofs.Exchanged.{session_served}
 use Rattle.td_name_session.proofs.Messages.{first_number}
 use Rattle.td_name_session.proofs.session.serve_lent.Goals as goal
@@ -12,3 +13,6 @@ returns-clause-serves g c =
     session_served g.N.Names.others _ _ _ _ _ c.requires.journal
     (seen_so (λ v. stage_in (g.N.Names.view v.names.now) v.room.now) _ _ (ServesMessage g.N.Names.others) Stays
     (λ s m r t x. x) (λ s t x. x) _ _ _ _ _ c.serve_stream.ensures.streams)
+
+pub returns-clause-complete : goal.returns-clause-complete
+returns-clause-complete g c = complete _ _ _ _ _ _ _ (returns-clause-serves g c)
