@@ -1,6 +1,6 @@
 -- What a query is answered with.
 use Rattle.std.proofs.Common.{◌≡◌, inl, inr, ℕ, false, true, List, [], ◌++◌, length, map, min, Result, Ok, Err, IfOk}
-use Rattle.std.proofs.Common.{OnOk, OnErr, refl, sym, ap, subst, ◌∙◌}
+use Rattle.std.proofs.Common.{OnErr, refl, sym, ap, subst, ◌∙◌}
 use Rattle.td_cdr.specs.Marks.{Marks}
 use Rattle.td_cdr.specs.Writing.{Draft}
 use Rattle.td_cdr.specs.declared.memory.Memory.{Memory as Wanting}
@@ -25,6 +25,7 @@ use Rattle.td_reply.specs.declared.entry.Entry.TheVariants.{Walk}
 use Rattle.td_reply.specs.declared.judging.Judged.TheVariants.{Call}
 use Rattle.td_reply.specs.declared.objects.Object.{Object}
 use Rattle.td_trader.specs.Worlds.{history_at, name_at}
+use Rattle.td_value.specs.declared.structures.Offer.{Offer}
 use Rattle.td_walk.specs.declared.answer.SubAnswer.{SubAnswer}
 use Rattle.td_walk.specs.declared.trace.Address.{Address}
 use Rattle.td_walk.specs.declared.trace.Trace.{Trace}
@@ -40,28 +41,21 @@ use Rattle.td_walk_laws.specs.Walks.{shown}
 
 module _ (home : Address) (name : List ℕ) (q : Query) (a : SubAnswer) (max_list : ℕ) (old new : Draft) (d e : Live)
   where
-    told_first : (b : ReplyBody) → b ≡ Written
-        → PutsFirst home name (min q.how_many max_list) a.limits (map (chosen q.desired) a.offers) old new d e
-        → TellsVisit home name q (visit.Answered a max_list) old d b new e
-    told_first b is p =
-        subst (λ (x : ReplyBody). TellsVisit home name q (visit.Answered a max_list) old d x new e) (sym is)
-        (record {
+    -- the first batch of the offers was written, each with the properties that are asked for
+    pub answer_told : (wanted : SubAnswer) (n : ℕ) → wanted.offers ≡ map (chosen q.desired) a.offers
+        → wanted.limits ≡ a.limits → n ≡ min q.how_many max_list
+        → PutsFirst home name n wanted.limits wanted.offers old new d e
+        → TellsVisit home name q (visit.Answered a max_list) old d Written new e
+    answer_told wanted n offers limits least puts =
+        let p : PutsFirst home name (min q.how_many max_list) a.limits (map (chosen q.desired) a.offers) old new d e =
+        subst (λ (m : ℕ). PutsFirst home name m a.limits (map (chosen q.desired) a.offers) old new d e) least
+        (subst (λ (ls : List (List ℕ)). PutsFirst home name n ls (map (chosen q.desired) a.offers) old new d e) limits
+        (subst (λ (os : List Offer). PutsFirst home name n wanted.limits os old new d e) offers puts)) in
+        record {
           outcome = first_offers home name d.1 a.limits (map (chosen q.desired) a.offers) p.count;
           told = record { count = p.count; batch = p.batch; outcome = refl; kept = p.kept; some = p.some };
           tells = (refl, p.bytes);
-        })
-
-    pub answer_told : (r : Result ReplyBody Wanting) → IfOk r (λ b. b ≡ Written)
-        → OnOk r (PutsFirst home name (min q.how_many max_list) a.limits (map (chosen q.desired) a.offers) old new d e)
-        → IfOk r (λ b. TellsVisit home name q (visit.Answered a max_list) old d b new e)
-    answer_told (Ok b) is p = told_first b is p
-    answer_told (Err m) is p = tt
-
--- the body of a written answer isn't an outcome
-pub written_whole : (X : Type 0) (r : Result ReplyBody Wanting) → IfOk r (λ b. b ≡ Written)
-    → IfOk r (λ b. IfOutcome b X)
-written_whole X (Ok b) is = subst (λ (x : ReplyBody). IfOutcome x X) (sym is) tt
-written_whole X (Err m) is = tt
+        }
 
 -- ---- a query
 

@@ -9,6 +9,7 @@ ghost use Rattle.td_value.specs.declared.unions.SpecifiedProps.TheVariants as pr
 use std::alloc::Global;
 use td_cdr::{List, Memory, Shared, Text, Twin};
 use td_value::{Offer, Property, SpecifiedProps};
+use td_walk::SubAnswer;
 
 fn property_named<'a>(name: &[u8], properties: &'a [Property]) -> Option<&'a Property>
     ensures { option_copied result ≡ property_named name.now properties.now }
@@ -100,5 +101,28 @@ pub fn choose_each(
         SpecifiedProps::None => choose_none_of_each(alloc, offers),
         SpecifiedProps::Some(names) => choose_named_of_each(alloc, names.as_slice(), offers),
         SpecifiedProps::All => Ok(offers),
+    }
+}
+
+/// The same answer, each of its offers with the desired ones of its properties.
+///
+/// # Errors
+///
+/// `Memory` for want of memory alone.
+pub(crate) fn choose_in(
+    alloc: Global,
+    desired: &SpecifiedProps,
+    answer: SubAnswer,
+) -> Result<SubAnswer, Memory>
+    ensures offers { IfOk result (λ a. a.offers ≡ map (chosen desired.now) answer.offers) }
+    ensures limits { IfOk result (λ a. a.limits ≡ answer.limits) }
+{
+    let SubAnswer { offers, limits } = answer;
+    match choose_each(alloc, desired, offers) {
+        Ok(offers) => Ok(SubAnswer { offers, limits }),
+        Err(memory) => {
+            drop(limits);
+            Err(memory)
+        }
     }
 }

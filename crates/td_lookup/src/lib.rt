@@ -12,5 +12,5 @@ mod unserved;
 pub use choosing::choose_each;
 pub use laws::worked_lookups;
 pub use naming::answer_resolve;
-pub use querying::answer_query;
+pub use querying::{LookupQuery, answer_query};
 pub use unserved::{entry_in_vain, wanting};

@@ -1,134 +1,75 @@
 //! The offers that a query is answered with: their first batch (OMG's Trading Object Service, interface Lookup, query).
 
-ghost use Rattle.std.specs.Prelude.{◌≡◌, ◌<◌, ◌^◌, length, map, min, if◌then◌else◌, IfOk, IfSome, OnOk, OnErr};
+ghost use Rattle.std.specs.Prelude.{◌≡◌, ◌<◌, ◌^◌, length, if◌then◌else◌, IfOk, IfSome, OnOk, OnErr};
 ghost use Rattle.td_cdr.specs.Names.{IsTraderName};
 ghost use Rattle.td_iter.specs.Desks.{added};
 ghost use Rattle.td_iter.specs.Heads.{AreLimits, AreSmallOffers, IsSmallReference};
 ghost use Rattle.td_iter.specs.declared.item.Item.TheVariants.{Offers};
 ghost use Rattle.td_iter.specs.declared.limits.TheConstants.{REPLY_START};
-ghost use Rattle.td_lookup.specs.Choosing.{chosen};
 ghost use Rattle.td_lookup.specs.Telling.{PutsBatched, PutsFirst};
 ghost use Rattle.td_objects.specs.References.{IsAddress, offer_iterator};
 
-use crate::choosing::choose_each;
 use std::alloc::Global;
 use td_cdr::{List, Memory, Text, Writer};
 use td_iter::{Desk, Item, OfferIter};
 use td_objects::offer_iterator;
-use td_ops::Query;
 use td_reply::DeskLabel;
 use td_value::Offer;
-use td_walk::Address;
+use td_walk::{Address, SubAnswer};
 
 /// How many offers an iterator holds at most.
 const MOST_OFFERS: usize = 4294967295;
 
-/// Appends the first batch of these offers for the lesser of how_many and max_list, each with the properties that are
-/// desired of it; the desk keeps the others for an iterator of the trader of this name.
+/// Appends the first batch for n of the offers of an answer; the desk keeps the others for an iterator of the trader of
+/// this name.
 ///
 /// # Errors
 ///
 /// `Memory` for want of memory, or for more offers than an iterator can hold; the desk and what the writer holds are
 /// then as they were.
-pub(crate) fn tell_offers(
-    alloc: Global,
-    home: &Address,
-    name: &Text,
-    q: &Query,
-    max_list: u32,
-    offers: List<Offer>,
-    limits: &List<Text>,
-    desk: &mut Desk,
-    w: &mut Writer,
-) -> Result<(), Memory>
-    requires home { IsAddress home.now }
-    requires name { IsTraderName name.now }
-    requires limits { AreLimits limits.now }
-    requires small { AreSmallOffers (map (chosen q.now.desired) offers) }
-    requires start { length w.old.bytes ≡ REPLY_START }
-    requires numbers { desk.old.1 < 2 ^ 63 }
-    ensures puts { OnOk result (PutsFirst home.now name.now (min q.now.how_many max_list) limits.now
-        (map (chosen q.now.desired) offers) w.old w.new desk.old desk.new) }
-    ensures err { OnErr result ((desk.new ≡ desk.old) × (w.new.bytes ≡ w.old.bytes)) }
-    ensures order { w.new.order ≡ w.old.order }
-{
-    let offers = choose_each(alloc, &q.desired, offers)?;
-    put_offers(
-        alloc,
-        home,
-        name,
-        q.how_many.min(max_list),
-        offers,
-        limits,
-        desk,
-        w,
-    )
-}
-
-/// Appends the first batch for n of these offers; the desk keeps the others.
-fn put_offers(
+pub(crate) fn put_offers(
     alloc: Global,
     home: &Address,
     name: &Text,
     n: u32,
-    offers: List<Offer>,
-    limits: &List<Text>,
+    answer: SubAnswer,
     desk: &mut Desk,
     w: &mut Writer,
 ) -> Result<(), Memory>
     requires home { IsAddress home.now }
     requires name { IsTraderName name.now }
-    requires limits { AreLimits limits.now }
-    requires small { AreSmallOffers offers }
+    requires limits { AreLimits answer.limits }
+    requires small { AreSmallOffers answer.offers }
     requires start { length w.old.bytes ≡ REPLY_START }
     requires numbers { desk.old.1 < 2 ^ 63 }
-    ensures puts { OnOk result
-        (PutsFirst home.now name.now n limits.now offers w.old w.new desk.old desk.new) }
+    ensures puts { OnOk result (PutsFirst home.now name.now n answer.limits answer.offers w.old
+        w.new desk.old desk.new) }
     ensures err { OnErr result ((desk.new ≡ desk.old) × (w.new.bytes ≡ w.old.bytes)) }
     ensures order { w.new.order ≡ w.old.order }
 {
+    let SubAnswer { offers, limits } = answer;
     let Some(mut left) = over_offers(offers) else {
+        drop(limits);
         return Err(Memory);
     };
-    match left.whole_batch(alloc, n, w, limits) {
+    // A batch that has all offers needs no iterator.
+    match left.whole_batch(alloc, n, w, &limits) {
         Ok(true) => {
             drop(left);
+            drop(limits);
             Ok(())
         }
-        Ok(false) => put_some(alloc, home, name, n, left, limits, desk, w),
+        Ok(false) => match label_for(alloc, home, name, desk.next_number()) {
+            Ok(label) => put_first(alloc, n, label, left, limits, desk, w),
+            Err(memory) => {
+                drop(left);
+                drop(limits);
+                Err(memory)
+            }
+        },
         Err(memory) => {
             drop(left);
-            Err(memory)
-        }
-    }
-}
-
-/// Appends the first batch for n of what is left, with the reference of the desk's next iterator where something is
-/// left behind it, and keeps the rest.
-fn put_some(
-    alloc: Global,
-    home: &Address,
-    name: &Text,
-    n: u32,
-    left: OfferIter,
-    limits: &List<Text>,
-    desk: &mut Desk,
-    w: &mut Writer,
-) -> Result<(), Memory>
-    requires home { IsAddress home.now }
-    requires name { IsTraderName name.now }
-    requires limits { AreLimits limits.now }
-    requires start { length w.old.bytes ≡ REPLY_START }
-    requires numbers { desk.old.1 < 2 ^ 63 }
-    ensures puts { OnOk result
-        (PutsFirst home.now name.now n limits.now left w.old w.new desk.old desk.new) }
-    ensures err { OnErr result ((desk.new ≡ desk.old) × (w.new.bytes ≡ w.old.bytes)) }
-    ensures order { w.new.order ≡ w.old.order }
-{
-    match label_for(alloc, home, name, desk.next_number()) {
-        Ok(label) => put_first(alloc, n, label, left, limits, desk, w),
-        Err(memory) => {
-            drop(left);
+            drop(limits);
             Err(memory)
         }
     }
@@ -165,29 +106,31 @@ fn put_first(
     n: u32,
     label: DeskLabel,
     left: OfferIter,
-    limits: &List<Text>,
+    limits: List<Text>,
     desk: &mut Desk,
     w: &mut Writer,
 ) -> Result<(), Memory>
     requires small { IsSmallReference label.reference }
-    requires limits { AreLimits limits.now }
+    requires limits { AreLimits limits }
     requires start { length w.old.bytes ≡ REPLY_START }
     requires numbers { desk.old.1 < 2 ^ 63 }
     ensures puts { OnOk result
-        (PutsBatched label.reference limits.now label.trader n left w.old w.new desk.old desk.new) }
+        (PutsBatched label.reference limits label.trader n left w.old w.new desk.old desk.new) }
     ensures err { OnErr result ((desk.new ≡ desk.old) × (w.new.bytes ≡ w.old.bytes)) }
     ensures order { w.new.order ≡ w.old.order }
 {
     let mut left = left;
     let DeskLabel { trader, reference } = label;
-    match left.first_batch(alloc, n, w, &reference, limits) {
+    match left.first_batch(alloc, n, w, &reference, &limits) {
         Ok(more) => {
             drop(reference);
+            drop(limits);
             keep(desk, trader, left, more);
             Ok(())
         }
         Err(memory) => {
             drop(reference);
+            drop(limits);
             drop(trader);
             drop(left);
             Err(memory)

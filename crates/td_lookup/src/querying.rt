@@ -1,12 +1,10 @@
 //! Queries (OMG's Trading Object Service, interface Lookup, query).
 
-ghost use Rattle.std.specs.Prelude.{◌≡◌, ◌<◌, ◌≤◌, ◌^◌, length, map, IfOk, OnOk, OnErr};
+ghost use Rattle.std.specs.Prelude.{◌≡◌, ◌<◌, ◌≤◌, ◌^◌, length, IfOk, OnErr};
 ghost use Rattle.td_cdr.specs.Names.{IsTraderName};
-ghost use Rattle.td_iter.specs.Heads.{AreLimits, AreSmallOffers};
 ghost use Rattle.td_iter.specs.declared.limits.TheConstants.{REPLY_START};
 ghost use Rattle.td_lookup.specs.Scenes.{scene};
-ghost use Rattle.td_lookup.specs.Choosing.{chosen};
-ghost use Rattle.td_lookup.specs.Telling.{GivesSmall, HasLimits, IfOutcome, QueryTold, TakenBack, TellsVisit, TellsVisited};
+ghost use Rattle.td_lookup.specs.Telling.{GivesSmall, HasLimits, IfOutcome, QueryTold, TakenBack, TellsVisited};
 ghost use Rattle.td_lookup.specs.Telling.{walked};
 ghost use Rattle.td_objects.specs.References.{IsAddress};
 ghost use Rattle.td_ops.specs.declared.call.Call.TheVariants as call;
@@ -14,9 +12,9 @@ ghost use Rattle.td_reply.specs.Linking.{peers_seen};
 ghost use Rattle.td_reply.specs.Objects.{IsNamed};
 ghost use Rattle.td_reply.specs.declared.judging.Judged.TheVariants.{Call};
 ghost use Rattle.td_reply.specs.declared.objects.Object.{Object};
-ghost use Rattle.td_walk.specs.declared.trace.Visit.TheVariants as visit;
 
-use crate::offers::tell_offers;
+use crate::choosing::choose_in;
+use crate::offers::put_offers;
 use crate::unserved::unanswered;
 use std::alloc::Global;
 use td_cdr::{List, Memory, Text, Writer};
@@ -26,39 +24,49 @@ use td_ops::Query;
 use td_out::Words;
 use td_reply::{Answer, Entry, ReplyBody};
 use td_trader::Traders;
-use td_walk::{Address, Peers, SubAnswer, Trace, Visit};
+use td_walk::{Address, Peers, Trace, Visit};
 
-/// What a query of the Lookup of this trader is answered with. The writer holds what stands before the body of a reply
-/// with a result; the first batch of offers is appended, and the desk keeps the others.
+/// A query of the Lookup of a trader of the group.
+#[derive(Clone, Copy)]
+pub struct LookupQuery<'q> {
+    /// Where the group is reached.
+    pub home: &'q Address,
+    /// Which trader, counted from 0.
+    pub trader: usize,
+    pub query: &'q Query,
+}
+
+/// What a query is answered with. The writer holds what stands before the body of a reply with a result; the first batch
+/// of offers is appended, and the desk keeps the others.
 ///
 /// Where memory is wanted the answer is NO_MEMORY, with the trace so far; its completion status is MAYBE where a mark
 /// was made.
 pub fn answer_query<T: Traders, P: Peers, W: Words>(
     alloc: Global,
     traders: &mut T,
-    home: &Address,
-    trader: usize,
-    q: &Query,
+    asked: LookupQuery<'_>,
     desk: &mut Desk,
     peers: &mut P,
     words: &mut W,
     w: &mut Writer,
 ) -> Answer
-    requires named { IsNamed (T.world traders.old) trader }
-    requires home { IsAddress home.now }
+    requires named { IsNamed (T.world traders.old) asked.trader }
+    requires home { IsAddress asked.home.now }
     requires start { length w.old.bytes ≡ REPLY_START }
     requires numbers { desk.old.1 < 2 ^ 63 }
     ensures same { T.same traders.old traders.new }
     ensures same_peers { P.same peers.old peers.new }
     ensures same_words { W.same words.old words.new }
     ensures faults { P.faults peers.old ≤ P.faults peers.new }
-    ensures told { (x : Object) → x.trader ≡ trader → QueryTold T.others T.later home.now x
+    ensures told { (x : Object) → x.trader ≡ asked.entry.trader
+        → QueryTold T.others T.later asked.entry.home.now x
         (scene (T.world traders.old) desk.old (peers_seen (P.calls peers.old) (P.faults peers.old))
-        (W.word words.old)) trader q.now w.old result w.new
+        (W.word words.old)) asked.entry.trader asked.entry.query.now w.old result w.new
         (scene (T.world traders.new) desk.new (peers_seen (P.calls peers.new) (P.faults peers.new))
         (W.word words.new)) }
-    ensures taken_back { (x : Object) → x.trader ≡ trader
-        → IfOutcome result.body (TakenBack T.others T.later home.now (Call x (call.Query q.now))
+    ensures taken_back { (x : Object) → x.trader ≡ asked.entry.trader
+        → IfOutcome result.body (TakenBack T.others T.later asked.entry.home.now
+        (Call x (call.Query asked.entry.query.now))
         (scene (T.world traders.old) desk.old (peers_seen (P.calls peers.old) (P.faults peers.old))
         (W.word words.old)) result.entry
         (scene (T.world traders.new) desk.new (peers_seen (P.calls peers.new) (P.faults peers.new))
@@ -68,8 +76,15 @@ pub fn answer_query<T: Traders, P: Peers, W: Words>(
     let mut trace = Trace {
         items: List::new(alloc),
     };
-    let visited = visit(alloc, traders, home, trader, q, peers, words, &mut trace);
-    let told = tell_visited(alloc, home, traders.name(trader), q, visited, desk, w);
+    let LookupQuery {
+        home,
+        trader,
+        query,
+    } = asked;
+    let visited = visit(
+        alloc, traders, home, trader, query, peers, words, &mut trace,
+    );
+    let told = tell_visit(alloc, home, traders.name(trader), query, visited, desk, w);
     walked(trace, told)
 }
 
@@ -86,12 +101,13 @@ fn walked(trace: Trace, told: Result<ReplyBody, Memory>) -> Answer
     }
 }
 
-/// Tells what a visit came to, if it has ended.
+/// Tells what a visit came to, if it has ended: a refusal as it is, or the first batch of its offers, for the lesser of
+/// how_many and max_list, each with the properties that are desired of it.
 ///
 /// # Errors
 ///
 /// `Memory` for want of memory alone; the desk and what the writer holds are then as they were.
-fn tell_visited(
+fn tell_visit(
     alloc: Global,
     home: &Address,
     name: &Text,
@@ -113,74 +129,15 @@ fn tell_visited(
     ensures order { w.new.order ≡ w.old.order }
 {
     match visited {
-        Ok(visit) => tell_visit(alloc, home, name, q, visit, desk, w),
         Err(memory) => Err(memory),
-    }
-}
-
-/// Tells what a visit came to: a refusal as it is, or the first batch of its offers.
-fn tell_visit(
-    alloc: Global,
-    home: &Address,
-    name: &Text,
-    q: &Query,
-    visit: Visit,
-    desk: &mut Desk,
-    w: &mut Writer,
-) -> Result<ReplyBody, Memory>
-    requires home { IsAddress home.now }
-    requires name { IsTraderName name.now }
-    requires limits { HasLimits visit }
-    requires small { GivesSmall q.now visit }
-    requires start { length w.old.bytes ≡ REPLY_START }
-    requires numbers { desk.old.1 < 2 ^ 63 }
-    ensures told { IfOk result
-        (λ b. TellsVisit home.now name.now q.now visit w.old desk.old b w.new desk.new) }
-    ensures unwritten { IfOk result (λ b. IfOutcome b (desk.new ≡ desk.old)) }
-    ensures err { OnErr result ((desk.new ≡ desk.old) × (w.new.bytes ≡ w.old.bytes)) }
-    ensures order { w.new.order ≡ w.old.order }
-{
-    match visit {
-        Visit::Refused(outcome) => Ok(ReplyBody::Outcome(outcome.into_inner())),
-        Visit::Answered { answer, max_list } => {
-            tell_answer(alloc, home, name, q, answer, max_list, desk, w)
-        }
-    }
-}
-
-/// Tells the answer of a visit.
-fn tell_answer(
-    alloc: Global,
-    home: &Address,
-    name: &Text,
-    q: &Query,
-    answer: SubAnswer,
-    max_list: u32,
-    desk: &mut Desk,
-    w: &mut Writer,
-) -> Result<ReplyBody, Memory>
-    requires home { IsAddress home.now }
-    requires name { IsTraderName name.now }
-    requires limits { AreLimits answer.limits }
-    requires small { AreSmallOffers (map (chosen q.now.desired) answer.offers) }
-    requires start { length w.old.bytes ≡ REPLY_START }
-    requires numbers { desk.old.1 < 2 ^ 63 }
-    ensures told { IfOk result (λ b.
-        TellsVisit home.now name.now q.now (visit.Answered answer max_list)
-        w.old desk.old b w.new desk.new) }
-    ensures written { IfOk result (λ b. b ≡ ReplyBody.Written) }
-    ensures err { OnErr result ((desk.new ≡ desk.old) × (w.new.bytes ≡ w.old.bytes)) }
-    ensures order { w.new.order ≡ w.old.order }
-{
-    let SubAnswer { offers, limits } = answer;
-    match tell_offers(alloc, home, name, q, max_list, offers, &limits, desk, w) {
-        Ok(()) => {
-            drop(limits);
-            Ok(ReplyBody::Written)
-        }
-        Err(memory) => {
-            drop(limits);
-            Err(memory)
-        }
+        Ok(visit) => match visit {
+            Visit::Refused(outcome) => Ok(ReplyBody::Outcome(outcome.into_inner())),
+            Visit::Answered { answer, max_list } => {
+                let n = q.how_many.min(max_list);
+                let wanted = choose_in(alloc, &q.desired, answer)?;
+                put_offers(alloc, home, name, n, wanted, desk, w)?;
+                Ok(ReplyBody::Written)
+            }
+        },
     }
 }

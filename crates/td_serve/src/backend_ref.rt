@@ -10,7 +10,7 @@ use crate::backend::Backend;
 use std::alloc::Global;
 use td_cdr::{Memory, Reader, Writer};
 use td_iter::Desk;
-use td_lookup::{answer_query, answer_resolve, entry_in_vain};
+use td_lookup::{LookupQuery, answer_query, answer_resolve, entry_in_vain};
 use td_ops::Call;
 use td_out::Words;
 use td_reply::{
@@ -86,12 +86,15 @@ impl<'t, 'p, 'w, T: Traders, P: Peers, W: Words> Backend for BackendRef<'t, 'p, 
             Call::IsA(id) => answer_is_a(object.interface, id.as_slice()),
             Call::NonExistent => answer_non_existent(),
             Call::Query(query) => {
+                let asked = LookupQuery {
+                    home,
+                    trader,
+                    query: &query,
+                };
                 let told = answer_query(
                     alloc,
                     self.traders,
-                    home,
-                    trader,
-                    &query,
+                    asked,
                     desk,
                     self.peers,
                     self.words,

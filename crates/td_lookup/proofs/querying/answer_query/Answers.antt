@@ -11,22 +11,22 @@ use Rattle.td_walk_laws.proofs.Counting.{counted-up}
 
 pub name-requires : goal.name-requires
 name-requires g c =
-    still_within g.T.Traders.others g.T.Traders.later _ _ c.args.trader c.visit-visited.ensures.goes
+    still_within g.T.Traders.others g.T.Traders.later _ _ c.args.asked.trader c.visit-visited.ensures.goes
     c.requires.named.within
 
-pub tell_visited-told-requires-clause-name : goal.tell_visited-told-requires-clause-name
-tell_visited-told-requires-clause-name g c =
+pub tell_visit-told-requires-clause-name : goal.tell_visit-told-requires-clause-name
+tell_visit-told-requires-clause-name g c =
     subst IsTraderName (sym c.name.ensures)
-    (still_named g.T.Traders.others g.T.Traders.later _ _ c.args.trader c.visit-visited.ensures.goes c.requires.named)
+    (still_named g.T.Traders.others g.T.Traders.later _ _ c.args.asked.trader c.visit-visited.ensures.goes c.requires.named)
 
-pub tell_visited-told-requires-clause-limits : goal.tell_visited-told-requires-clause-limits
-tell_visited-told-requires-clause-limits g c =
-    visited_limits g.T.Traders.others g.T.Traders.later c.args.home.now _ _ c.args.trader c.args.q.now _ _
+pub tell_visit-told-requires-clause-limits : goal.tell_visit-told-requires-clause-limits
+tell_visit-told-requires-clause-limits g c =
+    visited_limits g.T.Traders.others g.T.Traders.later c.args.asked.home.now _ _ c.args.asked.trader c.args.asked.query.now _ _
     c.visit-visited.result c.visit-visited.ensures.visited
 
-pub tell_visited-told-requires-clause-small : goal.tell_visited-told-requires-clause-small
-tell_visited-told-requires-clause-small g c =
-    visited_small g.T.Traders.others g.T.Traders.later c.args.home.now _ _ c.args.trader c.args.q.now _ _
+pub tell_visit-told-requires-clause-small : goal.tell_visit-told-requires-clause-small
+tell_visit-told-requires-clause-small g c =
+    visited_small g.T.Traders.others g.T.Traders.later c.args.asked.home.now _ _ c.args.asked.trader c.args.asked.query.now _ _
     c.visit-visited.result c.visit-visited.ensures.visited
 
 pub returns-clause-told : goal.returns-clause-told
@@ -36,11 +36,11 @@ returns-clause-told g c = λ x at.
     (peers_seen (g.P.Peers.calls c.args.peers.now) (g.P.Peers.faults c.args.peers.now))
     (g.W.Words.word c.args.words.now) in
     let t =
-    scene (g.T.Traders.world c.visit-visited.new.traders) c.tell_visited-told.new.desk
+    scene (g.T.Traders.world c.visit-visited.new.traders) c.tell_visit-told.new.desk
     (peers_seen (g.P.Peers.calls c.visit-visited.new.peers) (g.P.Peers.faults c.visit-visited.new.peers))
     (g.W.Words.word c.visit-visited.new.words) in
-    query_told g.T.Traders.others g.T.Traders.later c.args.home.now x c.args.trader c.args.q.now s t
-    c.visit-visited.new.trace at c.args.w.now c.tell_visited-told.new.w c.tell_visited-told.result
+    query_told g.T.Traders.others g.T.Traders.later c.args.asked.home.now x c.args.asked.trader c.args.asked.query.now s t
+    c.visit-visited.new.trace at c.args.w.now c.tell_visit-told.new.w c.tell_visit-told.result
     c.visit-visited.result c.new.result c.name.result.now c.walked.result
     (record {
       came = c.visit-visited.ensures.visited;
@@ -49,7 +49,7 @@ returns-clause-told g c = λ x at.
       goes = c.visit-visited.ensures.goes;
       draws = c.visit-visited.ensures.draws;
       faults = c.visit-visited.ensures.faults;
-    }) c.new.ensures c.name.ensures c.tell_visited-told.ensures.told c.tell_visited-told.ensures.err c.walked.ensures
+    }) c.new.ensures c.name.ensures c.tell_visit-told.ensures.told c.tell_visit-told.ensures.err c.walked.ensures
 
 pub returns-clause-taken_back : goal.returns-clause-taken_back
 returns-clause-taken_back g c = λ x at.
@@ -58,11 +58,11 @@ returns-clause-taken_back g c = λ x at.
     (peers_seen (g.P.Peers.calls c.args.peers.now) (g.P.Peers.faults c.args.peers.now))
     (g.W.Words.word c.args.words.now) in
     let t =
-    scene (g.T.Traders.world c.visit-visited.new.traders) c.tell_visited-told.new.desk
+    scene (g.T.Traders.world c.visit-visited.new.traders) c.tell_visit-told.new.desk
     (peers_seen (g.P.Peers.calls c.visit-visited.new.peers) (g.P.Peers.faults c.visit-visited.new.peers))
     (g.W.Words.word c.visit-visited.new.words) in
-    query_back g.T.Traders.others g.T.Traders.later c.args.home.now x c.args.trader c.args.q.now s t
-    c.visit-visited.new.trace at c.args.w.now c.tell_visited-told.new.w c.tell_visited-told.result
+    query_back g.T.Traders.others g.T.Traders.later c.args.asked.home.now x c.args.asked.trader c.args.asked.query.now s t
+    c.visit-visited.new.trace at c.args.w.now c.tell_visit-told.new.w c.tell_visit-told.result
     c.visit-visited.result c.new.result c.walked.result
     (record {
       came = c.visit-visited.ensures.visited;
@@ -71,7 +71,7 @@ returns-clause-taken_back g c = λ x at.
       goes = c.visit-visited.ensures.goes;
       draws = c.visit-visited.ensures.draws;
       faults = c.visit-visited.ensures.faults;
-    }) c.new.ensures c.tell_visited-told.ensures.unwritten c.tell_visited-told.ensures.err c.walked.ensures
+    }) c.new.ensures c.tell_visit-told.ensures.unwritten c.tell_visit-told.ensures.err c.walked.ensures
 
 pub returns-clause-faults : goal.returns-clause-faults
 returns-clause-faults g c = counted-up _ _ _ _ c.visit-visited.ensures.faults
