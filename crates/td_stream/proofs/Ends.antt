@@ -21,7 +21,7 @@ use Rattle.td_stream.specs.OutboundLaws.{puts-then}
 use Rattle.td_stream.specs.Outside.{outside}
 use Rattle.td_stream.specs.Streams.{Meets, HasReason, BreaksAt, bytes_limit, request_limit}
 use Rattle.td_stream.specs.Steps.{breaks, cause_of}
-use Rattle.td_stream.specs.Responses.{Answers}
+use Rattle.td_stream.specs.Fronts.{Answers}
 use Rattle.td_stream.specs.Ends.{EndsInput, BreaksOff, EndsAtBad}
 use Rattle.td_stream.specs.Pieces.{Writes, WritesAll}
 use Rattle.td_stream.specs.Progress.{Stand, stand, outside_of, Moves, StopsAt, EndsAt, WritesLast, Advances}

@@ -1,6 +1,7 @@
 pub mod Completeness
 pub mod Ends
 pub mod Exchanges
+pub mod Fronts
 pub mod Heads
 pub mod Messages
 pub mod Outbound
@@ -8,6 +9,5 @@ pub mod OutboundLaws
 pub mod Outside
 pub mod Pieces
 pub mod Progress
-pub mod Responses
 pub mod Steps
 pub mod Streams

@@ -1,19 +1,17 @@
 //! The message in front of the stream, and what becomes of it.
 
 ghost use Rattle.std.specs.Prelude.{◌≡◌, ◌<◌, ◌^◌};
-ghost use Rattle.td_stream.specs.Heads.{HasHead, IsMessage};
 ghost use Rattle.td_stream.specs.Messages.{message_limit};
 ghost use Rattle.td_stream.specs.Outbound.{outbound};
-ghost use Rattle.td_stream.specs.Responses.{Finds, Responds};
-ghost use Rattle.td_stream.specs.Steps.{answers, step_of};
+ghost use Rattle.td_stream.specs.Fronts.{Finds};
 
 use crate::end::Cause;
-use crate::head::{Asked, Head, judge};
+use crate::head::{Asked, judge};
 use crate::outbox::Outbox;
 use crate::servant::Servant;
 use std::alloc::Global;
 use td_giop::message_type::REQUEST;
-use td_giop::{FrameFault, Framer, Raw};
+use td_giop::{FrameFault, Framer};
 use td_out::Sink;
 
 /// What stood in front of the stream, and what became of it.
@@ -33,7 +31,7 @@ pub(crate) enum Front {
     Full,
 }
 
-/// Answers the message in front of the stream, which stays there.
+/// Does what the message in front of the stream asks. The message stays there; its reply comes behind those before.
 pub(crate) fn serve_front<'k, V: Servant, K: Sink>(
     alloc: Global,
     servant: &mut V,
@@ -54,61 +52,18 @@ pub(crate) fn serve_front<'k, V: Servant, K: Sink>(
     match framer.next_message() {
         Err(fault) => Front::Bad(fault),
         Ok(None) => Front::Nothing,
-        Ok(Some(message)) => respond(alloc, servant, &message, outbox),
-    }
-}
-
-/// Does what a message asks.
-fn respond<'k, V: Servant, K: Sink>(
-    alloc: Global,
-    servant: &mut V,
-    message: &Raw<'_>,
-    outbox: &mut Outbox<'k, K>,
-) -> Front
-    requires whole { IsMessage message.now }
-    requires room { V.budget servant.old < 2 ^ 63 }
-    ensures same { V.same servant.old servant.new }
-    ensures same_sink { outbox.new.sink.ghost_name ≡ outbox.old.sink.ghost_name }
-    ensures responds { Responds V.serves V.stays result message.now.bytes.now servant.old
-        servant.new (outbound (K.written outbox.old.sink.now)
-        (K.faults outbox.old.sink.now) outbox.old.held.items outbox.old.failed)
-        (outbound (K.written outbox.new.sink.now)
-        (K.faults outbox.new.sink.now) outbox.new.held.items outbox.new.failed) }
-{
-    match judge(message) {
-        Asked::Close => Front::Closes,
-        Asked::Break(cause) => Front::Breaks(cause),
-        Asked::Answer(head) => answer(alloc, servant, message, &head, outbox),
-    }
-}
-
-/// Answers a message, and puts its reply behind those before.
-fn answer<'k, V: Servant, K: Sink>(
-    alloc: Global,
-    servant: &mut V,
-    message: &Raw<'_>,
-    head: &Head<'_>,
-    outbox: &mut Outbox<'k, K>,
-) -> Front
-    requires whole { IsMessage message.now }
-    requires head { HasHead message.now head.now }
-    requires step { step_of message.now.bytes.now ≡ answers }
-    requires room { V.budget servant.old < 2 ^ 63 }
-    ensures same { V.same servant.old servant.new }
-    ensures same_sink { outbox.new.sink.ghost_name ≡ outbox.old.sink.ghost_name }
-    ensures responds { Responds V.serves V.stays result message.now.bytes.now servant.old
-        servant.new (outbound (K.written outbox.old.sink.now)
-        (K.faults outbox.old.sink.now) outbox.old.held.items outbox.old.failed)
-        (outbound (K.written outbox.new.sink.now)
-        (K.faults outbox.new.sink.now) outbox.new.held.items outbox.new.failed) }
-{
-    match servant.answer(alloc, message, head, outbox) {
-        Err(_) => Front::Full,
-        Ok(()) => {
-            outbox.put(servant.reply());
-            Front::Answered {
-                request: message.kind == REQUEST,
-            }
-        }
+        Ok(Some(message)) => match judge(&message) {
+            Asked::Close => Front::Closes,
+            Asked::Break(cause) => Front::Breaks(cause),
+            Asked::Answer(head) => match servant.answer(alloc, &message, &head, outbox) {
+                Err(_) => Front::Full,
+                Ok(()) => {
+                    outbox.put(servant.reply());
+                    Front::Answered {
+                        request: message.kind == REQUEST,
+                    }
+                }
+            },
+        },
     }
 }

@@ -238,23 +238,6 @@ pub fn serve_stream<V: Servant, S: Source, K: Sink>(
         (outside (S.left source.new) (S.faults source.new) (K.written sink.new)
         (K.faults sink.new)) }
 {
-    serve_whole(alloc, servant, source, sink)
-}
-
-/// Answers the messages of a stream, with an outbox.
-fn serve_whole<V: Servant, S: Source, K: Sink>(
-    alloc: Global,
-    servant: &mut V,
-    source: &mut S,
-    sink: &mut K,
-) -> End
-    requires { V.budget servant.old ≤ 2 ^ 62 }
-    ensures same { V.same servant.old servant.new }
-    ensures streams { Streams V.serves V.stays servant.old servant.new result
-        (outside (S.left source.old) (S.faults source.old) (K.written sink.old) (K.faults sink.old))
-        (outside (S.left source.new) (S.faults source.new) (K.written sink.new)
-        (K.faults sink.new)) }
-{
     let mut outbox = Outbox::new(alloc, sink);
     let end = serve_all(alloc, servant, source, &mut outbox);
     let Outbox { sink, held, .. } = outbox;
@@ -276,6 +259,11 @@ fn serve_all<'k, V: Servant, S: Source, K: Sink>(
     ensures same { V.same servant.old servant.new }
     ensures same_sink { outbox.new.sink.ghost_name ≡ outbox.old.sink.ghost_name }
     ensures streams { Streams V.serves V.stays servant.old servant.new result
+        (outside (S.left source.old) (S.faults source.old) (K.written outbox.old.sink.now)
+        (K.faults outbox.old.sink.now))
+        (outside (S.left source.new) (S.faults source.new) (K.written outbox.new.sink.now)
+        (K.faults outbox.new.sink.now)) }
+    ensures complete { Completes V.serves V.stays servant.old servant.new result
         (outside (S.left source.old) (S.faults source.old) (K.written outbox.old.sink.now)
         (K.faults outbox.old.sink.now))
         (outside (S.left source.new) (S.faults source.new) (K.written outbox.new.sink.now)

@@ -1,4 +1,5 @@
 use Rattle.std.proofs.Common.{◌∙◌, ◌^◌, refl}
+use Rattle.td_stream.proofs.Complete.{complete}
 use Rattle.td_stream.proofs.Leading.{came-first, came-on, streams-last, streams-none, spends}
 use Rattle.td_stream.proofs.Runs.{begins, no_stream}
 use Rattle.td_stream.proofs.transport.serve_all.Goals as goal
@@ -6,6 +7,10 @@ use Rattle.td_stream.proofs.transport.serve_all.Goals as goal
 pub returns-in_default-clause-streams : goal.returns-in_default-clause-streams
 returns-in_default-clause-streams g c =
     streams-none g.V.Servant.serves g.V.Servant.stays _ _ _ _ (g.met.V.Servant.stays_itself _) (no_stream _ _ _ _)
+
+pub returns-in_default-clause-complete : goal.returns-in_default-clause-complete
+returns-in_default-clause-complete g c =
+    complete g.V.Servant.serves g.V.Servant.stays _ _ _ _ _ (returns-in_default-clause-streams g c)
 
 pub loop-end-init : goal.loop-end-init
 loop-end-init g c = (
@@ -41,3 +46,7 @@ pub returns-in-Some-clause-streams : goal.returns-in-Some-clause-streams
 returns-in-Some-clause-streams g c =
     streams-last g.V.Servant.serves g.V.Servant.stays _ _ _ _ _ _ _ c.loop-end.invariant.2
     c.in-Some.ensures.proceeds
+
+pub returns-in-Some-clause-complete : goal.returns-in-Some-clause-complete
+returns-in-Some-clause-complete g c =
+    complete g.V.Servant.serves g.V.Servant.stays _ _ _ _ _ (returns-in-Some-clause-streams g c)

@@ -4,29 +4,13 @@ use Rattle.td_giop.specs.Stream.{first_at}
 use Rattle.td_giop.specs.Cut.{Front}
 use Rattle.td_stream.specs.declared.front.Front.{Front as Fronted}
 use Rattle.td_stream.specs.declared.front.Front.TheVariants.{Nothing, Bad, Closes, Breaks, Answered, Full}
-use Rattle.td_stream.specs.Exchanges.{Exchange, IsExchange, exchange}
+use Rattle.td_stream.specs.Exchanges.{Exchange, IsExchange}
 use Rattle.td_stream.specs.Messages.{is_request, message_limit}
 use Rattle.td_stream.specs.Outbound.{Outbound, Puts}
-use Rattle.td_stream.specs.Steps.{closes, breaks, step_of}
+use Rattle.td_stream.specs.Steps.{closes, breaks}
 use Rattle.td_stream.specs.Streams.{Meets}
 
 module _ {V : Type 0} (serves : V → List ℕ → List ℕ → V → Type 0) (stays : V → V → Type 0) where
-  -- the message was answered, and its reply was put behind those before
-  pub record Replies (s u : V) (message : List ℕ) (asked : Bool) (o p : Outbound) : Type 0 where
-    pub reply : List ℕ
-    pub done : IsExchange serves s (exchange message reply) u
-    pub is : is_request message ≡ asked
-    pub puts : Puts reply o p
-
-  -- what became of a message
-  abbrev pub Responds : Fronted → (message : List ℕ) → (s u : V) → (o p : Outbound) → Type 0
-  Responds Nothing message s u o p = ⊥
-  Responds (Bad fault) message s u o p = ⊥
-  Responds Closes message s u o p = (step_of message ≡ closes) × (u ≡ s) × (p ≡ o)
-  Responds (Breaks cause) message s u o p = (step_of message ≡ breaks cause) × (u ≡ s) × (p ≡ o)
-  Responds (Answered asked) message s u o p = Replies s u message asked o p
-  Responds Full message s u o p = stays s u × Puts [] o p
-
   -- the message in front was answered so, and its reply was put behind those before
   pub record Answers (s u : V) (rest : List ℕ) (asked : Bool) (o p : Outbound) : Type 0 where
     pub exchange : Exchange
