@@ -8,7 +8,7 @@ ghost use Rattle.td_net.specs.declared.event.Event.TheVariants as event;
 use crate::asked::{AskedQuery, asked_as};
 use crate::verdict::{Cause, Stop};
 use std::alloc::Global;
-use td_cdr::{Boxed, List, Memory};
+use td_cdr::{List, Memory, Shared};
 use td_log::ReplyForm;
 use td_net::{Event, Net, NetFault};
 use td_ops::Query;
@@ -35,7 +35,7 @@ pub(crate) fn ask(
     asked: &mut List<AskedQuery>,
     trader: usize,
     form: ReplyForm,
-    query: Boxed<Query>,
+    query: Shared<Query>,
 ) -> Result<(), Stop>
     requires sound { IsSound net.old }
     ensures happens { HappensAs net.old (event.Ask trader query) result net.new }

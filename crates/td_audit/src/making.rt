@@ -20,7 +20,7 @@ use crate::events::happen;
 use crate::group::group_of;
 use crate::replies::{begin_reply, write_reply};
 use std::alloc::Global;
-use td_cdr::{Boxed, List, Memory, Octets, Order, Text, Twin, Writer, is_trader_name};
+use td_cdr::{List, Memory, Octets, Order, Shared, Text, Twin, Writer, is_trader_name};
 use td_drill::drill_query;
 use td_giop::{seal, start_request};
 use td_ior::{Kind, ObjectKey, write_key};
@@ -69,7 +69,7 @@ fn request_to(alloc: Global, name: &Text) -> Result<Writer, Memory>
 fn query_request(alloc: Global, key: &[u8]) -> Result<Writer, Memory>
     ensures { IfOk result (λ w. w.bytes ≡ query_request key.now) }
 {
-    let call = Call::Query(drill_query(alloc)?);
+    let call = Call::Query(Shared::new(alloc, drill_query(alloc)?)?);
     let mut writer = Writer::new(alloc, Order::Big);
     start_request(&mut writer, 0, FIRST, true, key, b"query")?;
     write_call(alloc, &mut writer, &call)?;
@@ -259,7 +259,7 @@ fn ask_trader(
 {
     put_ask(alloc, text, name)?;
     let call = net.calls();
-    let query = Boxed::new(alloc, drill_query(alloc)?)?;
+    let query = Shared::new(alloc, drill_query(alloc)?)?;
     take(net, Event::Ask { trader, query })?;
     follow(alloc, net, call, text)?;
     put_reply(alloc, home, net, name, call, text)

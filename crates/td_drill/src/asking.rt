@@ -7,7 +7,7 @@ ghost use Rattle.td_trader.specs.Solos.{solo_view};
 
 use crate::tally::{Tally, no_walk, tally_of, together};
 use std::alloc::Global;
-use td_cdr::{List, Memory, Text};
+use td_cdr::{List, Memory, Shared, Text};
 use td_fed::visit;
 use td_ops::Query;
 use td_out::Words;
@@ -43,7 +43,7 @@ fn ask<W: Words>(
     solo: &mut Solo,
     home: &Address,
     trader: usize,
-    q: &Query,
+    q: &Shared<Query>,
     peers: &mut MemPeers,
     words: &mut W,
 ) -> Result<Tally, Memory>
@@ -69,7 +69,7 @@ fn ask_each<W: Words>(
     solo: &mut Solo,
     home: &Address,
     count: usize,
-    q: &Query,
+    q: &Shared<Query>,
     peers: &mut MemPeers,
     words: &mut W,
 ) -> Result<Tally, Memory>
@@ -96,7 +96,7 @@ pub(crate) fn ask_all<W: Words>(
 ) -> Result<Tally, Memory>
     ensures { IfOk result (λ t. AsksAll (W.word words.old) home.now solo.old.traders.items t) }
 {
-    let query = drill_query(alloc)?;
+    let query = Shared::new(alloc, drill_query(alloc)?)?;
     let mut peers = MemPeers::new(alloc, List::new(alloc), List::new(alloc));
     let count = solo.count();
     let tally = ask_each(alloc, solo, home, count, &query, &mut peers, words);

@@ -17,7 +17,7 @@ ghost use Rattle.td_trader.specs.Worlds.{View, Watches};
 
 use crate::entering::{Entry, enter, nothing};
 use std::alloc::Global;
-use td_cdr::{Boxed, Memory, Text, Twin};
+use td_cdr::{Boxed, Memory, Shared, Text, Twin};
 use td_ior::{IorFault, iiop_of};
 use td_ops::Query;
 use td_places::inside_group;
@@ -87,7 +87,7 @@ pub(crate) fn ask<T: Traders, P: Peers>(
             Ok(Asking::Answered(answer?))
         }
         Next::Forward { target, query } => {
-            forward(alloc, traders, home, peers, notes, &target, query.get())
+            forward(alloc, traders, home, peers, notes, &target, &query)
         }
         Next::Done => unreachable!(),
     }
@@ -173,7 +173,7 @@ fn forward<T: Traders, P: Peers>(
     peers: &mut P,
     notes: &mut Vec<TraceItem>,
     target: &Ior,
-    query: &Query,
+    query: &Shared<Query>,
 ) -> Result<Asking, Memory>
     ensures same { T.same traders.old traders.new }
     ensures same_peers { P.same peers.old peers.new }
@@ -200,7 +200,7 @@ fn forward<T: Traders, P: Peers>(
             Ok(asking_of(alloc, entry))
         }
         None => {
-            let answer = call(alloc, peers, notes, target, query)?;
+            let answer = call(alloc, peers, notes, target, query.get())?;
             Ok(Asking::Answered(answer))
         }
     }

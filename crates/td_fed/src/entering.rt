@@ -11,7 +11,7 @@ ghost use Rattle.td_fed.specs.Entering.{opened};
 ghost use Rattle.td_trader.specs.Worlds.{Watches};
 
 use std::alloc::Global;
-use td_cdr::{Boxed, List, Memory};
+use td_cdr::{Boxed, List, Memory, Shared};
 use td_ops::Query;
 use td_store::Local;
 use td_trader::{Begin, Traders};
@@ -47,7 +47,7 @@ pub(crate) fn enter<T: Traders>(
     alloc: Global,
     traders: &mut T,
     trader: usize,
-    q: &Query,
+    q: &Shared<Query>,
     notes: &mut Vec<TraceItem>,
 ) -> Result<Entry, Memory>
     requires { trader < length (T.world traders.old) }

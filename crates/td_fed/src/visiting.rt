@@ -20,7 +20,7 @@ use crate::entering::{Entry, enter};
 use crate::innermost::{answer_innermost, end_innermost, next_of_innermost, open_innermost};
 use std::alloc::Global;
 use std::mem;
-use td_cdr::{List, Memory};
+use td_cdr::{List, Memory, Shared};
 use td_ops::Query;
 use td_out::Words;
 use td_trader::Traders;
@@ -40,7 +40,7 @@ pub fn visit<T: Traders, P: Peers, W: Words>(
     traders: &mut T,
     home: &Address,
     trader: usize,
-    q: &Query,
+    q: &Shared<Query>,
     peers: &mut P,
     words: &mut W,
     trace: &mut Trace,
@@ -79,7 +79,7 @@ fn walk<T: Traders, P: Peers, W: Words>(
     traders: &mut T,
     home: &Address,
     trader: usize,
-    q: &Query,
+    q: &Shared<Query>,
     peers: &mut P,
     words: &mut W,
     notes: &mut Vec<TraceItem>,

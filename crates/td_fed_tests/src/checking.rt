@@ -12,6 +12,7 @@ use crate::words::{query, two};
 use std::alloc::Global;
 use std::process::Abort;
 use std::test::Fail;
+use td_cdr::Shared;
 use td_file::{Opened, read_file};
 use td_ops::Query;
 use td_trader::Solo;
@@ -113,7 +114,7 @@ fn asks(
 ) -> bool {
     let (tried, words) = two(asked);
     match query(alloc, words) {
-        Ok(query) => is_answered(alloc, case, group, home, query.get(), tried, told),
+        Ok(query) => is_answered(alloc, case, group, home, &query, tried, told),
         Err(_) => false,
     }
 }
@@ -123,7 +124,7 @@ fn is_answered(
     case: Case,
     group: &mut Solo,
     home: &Address,
-    query: &Query,
+    query: &Shared<Query>,
     tried: &str,
     told: &str,
 ) -> bool {

@@ -4,7 +4,7 @@ use crate::checking::Case;
 use crate::passing::passes;
 use crate::visiting::is_visited;
 use std::alloc::Global;
-use td_cdr::{Boxed, Memory};
+use td_cdr::{Boxed, Memory, Shared};
 use td_ops::Query;
 use td_store::Local;
 use td_trader::{Begin, Solo, Traders};
@@ -42,7 +42,7 @@ pub(crate) fn begins(
     alloc: Global,
     case: Case,
     group: &mut Solo,
-    query: &Query,
+    query: &Shared<Query>,
     tried: &str,
     told: &str,
 ) -> bool {

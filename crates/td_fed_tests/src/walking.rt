@@ -2,7 +2,7 @@
 
 use crate::scripts::peers;
 use std::alloc::Global;
-use td_cdr::{List, Memory};
+use td_cdr::{List, Memory, Shared};
 use td_fed::visit;
 use td_ops::Query;
 use td_out::MemWords;
@@ -60,7 +60,7 @@ fn visits(
     alloc: Global,
     group: &mut Solo,
     home: &Address,
-    query: &Query,
+    query: &Shared<Query>,
     script: &str,
     told: &str,
 ) -> Result<bool, Memory> {
@@ -85,7 +85,7 @@ pub(crate) fn walks(
     alloc: Global,
     group: &mut Solo,
     home: &Address,
-    query: &Query,
+    query: &Shared<Query>,
     script: &str,
     told: &str,
 ) -> bool {

@@ -3,7 +3,7 @@
 ghost use Rattle.td_codes.specs.References.{reference};
 
 use std::alloc::Global;
-use td_cdr::{Boxed, List, Memory, Text};
+use td_cdr::{List, Memory, Shared, Text};
 use td_ops::{Desired, Query};
 use td_policy::{number_policy, octets_policy, rule_policy, texts_policy, truth_policy};
 use td_value::{FollowOption, Ior, Policy};
@@ -97,7 +97,7 @@ fn write_query(alloc: Global, query: &mut Query, words: &str) -> Result<(), Memo
 }
 
 /// A query for Printers, of `CONSTRAINT;PREFERENCE;POLICIES;DESIRED`.
-pub(crate) fn query(alloc: Global, words: &str) -> Result<Boxed<Query>, Memory> {
+pub(crate) fn query(alloc: Global, words: &str) -> Result<Shared<Query>, Memory> {
     let mut query = Query {
         service_type: Text::new(alloc),
         constraint: Text::new(alloc),
@@ -107,7 +107,7 @@ pub(crate) fn query(alloc: Global, words: &str) -> Result<Boxed<Query>, Memory> 
         how_many: 10,
     };
     match write_query(alloc, &mut query, words) {
-        Ok(()) => Boxed::new(alloc, query),
+        Ok(()) => Shared::new(alloc, query),
         Err(memory) => {
             drop(query);
             Err(memory)

@@ -21,7 +21,7 @@ use crate::gathered::{Found, Gathered};
 use crate::joining::may_join;
 use std::alloc::Global;
 use td_call::{connect, exchange_call, finish, profile_of};
-use td_cdr::{List, Twin};
+use td_cdr::{List, Shared};
 use td_giop::Framer;
 use td_ior::{Iiop, is_nil};
 use td_ops::{Answered, Call, Query, Reply};
@@ -58,7 +58,7 @@ pub fn ask_over<L: Wire>(
     ensures later { L.faults wire.old ≤ L.faults wire.new }
     ensures fit { IfOk result (λ g. GivesFitOffers g) }
 {
-    match q.copy(alloc) {
+    match Shared::of(alloc, q) {
         Err(_) => Err(PeerFault::Memory),
         Ok(copy) => {
             let call = Call::Query(copy);

@@ -14,7 +14,7 @@ ghost use Rattle.td_trader.specs.Worlds.{Begun, Changes, Looks, Watches};
 
 use std::alloc::Global;
 use std::sync::Wait;
-use td_cdr::{Memory, Text, Twin};
+use td_cdr::{Memory, Shared, Text, Twin};
 use td_cell::{Cell, Pass};
 use td_ops::{Change, Look, Outcome, Query};
 use td_stall::{Act, AdmittedChange, Reply, Stall};
@@ -101,7 +101,7 @@ impl<'a, R: Wait> GroupPass<'a, R> {
     }
 
     /// The beginning of a query, in one turn.
-    fn begin_at(&mut self, trader: usize, q: Query) -> Result<Begin, Memory>
+    fn begin_at(&mut self, trader: usize, q: Shared<Query>) -> Result<Begin, Memory>
         requires { trader < length self.old.passes.items }
         ensures same { SamePasses self.old.passes.items self.new.passes.items }
         ensures ok { IfOk result
@@ -179,8 +179,8 @@ impl<'a, R: Wait> Traders for GroupPass<'a, R> {
         }
     }
 
-    /// Makes one turn. The query is copied before: where memory is wanted for that, it makes none.
-    fn begin(&mut self, trader: usize, q: &Query) -> Result<Begin, Memory>
+    /// Makes one turn. An act is owned, so it takes one owner more of the query: where that is refused, it makes none.
+    fn begin(&mut self, trader: usize, q: &Shared<Query>) -> Result<Begin, Memory>
         requires { trader < length (map seen_by self.old.passes.items) }
         ensures same { SamePasses self.old.passes.items self.new.passes.items }
         ensures ok { IfOk result

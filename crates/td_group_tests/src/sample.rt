@@ -6,7 +6,7 @@ ghost use Rattle.td_codes.specs.References.{reference};
 ghost use Rattle.td_trader.specs.Admitted.{AdmitsChange};
 
 use std::alloc::Global;
-use td_cdr::{List, Memory, Text, share_owned_three};
+use td_cdr::{List, Memory, Shared, Text, share_owned_three};
 use td_file::{Opened, read_file};
 use td_ops::{Change, Desired, Look, Outcome, Query, Reply};
 use td_policy::octets_policy;
@@ -204,17 +204,18 @@ pub(crate) fn begins<T: Traders>(alloc: Global, traders: &mut T, at: usize) -> &
     }
 }
 
-fn identified(alloc: Global) -> Result<Query, Memory> {
+fn identified(alloc: Global) -> Result<Shared<Query>, Memory> {
     let policies = policies(alloc)?;
     let service_type = text(alloc, "Printer")?;
-    Ok(Query {
+    let query = Query {
         service_type,
         constraint: Text::new(alloc),
         preference: Text::new(alloc),
         policies,
         desired: Desired::All,
         how_many: 10,
-    })
+    };
+    Shared::new(alloc, query)
 }
 
 /// The identifier `q` alone.
@@ -224,7 +225,7 @@ fn policies(alloc: Global) -> Result<List<Policy>, Memory> {
     Ok(policies)
 }
 
-fn begins_as<T: Traders>(traders: &mut T, at: usize, query: Query) -> &'static str
+fn begins_as<T: Traders>(traders: &mut T, at: usize, query: Shared<Query>) -> &'static str
     ensures { T.same traders.old traders.new }
 {
     if at < traders.count() {

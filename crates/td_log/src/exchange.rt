@@ -15,7 +15,7 @@ use crate::requests::request_of;
 use crate::values::octets_of;
 use crate::words::{three_words, two_words};
 use std::alloc::Global;
-use td_cdr::{Boxed, List, Memory, Text};
+use td_cdr::{Boxed, List, Memory, Shared, Text};
 use td_ior::number_of;
 use td_ops::{Call, Desired, Query};
 
@@ -192,22 +192,22 @@ pub(crate) fn look_in(alloc: Global, exchange: Exchange) -> Result<Option<Line>,
 }
 
 /// The line of a query.
-fn ask_by(alloc: Global, trader: usize, form: ReplyForm, call: Call) -> Result<Option<Line>, Memory>
-    ensures { IfOk result (λ l. l ≡ ask_by trader form call) }
+fn ask_by(trader: usize, form: ReplyForm, call: Call) -> Option<Line>
+    ensures { result ≡ ask_by trader form call }
 {
     match call {
-        Call::Query(query) => Ok(Some(Line::Ask {
+        Call::Query(query) => Some(Line::Ask {
             trader,
             form,
-            query: Boxed::new(alloc, query)?,
-        })),
-        Call::Change(_) => Ok(None),
-        Call::AddLink(_) => Ok(None),
-        Call::Look(_) => Ok(None),
-        Call::Resolve(_) => Ok(None),
-        Call::Iter(_) => Ok(None),
-        Call::IsA(_) => Ok(None),
-        Call::NonExistent => Ok(None),
+            query,
+        }),
+        Call::Change(_) => None,
+        Call::AddLink(_) => None,
+        Call::Look(_) => None,
+        Call::Resolve(_) => None,
+        Call::Iter(_) => None,
+        Call::IsA(_) => None,
+        Call::NonExistent => None,
     }
 }
 
@@ -222,7 +222,7 @@ fn ask_with(
     ensures { IfOk result (λ l. l ≡ ask_with trader name.now request.now) }
 {
     match request_told(alloc, name, request)? {
-        Some((form, call)) => ask_by(alloc, trader, form, call.into_inner()),
+        Some((form, call)) => Ok(ask_by(trader, form, call.into_inner())),
         None => Ok(None),
     }
 }
@@ -247,17 +247,18 @@ pub(crate) fn ask_of(alloc: Global, names: &[Text], text: &[u8]) -> Result<Optio
 }
 
 /// A query, as whose reply a Reply is read.
-fn any_query(alloc: Global) -> Call
-    ensures { operation_in result ≡ operation.Query }
+fn any_query(alloc: Global) -> Result<Call, Memory>
+    ensures { IfOk result (λ call. operation_in call ≡ operation.Query) }
 {
-    Call::Query(Query {
+    let query = Query {
         service_type: Text::new(alloc),
         constraint: Text::new(alloc),
         preference: Text::new(alloc),
         policies: List::new(alloc),
         desired: Desired::None,
         how_many: 0,
-    })
+    };
+    Ok(Call::Query(Shared::new(alloc, query)?))
 }
 
 /// The reply to the query of a call, in hexadecimal digits.
@@ -265,7 +266,7 @@ fn reply_with(alloc: Global, call: usize, reply: &[u8]) -> Result<Option<Line>, 
     requires { length reply.now < 2 ^ 32 }
     ensures { IfOk result (λ l. l ≡ reply_with call reply.now) }
 {
-    let query = any_query(alloc);
+    let query = any_query(alloc)?;
     match reply_told(alloc, &query, reply)? {
         Some(reply) => Ok(Some(Line::Reply { call, reply })),
         None => Ok(None),

@@ -1,7 +1,7 @@
 //! What a line of a log records.
 
 use crate::message::{Recorded, ReplyForm};
-use td_cdr::Boxed;
+use td_cdr::{Boxed, Shared};
 use td_ops::{AddLink, Change, Look, Query};
 use td_value::Any;
 
@@ -34,7 +34,7 @@ pub enum Line {
     Ask {
         trader: usize,
         form: ReplyForm,
-        query: Boxed<Query>,
+        query: Shared<Query>,
     },
     /// The call came to its trader.
     Deliver {

@@ -17,7 +17,7 @@ use crate::choosing::choose_in;
 use crate::offers::put_offers;
 use crate::unserved::unanswered;
 use std::alloc::Global;
-use td_cdr::{List, Memory, Text, Writer};
+use td_cdr::{List, Memory, Shared, Text, Writer};
 use td_fed::visit;
 use td_iter::Desk;
 use td_ops::Query;
@@ -33,7 +33,7 @@ pub struct LookupQuery<'q> {
     pub home: &'q Address,
     /// Which trader, counted from 0.
     pub trader: usize,
-    pub query: &'q Query,
+    pub query: &'q Shared<Query>,
 }
 
 /// What a query is answered with. The writer holds what stands before the body of a reply with a result; the first batch
@@ -84,7 +84,15 @@ pub fn answer_query<T: Traders, P: Peers, W: Words>(
     let visited = visit(
         alloc, traders, home, trader, query, peers, words, &mut trace,
     );
-    let told = tell_visit(alloc, home, traders.name(trader), query, visited, desk, w);
+    let told = tell_visit(
+        alloc,
+        home,
+        traders.name(trader),
+        query.get(),
+        visited,
+        desk,
+        w,
+    );
     walked(trace, told)
 }
 

@@ -16,7 +16,7 @@ use crate::placing::{Visits, go_on};
 use crate::resuming::nothing;
 use std::alloc::Global;
 use std::snapshot::Snapshot;
-use td_cdr::{Boxed, List, Memory};
+use td_cdr::{Boxed, List, Memory, Shared};
 use td_ops::{Change, Query};
 use td_store::Local;
 use td_trader::{Begin, Trader};
@@ -150,7 +150,7 @@ fn begin(
         (world_of group.new visits.new clock)) }
 {
     let seen = Snapshot::of(&group.traders[target]);
-    let begin = group.traders[target].begin(visits.calls[call].query.get())?;
+    let begin = group.traders[target].begin(&visits.calls[call].query)?;
     visits.calls[call].deliver(Delivery {
         serial: clock,
         seen,
@@ -194,7 +194,7 @@ pub(crate) fn ask(
     group: &mut Group,
     visits: &mut Visits,
     trader: usize,
-    query: Boxed<Query>,
+    query: Shared<Query>,
 ) -> Result<(), NetFault>
     ensures { TakenAs (world_of group.old visits.old clock.old)
         (ask_at (world_of group.old visits.old clock.old) trader query
@@ -215,7 +215,7 @@ fn open_asked(
     alloc: Global,
     calls: &mut Vec<Call>,
     trader: usize,
-    query: Boxed<Query>,
+    query: Shared<Query>,
 ) -> Result<usize, Memory>
     ensures number { IfOk result (λ call. call ≡ length calls.old.items) }
     ensures within { IfOk result (λ call. call < length calls.new.items) }

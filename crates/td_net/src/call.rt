@@ -7,7 +7,7 @@ ghost use Rattle.td_net.specs.declared.call.Stage.TheVariants.{Ended};
 use std::alloc::Global;
 use std::mem;
 use std::snapshot::Snapshot;
-use td_cdr::{Boxed, List};
+use td_cdr::{Boxed, List, Shared};
 use td_ops::Query;
 use td_trader::Trader;
 use td_value::Any;
@@ -69,7 +69,7 @@ pub(crate) enum Step {
 /// A query that was sent to a trader of the network.
 pub(crate) struct Call {
     pub target: usize,
-    pub query: Boxed<Query>,
+    pub query: Shared<Query>,
     /// The call of the Ask that it belongs to.
     pub root: usize,
     /// The call whose visit waits for it.
@@ -104,7 +104,7 @@ impl Drop for Call {
 pub(crate) fn sent_to(
     alloc: Global,
     target: usize,
-    query: Boxed<Query>,
+    query: Shared<Query>,
     root: usize,
     caller: Option<usize>,
 ) -> Call

@@ -1,6 +1,6 @@
 //! What comes to a network, and why it is refused.
 
-use td_cdr::Boxed;
+use td_cdr::{Boxed, Shared};
 use td_ops::{Change, Query};
 use td_value::Any;
 
@@ -16,7 +16,7 @@ pub enum Event {
     /// A query is asked of a trader: its call is opened, and delivered at once.
     Ask {
         trader: usize,
-        query: Boxed<Query>,
+        query: Shared<Query>,
     },
     /// A call that was sent comes to its trader.
     Deliver {

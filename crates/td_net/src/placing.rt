@@ -11,7 +11,7 @@ use crate::group::Group;
 use crate::settling::{Pending, settle};
 use crate::supply::Supply;
 use std::alloc::Global;
-use td_cdr::{Boxed, List, Memory};
+use td_cdr::{Boxed, List, Memory, Shared};
 use td_ops::Query;
 use td_visit::Frame;
 use td_walk::Visit;
@@ -95,7 +95,7 @@ fn open(
     calls: &mut Vec<Call>,
     caller: usize,
     target: usize,
-    query: Boxed<Query>,
+    query: Shared<Query>,
 ) -> Result<usize, Memory>
     requires { caller < length calls.old.items }
     ensures number { IfOk result (λ sub. sub ≡ length calls.old.items) }

@@ -12,7 +12,7 @@ ghost use Rattle.td_walk_laws.specs.Reach.{turns_of};
 use crate::call::Step;
 use crate::group::Group;
 use std::alloc::Global;
-use td_cdr::{Boxed, List, Memory};
+use td_cdr::{List, Memory, Shared};
 use td_ior::{IorFault, iiop_of};
 use td_ops::Query;
 use td_value::Ior;
@@ -27,7 +27,7 @@ pub enum Pending {
     /// The value of a dynamic property.
     Value,
     /// What the trader of this number answers to a query.
-    SubQuery { target: usize, query: Boxed<Query> },
+    SubQuery { target: usize, query: Shared<Query> },
 }
 
 /// Asks the questions of a visit until it waits for something. Steps to targets outside, and to evaluators that can't

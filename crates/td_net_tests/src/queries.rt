@@ -1,7 +1,7 @@
 //! Queries from words.
 
 use std::alloc::Global;
-use td_cdr::{Boxed, List, Memory, Text};
+use td_cdr::{List, Memory, Shared, Text};
 use td_ops::{Desired, Query};
 use td_policy::{number_policy, octets_policy, texts_policy};
 use td_value::Policy;
@@ -51,7 +51,7 @@ fn add_all(alloc: Global, query: &mut Query, parts: &str) -> Result<(), Memory> 
 }
 
 /// A query for Printers with these parts.
-pub(crate) fn query(alloc: Global, parts: &str) -> Result<Boxed<Query>, Memory> {
+pub(crate) fn query(alloc: Global, parts: &str) -> Result<Shared<Query>, Memory> {
     let mut query = Query {
         service_type: Text::new(alloc),
         constraint: Text::new(alloc),
@@ -61,7 +61,7 @@ pub(crate) fn query(alloc: Global, parts: &str) -> Result<Boxed<Query>, Memory> 
         how_many: 10,
     };
     match add_all(alloc, &mut query, parts) {
-        Ok(()) => Boxed::new(alloc, query),
+        Ok(()) => Shared::new(alloc, query),
         Err(memory) => {
             drop(query);
             Err(memory)

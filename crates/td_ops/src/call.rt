@@ -18,7 +18,7 @@ use td_value::{
 pub enum Call {
     Change(Change),
     Look(Look),
-    Query(Query),
+    Query(Shared<Query>),
     AddLink(AddLink),
     /// What the links of these names lead to, one after the other.
     Resolve(List<Text>),

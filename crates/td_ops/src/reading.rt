@@ -16,7 +16,7 @@ use crate::reading_links::{read_link, read_proxy};
 use crate::reading_register::read_register;
 use crate::reading_types::{read_iterator, read_types};
 use std::alloc::Global;
-use td_cdr::{Octets, Reader, Spelled, Text, ValueFault};
+use td_cdr::{Octets, Reader, Shared, Spelled, Text, ValueFault};
 use td_value::{FollowOption, Kind};
 
 /// The call of an object that a request's operation and body spell (CORBA, chapter on General Inter-ORB
@@ -51,7 +51,7 @@ fn read_parameters(alloc: Global, r: &mut Reader, operation: Operation) -> Resul
     ensures { Gives is_memory r.new result ((row operation).body.format.reads r.old) }
 {
     match operation {
-        Operation::Query => Ok(Call::Query(Query::read(alloc, r)?)),
+        Operation::Query => Ok(Call::Query(Shared::<Query>::read(alloc, r)?)),
         Operation::Register(register) => read_register(alloc, r, register),
         Operation::Link(link) => read_link(alloc, r, link),
         Operation::Proxy(proxy) => read_proxy(alloc, r, proxy),

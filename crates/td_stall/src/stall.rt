@@ -6,7 +6,7 @@ ghost use Rattle.td_trader.specs.Admitted.{AdmitsChange};
 ghost use Rattle.td_trader.specs.Following.{ActsLook};
 
 use std::marker::Model;
-use td_cdr::Memory;
+use td_cdr::{Memory, Shared};
 use td_cell::Book;
 use td_ops::{Change, Look, Outcome, Query};
 use td_trader::{Begin, Trader};
@@ -54,7 +54,7 @@ impl AdmittedChange {
 pub enum Act {
     Change(AdmittedChange),
     Look(Look),
-    Query(Query),
+    Query(Shared<Query>),
 }
 
 /// What it is answered with.
@@ -153,7 +153,7 @@ fn tell(trader: &Trader, l: Look) -> Result<(Outcome, u32), Memory>
 
 /// How a query begins. That the trader is in order, which `marks` tells, makes it one mark at most.
 #[tactic(auto, using(crate::proofs::Acted::starts))]
-fn start(trader: &mut Trader, q: Query) -> Result<Begin, Memory>
+fn start(trader: &mut Trader, q: Shared<Query>) -> Result<Begin, Memory>
     ensures { StartsQuery trader.old q result trader.new }
 {
     let _ = trader.marks();

@@ -16,7 +16,7 @@ pub struct Local {
     pub mark: u64,
     /// The link that the first name of starting_trader leads over, where the policy is stated and names one.
     pub path: Option<LinkRecord>,
-    pub query: Query,
+    pub query: Shared<Query>,
     /// The identifier of the query (request_id), its own or one that the trader made.
     pub identifier: Option<Octets>,
     pub stated: Stated,

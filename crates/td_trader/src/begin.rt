@@ -15,7 +15,7 @@ use crate::cache::Cache;
 use crate::local::{path_cached, search_cached};
 use crate::query::{Parts, first_name, judge};
 use std::alloc::Global;
-use td_cdr::{Boxed, Memory, Octets, Twin};
+use td_cdr::{Boxed, Memory, Octets, Shared, Twin};
 use td_changes::Bounds;
 use td_marks::{Made, Ring};
 use td_ops::{Outcome, Query};
@@ -57,7 +57,8 @@ pub fn begin_query(
     ensures unchanged { OnErr result (ring.new ≡ ring.old) }
 {
     let mut cache = Cache::new();
-    begin_cached(alloc, bounds, store, &mut cache, point, ring, query)
+    let query = Shared::of(alloc, query)?;
+    begin_cached(alloc, bounds, store, &mut cache, point, ring, &query)
 }
 
 /// The same at a trader that keeps what queries at its store have in common.
@@ -73,7 +74,7 @@ pub(crate) fn begin_cached(
     cache: &mut Cache,
     point: u64,
     ring: &mut Ring,
-    query: &Query,
+    query: &Shared<Query>,
 ) -> Result<Begin, Memory>
     requires begins { bounds.now.begins ≤ 2 ^ 40 }
     requires cache { IsCacheOf store.now cache.old }
@@ -82,7 +83,7 @@ pub(crate) fn begin_cached(
     ensures unchanged { OnErr result (ring.new ≡ ring.old) }
     ensures cache { IsCacheOf store.now cache.new }
 {
-    match judge(alloc, bounds, ring.count(), store, query) {
+    match judge(alloc, bounds, ring.count(), store, query.get()) {
         Ok(parts) => begin_taken(alloc, store, cache, point, ring, query, parts),
         Err(Fault::Refused(refusal)) => refuse(alloc, refusal),
         Err(Fault::Memory) => Err(Memory),
@@ -105,7 +106,7 @@ fn begin_taken(
     cache: &mut Cache,
     point: u64,
     ring: &mut Ring,
-    query: &Query,
+    query: &Shared<Query>,
     parts: Parts,
 ) -> Result<Begin, Memory>
     requires parts { parts ≡ parts_of query.now }
@@ -141,7 +142,7 @@ fn begin_here(
     cache: &mut Cache,
     point: u64,
     ring: &mut Ring,
-    query: &Query,
+    query: &Shared<Query>,
     parts: Parts,
 ) -> Result<Begin, Memory>
     requires parts { parts ≡ parts_of query.now }
@@ -180,7 +181,7 @@ fn begin_search(
     cache: &mut Cache,
     point: u64,
     ring: &mut Ring,
-    query: &Query,
+    query: &Shared<Query>,
     parts: Parts,
 ) -> Result<Begin, Memory>
     requires parts { parts ≡ parts_of query.now }
@@ -232,7 +233,7 @@ fn begin_marked(
     cache: &mut Cache,
     point: u64,
     ring: &mut Ring,
-    query: &Query,
+    query: &Shared<Query>,
     parts: Parts,
     made: Made,
 ) -> Result<Begin, Memory>
@@ -274,7 +275,7 @@ fn local_under(
     cache: &mut Cache,
     point: u64,
     mark: u64,
-    query: &Query,
+    query: &Shared<Query>,
     parts: Parts,
     made: &Made,
 ) -> Result<Boxed<Local>, Memory>

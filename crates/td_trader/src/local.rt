@@ -31,7 +31,7 @@ pub(crate) fn search_cached(
     alloc: Global,
     store: &Store,
     cache: &mut Cache,
-    query: &Query,
+    query: &Shared<Query>,
     parts: Parts,
     point: u64,
     mark: u64,
@@ -75,10 +75,19 @@ pub fn search_local(
     requires { parts ≡ parts_of query.now }
     ensures { IfOk result (λ local. local ≡ local_of store.now point mark identifier query.now) }
 {
-    let mut cache = Cache::new();
-    search_cached(
-        alloc, store, &mut cache, query, parts, point, mark, identifier,
-    )
+    match Shared::of(alloc, query) {
+        Ok(query) => {
+            let mut cache = Cache::new();
+            search_cached(
+                alloc, store, &mut cache, &query, parts, point, mark, identifier,
+            )
+        }
+        Err(memory) => {
+            drop(parts);
+            drop(identifier);
+            Err(memory)
+        }
+    }
 }
 
 /// What a query is passed on with over this link, at this point. What queries at this store have in
@@ -92,7 +101,7 @@ pub(crate) fn path_cached(
     alloc: Global,
     store: &Store,
     cache: &mut Cache,
-    query: &Query,
+    query: &Shared<Query>,
     parts: Parts,
     point: u64,
     link: &LinkRecord,
@@ -137,14 +146,22 @@ pub fn path_local(
     requires { parts ≡ parts_of query.now }
     ensures { IfOk result (λ local. local ≡ path_of store.now point link.now query.now) }
 {
-    let mut cache = Cache::new();
-    path_cached(alloc, store, &mut cache, query, parts, point, link)
+    match Shared::of(alloc, query) {
+        Ok(query) => {
+            let mut cache = Cache::new();
+            path_cached(alloc, store, &mut cache, &query, parts, point, link)
+        }
+        Err(memory) => {
+            drop(parts);
+            Err(memory)
+        }
+    }
 }
 
 /// What every query is served with beside its own words.
 #[derive(Drop)]
 pub(crate) struct Copies {
-    query: Query,
+    query: Shared<Query>,
     attributes: Shared<Attributes>,
     effective: Effective,
 }
@@ -200,7 +217,7 @@ fn copies_of(
     alloc: Global,
     store: &Store,
     cache: &mut Cache,
-    query: &Query,
+    query: &Shared<Query>,
     stated: &Stated,
 ) -> Result<Copies, Memory>
     requires { IsCacheOf store.now cache.old }
@@ -222,7 +239,7 @@ fn copy_searched(
     alloc: Global,
     store: &Store,
     cache: &mut Cache,
-    query: &Query,
+    query: &Shared<Query>,
     stated: &Stated,
 ) -> Result<(Copies, Searched), Memory>
     requires { IsCacheOf store.now cache.old }
@@ -346,7 +363,7 @@ fn copy_passed(
     alloc: Global,
     store: &Store,
     cache: &mut Cache,
-    query: &Query,
+    query: &Shared<Query>,
     stated: &Stated,
     link: &LinkRecord,
 ) -> Result<(Copies, Passed), Memory>

@@ -7,7 +7,7 @@ ghost use Rattle.td_trader.specs.Solos.{AreDistinct, nothing, nothing_admitted, 
 use crate::begin::Begin;
 use crate::trader::Trader;
 use crate::traders::Traders;
-use td_cdr::{Memory, Text};
+use td_cdr::{Memory, Shared, Text};
 use td_ops::{Change, Look, Outcome, Query};
 
 /// Traders that no one else calls. No two have one name.
@@ -42,7 +42,7 @@ impl Traders for Solo {
         self.traders[trader].look(l)
     }
 
-    fn begin(&mut self, trader: usize, q: &Query) -> Result<Begin, Memory> {
+    fn begin(&mut self, trader: usize, q: &Shared<Query>) -> Result<Begin, Memory> {
         self.traders[trader].begin(q)
     }
 

@@ -17,7 +17,7 @@ use crate::cache::Cache;
 use std::alloc::Global;
 use std::marker::Model;
 use std::snapshot::Snapshot;
-use td_cdr::{Memory, Octets, Text};
+use td_cdr::{Memory, Octets, Shared, Text};
 use td_changes::{Bounds, MOST_CHANGES, acceptance, not_done, perform, seek};
 use td_marks::Ring;
 use td_ops::{Change, Look, Outcome, Query};
@@ -227,7 +227,7 @@ impl Trader {
     /// # Errors
     ///
     /// `Memory` for want of memory alone. The trader is then as it was.
-    pub fn begin(&mut self, q: &Query) -> Result<Begin, Memory>
+    pub fn begin(&mut self, q: &Shared<Query>) -> Result<Begin, Memory>
         ensures begin { IfOk result (λ b. b ≡ begin_at self.old q.now) }
         ensures limited { HasLimitedOffers (store_of self.old) }
         ensures after { IfOk result (λ b. self.new ≡ after_begin self.old q.now b) }

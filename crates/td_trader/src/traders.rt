@@ -10,7 +10,7 @@ ghost use Rattle.td_trader.specs.Worlds.{history_at, name_at};
 ghost use Rattle.td_register.specs.declared.history.Accepted.{Accepted};
 
 use crate::begin::Begin;
-use td_cdr::{Memory, Text};
+use td_cdr::{Memory, Shared, Text};
 use td_ops::{Change, Look, Outcome, Query};
 
 /// Traders by their numbers, counted from 0. Others may call them too, between two calls of one who holds
@@ -71,7 +71,7 @@ pub trait Traders {
     /// # Errors
     ///
     /// `Memory` for want of memory alone; nothing is marked then.
-    fn begin(&mut self, trader: usize, q: &Query) -> Result<Begin, Memory>
+    fn begin(&mut self, trader: usize, q: &Shared<Query>) -> Result<Begin, Memory>
         requires { trader < length (world self.old) }
         ensures same { same self.old self.new }
         ensures ok { IfOk result

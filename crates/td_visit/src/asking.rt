@@ -12,7 +12,7 @@ ghost use Rattle.td_walk.specs.declared.answer.Next.TheVariants.{Forward};
 use crate::progress::Others;
 use crate::recipe::expanded;
 use std::alloc::Global;
-use td_cdr::{Boxed, Memory, Twin};
+use td_cdr::{Memory, Shared, Twin};
 use td_ops::Query;
 use td_store::{LinkRecord, Local, OfferRecord, ProxyPart};
 use td_value::Ior;
@@ -78,7 +78,7 @@ pub(crate) fn asks_first(local: &Local, found: &[Found]) -> Others
 fn forward(alloc: Global, target: &Ior, query: Query) -> Result<Next, Memory>
     ensures { IfOk result (λ question. question ≡ Forward target.now query) }
 {
-    let query = Boxed::new(alloc, query)?;
+    let query = Shared::new(alloc, query)?;
     let target = target.copy(alloc)?;
     Ok(Next::Forward { target, query })
 }

@@ -1,7 +1,7 @@
 //! The questions of a visit, and their answers.
 
 use std::alloc::Global;
-use td_cdr::{Boxed, List, Memory, Text, Twin};
+use td_cdr::{Boxed, List, Memory, Shared, Text, Twin};
 use td_ops::Query;
 use td_value::{Any, Ior, Offer, TypeCode};
 
@@ -36,7 +36,7 @@ pub enum Next {
     /// Another trader is asked (interface CosTrading::Lookup, query).
     Forward {
         target: Ior,
-        query: Boxed<Query>,
+        query: Shared<Query>,
     },
     /// Nothing is left to ask.
     Done,

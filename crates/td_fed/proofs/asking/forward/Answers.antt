@@ -45,7 +45,7 @@ returns-in_ok-answer-in-None-clause-asked g c = λ words.
     (Forward c.args.target.now c.args.query.now) c.in_ok-answer-in-None.answer c.args.notes.now.items
     c.call.new.notes.items (g.P.Peers.calls c.call.new.peers)
     (outsides (Begins g.T.Traders.others g.T.Traders.later) (inside_group c.args.home.now) s c.args.target.now
-    c.args.query.now e) c.in_ok-answer-in-None.ensures.peered
+    c.args.query.now e) (rw c.get.ensures at c.in_ok-answer-in-None.ensures.peered)
 
 pub returns-in_err-trader-clause-goes : goal.returns-in_err-trader-clause-goes
 returns-in_err-trader-clause-goes g c =
@@ -85,4 +85,4 @@ returns-in_err-answer-in-None-clause-so_far g c = λ words.
     (Watches g.T.Traders.others g.T.Traders.later) (Forward c.args.target.now c.args.query.now) c.args.notes.now.items
     c.call.new.notes.items (g.P.Peers.calls c.call.new.peers)
     (outsides (Begins g.T.Traders.others g.T.Traders.later) (inside_group c.args.home.now) s c.args.target.now
-    c.args.query.now e) c.in_err-answer-in-None.ensures.so_far)
+    c.args.query.now e) (rw c.get.ensures at c.in_err-answer-in-None.ensures.so_far))

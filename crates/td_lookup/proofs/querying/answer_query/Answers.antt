@@ -26,8 +26,9 @@ tell_visit-told-requires-clause-limits g c =
 
 pub tell_visit-told-requires-clause-small : goal.tell_visit-told-requires-clause-small
 tell_visit-told-requires-clause-small g c =
-    visited_small g.T.Traders.others g.T.Traders.later c.args.asked.home.now _ _ c.args.asked.trader c.args.asked.query.now _ _
-    c.visit-visited.result c.visit-visited.ensures.visited
+    rw c.get.ensures
+    (visited_small g.T.Traders.others g.T.Traders.later c.args.asked.home.now _ _ c.args.asked.trader c.args.asked.query.now _ _
+    c.visit-visited.result c.visit-visited.ensures.visited)
 
 pub returns-clause-told : goal.returns-clause-told
 returns-clause-told g c = λ x at.
@@ -49,7 +50,8 @@ returns-clause-told g c = λ x at.
       goes = c.visit-visited.ensures.goes;
       draws = c.visit-visited.ensures.draws;
       faults = c.visit-visited.ensures.faults;
-    }) c.new.ensures c.name.ensures c.tell_visit-told.ensures.told c.tell_visit-told.ensures.err c.walked.ensures
+    }) c.new.ensures c.name.ensures (rw c.get.ensures at c.tell_visit-told.ensures.told)
+    c.tell_visit-told.ensures.err c.walked.ensures
 
 pub returns-clause-taken_back : goal.returns-clause-taken_back
 returns-clause-taken_back g c = λ x at.

@@ -1,8 +1,6 @@
-use Rattle.std.proofs.Common.{◌∙◌, ap}
 use Rattle.td_net.proofs.Becoming.{err_then, ok_then}
 use Rattle.td_net.proofs.Delivering.{delivers, leaves-begun}
 use Rattle.td_net.proofs.beginning.begin.Goals as goal
-use Rattle.td_trader.specs.PlainTraders.{after_begin, begin_at}
 
 pub returns-clause-begins : goal.returns-clause-begins
 returns-clause-begins c k t is at stands =
@@ -20,10 +18,8 @@ returns-clause-begins c k t is at stands =
       trader_is = c.index_mut.ensures.value;
       snapshot = c.of-seen.result;
       shows = c.of-seen.ensures;
-      begun = c.in_ok-begin.ensures.begin ∙ ap (begin_at c.index_mut.result.now) c.get.ensures;
-      behind =
-          c.in_ok-begin.ensures.after
-          ∙ ap (λ z. after_begin c.index_mut.result.now z c.in_ok-begin.begin) c.get.ensures;
+      begun = c.in_ok-begin.ensures.begin;
+      behind = c.in_ok-begin.ensures.after;
       delivered_so = c.deliver.ensures;
     }) k t is at stands c.args.visits.now.words c.go_on_from.new.visits.words
     c.go_on_from.new.visits.calls.items c.go_on_from.ensures.words)
@@ -44,10 +40,8 @@ returns-clause-err c k t is at sent stands =
       trader_is = c.index_mut.ensures.value;
       snapshot = c.of-seen.result;
       shows = c.of-seen.ensures;
-      begun = c.in_ok-begin.ensures.begin ∙ ap (begin_at c.index_mut.result.now) c.get.ensures;
-      behind =
-          c.in_ok-begin.ensures.after
-          ∙ ap (λ z. after_begin c.index_mut.result.now z c.in_ok-begin.begin) c.get.ensures;
+      begun = c.in_ok-begin.ensures.begin;
+      behind = c.in_ok-begin.ensures.after;
       delivered_so = c.deliver.ensures;
     }) k t is at stands c.args.visits.now.words c.go_on_from.new.visits.words
     c.go_on_from.new.visits.calls.items sent)
