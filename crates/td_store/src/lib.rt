@@ -4,6 +4,7 @@
 
 mod condition;
 mod fault;
+mod found_offer;
 mod gathering;
 mod inserting;
 mod joint;
@@ -22,6 +23,7 @@ mod store;
 
 pub use condition::{belongs, mode_of};
 pub use fault::StoreFault;
+pub use found_offer::FoundOffer;
 pub use laws::{
     candidates_conform, numbers_rise, plain_offers_are_searched, removing_leaves_the_others,
     stores_stay_valid, worked_examples,

@@ -5,7 +5,7 @@ ghost use Rattle.std.specs.Prelude.{◌≡◌, IfOk};
 
 use std::alloc::Global;
 use td_cdr::{List, Memory, Shared, Text, Twin};
-use td_value::{FollowOption, Ior, Offer, Policy, Property};
+use td_value::{FollowOption, Ior, Policy, Property};
 
 /// An offer with its number, and the incarnation that its type had when it was exported (module
 /// CosTrading, interface Register).
@@ -32,26 +32,6 @@ impl Drop for OfferRecord {
             properties: _properties,
             proxy: _proxy,
         } = self;
-    }
-}
-
-impl OfferRecord {
-    /// The offer as an importer sees it. Takes no memory.
-    pub fn into_offer(self) -> Offer
-        ensures { result ≡ record { reference = self.reference; properties = self.properties } }
-    {
-        let OfferRecord {
-            number: _number,
-            reference,
-            service_type: _service_type,
-            incarnation: _incarnation,
-            properties,
-            proxy: _proxy,
-        } = self;
-        Offer {
-            reference,
-            properties,
-        }
     }
 }
 
@@ -103,7 +83,8 @@ impl Twin for OfferRecord {
     }
 }
 
-fn copy_proxy(
+/// One owner more of what a proxy offer has besides.
+pub(crate) fn copy_proxy(
     alloc: Global,
     proxy: &Option<Shared<ProxyPart>>,
 ) -> Result<Option<Shared<ProxyPart>>, Memory>

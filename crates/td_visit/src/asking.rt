@@ -14,7 +14,7 @@ use crate::recipe::expanded;
 use std::alloc::Global;
 use td_cdr::{Memory, Shared, Twin};
 use td_ops::Query;
-use td_store::{LinkRecord, Local, OfferRecord, ProxyPart};
+use td_store::{FoundOffer, LinkRecord, Local, ProxyPart};
 use td_value::Ior;
 use td_walk::{
     Found, Next, StepAnswer, fewer_wanted, follows, has_hops, is_full, sub_query_for_link,
@@ -38,7 +38,7 @@ pub(crate) fn none_asked(local_match: bool, wanted: Option<u32>) -> Others
 fn has_ordinary(found: &[Found]) -> bool
     ensures { result ≡ list_any (λ f. is_ordinary f.offer) found.now }
 {
-    found.iter().any(|one| one.offer.proxy.is_none())
+    found.iter().any(|one| one.offer.is_ordinary())
 }
 
 /// One more, where the offer is an ordinary one.
@@ -46,7 +46,7 @@ fn counted(count: usize, one: &Found) -> usize
     requires { count < 2 ^ 63 }
     ensures { result ≡ count + cond (is_ordinary one.now.offer) 1 0 }
 {
-    if one.offer.proxy.is_none() {
+    if one.offer.is_ordinary() {
         count + 1
     } else {
         count
@@ -112,7 +112,7 @@ fn call_of(
     alloc: Global,
     local: &Local,
     wanted: Option<u32>,
-    offer: &OfferRecord,
+    offer: &FoundOffer,
     part: &ProxyPart,
 ) -> Result<Option<Next>, Memory>
     ensures { IfOk result (λ step. step ≡ call_of local.now wanted offer.now part.now) }
@@ -124,7 +124,7 @@ fn call_of(
         None => Ok(None),
         Some(constraint) => {
             let query = sub_query_for_proxy(alloc, local, wanted, part, constraint)?;
-            Ok(Some(forward(alloc, &offer.reference, query)?))
+            Ok(Some(forward(alloc, offer.reference(), query)?))
         }
     }
 }
@@ -134,11 +134,11 @@ fn proxy_step(
     alloc: Global,
     local: &Local,
     wanted: Option<u32>,
-    offer: &OfferRecord,
+    offer: &FoundOffer,
 ) -> Result<Option<Next>, Memory>
     ensures { IfOk result (λ step. step ≡ proxy_step local.now wanted offer.now) }
 {
-    match &offer.proxy {
+    match offer.proxy() {
         None => Ok(None),
         Some(part) => call_of(alloc, local, wanted, offer, part),
     }

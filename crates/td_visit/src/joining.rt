@@ -54,7 +54,7 @@ fn add_own(alloc: Global, offers: &mut Vec<Offer>, found: List<Found>) -> Result
     ensures { OnOk result (offers.new.items ≡ offers.old.items ++ own_offers found) }
 {
     for one in found.into_vec() {
-        if one.offer.proxy.is_none() {
+        if one.offer.is_ordinary() {
             offers.push(offer_of(alloc, one)?)?;
         }
     }

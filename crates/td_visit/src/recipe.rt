@@ -8,7 +8,7 @@ use std::alloc::Global;
 use td_cdr::{Memory, Text};
 use td_eval::expand_recipe;
 use td_lang::{LangFault, Recipe, read_recipe};
-use td_store::{OfferRecord, ProxyPart};
+use td_store::{FoundOffer, ProxyPart};
 
 /// The recipe that a text spells, where it spells one.
 #[tactic(auto, using(td_lang::proofs::SpelledRecipes::spelled, td_lang::proofs::SpelledRecipes::too_long))]
@@ -33,13 +33,13 @@ fn recipe_of(alloc: Global, text: &[u8]) -> Result<Option<Recipe>, Memory>
 pub(crate) fn expanded(
     alloc: Global,
     constraint: &Text,
-    offer: &OfferRecord,
+    offer: &FoundOffer,
     part: &ProxyPart,
 ) -> Result<Option<Text>, Memory>
     ensures { IfOk result (λ text. text ≡ expanded constraint.now offer.now part.now) }
 {
     match recipe_of(alloc, part.recipe.as_slice())? {
         None => Ok(None),
-        Some(recipe) => expand_recipe(alloc, &recipe, constraint, &offer.properties),
+        Some(recipe) => expand_recipe(alloc, &recipe, constraint, offer.properties()),
     }
 }

@@ -15,10 +15,10 @@ use crate::progress::{Completion, Scan};
 use crate::queue::Queue;
 use std::alloc::Global;
 use std::mem;
-use td_cdr::{List, Memory, Shared, Text, Twin};
+use td_cdr::{List, Memory, Shared, Text};
 use td_eval::{matches, names_asked};
 use td_lang::Constraint;
-use td_store::{Local, OfferRecord, ProxyPart};
+use td_store::{FoundOffer, Local, OfferRecord, ProxyPart};
 use td_value::{Property, SpecifiedProps, is_dynamic};
 use td_walk::{Evaluation, Found, Left, Next, evaluate_each, evaluate_named, resolved};
 
@@ -70,7 +70,7 @@ fn add_found(
     ensures { OnOk result (found.new ≡ found.old ++ record { offer = offer.now; made = made }
         ∷ []) }
 {
-    let offer = offer.copy(alloc)?;
+    let offer = FoundOffer::of(alloc, offer)?;
     found.push(Found { offer, made })
 }
 
@@ -201,7 +201,7 @@ pub(crate) fn search(
 fn complete(
     alloc: Global,
     desired: &SpecifiedProps,
-    offer: &OfferRecord,
+    offer: &FoundOffer,
     made: &mut List<Evaluation>,
     left: &mut Left<'_>,
 ) -> Result<Option<Next>, Memory>
@@ -211,10 +211,10 @@ fn complete(
     ensures stopped { OnOk result
         (made.new ≡ made_completing desired.now offer.now made.old left.old.answers.now) }
 {
-    if offer.proxy.is_some() {
+    if !offer.is_ordinary() {
         return Ok(None);
     }
-    let properties = offer.properties.as_slice();
+    let properties = offer.properties().as_slice();
     match desired {
         SpecifiedProps::None => Ok(None),
         SpecifiedProps::Some(names) => {
