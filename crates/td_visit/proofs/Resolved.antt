@@ -1,5 +1,5 @@
 -- Properties of which none is dynamic are resolved as they are, and none of them is evaluated.
-use Rattle.std.proofs.Common.{◌≡◌, ℕ, Bool, true, false, cond, List, [], ◌∷◌, ◌||◌, Option, Some, None, Ok, refl, ap}
+use Rattle.std.proofs.Common.{◌≡◌, ℕ, Bool, true, false, cond, List, [], ◌∷◌, ◌||◌, Option, Some, None, Ok, refl, sym, ap}
 use Rattle.std.proofs.Common.{option_map, option_and_then, ◌∙◌}
 use Rattle.std.specs.List.{find}
 use Rattle.std.specs.Str.{bytes_eq}
@@ -28,6 +28,10 @@ without_dynamic made [] e = refl
 without_dynamic made (p ∷ ps) e =
     let h = neither (is_dynamic p.value) (has_dynamic ps) e in
     rw (plain made p h.0) (ap (λ (xs : List Property). p ∷ xs) (without_dynamic made ps h.1))
+
+pub as_they_are : (made : List Evaluation) (ps : List Property) (dynamic : Bool) → dynamic ≡ has_dynamic ps
+    → dynamic ≡ false → resolved made ps ≡ ps
+as_they_are made ps dynamic is e = without_dynamic made ps (sym is ∙ e)
 
 -- ---- nothing is evaluated
 
@@ -66,4 +70,12 @@ none_made ps made [] answers e = refl
 none_made ps made (name ∷ names) answers e =
     rw (none-evaluated ps made name answers e) (none_made ps made names answers e)
 
-pub ruleset no_evaluations = (all_evaluated, none_made)
+pub nothing_asked : (ps : List Property) (made : List Evaluation) (names : Names) (answers : List StepAnswer)
+    (dynamic : Bool) → dynamic ≡ has_dynamic ps → dynamic ≡ false → evaluated ps made names answers ≡ Ok (made, answers)
+nothing_asked ps made names answers dynamic is e = all_evaluated ps made names answers (sym is ∙ e)
+
+pub nothing_made : (ps : List Property) (made : List Evaluation) (names : Names) (answers : List StepAnswer)
+    (dynamic : Bool) → dynamic ≡ has_dynamic ps → dynamic ≡ false → made ≡ made_up_to ps made names answers
+nothing_made ps made names answers dynamic is e = none_made ps made names answers (sym is ∙ e)
+
+pub ruleset no_evaluations = (nothing_asked, nothing_made)

@@ -43,17 +43,19 @@ pub(crate) fn has_dynamic(properties: &[Property]) -> bool
 
 /// Whether the constraint holds of the properties after these evaluations. Properties of which none is dynamic
 /// aren't copied.
-#[tactic(auto, using(crate::proofs::Resolved::without_dynamic))]
+#[tactic(auto, using(crate::proofs::Resolved::as_they_are))]
 fn is_matching(
     alloc: Global,
     constraint: &Constraint,
     made: &[Evaluation],
     properties: &List<Property>,
+    dynamic: bool,
 ) -> Result<bool, Memory>
+    requires { dynamic ≡ has_dynamic properties.now }
     ensures { IfOk result (λ holds. holds
         ≡ matching (resolved made.now properties.now) constraint.now) }
 {
-    if !has_dynamic(properties.as_slice()) {
+    if !dynamic {
         return matches(constraint, properties);
     }
     let resolved = resolved(alloc, made, properties.as_slice())?;
@@ -79,12 +81,20 @@ fn add_matching(
     alloc: Global,
     local: &Local,
     offer: &OfferRecord,
+    dynamic: bool,
     made: List<Evaluation>,
     found: &mut List<Found>,
 ) -> Result<(), Memory>
+    requires { dynamic ≡ has_dynamic offer.now.properties }
     ensures { OnOk result (found.new ≡ found.old ++ if_matching local.now offer.now made) }
 {
-    if is_matching(alloc, &local.constraint, made.as_slice(), &offer.properties)? {
+    if is_matching(
+        alloc,
+        &local.constraint,
+        made.as_slice(),
+        &offer.properties,
+        dynamic,
+    )? {
         add_found(alloc, offer, made, found)
     } else {
         Ok(())
@@ -97,17 +107,19 @@ fn add_matching(
 fn evaluate_dynamic(
     alloc: Global,
     properties: &[Property],
+    dynamic: bool,
     made: &mut List<Evaluation>,
     names: &[Text],
     left: &mut Left<'_>,
 ) -> Result<Option<Next>, Memory>
+    requires { dynamic ≡ has_dynamic properties.now }
     ensures told { IfOk result (λ question.
         Tells (evaluated properties.now made.old names.now left.old.answers.now) question made.new
         left.new.answers.now) }
     ensures stopped { OnOk result
         (made.new ≡ made_up_to properties.now made.old names.now left.old.answers.now) }
 {
-    if !has_dynamic(properties) {
+    if !dynamic {
         return Ok(None);
     }
     evaluate_named(alloc, properties, made, names, left)
@@ -137,12 +149,14 @@ fn try_candidate(
         add_found(alloc, offer, made, found)?;
         return Ok(None);
     }
-    let question = evaluate_dynamic(alloc, offer.properties.as_slice(), made, names, left)?;
+    let properties = offer.properties.as_slice();
+    let dynamic = has_dynamic(properties);
+    let question = evaluate_dynamic(alloc, properties, dynamic, made, names, left)?;
     if question.is_some() {
         return Ok(question);
     }
     let made = mem::replace(made, List::new(alloc));
-    add_matching(alloc, local, offer, made, found)?;
+    add_matching(alloc, local, offer, dynamic, made, found)?;
     Ok(None)
 }
 
@@ -218,7 +232,8 @@ fn complete(
     match desired {
         SpecifiedProps::None => Ok(None),
         SpecifiedProps::Some(names) => {
-            evaluate_dynamic(alloc, properties, made, names.as_slice(), left)
+            let dynamic = has_dynamic(properties);
+            evaluate_dynamic(alloc, properties, dynamic, made, names.as_slice(), left)
         }
         SpecifiedProps::All => evaluate_each(alloc, properties, made, left),
     }
