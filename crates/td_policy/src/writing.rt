@@ -93,7 +93,7 @@ fn named(alloc: Global, name: &[u8], value: Any) -> Result<Policy, Memory>
 fn text_values(alloc: Global, items: &[Text]) -> Result<List<Value>, Memory>
     ensures { IfOk result (λ vs. vs ≡ map (λ t. value.Str t) items.now) }
 {
-    let mut values = List::new(alloc);
+    let mut values = List::with_room(alloc, items.len())?;
     for item in items {
         values.push(Value::Str(item.copy(alloc)?))?;
     }
@@ -104,7 +104,7 @@ fn text_values(alloc: Global, items: &[Text]) -> Result<List<Value>, Memory>
 fn octet_values(alloc: Global, items: &[u8]) -> Result<List<Value>, Memory>
     ensures { IfOk result (λ vs. vs ≡ map (λ o. value.Octet o) items.now) }
 {
-    let mut values = List::new(alloc);
+    let mut values = List::with_room(alloc, items.len())?;
     for item in items {
         values.push(Value::Octet(*item))?;
     }

@@ -17,6 +17,9 @@ use td_policy::{is_rule, number_policy, octets_policy, rule_policy, texts_policy
 use td_sameness::same_tree;
 use td_value::{FollowOption, Policy, TypeCode, Value};
 
+/// How many policies are put to those of a query at most.
+const MOST_PUT: usize = 4;
+
 fn is_named(policy: &Policy, name: &[u8]) -> bool
     ensures { result ≡ is_named name.now policy.now }
 {
@@ -54,7 +57,7 @@ pub(crate) fn copies_without(
 ) -> Result<Vec<Policy>, Memory>
     ensures { IfOk result (λ others. others.items ≡ without_policy name.now policies.now) }
 {
-    let mut others = Vec::new(alloc);
+    let mut others = Vec::with_capacity(alloc, policies.len() + MOST_PUT)?;
     for policy in policies {
         if !is_named(policy, name) {
             others.push(policy.copy(alloc)?)?;
