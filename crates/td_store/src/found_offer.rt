@@ -1,6 +1,7 @@
 //! An offer that matched, as it is held until a query is answered.
 
 ghost use Rattle.std.specs.Prelude.{◌≡◌, is_none, IfOk};
+ghost use Rattle.td_store.specs.Candidates.{has_dynamic};
 
 use crate::record::{OfferRecord, ProxyPart, copy_proxy};
 use std::alloc::Global;
@@ -16,6 +17,8 @@ pub struct FoundOffer {
     reference: Shared<Ior>,
     properties: Shared<List<Property>>,
     proxy: Option<Shared<ProxyPart>>,
+    /// One of the properties is evaluated when it is asked for.
+    dynamic: bool,
     /// Takes no memory.
     kept: Snapshot<OfferRecord>,
 }
@@ -27,12 +30,15 @@ impl Drop for FoundOffer {
             reference: _reference,
             properties: _properties,
             proxy: _proxy,
+            dynamic: _dynamic,
             kept: _kept,
         } = self;
     }
 }
 
 impl Model for FoundOffer {
+    ghost use Rattle.std.specs.Prelude.{◌≡◌};
+    ghost use Rattle.td_store.specs.Candidates.{has_dynamic};
     ghost use Rattle.td_store.specs.contracts.record.OfferRecord as offer;
     ghost use Rattle.td_store.specs.declared.record.OfferRecord.{OfferRecord};
 
@@ -45,15 +51,19 @@ impl Model for FoundOffer {
       properties = f.properties;
       proxy = f.proxy;
     } };
+
+    ghost invariant = { λ f. f.dynamic ≡ has_dynamic f.properties };
 }
 
 impl FoundOffer {
-    /// The offer, with owners of its own of what it is answered with. Takes no memory.
+    /// The offer, with owners of its own of what it is answered with, and whether one of its properties is evaluated
+    /// when it is asked for. Takes no memory.
     ///
     /// # Errors
     ///
     /// `Memory` where an owner is refused.
-    pub fn of(alloc: Global, offer: &OfferRecord) -> Result<FoundOffer, Memory>
+    pub fn of(alloc: Global, offer: &OfferRecord, dynamic: bool) -> Result<FoundOffer, Memory>
+        requires { dynamic ≡ has_dynamic offer.now.properties }
         ensures { IfOk result (λ f. f ≡ offer.now) }
     {
         let reference = offer.reference.copy(alloc)?;
@@ -62,6 +72,7 @@ impl FoundOffer {
             reference,
             properties,
             proxy: copy_proxy(alloc, &offer.proxy)?,
+            dynamic,
             kept: Snapshot::of(offer),
         })
     }
@@ -78,6 +89,13 @@ impl FoundOffer {
         ensures { result.now ≡ self.now.properties }
     {
         self.properties.get()
+    }
+
+    /// Whether one of the properties is evaluated when it is asked for.
+    pub fn has_dynamic(&self) -> bool
+        ensures { result ≡ has_dynamic self.now.properties }
+    {
+        self.dynamic
     }
 
     /// What a proxy offer has besides.
@@ -102,6 +120,7 @@ impl FoundOffer {
             reference,
             properties,
             proxy: _proxy,
+            dynamic: _dynamic,
             kept: _kept,
         } = self;
         Offer {

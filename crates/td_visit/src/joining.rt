@@ -5,9 +5,9 @@ ghost use Rattle.std.specs.List.{flat_map, list_any};
 ghost use Rattle.td_cdr.specs.Seen.{is_among};
 ghost use Rattle.td_walk.specs.Answers.{offer_of, own_offers, joined, is_limit, limit, limits_applied};
 ghost use Rattle.td_walk.specs.Answers.{drawn_by, IsRankedAnswer};
+ghost use Rattle.td_store.specs.Candidates.{has_dynamic};
 ghost use Rattle.td_walk.specs.Resolving.{resolved};
 
-use crate::searching::has_dynamic;
 use std::alloc::Global;
 use td_cdr::{List, Memory, Shared, Text};
 use td_eval::rank;
@@ -18,15 +18,21 @@ use td_value::Offer;
 use td_walk::{Evaluation, Found, Gathered, SubAnswer, resolved};
 
 /// The offer with its properties after these evaluations. Those of which none is dynamic stay as they are.
-#[tactic(auto, using(crate::proofs::Resolved::without_dynamic))]
-fn resolve(alloc: Global, made: &[Evaluation], offer: &mut Offer) -> Result<(), Memory>
+#[tactic(auto, using(crate::proofs::Resolved::as_they_are))]
+fn resolve(
+    alloc: Global,
+    made: &[Evaluation],
+    dynamic: bool,
+    offer: &mut Offer,
+) -> Result<(), Memory>
+    requires { dynamic ≡ has_dynamic offer.old.properties }
     ensures { OnOk result (offer.new
         ≡ record {
           reference = offer.old.reference;
           properties = resolved made.now offer.old.properties;
         }) }
 {
-    if !has_dynamic(offer.properties.as_slice()) {
+    if !dynamic {
         return Ok(());
     }
     let resolved = resolved(alloc, made, offer.properties.as_slice())?;
@@ -39,8 +45,9 @@ fn offer_of(alloc: Global, one: Found) -> Result<Offer, Memory>
     ensures { IfOk result (λ offer. offer ≡ offer_of one) }
 {
     let Found { offer, made } = one;
+    let dynamic = offer.has_dynamic();
     let mut offer = offer.into_offer();
-    match resolve(alloc, made.as_slice(), &mut offer) {
+    match resolve(alloc, made.as_slice(), dynamic, &mut offer) {
         Ok(()) => Ok(offer),
         Err(memory) => {
             drop(offer);

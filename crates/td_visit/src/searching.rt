@@ -33,7 +33,7 @@ fn matches_all(proxy: &Option<Shared<ProxyPart>>) -> bool
 }
 
 /// Whether one of the properties is evaluated when it is asked for.
-pub(crate) fn has_dynamic(properties: &[Property]) -> bool
+fn has_dynamic(properties: &[Property]) -> bool
     ensures { result ≡ has_dynamic properties.now }
 {
     properties
@@ -66,13 +66,15 @@ fn is_matching(
 fn add_found(
     alloc: Global,
     offer: &OfferRecord,
+    dynamic: bool,
     made: List<Evaluation>,
     found: &mut List<Found>,
 ) -> Result<(), Memory>
+    requires { dynamic ≡ has_dynamic offer.now.properties }
     ensures { OnOk result (found.new ≡ found.old ++ record { offer = offer.now; made = made }
         ∷ []) }
 {
-    let offer = FoundOffer::of(alloc, offer)?;
+    let offer = FoundOffer::of(alloc, offer, dynamic)?;
     found.push(Found { offer, made })
 }
 
@@ -95,7 +97,7 @@ fn add_matching(
         &offer.properties,
         dynamic,
     )? {
-        add_found(alloc, offer, made, found)
+        add_found(alloc, offer, dynamic, made, found)
     } else {
         Ok(())
     }
@@ -144,13 +146,13 @@ fn try_candidate(
     ensures stopped { OnOk result
         (made.new ≡ made_trying local.now offer.now made.old left.old.answers.now) }
 {
-    if matches_all(&offer.proxy) {
-        let made = mem::replace(made, List::new(alloc));
-        add_found(alloc, offer, made, found)?;
-        return Ok(None);
-    }
     let properties = offer.properties.as_slice();
     let dynamic = has_dynamic(properties);
+    if matches_all(&offer.proxy) {
+        let made = mem::replace(made, List::new(alloc));
+        add_found(alloc, offer, dynamic, made, found)?;
+        return Ok(None);
+    }
     let question = evaluate_dynamic(alloc, properties, dynamic, made, names, left)?;
     if question.is_some() {
         return Ok(question);
@@ -232,7 +234,7 @@ fn complete(
     match desired {
         SpecifiedProps::None => Ok(None),
         SpecifiedProps::Some(names) => {
-            let dynamic = has_dynamic(properties);
+            let dynamic = offer.has_dynamic();
             evaluate_dynamic(alloc, properties, dynamic, made, names.as_slice(), left)
         }
         SpecifiedProps::All => evaluate_each(alloc, properties, made, left),
