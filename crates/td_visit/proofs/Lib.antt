@@ -7,3 +7,4 @@ pub mod Resolved
 pub mod Reversed
 pub mod Turns
 pub mod Undesired
+pub mod Unlimited

@@ -120,8 +120,23 @@ fn add_limit(
     }
 }
 
-/// The names of the policies that limited the query, in order.
-fn limits_applied(alloc: Global, over: &[Text], given: &[SubAnswer]) -> Result<List<Text>, Memory>
+/// The names of the policies that limited the query, in order. Mostly no limit was met, and none is looked for.
+#[tactic(auto, using(crate::proofs::Unlimited::none_applied))]
+fn limits_applied(
+    alloc: Global,
+    over: &List<Text>,
+    given: &List<SubAnswer>,
+) -> Result<List<Text>, Memory>
+    ensures { IfOk result (λ limits. limits ≡ limits_applied over.now given.now) }
+{
+    if over.is_empty() && given.is_empty() {
+        return Ok(List::new(alloc));
+    }
+    name_limits(alloc, over.as_slice(), given.as_slice())
+}
+
+/// The same, of which each name is looked for.
+fn name_limits(alloc: Global, over: &[Text], given: &[SubAnswer]) -> Result<List<Text>, Memory>
     ensures { IfOk result (λ limits. limits ≡ limits_applied over.now given.now) }
 {
     let mut limits = List::new(alloc);
@@ -160,8 +175,7 @@ pub(crate) fn answer_of<W: Words>(
     ensures seeding { W.last_seeding words.new ≡ W.last_seeding words.old }
     ensures same { W.same words.old words.new }
 {
-    let over = local.effective.over.as_slice();
-    let limits = limits_applied(alloc, over, gathered.given.as_slice())?;
+    let limits = limits_applied(alloc, &local.effective.over, &gathered.given)?;
     let offers = joined(alloc, gathered)?;
     let ranked = rank(&local.preference, offers, words)?;
     Ok(SubAnswer {
