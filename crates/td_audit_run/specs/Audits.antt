@@ -13,7 +13,7 @@ use Rattle.td_lines.specs.declared.cause.LineCause.{LineCause}
 use Rattle.td_make.specs.Generated.{generated}
 use Rattle.td_out.specs.Texts.{HasText, Named}
 use Rattle.td_out.specs.declared.fault.TextFault.TheVariants as fault
-use Rattle.td_tell.specs.Texts.{Tells}
+use Rattle.td_out.specs.Told.{Tells}
 use Rattle.td_audit_run.specs.Commands.{Command, Audit, Log, command_of}
 use Rattle.td_audit_run.specs.Printing.{Prints, PrintsOf}
 use Rattle.td_audit_run.specs.Reports.{line_of}

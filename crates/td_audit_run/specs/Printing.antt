@@ -6,7 +6,7 @@ use Rattle.td_file.specs.Files.{Opening, opening_of}
 use Rattle.td_lines.specs.Steps.{refusal}
 use Rattle.td_out.specs.Causes.{Rose}
 use Rattle.td_out.specs.Texts.{longest_text}
-use Rattle.td_tell.specs.Texts.{Tells}
+use Rattle.td_out.specs.Told.{Tells}
 use Rattle.td_audit_run.specs.declared.audited.Audited.{Audited}
 use Rattle.td_audit_run.specs.declared.audited.Audited.TheVariants.{Usage, Missing, TooLong, Refused, Strange, Memory}
 use Rattle.td_audit_run.specs.declared.audited.Audited.TheVariants.{Printed, Denied, PrintFault}

@@ -5,8 +5,7 @@ ghost use Rattle.td_audit_run.specs.Printing.{PrintsText};
 ghost use Rattle.td_audit_run.specs.declared.audited.Audited.TheVariants as audited;
 
 use crate::audited::Audited;
-use td_out::Sink;
-use td_tell::write_all;
+use td_out::{Sink, write_all};
 
 /// Prints a text with which all is well.
 pub(crate) fn print<K: Sink>(sink: &mut K, text: &[u8]) -> Audited

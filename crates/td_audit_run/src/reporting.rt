@@ -2,7 +2,7 @@
 
 ghost use Rattle.td_audit_run.specs.Reports.{line_of};
 ghost use Rattle.td_command.specs.Reports.{numbered};
-ghost use Rattle.td_tell.specs.Texts.{Tells};
+ghost use Rattle.td_out.specs.Told.{Tells};
 
 use crate::audited::Audited;
 use td_command::{Ended, report as report_command, write_numbered};

@@ -2,7 +2,7 @@
 use Rattle.std.specs.Prelude.{◌≡◌, ℕ, ◌≤◌, List, Option, Some, None}
 use Rattle.std.specs.Io.KnownBytes.{Appends}
 use Rattle.td_out.specs.Causes.{Rose}
-use Rattle.td_tell.specs.Texts.{Tells}
+use Rattle.td_out.specs.Told.{Tells}
 use Rattle.td_client_run.specs.Outcomes.{outcome_lines, outcome_status}
 use Rattle.td_client_run.specs.declared.outcome.Outcome.{Outcome}
 

@@ -8,7 +8,7 @@ use Rattle.td_tool.specs.declared.asking.Refusal.TheVariants as refusal
 use Rattle.td_walk.specs.declared.fault.PeerFault.{PeerFault}
 use Rattle.td_client_run.specs.Outcomes.{fault_status}
 use Rattle.td_client_run.specs.Printing.{Shows, Sunk}
-use Rattle.td_tell.specs.Texts.{Tells}
+use Rattle.td_out.specs.Told.{Tells}
 use Rattle.td_client_run.specs.Sending.{Line, Sends}
 use Rattle.td_client_run.specs.Words.{IsRefused, asking_in}
 use Rattle.td_client_run.specs.declared.outcome.Outcome.{Outcome}

@@ -5,7 +5,7 @@ ghost use Rattle.std.specs.Process.{exit_status};
 ghost use Rattle.td_client_run.specs.Printing.{sunk};
 ghost use Rattle.td_client_run.specs.Runs.{Runs};
 ghost use Rattle.td_client_run.specs.Sending.{line};
-ghost use Rattle.td_tell.specs.Texts.{Tells};
+ghost use Rattle.td_out.specs.Told.{Tells};
 
 use crate::client::client_run;
 use std::alloc::Global;
@@ -14,8 +14,7 @@ use std::io::{self, ErrorKind, Write};
 use std::net::Net;
 use std::process::ExitCode;
 use std::rt::{Clock, Env};
-use td_out::{Sink, StdSink};
-use td_tell::write_all;
+use td_out::{Sink, StdSink, write_all};
 use td_wire::{TcpWire, Wire};
 
 /// Does what the words say, as `client_run` does, and gives the process its status.

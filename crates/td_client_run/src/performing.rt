@@ -10,8 +10,7 @@ use crate::printing::show;
 use crate::sending::send;
 use std::alloc::{AllocError, Global};
 use td_asking::Asking;
-use td_out::Sink;
-use td_tell::write_all;
+use td_out::{Sink, write_all};
 use td_tool::Refusal;
 use td_wire::Wire;
 

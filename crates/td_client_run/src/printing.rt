@@ -4,8 +4,7 @@ ghost use Rattle.td_client_run.specs.Printing.{Prints, Shows, sunk};
 
 use crate::outcome::{Outcome, outcome_status, put_outcome};
 use std::alloc::Global;
-use td_out::Sink;
-use td_tell::write_all;
+use td_out::{Sink, write_all};
 
 /// The status where a sink failed.
 const SINK_FAILED: u8 = 7;

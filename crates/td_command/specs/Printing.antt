@@ -9,7 +9,7 @@ use Rattle.td_out.specs.Causes.{Rose}
 use Rattle.td_out.specs.Texts.{HasText, longest_text}
 use Rattle.td_out.specs.declared.fault.TextFault.TheVariants as fault
 use Rattle.td_stream.specs.Outside.{Outside}
-use Rattle.td_tell.specs.Texts.{Tells}
+use Rattle.td_out.specs.Told.{Tells}
 use Rattle.td_command.specs.Seeds.{Seeded, seeding_of}
 use Rattle.td_command.specs.Shelves.{Shelves}
 use Rattle.td_command.specs.declared.ended.Ended.{Ended}

@@ -22,7 +22,7 @@ use Rattle.td_command.specs.declared.ended.Ended.TheVariants.{PrintFault, Served
 use Rattle.td_command.specs.Commands.{Command, Pipe, Check, Make, Drill, command_of}
 use Rattle.td_command.specs.Printing.{Checks, DrillsWith, IsUnread, Prints, PrintsFile, PrintsOf, sink_of}
 use Rattle.td_command.specs.Reports.{line_of}
-use Rattle.td_tell.specs.Texts.{Tells}
+use Rattle.td_out.specs.Told.{Tells}
 use Rattle.td_command.specs.Status.{status_of}
 
 -- Where a session begins: at the traders that a file opens, with no iterator kept and no peer called, and with the

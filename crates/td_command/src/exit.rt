@@ -8,7 +8,7 @@ ghost use Rattle.td_command.specs.Completeness.{Completes};
 ghost use Rattle.td_command.specs.Reports.{line_of};
 ghost use Rattle.td_command.specs.Runs.{Runs, shelves};
 ghost use Rattle.td_command.specs.Status.{status_of};
-ghost use Rattle.td_tell.specs.Texts.{Tells};
+ghost use Rattle.td_out.specs.Told.{Tells};
 
 use crate::command::run;
 use crate::ended::Ended;

@@ -7,8 +7,7 @@ ghost use Rattle.td_make.specs.Generated.{generated};
 use crate::ended::Ended;
 use std::alloc::Global;
 use td_make::make_file;
-use td_out::Sink;
-use td_tell::write_all;
+use td_out::{Sink, write_all};
 
 /// Prints a text.
 pub(crate) fn print<K: Sink>(sink: &mut K, text: &[u8]) -> Ended

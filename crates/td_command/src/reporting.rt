@@ -2,14 +2,13 @@
 
 ghost use Rattle.std.specs.Prelude.{◌≡◌};
 ghost use Rattle.td_command.specs.Reports.{cause_end, line_of, status_line, numbered};
-ghost use Rattle.td_tell.specs.Texts.{Tells};
+ghost use Rattle.td_out.specs.Told.{Tells};
 
 use crate::ended::Ended;
 use itoa::Buffer;
 use td_file::LineCause;
-use td_out::{Failed, Sink};
+use td_out::{Failed, Sink, write_all};
 use td_session::End;
-use td_tell::write_all;
 
 /// Writes the line for a command that ended so. Where the sink fails, the rest of the line is lost.
 pub fn report<E: Sink>(faults: &mut E, ended: Ended)

@@ -4,7 +4,7 @@ use Rattle.std.specs.Str.{bytes_eq}
 use Rattle.td_accept.specs.Doors.{Door}
 use Rattle.td_cdr.specs.Lawful.{AreOctets}
 use Rattle.td_command.specs.Reports.{status_line}
-use Rattle.td_tell.specs.Texts.{Tells}
+use Rattle.td_out.specs.Told.{Tells}
 use Rattle.td_command.specs.Reports.{line_of as command_line}
 use Rattle.td_command.specs.Shelves.{Shelves}
 use Rattle.td_command.specs.declared.ended.Ended.TheVariants as ended

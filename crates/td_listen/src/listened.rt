@@ -1,7 +1,7 @@
 //! How `listen` ended, the status of the program for it, and the line that it leaves.
 
 ghost use Rattle.std.specs.Prelude.{◌≡◌};
-ghost use Rattle.td_tell.specs.Texts.{Tells};
+ghost use Rattle.td_out.specs.Told.{Tells};
 ghost use Rattle.td_listen.specs.Listens.{line_of, status_of};
 
 use td_command::{Ended, report, write_numbered};

@@ -7,7 +7,7 @@ use Rattle.td_naming.specs.Alone.{nothing, solo_view}
 use Rattle.td_naming.specs.Histories.{Past, past}
 use Rattle.td_stream.specs.Outside.{Outside}
 use Rattle.td_stream.specs.declared.end.End.{End}
-use Rattle.td_tell.specs.Texts.{Tells}
+use Rattle.td_out.specs.Told.{Tells}
 use Rattle.td_name_command.specs.Ends.{line_of, status_of}
 use Rattle.td_name_command.specs.Words.{home_of}
 use Rattle.td_name_command.specs.declared.ended.Ended.{Ended}

@@ -12,8 +12,7 @@ use crate::words::home_of;
 use std::alloc::Global;
 use std::io::{Read, Write};
 use std::process::ExitCode;
-use td_out::{Sink, Source, StdSink, StdSource};
-use td_tell::write_all;
+use td_out::{Sink, Source, StdSink, StdSource, write_all};
 
 /// Does what the words say: `names HOST PORT` serves one session over the source and the sink, with naming contexts of
 /// which there is the root alone, and whose references have this host and port. HOST has at most 1,000 bytes and no

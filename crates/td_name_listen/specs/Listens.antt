@@ -9,7 +9,7 @@ use Rattle.td_names.specs.declared.address.Address.{Address}
 use Rattle.td_naming.specs.Histories.{Past, past}
 use Rattle.td_out.specs.Causes.{Rose}
 use Rattle.td_stream.specs.Outside.{Outside}
-use Rattle.td_tell.specs.Texts.{Tells}
+use Rattle.td_out.specs.Told.{Tells}
 use Rattle.td_name_listen.specs.declared.listened.Listened.{Listened}
 use Rattle.td_name_listen.specs.declared.listened.Listened.TheVariants.{Usage, Memory, Unaccepted, Over}
 

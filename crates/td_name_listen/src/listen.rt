@@ -16,8 +16,7 @@ use td_accept::{Accept, Gate, Visitor};
 use td_name_command::{home_named, new_naming};
 use td_name_sessions::{Ended, serve_naming};
 use td_naming::Naming;
-use td_out::Sink;
-use td_tell::write_all;
+use td_out::{Sink, write_all};
 use td_workers::Stop;
 
 /// Serves the visitors of an acceptor, where the words are `listen names HOST PORT`, with naming contexts of which there

@@ -1,20 +1,10 @@
 -- A text on its way to a sink.
-use Rattle.std.proofs.Common.{◌≡◌, inl, inr, ℕ, ◌≤◌, List, ◌++◌, take, drop, append_assoc, Option, Some, None}
-use Rattle.std.proofs.Common.{sym, ap, ◌∙◌, arith}
+use Rattle.std.proofs.Common.{◌≡◌, inl, inr, ℕ, ◌≤◌, List, ◌++◌, take, drop, append_assoc, Option, sym, ap, ◌∙◌, arith}
 use Rattle.std.specs.Io.KnownBytes.{Appends}
 use Rattle.std.proofs.lemmas.List.{take-append-drop}
 use Rattle.td_out.specs.Causes.{Rose}
-use Rattle.td_tell.specs.Texts.{Tells}
-
-pub Appends-step : (w0 w w1 : Option (List ℕ)) (front piece : List ℕ) → Appends w0 w front → Appends w w1 piece
-    → Appends w0 w1 (front ++ piece)
-Appends-step None w w1 front piece a b = tt
-Appends-step (Some xs) None w1 front piece a b = absurd a
-Appends-step (Some xs) (Some ys) None front piece a b = absurd b
-Appends-step (Some xs) (Some ys) (Some zs) front piece a b = b ∙ ap (λ l. l ++ piece) a ∙ append_assoc xs front piece
-
-pub Rose-before : (a b c : ℕ) → a ≤ b → Rose b c → Rose a c
-Rose-before a b c h r = omega (arith, h, r)
+use Rattle.td_out.specs.Told.{Tells}
+use Rattle.td_out.proofs.Steps.{Appends-then, Rose-later}
 
 -- what stands before the rest of a text was given
 pub record Telling (text rest : List ℕ) (w0 w : Option (List ℕ)) (f0 f : ℕ) : Type 0 where
@@ -31,7 +21,7 @@ telling-step text rest left n w0 w w1 f0 f f1 t l a h = record {
   parts =
       t.parts ∙ ap (λ x. t.front ++ x) (sym (take-append-drop n rest))
       ∙ sym (append_assoc t.front (take n rest) (drop n rest)) ∙ ap (λ x. (t.front ++ take n rest) ++ x) (sym l);
-  gave = Appends-step w0 w w1 t.front (take n rest) t.gave a;
+  gave = Appends-then w0 w w1 t.front (take n rest) t.gave a;
   later = omega (arith, t.later, h);
 }
 
@@ -42,8 +32,8 @@ tells-after first second w0 w w1 f0 f f1 a h t = record {
   told = first ++ t.told;
   untold = t.untold;
   parts = ap (λ x. first ++ x) t.parts ∙ sym (append_assoc first t.told t.untold);
-  gave = Appends-step w0 w w1 first t.told a t.gave;
-  whole = elim t.whole [ inl e ↦ inl e | inr r ↦ inr (Rose-before f0 f f1 h r) ];
+  gave = Appends-then w0 w w1 first t.told a t.gave;
+  whole = elim t.whole [ inl e ↦ inl e | inr r ↦ inr (Rose-later f0 f f1 h r) ];
   later = omega (arith, h, t.later);
 }
 

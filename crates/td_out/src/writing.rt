@@ -3,9 +3,10 @@
 ghost use Rattle.std.specs.Prelude.{OnErr, OnOk};
 ghost use Rattle.std.specs.Io.KnownBytes.{Appends};
 ghost use Rattle.td_out.specs.Causes.{Rose};
-ghost use Rattle.td_tell.specs.Texts.{Tells};
+ghost use Rattle.td_out.specs.Told.{Tells};
 
-use td_out::{Failed, Sink};
+use crate::fault::Failed;
+use crate::sink::Sink;
 
 /// Writes all of a text.
 ///

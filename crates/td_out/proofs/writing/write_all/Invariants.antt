@@ -1,6 +1,6 @@
 use Rattle.std.proofs.Common.{length}
-use Rattle.td_tell.proofs.Telling.{Telling}
-use Rattle.td_tell.proofs.writing.write_all.Given as goal
+use Rattle.td_out.proofs.Telling.{Telling}
+use Rattle.td_out.proofs.writing.write_all.Given as goal
 
 -- what stands before the rest was given
 abbrev pub invariant-loop-rest : goal.invariant-loop-rest

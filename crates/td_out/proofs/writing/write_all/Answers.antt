@@ -1,5 +1,5 @@
-use Rattle.td_tell.proofs.Telling.{telling-step}
-use Rattle.td_tell.proofs.writing.write_all.Goals as goal
+use Rattle.td_out.proofs.Telling.{telling-step}
+use Rattle.td_out.proofs.writing.write_all.Goals as goal
 
 pub loop-rest-preserved : goal.loop-rest-preserved
 loop-rest-preserved g c =
