@@ -1,28 +1,21 @@
 -- A text on its way to a sink.
-use Rattle.std.proofs.Common.{◌≡◌, inl, inr, ℕ, ◌≤◌, List, ◌++◌, take, drop, append_assoc, Option, sym, ap, ◌∙◌, arith}
+use Rattle.std.proofs.Common.{inl, inr, ℕ, ◌≤◌, List, ◌++◌, take, drop, append_assoc, Option, sym, ap, ◌∙◌, arith}
 use Rattle.std.specs.Io.KnownBytes.{Appends}
 use Rattle.std.proofs.lemmas.List.{take-append-drop}
 use Rattle.td_out.specs.Causes.{Rose}
 use Rattle.td_out.specs.Told.{Tells}
 use Rattle.td_out.proofs.Steps.{Appends-then, Rose-later}
 
--- what stands before the rest of a text was given
-pub record Telling (text rest : List ℕ) (w0 w : Option (List ℕ)) (f0 f : ℕ) : Type 0 where
-  pub front : List ℕ
-  pub parts : text ≡ front ++ rest
-  pub gave : Appends w0 w front
-  pub later : f0 ≤ f
-
-pub telling-step : (text rest left : List ℕ) (n : ℕ) (w0 w w1 : Option (List ℕ)) (f0 f f1 : ℕ)
-    → Telling text rest w0 w f0 f → left ≡ drop n rest → Appends w w1 (take n rest) → f ≤ f1
-    → Telling text left w0 w1 f0 f1
-telling-step text rest left n w0 w w1 f0 f f1 t l a h = record {
-  front = t.front ++ take n rest;
-  parts =
-      t.parts ∙ ap (λ x. t.front ++ x) (sym (take-append-drop n rest))
-      ∙ sym (append_assoc t.front (take n rest) (drop n rest)) ∙ ap (λ x. (t.front ++ take n rest) ++ x) (sym l);
-  gave = Appends-then w0 w w1 t.front (take n rest) t.gave a;
-  later = omega (arith, t.later, h);
+-- a text of which a front was given
+pub tells-front : (text : List ℕ) (sent : ℕ) (w0 w : Option (List ℕ)) (f0 f : ℕ) → Appends w0 w (take sent text)
+    → f0 ≤ f → Rose f0 f → Tells text w0 w f0 f
+tells-front text sent w0 w f0 f a h r = record {
+  told = take sent text;
+  untold = drop sent text;
+  parts = sym (take-append-drop sent text);
+  gave = a;
+  whole = inr r;
+  later = h;
 }
 
 -- a text that follows one that was given whole

@@ -3,7 +3,7 @@
 ghost use Rattle.std.specs.Prelude.{OnErr, OnOk};
 ghost use Rattle.std.specs.Io.KnownBytes.{Appends};
 ghost use Rattle.td_out.specs.Causes.{Rose};
-ghost use Rattle.td_out.specs.Told.{Tells};
+ghost use Rattle.td_out.specs.Told.{Tells, WritesAll};
 
 use crate::fault::Failed;
 use crate::sink::Sink;
@@ -12,18 +12,18 @@ use crate::sink::Sink;
 ///
 /// # Errors
 ///
-/// `Failed` only where the sink failed; the front of the text that it had taken is written.
+/// `Failed` only where the sink failed; a front of the text that isn't all of it is then written.
 pub fn write_all<E: Sink>(sink: &mut E, text: &[u8]) -> Result<(), Failed>
+    ensures writes { WritesAll (E.written sink.old) (E.written sink.new) (E.faults sink.old)
+        (E.faults sink.new) text.now result }
     ensures tells { Tells text.now (E.written sink.old) (E.written sink.new) (E.faults sink.old)
         (E.faults sink.new) }
     ensures whole { OnOk result (Appends (E.written sink.old) (E.written sink.new) text.now) }
     ensures failed { OnErr result (Rose (E.faults sink.old) (E.faults sink.new)) }
 {
-    let mut rest = text;
-    while !rest.is_empty() {
-        let size = sink.write(rest)?;
-        let (_told, left) = rest.split_at(size);
-        rest = left;
+    let mut sent = 0;
+    while sent < text.len() {
+        sent += sink.write(&text[sent..])?;
     }
     Ok(())
 }

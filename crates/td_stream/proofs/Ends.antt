@@ -23,7 +23,8 @@ use Rattle.td_stream.specs.Streams.{Meets, HasReason, BreaksAt, bytes_limit, req
 use Rattle.td_stream.specs.Steps.{breaks, cause_of}
 use Rattle.td_stream.specs.Fronts.{Answers}
 use Rattle.td_stream.specs.Ends.{EndsInput, BreaksOff, EndsAtBad}
-use Rattle.td_stream.specs.Pieces.{Writes, WritesAll}
+use Rattle.td_stream.specs.Pieces.{Writes}
+use Rattle.td_out.specs.Told.{WritesAll}
 use Rattle.td_stream.specs.Progress.{Stand, stand, outside_of, Moves, StopsAt, EndsAt, WritesLast, Advances}
 
 -- ---- sends

@@ -1,5 +1,5 @@
 -- What a read brought, and what a write took.
-use Rattle.std.specs.Prelude.{◌≡◌, ◌⊎◌, ℕ, ◌<◌, ◌≤◌, List, [], ◌++◌, length, take, Option, Result, OnOk, OnErr}
+use Rattle.std.specs.Prelude.{◌≡◌, ◌⊎◌, ℕ, ◌<◌, ◌≤◌, List, [], ◌++◌, length, take, Option}
 use Rattle.std.specs.Io.KnownBytes.{Appends, Consumes, IsAtEnd}
 use Rattle.td_out.specs.Causes.{Rose}
 use Rattle.td_giop.specs.Stream.{Stream}
@@ -23,15 +23,6 @@ Brings Failed most left0 left1 reads0 reads1 old new = Consumes left0 left1 [] �
     × (new ≡ old)
 Brings Memory most left0 left1 reads0 reads1 old new = (bytes : List ℕ)
     × Comes most left0 left1 bytes × (new ≡ old)
-
--- A whole piece was written, or a front of it that isn't all, with a count of faults that rose.
-pub record WritesAll {E : Type 0} (written0 written1 : Option (List ℕ)) (writes0 writes1 : ℕ)
-    (piece : List ℕ) (result : Result (Unit {0}) E) : Type 0 where
-  pub whole : OnOk result (Appends written0 written1 piece)
-  pub front : OnErr result ((sent : ℕ) × (sent < length piece)
-      × Appends written0 written1 (take sent piece))
-  pub later : writes0 ≤ writes1
-  pub rose : OnErr result (Rose writes0 writes1)
 
 -- A piece was written, or a front of it with a count of faults that rose.
 pub record Writes (piece : List ℕ) (written0 written1 : Option (List ℕ))

@@ -5,9 +5,8 @@ ghost use Rattle.td_stream.specs.Outbound.{outbound, Puts, SendsAll};
 ghost use Rattle.td_stream.specs.OutboundLaws.{puts-none, puts-then};
 
 use crate::held::SendsHeld;
-use crate::piece::write_all;
 use std::alloc::Global;
-use td_out::Sink;
+use td_out::{Sink, write_all};
 
 /// How many bytes are held at most: 64 KiB.
 const BOUND: usize = 65_536;

@@ -1,10 +1,10 @@
-//! Pieces of the streams: reading the next one, and writing all of one.
+//! Pieces of the stream that comes in.
 
 ghost use Rattle.std.specs.Prelude.{◌+◌, ◌^◌, ◌<◌, ◌≤◌, length};
-ghost use Rattle.td_stream.specs.Pieces.{Brings, WritesAll};
+ghost use Rattle.td_stream.specs.Pieces.{Brings};
 
 use td_giop::Framer;
-use td_out::{Failed, Sink, Source};
+use td_out::Source;
 
 /// How many bytes one read asks for at most.
 const READ_SIZE: usize = 8192;
@@ -40,20 +40,4 @@ pub(crate) fn take_piece<S: Source>(framer: &mut Framer, source: &mut S, most: u
             Err(_) => Piece::Memory,
         },
     }
-}
-
-/// Writes all of a piece.
-///
-/// # Errors
-///
-/// The sink's fault; a front of the piece is then written.
-pub(crate) fn write_all<K: Sink>(sink: &mut K, piece: &[u8]) -> Result<(), Failed>
-    ensures { WritesAll (K.written sink.old) (K.written sink.new) (K.faults sink.old)
-        (K.faults sink.new) piece.now result }
-{
-    let mut sent = 0;
-    while sent < piece.len() {
-        sent += sink.write(&piece[sent..])?;
-    }
-    Ok(())
 }

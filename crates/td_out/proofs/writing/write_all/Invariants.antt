@@ -1,12 +1,14 @@
-use Rattle.std.proofs.Common.{length}
-use Rattle.td_out.proofs.Telling.{Telling}
+use Rattle.std.proofs.Common.{length, ◌-◌, ◌≤◌, take}
+use Rattle.std.specs.Io.KnownBytes.{Appends}
 use Rattle.td_out.proofs.writing.write_all.Given as goal
 
--- what stands before the rest was given
-abbrev pub invariant-loop-rest : goal.invariant-loop-rest
-invariant-loop-rest g l =
-    Telling l.text l.rest (g.E.Sink.written l.initial.sink) (g.E.Sink.written l.sink) (g.E.Sink.faults l.initial.sink)
-    (g.E.Sink.faults l.sink)
+-- the front of the text is written
+abbrev pub invariant-loop-sent : goal.invariant-loop-sent
+invariant-loop-sent g l = record {
+  within : l.sent ≤ length l.text;
+  given : Appends (g.E.Sink.written l.initial.sink) (g.E.Sink.written l.sink) (take l.sent l.text);
+  later : g.E.Sink.faults l.initial.sink ≤ g.E.Sink.faults l.sink;
+}
 
-abbrev pub decreases-loop-rest : goal.decreases-loop-rest
-decreases-loop-rest g l = length l.rest
+abbrev pub decreases-loop-sent : goal.decreases-loop-sent
+decreases-loop-sent g l = length l.text - l.sent
