@@ -1,23 +1,16 @@
 -- The calls of a caller, as they are noted.
 use Rattle.std.specs.Prelude.{ℕ, List, [], ◌∷◌, map, Result, Ok, Err}
 use Rattle.td_out.specs.Causes.{raised}
-use Rattle.td_walk.specs.Peering.{PeerCall, Querying, Evaluating, RegisterOf, Resolving, Exchange, Given}
+use Rattle.td_walk.specs.Noting.{call_of}
+use Rattle.td_walk.specs.Peering.{PeerCall, Exchange, Given}
 use Rattle.td_walk.specs.Peering.{Answered, Evaluated, Referred, Failed}
 use Rattle.td_walk.specs.declared.fault.PeerFault.{PeerFault}
 use Rattle.td_walk.specs.declared.fault.PeerFault.TheVariants as fault
 use Rattle.td_past.specs.Entries.{entries_of}
 use Rattle.td_past.specs.declared.past.Past.{Past}
-use Rattle.td_client.specs.declared.note.CallNote.{CallNote}
-use Rattle.td_client.specs.declared.note.CallNote.TheVariants as call
 use Rattle.td_client.specs.declared.note.GaveNote.{GaveNote}
 use Rattle.td_client.specs.declared.note.GaveNote.TheVariants as gave
 use Rattle.td_client.specs.declared.note.Note.{Note}
-
-abbrev pub call_of : CallNote → PeerCall
-call_of (call.Query t q) = Querying t.value q.value
-call_of (call.Evaluation t n c x) = Evaluating t.value n.value c.value x.value
-call_of (call.Register t) = RegisterOf t.value
-call_of (call.Resolution t n) = Resolving t.value n.value
 
 abbrev pub given_of : GaveNote → Given
 given_of (gave.Offers a) = Answered a.value

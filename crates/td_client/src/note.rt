@@ -1,32 +1,8 @@
 //! The calls of a caller, as clauses see them.
 
 use std::snapshot::Snapshot;
-use td_cdr::{List, Text};
-use td_ops::Query;
-use td_value::{Any, Ior, TypeCode};
-use td_walk::{PeerFault, SubAnswer};
-
-/// A call.
-#[derive(Drop)]
-pub(crate) enum CallNote {
-    Query {
-        target: Snapshot<Ior>,
-        query: Snapshot<Query>,
-    },
-    Evaluation {
-        evaluator: Snapshot<Ior>,
-        name: Snapshot<Text>,
-        returned: Snapshot<TypeCode>,
-        extra: Snapshot<Any>,
-    },
-    Register {
-        lookup: Snapshot<Ior>,
-    },
-    Resolution {
-        register: Snapshot<Ior>,
-        name: Snapshot<List<Text>>,
-    },
-}
+use td_value::{Any, Ior};
+use td_walk::{CallNote, PeerFault, SubAnswer};
 
 /// What a call gave.
 #[derive(Drop)]

@@ -6,14 +6,15 @@ ghost use Rattle.td_codes.specs.References.{reference};
 ghost use Rattle.td_codes.specs.Values.{any_value};
 ghost use Rattle.td_out.specs.Causes.{raised, Rose};
 ghost use Rattle.td_walk.specs.Peering.{HasWritableOffers, IsNoted, Answered, Evaluated, Referred, Failed, is_memory};
-ghost use Rattle.td_client.specs.Noted.{call_of, count_after, count_fault, failed};
+ghost use Rattle.td_walk.specs.Noting.{call_of};
+ghost use Rattle.td_client.specs.Noted.{count_after, count_fault, failed};
 
 use crate::calls::Calls;
-use crate::note::{CallNote, GaveNote, Note};
+use crate::note::{GaveNote, Note};
 use std::snapshot::Snapshot;
 use td_cdr::Boxed;
 use td_value::{Any, Ior};
-use td_walk::{PeerFault, SubAnswer};
+use td_walk::{CallNote, PeerFault, SubAnswer};
 
 /// Notes a call with its fault, and counts the fault.
 fn keep_fault(calls: &mut Calls, faults: &mut u64, call: CallNote, fault: PeerFault)

@@ -20,7 +20,6 @@ ghost use Rattle.td_walk.specs.Peering.{AdmitsExchanges, Answered, Evaluated, Re
 
 use crate::caller::Caller;
 use crate::meaning::{offers_meant, reference_meant, value_meant};
-use crate::note::CallNote;
 use crate::noting::{note_offers, note_reference, note_value};
 use crate::references::{ask_register, ask_to_resolve};
 use std::alloc::Global;
@@ -30,7 +29,7 @@ use td_cdr::{Boxed, List, Text};
 use td_gather::ask_over;
 use td_ops::Query;
 use td_value::{Any, Ior, TypeCode};
-use td_walk::{PeerFault, Peers, SubAnswer};
+use td_walk::{CallNote, PeerFault, Peers, SubAnswer};
 use td_wire::Wire;
 
 impl<L: Wire> Peers for Caller<L> {

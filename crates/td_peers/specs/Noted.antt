@@ -1,17 +1,10 @@
 -- The calls of peers in memory, as they are noted.
 use Rattle.std.specs.Prelude.{List, Option, map, option_map}
 use Rattle.td_peers.specs.Scripts.{gives}
-use Rattle.td_peers.specs.declared.note.CallNote.{CallNote}
-use Rattle.td_peers.specs.declared.note.CallNote.TheVariants as note
 use Rattle.td_peers.specs.declared.note.Note.{Note}
 use Rattle.td_peers.specs.declared.scripted.Scripted.{Scripted}
-use Rattle.td_walk.specs.Peering.{Exchange, PeerCall, Querying, Evaluating, RegisterOf, Resolving}
-
-abbrev pub call_of : CallNote → PeerCall
-call_of (note.Query t q) = Querying t.value q.value
-call_of (note.Evaluation t n c x) = Evaluating t.value n.value c.value x.value
-call_of (note.Register t) = RegisterOf t.value
-call_of (note.Resolution t n) = Resolving t.value n.value
+use Rattle.td_walk.specs.Noting.{call_of}
+use Rattle.td_walk.specs.Peering.{Exchange, PeerCall}
 
 -- a call to which this entry was given, or none
 abbrev pub exchange_by : PeerCall → Option Scripted → Exchange

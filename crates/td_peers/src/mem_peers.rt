@@ -2,14 +2,14 @@
 
 ghost use Rattle.std.specs.Prelude.{◌≡◌, ◌≤◌, ◌<◌, [], length, IfOk, OnOk, OnErr, IfSome};
 ghost use Rattle.td_codes.specs.References.{reference};
-ghost use Rattle.td_peers.specs.Noted.{call_of};
 ghost use Rattle.td_peers.specs.Scripts.{IsPlayed, IsAllowed, AreAllowed, after, entry_at, faults_after, gives};
 ghost use Rattle.td_peers.specs.Scripts.{next_entry, place_for, with_call, without};
+ghost use Rattle.td_walk.specs.Noting.{call_of};
 ghost use Rattle.td_walk.specs.Peering.{IsNoted, HasSmallOffers, Querying, Evaluating, RegisterOf, Resolving};
 ghost use Rattle.td_walk.specs.Peering.{AdmitsExchanges, Answered, Evaluated, Referred};
 
 use crate::entries::{fails, place_among, take_entry};
-use crate::note::{CallNote, Note, note_call};
+use crate::note::{Note, note_call};
 use crate::scripted::{Scripted, offers_in, reference_in, value_in};
 use std::alloc::Global;
 use std::marker::Model;
@@ -17,7 +17,7 @@ use std::snapshot::Snapshot;
 use td_cdr::{Boxed, List, Memory, Octets, Text};
 use td_ops::Query;
 use td_value::{Any, Ior, TypeCode};
-use td_walk::{PeerFault, Peers, SubAnswer};
+use td_walk::{CallNote, PeerFault, Peers, SubAnswer};
 
 /// Peers in memory, which answer by a script. Each object gives its entries in order; some calls fail.
 #[derive(Drop)]

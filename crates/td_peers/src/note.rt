@@ -1,37 +1,15 @@
 //! The calls of peers in memory, as clauses see them: a note takes a byte, and holds no value.
 
 ghost use Rattle.std.specs.Prelude.{◌≡◌, ◌++◌, ◌∷◌, [], IfOk, OnOk, OnErr, option_copied, option_map};
-ghost use Rattle.td_peers.specs.Noted.{call_of, exchange_by, exchange_of, exchanges};
+ghost use Rattle.td_peers.specs.Noted.{exchange_by, exchange_of, exchanges};
 ghost use Rattle.td_peers.specs.Scripts.{entry_at, gives, is_given};
+ghost use Rattle.td_walk.specs.Noting.{call_of};
 
 use crate::entries::entry_at;
 use crate::scripted::{Scripted, is_offers, is_reference, is_value};
 use std::snapshot::Snapshot;
-use td_cdr::{List, Memory, Octets, Text};
-use td_ops::Query;
-use td_value::{Any, Ior, TypeCode};
-
-/// A call.
-#[derive(Drop)]
-pub(crate) enum CallNote {
-    Query {
-        target: Snapshot<Ior>,
-        query: Snapshot<Query>,
-    },
-    Evaluation {
-        evaluator: Snapshot<Ior>,
-        name: Snapshot<Text>,
-        returned: Snapshot<TypeCode>,
-        extra: Snapshot<Any>,
-    },
-    Register {
-        lookup: Snapshot<Ior>,
-    },
-    Resolution {
-        register: Snapshot<Ior>,
-        name: Snapshot<List<Text>>,
-    },
-}
+use td_cdr::{List, Memory, Octets};
+use td_walk::CallNote;
 
 /// A call, and the entry of the script that was given.
 #[derive(Drop)]

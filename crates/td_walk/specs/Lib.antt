@@ -1,6 +1,7 @@
 pub mod Answers
 pub mod Laws
 pub mod Lent
+pub mod Noting
 pub mod Passing
 pub mod Peering
 pub mod Resolving

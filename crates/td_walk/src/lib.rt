@@ -3,6 +3,7 @@
 #![tactic(auto)]
 
 mod answer;
+mod call_note;
 mod dynamic;
 mod evaluating;
 mod evaluation;
@@ -18,6 +19,7 @@ mod sub_query;
 mod trace;
 
 pub use answer::{Next, StepAnswer, SubAnswer};
+pub use call_note::CallNote;
 pub use dynamic::LONGEST_VALUE;
 pub use evaluating::{evaluate_each, evaluate_named};
 pub use evaluation::Evaluation;

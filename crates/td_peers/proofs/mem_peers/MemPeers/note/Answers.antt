@@ -1,7 +1,8 @@
 use Rattle.std.proofs.Common.{subst, sym}
-use Rattle.td_peers.specs.Noted.{call_of, exchanges}
+use Rattle.td_peers.specs.Noted.{exchanges}
 use Rattle.td_peers.specs.Scripts.{AreAllowed}
 use Rattle.td_peers.proofs.Smallness.{noted_allowed}
+use Rattle.td_walk.specs.Noting.{call_of}
 use Rattle.td_walk.specs.Peering.{AdmitsExchanges}
 use Rattle.td_peers.proofs.mem_peers.MemPeers.note.Goals as goal
 
