@@ -1,11 +1,10 @@
 -- How a turn goes on with a stream or ends it.
-use Rattle.std.proofs.Common.{◌≡◌, ◌≢◌, ◌^◌, ℕ, ◌+◌, ◌<◌, ◌≤◌, ◌⊎◌, Bool, true, false, cond, List, [], ◌∷◌, ◌++◌, length}
-use Rattle.std.proofs.Common.{take, drop, Option, Some, None, Result, Ok, Err, refl, sym, ap, subst, ◌∙◌, inl, inr, arith}
+use Rattle.std.proofs.Common.{◌≡◌, ℕ, ◌+◌, ◌<◌, ◌≤◌, Bool, true, false, cond, List, [], ◌∷◌, ◌++◌, length}
+use Rattle.std.proofs.Common.{drop, Option, Some, None, Result, Ok, Err, refl, sym, ap, subst, ◌∙◌, inl, inr, arith}
 use Rattle.std.proofs.Common.{take_all, append-nil, length-append, length-drop}
 use mir.Val.{bool_byte}
 use Rattle.std.proofs.KnownBytes.{Consumes-nil}
 use Rattle.std.specs.Io.KnownBytes.{Consumes, IsAtEnd}
-use Rattle.td_out.specs.Causes.{Rose}
 use Rattle.td_out.specs.declared.fault.Failed.{Failed as SinkFailed}
 use Rattle.td_giop.specs.declared.fault.FrameFault.{FrameFault}
 use Rattle.td_giop.specs.Stream.{Stream, first_at, dropped}
@@ -18,14 +17,13 @@ use Rattle.td_stream.specs.declared.end.End.TheVariants.{Closed, Broken, Truncat
 use Rattle.td_stream.specs.declared.end.End.TheVariants.{Memory}
 use Rattle.td_stream.specs.Outbound.{Outbound, Puts, SendsAll, IsSent}
 use Rattle.td_stream.specs.OutboundLaws.{puts-then}
-use Rattle.td_stream.specs.Outside.{outside}
-use Rattle.td_stream.specs.Streams.{Meets, HasReason, BreaksAt, bytes_limit, request_limit}
-use Rattle.td_stream.specs.Steps.{breaks, cause_of}
+use Rattle.td_stream.specs.Streams.{BreaksAt, bytes_limit, request_limit}
+use Rattle.td_stream.specs.Steps.{cause_of}
 use Rattle.td_stream.specs.Fronts.{Answers}
 use Rattle.td_stream.specs.Ends.{EndsInput, BreaksOff, EndsAtBad}
 use Rattle.td_stream.specs.Pieces.{Writes}
 use Rattle.td_out.specs.Told.{WritesAll}
-use Rattle.td_stream.specs.Progress.{Stand, stand, outside_of, Moves, StopsAt, EndsAt, WritesLast, Advances}
+use Rattle.td_stream.specs.Progress.{stand, Moves, EndsAt, WritesLast, Advances}
 
 -- ---- sends
 

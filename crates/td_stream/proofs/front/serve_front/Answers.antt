@@ -5,8 +5,13 @@ use Rattle.td_stream.specs.Steps.{breaks, closes}
 use Rattle.td_stream.proofs.Fronts.{in_front, is_message, meets}
 use Rattle.td_stream.proofs.front.serve_front.Goals as goal
 
-pub judge-requires-clause-whole : goal.judge-requires-clause-whole
-judge-requires-clause-whole g c =
+pub judge-requires : goal.judge-requires
+judge-requires g c = record {
+  whole = is_message _ _ c.requires.limited (rw c.in-Ok-Some.field-0-is at c.in-Ok-Some.ensures.found);
+}
+
+pub answer-requires-clause-whole : goal.answer-requires-clause-whole
+answer-requires-clause-whole g c =
     is_message _ _ c.requires.limited (rw c.in-Ok-Some.field-0-is at c.in-Ok-Some.ensures.found)
 
 pub returns-in-Close-clause-finds : goal.returns-in-Close-clause-finds
