@@ -99,6 +99,8 @@ fn label_for(alloc: Global, home: &Address, name: &Text, number: u64) -> Result<
     DeskLabel::new(alloc, name, reference)
 }
 
+// A function of its own, since the batch is written last: what is owned here is dropped at two
+// exits, and at each exit of a longer function it would be again.
 /// Appends the first batch for n of what is left, and keeps the rest. Where the batch is written nothing fails any
 /// more.
 fn put_first(

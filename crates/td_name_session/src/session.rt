@@ -46,6 +46,8 @@ pub fn serve_names<N: Names, S: Source, K: Sink>(
     end
 }
 
+// A function of its own, since what a struct of borrows lends is known again only where the struct
+// is taken apart behind a call.
 /// Serves a session of what its servant is lent.
 fn serve_lent<'n, 'r, N: Names, S: Source, K: Sink>(
     alloc: Global,

@@ -19,6 +19,9 @@ use td_stream::{Head, SendsHeld};
 use td_trader::Traders;
 use td_walk::Peers;
 
+// What a borrow lends to a generic `&mut B` may hold no further borrow whose lifetime the caller
+// names. So each wrapper (`SendingPeers`, `BackendRef`) is made in a function that is generic in
+// what it wraps: `answer_holding`, `answer_sending` and `answer_lent` are one step.
 /// Answers a message while replies are held. Its own reply stands in the room then.
 ///
 /// # Errors

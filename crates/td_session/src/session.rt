@@ -74,6 +74,8 @@ pub fn serve_connection<T: Traders, S: Source, K: Sink, P: Peers, W: Words, J: J
     end
 }
 
+// A function of its own, since what a struct of borrows lends is known again only where the struct
+// is taken apart behind a call.
 /// Serves a session of what its servant is lent.
 fn serve_lent<'t, 'r, 'p, 'w, T: Traders, S: Source, K: Sink, P: Peers, W: Words, J: Journal>(
     alloc: Global,
