@@ -1,0 +1,40 @@
+-- Worked examples: which edges are indirections.
+use Rattle.std.specs.Prelude.{◌≡◌, true, false, List, [], ◌∷◌, codes}
+use Rattle.tc_graph.specs.declared.node.Node.{Node}
+use Rattle.tc_graph.specs.Examples.{rolled, unrolled}
+use Rattle.tc_edges.specs.Edges.{is_indirection}
+
+-- ---- a struct of two members of one struct: the first edge to it spells it
+
+abbrev pub long_node : Node
+long_node = record { kind = 3; id = []; names = []; numbers = []; edges = [] }
+
+abbrev pub inner_node : Node
+inner_node = record {
+  kind = 15;
+  id = [];
+  names = codes "P" ∷ codes "a" ∷ [];
+  numbers = [];
+  edges = 2 ∷ [];
+}
+
+abbrev pub outer_node : Node
+outer_node = record {
+  kind = 15;
+  id = [];
+  names = codes "S" ∷ codes "x" ∷ codes "y" ∷ [];
+  numbers = [];
+  edges = 1 ∷ 1 ∷ [];
+}
+
+abbrev pub shared : List Node
+shared = outer_node ∷ inner_node ∷ long_node ∷ []
+
+pub record WorkedEdges : Type 0 where
+  pub spelled : is_indirection rolled 0 0 ≡ false
+  pub back : is_indirection rolled 1 0 ≡ true
+  pub first : is_indirection shared 0 0 ≡ false
+  pub second : is_indirection shared 0 1 ≡ true
+  -- unrolled once, only the last edge leads back
+  pub unrolled_spelled : is_indirection (unrolled 0) 2 0 ≡ false
+  pub unrolled_back : is_indirection (unrolled 0) 3 0 ≡ true
