@@ -30,10 +30,10 @@ use Rattle.td_trader.specs.Worlds.{Begun, Changes, Looks, View, Watches, after_b
 use Rattle.td_trader.specs.Worlds.{after_own, name_at, name_in, number_between, store_seen, view_of, with_view}
 use Rattle.td_trader.specs.declared.begin.Begin.{Begin}
 use Rattle.td_group.specs.Seeing.{TurnAt}
-use Rattle.td_stall.specs.declared.stall.Act.{Act}
-use Rattle.td_stall.specs.declared.stall.Act.TheVariants as act
-use Rattle.td_stall.specs.declared.stall.Reply.{Reply}
-use Rattle.td_stall.specs.declared.stall.Reply.TheVariants as reply
+use Rattle.td_group.specs.declared.stall.Act.{Act}
+use Rattle.td_group.specs.declared.stall.Act.TheVariants as act
+use Rattle.td_group.specs.declared.stall.Reply.{Reply}
+use Rattle.td_group.specs.declared.stall.Reply.TheVariants as reply
 
 -- ---- what is one's own after an act
 

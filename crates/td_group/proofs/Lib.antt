@@ -1,7 +1,9 @@
+pub mod Acted
 pub mod Calls
 pub mod Closed
 pub mod MadeMarks
 pub mod Passing
 pub mod RowLaws
 pub mod Seen
+pub mod Sends
 pub mod Taken

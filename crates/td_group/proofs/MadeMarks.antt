@@ -16,11 +16,11 @@ use Rattle.td_cell.specs.declared.pass.View.{View as Knowledge}
 use Rattle.td_cell.proofs.Chains.{just}
 use Rattle.td_trader.specs.Following.{FollowsWritably}
 use Rattle.td_trader.specs.PlainTraders.{PlainTrader}
-use Rattle.td_stall.specs.Acting.{Acts}
-use Rattle.td_stall.specs.Made.{IsMadeAt}
-use Rattle.td_stall.specs.declared.stall.Act.{Act}
-use Rattle.td_stall.specs.declared.stall.Reply.{Reply}
-use Rattle.td_stall.specs.MadeLaws.{act_makes}
+use Rattle.td_group.specs.Acting.{Acts}
+use Rattle.td_group.specs.Made.{IsMadeAt}
+use Rattle.td_group.specs.declared.stall.Act.{Act}
+use Rattle.td_group.specs.declared.stall.Reply.{Reply}
+use Rattle.td_group.specs.MadeLaws.{act_makes}
 use Rattle.td_group.specs.Grouping.{marks_of, size_of}
 use Rattle.td_group.specs.MadeMarks.{AreMadeApart, MarksAt}
 use Rattle.td_group.specs.Seeing.{trader_of}

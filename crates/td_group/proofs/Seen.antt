@@ -17,13 +17,13 @@ use Rattle.td_trader.specs.Following.{Follows, FollowsWritably}
 use Rattle.td_trader.specs.PlainTraders.{HasShortReplies, PlainTrader, store_of}
 use Rattle.td_trader.specs.Worlds.{View, after_others, number_between, view_of}
 use Rattle.td_trader.proofs.Growing.{legal-append, writable-on}
-use Rattle.td_stall.specs.Acting.{Acts}
-use Rattle.td_stall.specs.BookLaws.{acts_follow}
+use Rattle.td_group.specs.Acting.{Acts}
+use Rattle.td_group.specs.BookLaws.{acts_follow}
 use Rattle.td_group.specs.Grouping.{marks_of, size_of}
 use Rattle.td_group.specs.Seeing.{TurnAt, the_one, view_by}
 use Rattle.td_group.specs.Soundness.{IsSound}
-use Rattle.td_stall.specs.declared.stall.Act.{Act}
-use Rattle.td_stall.specs.declared.stall.Reply.{Reply}
+use Rattle.td_group.specs.declared.stall.Act.{Act}
+use Rattle.td_group.specs.declared.stall.Reply.{Reply}
 use Rattle.td_group.proofs.RowLaws.{got}
 
 -- ---- what is in an option

@@ -14,12 +14,12 @@ use Rattle.td_cell.specs.declared.pass.Pass.{Pass}
 use Rattle.td_trader.specs.Following.{FollowsWritably}
 use Rattle.td_trader.specs.PlainTraders.{PlainTrader}
 use Rattle.td_trader.specs.Worlds.{AdmittedAt, AdmittedIn, LegalAt, LegalIn, View, history_at, history_in, name_at}
-use Rattle.td_stall.specs.Acting.{Acts}
+use Rattle.td_group.specs.Acting.{Acts}
 use Rattle.td_group.specs.Grouping.{MakesOneTurn, marks_of, size_of}
 use Rattle.td_group.specs.Seeing.{TurnAt, seen_by, trader_of}
 use Rattle.td_group.specs.Soundness.{IsSound}
-use Rattle.td_stall.specs.declared.stall.Act.{Act}
-use Rattle.td_stall.specs.declared.stall.Reply.{Reply}
+use Rattle.td_group.specs.declared.stall.Act.{Act}
+use Rattle.td_group.specs.declared.stall.Reply.{Reply}
 use Rattle.td_group.proofs.Calls.{distinct_seen, name_seen}
 use Rattle.td_group.proofs.RowLaws.{all_at, got, kept_at, named_inside, paired_inside, same_at}
 use Rattle.td_group.proofs.Seen.{some_one, sound_on, turn_at, turn_follows}

@@ -1,4 +1,8 @@
+pub mod Acting
+pub mod BookLaws
 pub mod Grouping
+pub mod Made
+pub mod MadeLaws
 pub mod MadeMarks
 pub mod Rows
 pub mod Seeing

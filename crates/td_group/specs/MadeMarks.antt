@@ -7,7 +7,7 @@ use Rattle.td_cell.specs.declared.book.Book.{Ghosts}
 use Rattle.td_cell.specs.declared.pass.Mark.{Mark}
 use Rattle.td_cell.specs.declared.pass.Pass.{Pass}
 use Rattle.td_trader.specs.PlainTraders.{PlainTrader}
-use Rattle.td_stall.specs.Made.{IsMadeAt}
+use Rattle.td_group.specs.Made.{IsMadeAt}
 use Rattle.td_group.specs.Seeing.{trader_of}
 
 -- no two of them whose identifiers were made have one identifier

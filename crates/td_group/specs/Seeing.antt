@@ -11,9 +11,9 @@ use Rattle.td_cell.specs.declared.pass.View.{View as Knowledge}
 use Rattle.td_trader.specs.Admitted.{AreAdmitted}
 use Rattle.td_trader.specs.PlainTraders.{PlainTrader}
 use Rattle.td_trader.specs.Worlds.{Meanwhile, View, number_between, view_of, with_view}
-use Rattle.td_stall.specs.Acting.{Acts}
-use Rattle.td_stall.specs.declared.stall.Act.{Act}
-use Rattle.td_stall.specs.declared.stall.Reply.{Reply}
+use Rattle.td_group.specs.Acting.{Acts}
+use Rattle.td_group.specs.declared.stall.Act.{Act}
+use Rattle.td_group.specs.declared.stall.Reply.{Reply}
 
 -- ---- what is seen
 

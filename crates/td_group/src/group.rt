@@ -14,11 +14,11 @@ ghost use Rattle.td_trader.specs.PlainTraders.{PlainTrader};
 ghost use Rattle.td_trader.specs.Solos.{AreDistinct};
 
 use crate::pass::GroupPass;
+use crate::stall::Stall;
 use std::alloc::Global;
 use std::sync::Wait;
 use td_cdr::{Memory, Text, Twin};
 use td_cell::{Cell, Pass};
-use td_stall::Stall;
 use td_trader::{Solo, Trader};
 
 /// Traders that stand in cells, so that many sessions act on them, each through a `GroupPass` of its own.

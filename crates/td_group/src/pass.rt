@@ -12,12 +12,12 @@ ghost use Rattle.td_group.specs.Seeing.{TurnAt, seen_by, trader_of};
 ghost use Rattle.td_trader.specs.Admitted.{AdmitsChange, AreAdmitted};
 ghost use Rattle.td_trader.specs.Worlds.{Begun, Changes, Looks, Watches};
 
+use crate::stall::{Act, AdmittedChange, Reply, Stall};
 use std::alloc::Global;
 use std::sync::Wait;
 use td_cdr::{Memory, Shared, Text, Twin};
 use td_cell::{Cell, Pass};
 use td_ops::{Change, Look, Outcome, Query};
-use td_stall::{Act, AdmittedChange, Reply, Stall};
 use td_trader::{Begin, Traders};
 
 /// What one session acts on a group of traders through: a pass of each one's cell. Each `change`, `look` and `begin`

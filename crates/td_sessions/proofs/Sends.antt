@@ -13,7 +13,7 @@ use Rattle.td_iter.specs.contracts.item.Item as item
 use Rattle.td_journal.specs.declared.journal.Journal.{Ghosts}
 use Rattle.td_sessions.specs.contracts.session.SessionEnd as session_end
 use Rattle.td_sessions.specs.contracts.session.TraderPass as trader_pass
-use Rattle.td_sends.proofs.Sends.{any_send, group_pass_field, offer_send}
+use Rattle.td_group.proofs.Sends.{any_send, group_pass_field, offer_send}
 use Rattle.td_serve.proofs.replies.Replies.TheSendSync as replies_cross
 use Rattle.td_stream.proofs.end.End.TheSendSync as end_cross
 use Rattle.td_session.specs.contracts.room.Room as room

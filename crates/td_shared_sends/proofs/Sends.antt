@@ -18,7 +18,7 @@ use Rattle.td_iter.specs.contracts.desk.Entry as iterator
 use Rattle.td_iter.specs.contracts.item.Item as item
 use Rattle.td_past.proofs.past.Past.TheLaws.TheKnot.{send-Past}
 use Rattle.td_reply.specs.contracts.entry.Entry as entry
-use Rattle.td_sends.proofs.Sends.{any_send, offer_send}
+use Rattle.td_group.proofs.Sends.{any_send, offer_send}
 use Rattle.td_shared.specs.contracts.entry.SharedEntry as shared_entry
 use Rattle.td_shared.specs.contracts.kept.KeptSharedJournal as kept
 use Rattle.td_walk.specs.contracts.answer.SubAnswer as sub_answer

@@ -6,7 +6,7 @@ use denote.Struct.Declared.{shape}
 use Rattle.std.proofs.Crossing.{crosses}
 use Rattle.td_cell.proofs.pass.Pass.TheSendSync as pass_cross
 use Rattle.td_desk.specs.contracts.shared.SharedDesk as desk
-use Rattle.td_sends.proofs.Sends.{group_pass_field}
+use Rattle.td_group.proofs.Sends.{group_pass_field}
 use Rattle.td_shared_sends.proofs.Sends.{book_send, desk_sync}
 use Rattle.td_shared_sessions.specs.contracts.session.PassesLeft as passes_left
 use Rattle.td_shared_sessions.specs.contracts.session.SessionEnd as session_end

@@ -1,7 +1,7 @@
 use denote.Exit.{no}
 use denote.Param.Send.{param_send, arg_send}
 use Rattle.td_group_tests.proofs.threads.export_on_threads.Goals as goal
-use Rattle.td_sends.proofs.Sends.{group_pass_send}
+use Rattle.td_group.proofs.Sends.{group_pass_send}
 
 pub map_vec-requires-send-J : goal.map_vec-requires-send-J
 map_vec-requires-send-J g c κs out =

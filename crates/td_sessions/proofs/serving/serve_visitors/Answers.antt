@@ -5,7 +5,7 @@ use Rattle.td_server.proofs.Flags.{Keeps, Meet, Splits, Stays, place_of}
 use Rattle.td_workers.proofs.Mapping.{working_maps}
 use Rattle.td_sessions.proofs.AllMet.{all_are_met, flags_of, meets_flags, number_of, splits_flags}
 use Rattle.td_sessions.proofs.Closing.{if_ok}
-use Rattle.td_sends.proofs.Sends.{group_pass_send}
+use Rattle.td_group.proofs.Sends.{group_pass_send}
 use Rattle.td_sessions.proofs.Sends.{pass_send, session_end_send}
 use Rattle.td_sessions.proofs.serving.serve_visitors.Goals as goal
 

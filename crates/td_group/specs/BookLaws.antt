@@ -7,13 +7,13 @@ use Rattle.td_trader.specs.Following.{FollowsWritably, MarksOnce as MarksAtMostO
 use Rattle.td_trader.specs.PlainTraders.{PlainTrader, store_of}
 use Rattle.td_trader.proofs.Growing.{begin-once, begin-writable, change-once, change-writable, look-once}
 use Rattle.td_trader.proofs.Growing.{look-writable, writable-itself, writable-on}
-use Rattle.td_stall.specs.Acting.{Acts}
-use Rattle.td_stall.specs.Made.{MakesAt}
-use Rattle.td_stall.specs.declared.stall.Act.{Act}
-use Rattle.td_stall.specs.declared.stall.Act.TheVariants as act
-use Rattle.td_stall.specs.declared.stall.Reply.{Reply}
-use Rattle.td_stall.specs.declared.stall.Reply.TheVariants as reply
-use Rattle.td_stall.specs.MadeLaws.{act_makes}
+use Rattle.td_group.specs.Acting.{Acts}
+use Rattle.td_group.specs.Made.{MakesAt}
+use Rattle.td_group.specs.declared.stall.Act.{Act}
+use Rattle.td_group.specs.declared.stall.Act.TheVariants as act
+use Rattle.td_group.specs.declared.stall.Reply.{Reply}
+use Rattle.td_group.specs.declared.stall.Reply.TheVariants as reply
+use Rattle.td_group.specs.MadeLaws.{act_makes}
 
 -- ---- what a trader may become
 

@@ -1,7 +1,7 @@
 //! A trader as the book of a cell.
 
 ghost use Rattle.std.specs.Prelude.{◌≡◌};
-ghost use Rattle.td_stall.specs.Acting.{ChangesWritably, StartsQuery};
+ghost use Rattle.td_group.specs.Acting.{ChangesWritably, StartsQuery};
 ghost use Rattle.td_trader.specs.Admitted.{AdmitsChange};
 ghost use Rattle.td_trader.specs.Following.{ActsLook};
 
@@ -88,7 +88,7 @@ impl Book for Stall {
     type Reply = Reply;
 
     ghost use Rattle.std.specs.Prelude.{length};
-    ghost use Rattle.td_stall.specs.Acting.{Acts};
+    ghost use Rattle.td_group.specs.Acting.{Acts};
     ghost use Rattle.td_trader.specs.Following.{FollowsWritably};
 
     ghost size = { λ t. length t.history };
@@ -116,8 +116,8 @@ impl Book for Stall {
         self.trader.marks()
     }
 
-    ghost use Rattle.td_stall.specs.BookLaws.{acts_follow, acts_within, makes_one_mark};
-    ghost use Rattle.td_stall.specs.BookLaws.{follows_itself, follows_on, grows, marks_later};
+    ghost use Rattle.td_group.specs.BookLaws.{acts_follow, acts_within, makes_one_mark};
+    ghost use Rattle.td_group.specs.BookLaws.{follows_itself, follows_on, grows, marks_later};
 
     ghost later_itself = { follows_itself };
 

@@ -1,7 +1,7 @@
 use Rattle.std.proofs.Common.{subst}
-use Rattle.td_stall.proofs.Acted.{changes}
-use Rattle.td_stall.proofs.stall.make.Goals as goal
-use Rattle.td_stall.specs.Acting.{ChangesWritably}
+use Rattle.td_group.proofs.Acted.{changes}
+use Rattle.td_group.proofs.stall.make.Goals as goal
+use Rattle.td_group.specs.Acting.{ChangesWritably}
 
 pub returns : goal.returns
 returns c =

@@ -11,10 +11,10 @@ use Rattle.td_trader.specs.Following.{ActsBegin, ActsChange, ActsLook}
 use Rattle.td_trader.specs.OfferLimits.{HasLimitedOffers}
 use Rattle.td_trader.specs.PlainTraders.{AreBounds, PlainTrader, store_of}
 use Rattle.td_trader.specs.declared.begin.Begin.{Begin}
-use Rattle.td_stall.specs.declared.stall.Act.{Act}
-use Rattle.td_stall.specs.declared.stall.Act.TheVariants as act
-use Rattle.td_stall.specs.declared.stall.Reply.{Reply}
-use Rattle.td_stall.specs.declared.stall.Reply.TheVariants as reply
+use Rattle.td_group.specs.declared.stall.Act.{Act}
+use Rattle.td_group.specs.declared.stall.Act.TheVariants as act
+use Rattle.td_group.specs.declared.stall.Reply.{Reply}
+use Rattle.td_group.specs.declared.stall.Reply.TheVariants as reply
 
 -- what a change whose values can be written answers and leaves
 pub record ChangesWritably (t : PlainTrader) (c : Change) (r : Result Outcome Memory)

@@ -20,12 +20,12 @@ use Rattle.td_trader.specs.declared.begin.Begin.TheVariants.{Refused, Repeat, Se
 use Rattle.td_trader.proofs.Counted.{has-room}
 use Rattle.td_trader.proofs.Growing.{change-once, look-once}
 use Rattle.td_trader.proofs.MarkedOnce.{left-over}
-use Rattle.td_stall.specs.Acting.{Acts, StartsQuery}
-use Rattle.td_stall.specs.Made.{MakesAt}
-use Rattle.td_stall.specs.declared.stall.Act.{Act}
-use Rattle.td_stall.specs.declared.stall.Act.TheVariants as act
-use Rattle.td_stall.specs.declared.stall.Reply.{Reply}
-use Rattle.td_stall.specs.declared.stall.Reply.TheVariants as reply
+use Rattle.td_group.specs.Acting.{Acts, StartsQuery}
+use Rattle.td_group.specs.Made.{MakesAt}
+use Rattle.td_group.specs.declared.stall.Act.{Act}
+use Rattle.td_group.specs.declared.stall.Act.TheVariants as act
+use Rattle.td_group.specs.declared.stall.Reply.{Reply}
+use Rattle.td_group.specs.declared.stall.Reply.TheVariants as reply
 
 last-snoc : (es : List Remembered) (e : Remembered) → last_identifier (es ++ e ∷ []) ≡ e.identifier
 last-snoc [] e = refl

@@ -29,8 +29,8 @@ use Rattle.td_ops.specs.contracts.call.Change as change
 use Rattle.td_policy.proofs.attributes.Attributes.TheSendSync as attributes_cross
 use Rattle.td_register.proofs.change_reply.ChangeReply.TheSendSync as change_reply_cross
 use Rattle.td_register.specs.contracts.history.Accepted as accepted
-use Rattle.td_stall.specs.contracts.stall.Stall as stall
-use Rattle.td_stall.specs.contracts.stall.Stall.TheInside as stall_inside
+use Rattle.td_group.specs.contracts.stall.Stall as stall
+use Rattle.td_group.specs.contracts.stall.Stall.TheInside as stall_inside
 use Rattle.td_store.proofs.links.Links.TheSendSync as links_cross
 use Rattle.td_store.proofs.slab.Slab.TheSendSync as slab_cross
 use Rattle.td_store.specs.contracts.offers.Offers as offers

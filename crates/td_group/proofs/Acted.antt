@@ -13,7 +13,7 @@ use Rattle.td_trader.specs.OfferLimits.{HasLimitedOffers}
 use Rattle.td_trader.specs.PlainTraders.{AreBounds, PlainTrader, after_begin, after_change, begin_at, outcome_of}
 use Rattle.td_trader.specs.PlainTraders.{store_of}
 use Rattle.td_trader.specs.declared.begin.Begin.{Begin}
-use Rattle.td_stall.specs.Acting.{ChangesWritably, StartsQuery}
+use Rattle.td_group.specs.Acting.{ChangesWritably, StartsQuery}
 
 acted : (t u : PlainTrader) (c : Change) (r : Result Outcome Memory) → IfOk r (λ o. o ≡ outcome_of t c)
     → OnOk r (u ≡ after_change t c) → OnErr r (u ≡ t) → ActsChange t c r u
