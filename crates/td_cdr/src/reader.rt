@@ -73,6 +73,14 @@ impl<'a> Reader<'a> {
         self.place
     }
 
+    /// Where alignment counts from, counted from the message's first byte: that byte, or the octet that tells
+    /// the order of an encapsulation.
+    pub fn origin(&self) -> u32
+        ensures { result ≡ self.now.origin }
+    {
+        self.origin
+    }
+
     /// What is left of the message or encapsulation.
     pub fn left(&self) -> &'a [u8]
         ensures left { result.now ≡ self.now.rest }
