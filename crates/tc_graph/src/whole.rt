@@ -51,7 +51,9 @@ fn nodes_copy(alloc: Global, nodes: &[Node]) -> Result<Vec<Node>, GraphFault>
 }
 
 impl Whole {
-    pub(crate) fn of(nodes: Vec<Node>) -> Whole
+    /// The graph of these nodes, which are whole. It takes no memory. [`crate::Graph`] is for nodes of which that
+    /// isn't known.
+    pub fn of(nodes: Vec<Node>) -> Whole
         requires { IsWhole nodes.items }
         ensures { result ≡ nodes.items }
     {
