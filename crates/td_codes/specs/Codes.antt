@@ -300,7 +300,7 @@ module _ (levels : ℕ) (inner : Mode → Sound ValueFault TypeCode) (mode : Mod
         rw (w Switch, rows) refl
 
     -- no format of these spells a graph
-    no-graph : (t : TypeCode) (graph : List Node) → out-TypeCode t ≡ c.Linked graph
+    pub no-graph : (t : TypeCode) (graph : List Node) → out-TypeCode t ≡ c.Linked graph
         → kind_and_parameters.format.admits t → ⊥
     no-graph t graph e ok =
         let null : code.Null ≡ t =
@@ -396,3 +396,12 @@ codes levels mode = (code_formats levels mode).sound
 -- a TypeCode as it stands in a body, at level 1 of 16
 abbrev pub type_code : Sound ValueFault TypeCode
 type_code = codes 16 Outer
+
+-- no format of these admits a graph
+pub no-linked : (levels : ℕ) (mode : Mode) (t : TypeCode) (graph : List Node)
+    → out-TypeCode t ≡ c.Linked graph → (codes levels mode).format.admits t → ⊥
+unfolding code_formats
+no-linked zero mode t graph e ok = absurd ok.1
+no-linked (suc levels) mode t graph e ok =
+    no-graph levels (λ m. (code_formats levels m).sound) mode (λ m. (code_formats levels m).writes)
+    t graph e ok

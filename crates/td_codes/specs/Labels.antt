@@ -256,6 +256,10 @@ one_of count = other_writing plain_piece (enum_variant count) (enum-plain count)
 
 -- ---- a union's discriminator
 
+-- no value at all
+abbrev pub no_label : Sound ValueFault Value
+no_label = other_writing plain_piece (failure no_value) (λ v order place ok. absurd ok)
+
 -- whatever stands for the TypeCodes in a layer
 abbrev pub label_layer : {T V A R M : Type 0} → (T → Sound ValueFault Value) → TypeCode-F T V A R M
     → Sound ValueFault Value
@@ -269,7 +273,7 @@ label_layer inner c.TypeCode::Boolean = boolean_value
 label_layer inner c.TypeCode::Char = char_value
 label_layer inner (c.TypeCode::Enum id name names) = one_of (length names)
 label_layer inner (c.Alias id name item) = inner item
-label_layer inner l = failure no_value
+label_layer inner l = no_label
 
 pub label_layer-plain : (inner : TypeCode → Sound ValueFault Value)
     → ((t : TypeCode) (v : Value) (order : Order) (place : ℕ) → (inner t).format.admits v
@@ -290,7 +294,7 @@ label_layer-plain inner j l v order place ok = absurd ok
 
 -- a discriminator under a TypeCode of at most so many levels, before it is known how it is written
 unfoldable pub spelled_labels : ℕ → TypeCode → Sound ValueFault Value
-spelled_labels zero code = failure no_value
+spelled_labels zero code = no_label
 spelled_labels (suc n) code = label_layer (spelled_labels n) (out-TypeCode code)
 
 pub labels-plain : (n : ℕ) (t : TypeCode) (v : Value) (order : Order) (place : ℕ)

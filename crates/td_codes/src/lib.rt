@@ -21,7 +21,10 @@ pub use aliases::bare;
 pub use code::{Any, Arm, Member, TypeCode, Value};
 pub use kinds::{CodeKind, INDIRECTION, kind_of};
 pub use label::{Label, label_of, same_label};
-pub use laws::{anys_are_spelled, codes_are_spelled};
+pub use laws::{
+    anys_are_spelled, codes_are_extended, codes_are_spelled, graphs_are_spelled,
+    outermost_codes_are_spelled, worked_graphs,
+};
 pub use mode::Mode;
 pub use reading::LEVELS;
 pub use reference::{Ior, Profile, read_ior, write_ior};

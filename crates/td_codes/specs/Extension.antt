@@ -14,8 +14,8 @@ use Rattle.td_codes.specs.declared.mode.Mode.{Mode}
 use Rattle.td_codes.specs.Labels.{Layer}
 use Rattle.td_codes.specs.Codes.{codes}
 use Rattle.td_indirection.specs.States.{slot, with_slots}
-use Rattle.td_graph_codes.specs.Known.{MemberNode, ArmNode, Numbers, KnownState, KnownSlot, known}
-use Rattle.td_graph_codes.specs.GraphCodes.{edges}
+use Rattle.td_codes.specs.Known.{MemberNode, ArmNode, Numbers, KnownState, KnownSlot, known}
+use Rattle.td_codes.specs.GraphCodes.{edges}
 
 abbrev pub Reading : Type 0 → Type 0
 Reading X = At → Read ValueFault X

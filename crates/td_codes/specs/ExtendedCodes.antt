@@ -15,20 +15,21 @@ use Rattle.td_indirection.specs.Stateful.{Sound, tag_place}
 use Rattle.td_indirection.specs.Tables.{put-seam}
 use Rattle.td_indirection.specs.Variants.{variant}
 use Rattle.td_indirection.specs.NodeStarts.{node}
-use Rattle.td_graph_codes.specs.Known.{Numbers, Known, KnownState, KnownSlot, known, begun}
-use Rattle.td_graph_codes.specs.GraphCodes.{most_nodes, crowded, kind_or_indirection, behind, edges}
-use Rattle.td_graph_codes.specs.GraphCodes.{parameters as graph_parameters}
-use Rattle.td_graph_codes.specs.Extension.{Reading, Extended, Extends, same, NodeOf, Laid, GrowsBy, CodesAreExtended}
-use Rattle.td_graph_codes.proofs.Followed.{made_on, edges-keeps, led_to-leads}
-use Rattle.td_graph_codes.proofs.Extending.{plain-extends, end-extends, depth-any}
-use Rattle.td_graph_codes.proofs.ExtendedKinds.{kinds-extended, kind-extends}
-use Rattle.td_graph_codes.proofs.Parameters.{NodeIn, parameters-extend}
+use Rattle.td_codes.specs.Known.{Numbers, Known, KnownState, KnownSlot, known, begun}
+use Rattle.td_codes.specs.GraphCodes.{most_nodes, crowded, kind_or_indirection, behind, edges}
+use Rattle.td_codes.specs.GraphCodes.{parameters as graph_parameters}
+use Rattle.td_codes.specs.Extension.{Reading, Extended, Extends, same, NodeOf, Laid, GrowsBy, CodesAreExtended}
+use Rattle.td_codes.specs.Followed.{made_on, edges-keeps, led_to-leads}
+use Rattle.td_codes.specs.Extending.{plain-extends, end-extends, depth-any}
+use Rattle.td_codes.specs.ExtendedKinds.{kinds-extended, kind-extends}
+use Rattle.td_codes.specs.Parameters.{NodeIn, parameters-extend}
 
 -- the same of what is known of the node
 abbrev KnownIn : ℕ → CodeKind → KnownState → TypeCode → Known → KnownState → Type 0
 KnownIn levels k s t n new = (v : Numbers) × (n ≡ known k v) × NodeIn levels s t v new
 
-node-grows : (levels place : ℕ) (k : CodeKind) (s : KnownState) (t : TypeCode) (n : Known) (m : KnownState)
+node-grows : (levels place : ℕ) (k : CodeKind) (s : KnownState) (t : TypeCode) (n : Known)
+    (m : KnownState)
     → KnownIn levels k (with_blank (begun k) place s) t n m
     → GrowsBy (suc levels) s t (length s.table) (with_node m (length s.table) n)
 unfolding Laid
@@ -38,7 +39,8 @@ node-grows levels place k s t n m (v, is, (more, e, nd)) =
     let filled : KnownState → KnownState = λ (x : KnownState). with_node x count (known k v) in
     let with_table : List KnownSlot → KnownState =
     λ (x : List KnownSlot). record { base = s.base; table = x; linked = s.linked } in
-    let there : put ((s.table ++ blank ∷ []) ++ more) count (known k v) ≡ s.table ++ slot place (known k v) ∷ more =
+    let there : put ((s.table ++ blank ∷ []) ++ more) count (known k v)
+    ≡ s.table ++ slot place (known k v) ∷ more =
     ap (λ (x : List KnownSlot). put x count (known k v)) (append_assoc s.table (blank ∷ []) more)
     ∙ put-seam s.table blank more (known k v) in (
       slot place (known k v) ∷ more,
@@ -50,41 +52,46 @@ node-grows levels place k s t n m (v, is, (more, e, nd)) =
         v,
         more,
         refl,
-        subst (λ (i : ℕ). NodeOf (Laid levels) (out-TypeCode t) i v more) (length-append s.table (blank ∷ [])) nd,
+        subst (λ (i : ℕ). NodeOf (Laid levels) (out-TypeCode t) i v more)
+            (length-append s.table (blank ∷ [])) nd,
       ),
     )
 
 node-extends : (levels : ℕ) (k : CodeKind) (tag : At) (s : KnownState) (p : Reading TypeCode)
-    (t : Sound ValueFault Known Numbers) → ((s : KnownState) → Extends (NodeIn levels s) s p t.format.reads)
+    (t : Sound ValueFault Known Numbers)
+    → ((s : KnownState) → Extends (NodeIn levels s) s p t.format.reads)
     → Extends (GrowsBy (suc levels) s) s p
-    (λ s. (node most_nodes crowded (begun k) (variant (known k) (λ n. n.layer) (λ _. refl) t)).format.reads tag s)
+    (λ s. (node most_nodes crowded (begun k)
+    (variant (known k) (λ n. n.layer) (λ _. refl) t)).format.reads tag s)
 node-extends levels k tag s p t j a = go (nat_lt (length s.table) most_nodes)
   where
     go : (b : Bool) → Extended (GrowsBy (suc levels) s) (p a)
         (cond b (made_on (known k) t.format.reads (with_blank (begun k) (tag_place s tag) s) a
-        >>= λ v. Ok ((length s.table, with_node v.0.1 (length s.table) v.0.0), v.1)) (Err (crowded tag)))
+        >>= λ v. Ok ((length s.table, with_node v.0.1 (length s.table) v.0.0), v.1))
+        (Err (crowded tag)))
     go true =
         let inner = with_blank (begun k) (tag_place s tag) s in
         end-extends (KnownIn levels k inner) (GrowsBy (suc levels) s) (p a)
         (made_on (known k) t.format.reads inner a)
         (λ n m. length s.table) (λ n m. with_node m (length s.table) n)
-        (end-extends (NodeIn levels inner) (KnownIn levels k inner) (p a) (t.format.reads inner a) (λ v m. known k v)
-        (λ v m. m) (j inner a) (λ x v m r. (v, refl, r)) (λ v m f. f))
+        (end-extends (NodeIn levels inner) (KnownIn levels k inner) (p a) (t.format.reads inner a)
+        (λ v m. known k v) (λ v m. m) (j inner a) (λ x v m r. (v, refl, r)) (λ v m f. f))
         (node-grows levels (tag_place s tag) k s) (λ n m f. f)
     go false = depth-any (GrowsBy (suc levels) s) (p a) (crowded tag) tt
 
 pub codes-extended : CodesAreExtended
 unfolding code_formats
 codes-extended zero mode chain s a =
-    plain-extends (GrowsBy zero s) ((deep_kind mode).format.reads a) (λ k. (no_arm k.0).format.reads k.1)
-    (λ k. Err (no_value k.1)) (λ k. same refl)
+    plain-extends (GrowsBy zero s) ((deep_kind mode).format.reads a)
+    (λ k. (no_arm k.0).format.reads k.1) (λ k. Err (no_value k.1)) (λ k. same refl)
 codes-extended (suc levels) mode chain s a =
     let kinds = kinds-extended mode a in
-    kind-extends (GrowsBy (suc levels) s) ((kind_at mode).format.reads a) ((kind_or_indirection mode).format.reads a)
-    kinds.0
+    kind-extends (GrowsBy (suc levels) s) ((kind_at mode).format.reads a)
+    ((kind_or_indirection mode).format.reads a) kinds.0
     (λ k. (parameters levels (codes levels) mode k.0).format.reads k.1)
-    (λ k next. (behind (edges levels) mode chain k).format.reads a s next) kinds.1 (led_to-leads mode chain s kinds.0)
+    (λ k next. (behind (edges levels) mode chain k).format.reads a s next) kinds.1
+    (led_to-leads mode chain s kinds.0)
     (λ k. node-extends levels k.0 a s (parameters levels (codes levels) mode k.0).format.reads
     (graph_parameters (edges levels) mode chain k.0)
-    (parameters-extend levels (codes levels) (edges levels) (codes-extended levels) (edges-keeps levels) mode chain k.0)
-    k.1)
+    (parameters-extend levels (codes levels) (edges levels) (codes-extended levels)
+    (edges-keeps levels) mode chain k.0) k.1)

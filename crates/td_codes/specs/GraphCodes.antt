@@ -25,7 +25,7 @@ use Rattle.td_codes.specs.declared.mode.Mode.TheVariants.{Inner, Switch}
 use Rattle.td_codes.specs.Formats.{is_some, nonempty_sequence}
 use Rattle.td_codes.specs.Kinds.{number_of, kind_by_number, all_kinds, indirection as indirection_number, may_stand, under}
 use Rattle.td_codes.specs.Kinds.{number_fault, deep_kind, kind_by_number-number}
-use Rattle.td_codes.specs.Labels.{no_value, label_layer}
+use Rattle.td_codes.specs.Labels.{no_value, no_label, label_layer}
 use Rattle.td_codes.specs.Codes.{header, positive, head}
 use Rattle.td_indirection.specs.States.{State, nodes, places, ulong_place}
 use Rattle.td_indirection.specs.Stateful.{Sound, Arm}
@@ -37,8 +37,8 @@ use Rattle.td_indirection.specs.Indirections.{indirection, number-below}
 use Rattle.td_indirection.specs.NodeStarts.{node, node-known}
 use Rattle.td_indirection.specs.Choices.{IsSized, IsTold, arm, choice, array, array-count, sequence_with}
 use Rattle.td_indirection.specs.Ulongs.{ulong-sized, ulong-long}
-use Rattle.td_graph_codes.specs.Known.{MemberNode, ArmNode, Numbers, Known, known, begun, layer_of, bare_number, may_lead}
-use Rattle.td_graph_codes.specs.Known.{leaves_chain, chain_under, message_place}
+use Rattle.td_codes.specs.Known.{MemberNode, ArmNode, Numbers, Known, known, begun, layer_of, bare_number, may_lead}
+use Rattle.td_codes.specs.Known.{leaves_chain, chain_under, message_place}
 
 -- ---- what stands in the place of a kind: a kind, or the number that an indirection begins with
 
@@ -132,11 +132,11 @@ positive-sized n order place = ulong-sized n order place
 
 abbrev pub labels_of : (ℕ → Plain ValueFault Value) → Option Numbers → Plain ValueFault Value
 labels_of inner (Some l) = label_layer inner l
-labels_of inner None = failure no_value
+labels_of inner None = no_label
 
 -- of a node that is reached over so many aliases at most
 abbrev pub node_labels : ℕ → List Known → ℕ → Plain ValueFault Value
-node_labels zero ns j = failure no_value
+node_labels zero ns j = no_label
 node_labels (suc n) ns j = labels_of (node_labels n ns) (layer_of (nth ns j))
 
 -- ---- what stands behind a kind

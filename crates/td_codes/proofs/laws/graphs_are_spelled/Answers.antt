@@ -1,5 +1,6 @@
-use Rattle.td_graph_codes.specs.GraphCodes.{edges}
-use Rattle.td_graph_codes.proofs.laws.graphs_are_spelled.Goals as goal
+use Rattle.td_codes.specs.GraphCodes.{edges}
+use Rattle.td_codes.proofs.GraphsWhole.{graphs-whole}
+use Rattle.td_codes.proofs.laws.graphs_are_spelled.Goals as goal
 
 pub returns-clause-read : goal.returns-clause-read
 returns-clause-read c = λ levels mode chain. (edges levels mode chain).joins
@@ -9,3 +10,6 @@ returns-clause-refused c = λ levels mode chain. (edges levels mode chain).refus
 
 pub returns-clause-written : goal.returns-clause-written
 returns-clause-written c = λ levels mode chain. (edges levels mode chain).transfers
+
+pub returns-clause-whole : goal.returns-clause-whole
+returns-clause-whole c = graphs-whole

@@ -12,11 +12,11 @@ use Rattle.td_codes.specs.declared.code.TypeCode.{TypeCode}
 use Rattle.td_indirection.specs.States.{with_slots, inside_state, behind_state}
 use Rattle.td_indirection.specs.Stateful.{Sound}
 use Rattle.td_indirection.specs.Choices.{array}
-use Rattle.td_graph_codes.specs.Known.{Known, KnownState, KnownSlot}
-use Rattle.td_graph_codes.specs.Extension.{Reading, StatefulReading, IsIndirection, IsDepth, indirection, depth, same}
-use Rattle.td_graph_codes.specs.Extension.{Extended, Extends, AllLaid}
-use Rattle.td_graph_codes.proofs.Followed.{IsLinked, LeadsOn, Keeps, lift_on, made_on, then_on, within_on, bind-leads}
-use Rattle.td_graph_codes.proofs.Followed.{array-keeps, chosen-leads}
+use Rattle.td_codes.specs.Known.{Known, KnownState, KnownSlot}
+use Rattle.td_codes.specs.Extension.{Reading, StatefulReading, IsIndirection, IsDepth, indirection, depth, same}
+use Rattle.td_codes.specs.Extension.{Extended, Extends, AllLaid}
+use Rattle.td_codes.specs.Followed.{IsLinked, LeadsOn, Keeps, lift_on, made_on, then_on, within_on, bind-leads}
+use Rattle.td_codes.specs.Followed.{array-keeps, chosen-leads}
 
 abbrev pub made : {X Y : Type 0} → (X → Y) → Reading X → Reading Y
 made {Y = Y} f p = λ a. p a >>= λ x. Ok (f x.0, x.1)
@@ -25,25 +25,30 @@ abbrev pub pair_on : {X Y : Type 0} → Reading X → (X → Reading Y) → Read
 pair_on {X = X} {Y = Y} p q = λ a. p a >>= λ x. q x.0 x.1 >>= λ y. Ok ((x.0, y.0), y.1)
 
 abbrev pub within : {X : Type 0} → Reading X → Reading X
-within {X = X} p = λ a. as_fault fault.Cdr (encapsulation_at a) >>= λ e. p e.0 >>= λ v. Ok (v.0, e.1)
+within {X = X} p = λ a. as_fault fault.Cdr (encapsulation_at a) >>= λ e. p e.0 >>= λ v.
+    Ok (v.0, e.1)
 
 -- ---- what an answer goes on with
 
-pub depth-any : {X Z : Type 0} (R : X → Z → KnownState → Type 0) (q : Read ValueFault X) (e : ValueFault) → IsDepth e
+pub depth-any : {X Z : Type 0} (R : X → Z → KnownState → Type 0) (q : Read ValueFault X)
+    (e : ValueFault) → IsDepth e
     → Extended {X = X} {Z = Z} R q (Err e)
 depth-any R (Ok x) e f = f
 depth-any R (Err d) e f = depth f
 
 pub indirection-any : {X Z : Type 0} (R : X → Z → KnownState → Type 0) (e : ValueFault)
-    (r : Read ValueFault (Z × KnownState)) → IsIndirection e → LeadsOn r → Extended {X = X} {Z = Z} R (Err e) r
+    (r : Read ValueFault (Z × KnownState)) → IsIndirection e → LeadsOn r
+    → Extended {X = X} {Z = Z} R (Err e) r
 indirection-any R e (Ok v) m l = (m, l)
 indirection-any R e (Err d) m l = indirection m
 
-pub bind-extends : {X Z Y W : Type 0} (R : X → Z → KnownState → Type 0) (Q : Y → W → KnownState → Type 0)
-    (q : Read ValueFault X) (r : Read ValueFault (Z × KnownState)) (f : X × At → Read ValueFault Y)
-    (h : (Z × KnownState) × At → Read ValueFault (W × KnownState)) → Extended R q r
+pub bind-extends : {X Z Y W : Type 0} (R : X → Z → KnownState → Type 0)
+    (Q : Y → W → KnownState → Type 0) (q : Read ValueFault X) (r : Read ValueFault (Z × KnownState))
+    (f : X × At → Read ValueFault Y) (h : (Z × KnownState) × At → Read ValueFault (W × KnownState))
+    → Extended R q r
     → ((x : X) (z : Z) (m : KnownState) (a : At) → R x z m → Extended Q (f (x, a)) (h ((z, m), a)))
-    → ((v : (Z × KnownState) × At) → IsLinked v.0.1 → LeadsOn (h v)) → Extended Q (q >>= f) (r >>= h)
+    → ((v : (Z × KnownState) × At) → IsLinked v.0.1 → LeadsOn (h v))
+    → Extended Q (q >>= f) (r >>= h)
 bind-extends R Q (Ok x) (Ok v) f h s k j =
     subst (λ (a : At). Extended Q (f x) (h (v.0, a))) s.1 (k x.0 v.0.0 v.0.1 x.1 s.0)
 bind-extends R Q (Ok x) (Err e) f h s k j = depth-any Q (f x) e s
@@ -57,16 +62,17 @@ pub plain-extends : {K Y W : Type 0} (Q : Y → W → KnownState → Type 0) (q 
 plain-extends Q (Ok k) f h s = s k
 plain-extends Q (Err e) f h s = same refl
 
-pub lifted-extends : {K Y W : Type 0} (Q : Y → W → KnownState → Type 0) (s : KnownState) (q : Read ValueFault K)
-    (f : K × At → Read ValueFault Y) (h : (K × KnownState) × At → Read ValueFault (W × KnownState))
+pub lifted-extends : {K Y W : Type 0} (Q : Y → W → KnownState → Type 0) (s : KnownState)
+    (q : Read ValueFault K) (f : K × At → Read ValueFault Y)
+    (h : (K × KnownState) × At → Read ValueFault (W × KnownState))
     → ((k : K × At) → Extended Q (f k) (h ((k.0, s), k.1)))
     → Extended Q (q >>= f) ((q >>= λ x. Ok ((x.0, s), x.1)) >>= h)
 lifted-extends Q s (Ok k) f h j = j k
 lifted-extends Q s (Err e) f h j = same refl
 
-pub end-extends : {X Z W : Type 0} (R : X → Z → KnownState → Type 0) (Q : X → W → KnownState → Type 0)
-    (q : Read ValueFault X) (r : Read ValueFault (Z × KnownState)) (g : Z → KnownState → W)
-    (h : Z → KnownState → KnownState) → Extended R q r
+pub end-extends : {X Z W : Type 0} (R : X → Z → KnownState → Type 0)
+    (Q : X → W → KnownState → Type 0) (q : Read ValueFault X) (r : Read ValueFault (Z × KnownState))
+    (g : Z → KnownState → W) (h : Z → KnownState → KnownState) → Extended R q r
     → ((x : X) (z : Z) (m : KnownState) → R x z m → Q x (g z m) (h z m))
     → ((z : Z) (m : KnownState) → IsLinked m → IsLinked (h z m))
     → Extended Q q (r >>= λ v. Ok ((g v.0.0 v.0.1, h v.0.0 v.0.1), v.1))
@@ -75,9 +81,11 @@ end-extends R Q (Ok x) (Err e) g h s k l = s
 end-extends R Q (Err e) (Ok v) g h s k l = (s.0, l v.0.0 v.0.1 s.1)
 end-extends R Q (Err e) (Err d) g h s k l = s
 
-pub front-extends : {X Z Y : Type 0} (R : X → Z → KnownState → Type 0) (Q : Y → Z → KnownState → Type 0) (f : X → Y)
-    (q : Read ValueFault X) (r : Read ValueFault (Z × KnownState)) → Extended R q r
-    → ((x : X) (z : Z) (m : KnownState) → R x z m → Q (f x) z m) → Extended Q (q >>= λ x. Ok (f x.0, x.1)) r
+pub front-extends : {X Z Y : Type 0} (R : X → Z → KnownState → Type 0)
+    (Q : Y → Z → KnownState → Type 0) (f : X → Y) (q : Read ValueFault X)
+    (r : Read ValueFault (Z × KnownState)) → Extended R q r
+    → ((x : X) (z : Z) (m : KnownState) → R x z m → Q (f x) z m)
+    → Extended Q (q >>= λ x. Ok (f x.0, x.1)) r
 front-extends R Q f (Ok x) (Ok v) s k = (k x.0 v.0.0 v.0.1 s.0, s.1)
 front-extends R Q f (Ok x) (Err e) s k = s
 front-extends R Q f (Err e) (Ok v) s k = s
@@ -86,7 +94,8 @@ front-extends R Q f (Err e) (Err d) s k = s
 abbrev pub Kept : {X : Type 0} → KnownState → X → X → KnownState → Type 0
 Kept s x z m = (x ≡ z) × (m ≡ s)
 
-kept-any : {X : Type 0} (s : KnownState) (q : Read ValueFault X) → Extended (Kept s) q (q >>= λ x. Ok ((x.0, s), x.1))
+kept-any : {X : Type 0} (s : KnownState) (q : Read ValueFault X)
+    → Extended (Kept s) q (q >>= λ x. Ok ((x.0, s), x.1))
 kept-any s (Ok x) = ((refl, refl), refl)
 kept-any s (Err e) = same refl
 
@@ -95,9 +104,11 @@ kept-extends s p a = kept-any s (p a)
 
 -- ---- ways to build a reading
 
-pub made-extends : {X Z Y W : Type 0} (R : X → Z → KnownState → Type 0) (Q : Y → W → KnownState → Type 0)
-    (s : KnownState) (f : X → Y) (g : Z → W) (p : Reading X) (t : StatefulReading Z) → Extends R s p t
-    → ((x : X) (z : Z) (m : KnownState) → R x z m → Q (f x) (g z) m) → Extends Q s (made f p) (made_on g t)
+pub made-extends : {X Z Y W : Type 0} (R : X → Z → KnownState → Type 0)
+    (Q : Y → W → KnownState → Type 0) (s : KnownState) (f : X → Y) (g : Z → W) (p : Reading X)
+    (t : StatefulReading Z) → Extends R s p t
+    → ((x : X) (z : Z) (m : KnownState) → R x z m → Q (f x) (g z) m)
+    → Extends Q s (made f p) (made_on g t)
 made-extends R Q s f g p t j k a =
     bind-extends R Q (p a) (t s a) (λ x. Ok (f x.0, x.1)) (λ x. Ok ((g x.0.0, x.0.1), x.1)) (j a)
     (λ x z m b r. (k x z m r, refl)) (λ v e. e)
@@ -108,23 +119,27 @@ Both R Q v w n = (m : KnownState) × R v.0 w.0 m × Q v.0 w.0 m v.1 w.1 n
 
 pub pair-extends : {X Z Y W : Type 0} (R : X → Z → KnownState → Type 0)
     (Q : X → Z → KnownState → Y → W → KnownState → Type 0)
-    (s : KnownState) (p : Reading X) (t : StatefulReading Z) (q : X → Reading Y) (u : Z → StatefulReading W)
+    (s : KnownState) (p : Reading X) (t : StatefulReading Z) (q : X → Reading Y)
+    (u : Z → StatefulReading W)
     → Extends R s p t
-    → ((x : X) (z : Z) (m : KnownState) → R x z m → Extends (Q x z m) m (q x) (u z)) → ((z : Z) → Keeps (u z))
-    → Extends (Both R Q) s (pair_on p q) (then_on t u)
+    → ((x : X) (z : Z) (m : KnownState) → R x z m → Extends (Q x z m) m (q x) (u z))
+    → ((z : Z) → Keeps (u z)) → Extends (Both R Q) s (pair_on p q) (then_on t u)
 pair-extends R Q s p t q u j k l a =
     bind-extends R (Both R Q) (p a) (t s a) (λ x. q x.0 x.1 >>= λ y. Ok ((x.0, y.0), y.1))
     (λ x. u x.0.0 x.0.1 x.1 >>= λ y. Ok (((x.0.0, y.0.0), y.0.1), y.1)) (j a)
     (λ x z m b r. bind-extends (Q x z m) (Both R Q) (q x b) (u z m b) (λ y. Ok ((x, y.0), y.1))
     (λ y. Ok (((z, y.0.0), y.0.1), y.1)) (k x z m r b) (λ y w n c o. ((m, r, o), refl)) (λ v e. e))
-    (λ v e. bind-leads (u v.0.0 v.0.1 v.1) (λ y. Ok (((v.0.0, y.0.0), y.0.1), y.1)) (l v.0.0 v.0.1 v.1 e) (λ y f. f))
+    (λ v e. bind-leads (u v.0.0 v.0.1 v.1) (λ y. Ok (((v.0.0, y.0.0), y.0.1), y.1))
+    (l v.0.0 v.0.1 v.1 e) (λ y f. f))
 
 -- the first of which knows no state
-abbrev pub Behind : {X Y W : Type 0} (Q : X → Y → W → KnownState → Type 0) → X × Y → X × W → KnownState → Type 0
+abbrev pub Behind : {X Y W : Type 0} (Q : X → Y → W → KnownState → Type 0) → X × Y → X × W
+    → KnownState → Type 0
 Behind Q v w n = (v.0 ≡ w.0) × Q v.0 v.1 w.1 n
 
-pub behind-extends : {X Y W : Type 0} (Q : X → Y → W → KnownState → Type 0) (s : KnownState) (p : Reading X)
-    (q : X → Reading Y) (u : X → StatefulReading W) → ((x : X) → Extends (Q x) s (q x) (u x))
+pub behind-extends : {X Y W : Type 0} (Q : X → Y → W → KnownState → Type 0) (s : KnownState)
+    (p : Reading X) (q : X → Reading Y) (u : X → StatefulReading W)
+    → ((x : X) → Extends (Q x) s (q x) (u x))
     → Extends (Behind Q) s (pair_on p q) (then_on (lift_on p) u)
 behind-extends Q s p q u k a =
     lifted-extends (Behind Q) s (p a) (λ x. q x.0 x.1 >>= λ y. Ok ((x.0, y.0), y.1))
@@ -135,13 +150,13 @@ behind-extends Q s p q u k a =
 -- both go on inside what one reading without a state gave
 inside-extends : {Y Z W : Type 0} (Q : Y → W → KnownState → Type 0) (q : Read ValueFault At)
     (f : At × At → Read ValueFault Y) (h : At × At → Read ValueFault (Z × KnownState))
-    (g : (Z × KnownState) × At → Read ValueFault (W × KnownState)) → ((k : At × At) → Extended Q (f k) (h k >>= g))
-    → Extended Q (q >>= f) ((q >>= h) >>= g)
+    (g : (Z × KnownState) × At → Read ValueFault (W × KnownState))
+    → ((k : At × At) → Extended Q (f k) (h k >>= g)) → Extended Q (q >>= f) ((q >>= h) >>= g)
 inside-extends Q (Ok k) f h g s = s k
 inside-extends Q (Err e) f h g s = same refl
 
-pub within-extends : {X Z : Type 0} (R : At → X → Z → KnownState → Type 0) (Q : X → Z → KnownState → Type 0)
-    (s : KnownState) (p : Reading X) (t : StatefulReading Z)
+pub within-extends : {X Z : Type 0} (R : At → X → Z → KnownState → Type 0)
+    (Q : X → Z → KnownState → Type 0) (s : KnownState) (p : Reading X) (t : StatefulReading Z)
     → ((a : At) → Extends (R a) (inside_state s (a.place - a.origin)) p t)
     → ((a : At) (x : X) (z : Z) (m : KnownState) → R a x z m → Q x z (behind_state s m))
     → Extends Q s (within p) (within_on t)
@@ -149,19 +164,20 @@ within-extends R Q s p t j k a =
     let inner = inside_state s (a.place - a.origin) in
     inside-extends Q (as_fault fault.Cdr (encapsulation_at a)) (λ e. p e.0 >>= λ v. Ok (v.0, e.1))
     (λ e. t inner e.0 >>= λ v. Ok (v.0, e.1)) (λ x. Ok ((x.0.0, behind_state s x.0.1), x.1))
-    (λ e. end-extends (R a) Q (p e.0 >>= λ v. Ok (v.0, e.1)) (t inner e.0 >>= λ v. Ok (v.0, e.1)) (λ z m. z)
-    (λ z m. behind_state s m)
-    (bind-extends (R a) (R a) (p e.0) (t inner e.0) (λ v. Ok (v.0, e.1)) (λ v. Ok (v.0, e.1)) (j a e.0)
-    (λ x z m b r. (r, refl)) (λ v f. f))
-    (k a) (λ z m f. f))
+    (λ e. end-extends (R a) Q (p e.0 >>= λ v. Ok (v.0, e.1)) (t inner e.0 >>= λ v. Ok (v.0, e.1))
+    (λ z m. z) (λ z m. behind_state s m)
+    (bind-extends (R a) (R a) (p e.0) (t inner e.0) (λ v. Ok (v.0, e.1)) (λ v. Ok (v.0, e.1))
+    (j a e.0) (λ x z m b r. (r, refl)) (λ v f. f)) (k a) (λ z m f. f))
 
 pub some-extends : {M Z : Type 0} (R : List M → List Z → KnownState → Type 0) (bad : ValueFault)
     (q : Read ValueFault (List M)) (r : Read ValueFault (List Z × KnownState)) → Extended R q r
     → ((ms : List M) (zs : List Z) (m : KnownState) → R ms zs m → is_some ms ≡ is_some zs)
-    → Extended R (q >>= λ x. if is_some x.0 then Ok x else Err bad) (r >>= λ x. if is_some x.0.0 then Ok x else Err bad)
+    → Extended R (q >>= λ x. if is_some x.0 then Ok x else Err bad)
+    (r >>= λ x. if is_some x.0.0 then Ok x else Err bad)
 some-extends {M} {Z} R bad q r j k =
-    bind-extends R R q r (λ x. if is_some x.0 then Ok x else Err bad) (λ x. if is_some x.0.0 then Ok x else Err bad) j
-    (λ x z m b h. choice x z m b h (is_some x) (is_some z) (k x z m h)) (λ v f. chosen-leads bad v (is_some v.0.0) f)
+    bind-extends R R q r (λ x. if is_some x.0 then Ok x else Err bad)
+    (λ x. if is_some x.0.0 then Ok x else Err bad) j (λ x z m b h. choice x z m b h (is_some x)
+    (is_some z) (k x z m h)) (λ v f. chosen-leads bad v (is_some v.0.0) f)
   where
     choice : (x : List M) (z : List Z) (m : KnownState) (b : At) → R x z m → (c d : Bool) → c ≡ d
         → Extended R (if c then Ok (x, b) else Err bad) (if d then Ok ((z, m), b) else Err bad)
@@ -174,10 +190,11 @@ some-extends {M} {Z} R bad q r j k =
 
 pub grown-none : (s : KnownState) → s ≡ with_slots s []
 grown-none s =
-    ap (λ (t : List KnownSlot). record { base = s.base; table = t; linked = s.linked }) (sym (append-nil s.table))
+    ap (λ (t : List KnownSlot). record { base = s.base; table = t; linked = s.linked })
+    (sym (append-nil s.table))
 
-pub grown-twice : (s m n : KnownState) (first rest : List KnownSlot) → m ≡ with_slots s first → n ≡ with_slots m rest
-    → n ≡ with_slots s (first ++ rest)
+pub grown-twice : (s m n : KnownState) (first rest : List KnownSlot) → m ≡ with_slots s first
+    → n ≡ with_slots m rest → n ≡ with_slots s (first ++ rest)
 grown-twice s m n first rest e f =
     f ∙ ap (λ (x : KnownState). with_slots x rest) e
     ∙ ap (λ (t : List KnownSlot). record { base = s.base; table = t; linked = s.linked })
@@ -187,7 +204,8 @@ pub grown-length : (s m : KnownState) (first : List KnownSlot) → m ≡ with_sl
     → length m.table ≡ length s.table + length first
 grown-length s m first e = ap (λ (x : KnownState). length x.table) e ∙ length-append s.table first
 
-module _ {M Z : Type 0} (code_of : M → TypeCode) (item_of : M → ℕ → Z) (L : TypeCode → ℕ → List KnownSlot → Type 0) where
+module _ {M Z : Type 0} (code_of : M → TypeCode) (item_of : M → ℕ → Z)
+    (L : TypeCode → ℕ → List KnownSlot → Type 0) where
   abbrev pub ItemIn : KnownState → M → Z → KnownState → Type 0
   ItemIn s m z new =
       (more : List KnownSlot) × (new ≡ with_slots s more) × (z ≡ item_of m (length s.table))
@@ -195,7 +213,8 @@ module _ {M Z : Type 0} (code_of : M → TypeCode) (item_of : M → ℕ → Z) (
 
   abbrev pub ItemsIn : KnownState → List M → List Z → KnownState → Type 0
   ItemsIn s ms zs new =
-      (more : List KnownSlot) × (new ≡ with_slots s more) × AllLaid code_of item_of L (length s.table) ms zs more
+      (more : List KnownSlot) × (new ≡ with_slots s more)
+      × AllLaid code_of item_of L (length s.table) ms zs more
 
   items-joined : (s : KnownState) (x : M × List M) (z : Z × List Z) (n : KnownState)
       → Both (ItemIn s) (λ x z m. ItemsIn m) x z n → ItemsIn s (x.0 ∷ x.1) (z.0 ∷ z.1) n
@@ -213,12 +232,14 @@ module _ {M Z : Type 0} (code_of : M → TypeCode) (item_of : M → ℕ → Z) (
   )
 
   pub array-extends : (p : Format ValueFault M) (t : Sound ValueFault Known Z)
-      → ((s : KnownState) → Extends (ItemIn s) s p.reads t.format.reads) → Keeps t.format.reads → (n : ℕ)
+      → ((s : KnownState) → Extends (ItemIn s) s p.reads t.format.reads) → Keeps t.format.reads
+      → (n : ℕ)
       → (s : KnownState) → Extends (ItemsIn s) s (array_format p n).reads (array t n).format.reads
   array-extends p t j l zero s a = (([], grown-none s, refl), refl)
   array-extends p t j l (suc n) s a =
-      made-extends (Both (ItemIn s) (λ x z m. ItemsIn m)) (ItemsIn s) s (λ v. v.0 ∷ v.1) (λ v. v.0 ∷ v.1)
-      (pair_on p.reads (λ _. (array_format p n).reads)) (then_on t.format.reads (λ _. (array t n).format.reads))
-      (pair-extends (ItemIn s) (λ x z m. ItemsIn m) s p.reads t.format.reads (λ _. (array_format p n).reads)
-      (λ _. (array t n).format.reads) (j s) (λ x z m r. array-extends p t j l n m) (λ z. array-keeps t l n))
-      (items-joined s) a
+      made-extends (Both (ItemIn s) (λ x z m. ItemsIn m)) (ItemsIn s) s (λ v. v.0 ∷ v.1)
+      (λ v. v.0 ∷ v.1) (pair_on p.reads (λ _. (array_format p n).reads))
+      (then_on t.format.reads (λ _. (array t n).format.reads))
+      (pair-extends (ItemIn s) (λ x z m. ItemsIn m) s p.reads t.format.reads
+      (λ _. (array_format p n).reads) (λ _. (array t n).format.reads) (j s)
+      (λ x z m r. array-extends p t j l n m) (λ z. array-keeps t l n)) (items-joined s) a

@@ -10,9 +10,9 @@ use Rattle.td_codes.specs.declared.code.TypeCode.TheOpen as c
 use Rattle.td_codes.specs.declared.kinds.CodeKind.TheVariants as kind
 use Rattle.td_codes.specs.declared.mode.Mode.TheVariants.{Outer}
 use Rattle.td_indirection.specs.States.{empty, nodes, slot}
-use Rattle.td_graph_codes.specs.Known.{KnownState, known}
-use Rattle.td_graph_codes.specs.GraphCodes.{edges}
-use Rattle.td_graph_codes.specs.GraphNodes.{node_of}
+use Rattle.td_codes.specs.Known.{KnownState, known}
+use Rattle.td_codes.specs.GraphCodes.{edges}
+use Rattle.td_codes.specs.GraphNodes.{node_of}
 
 -- up to the indirection
 abbrev pub n_front : List ℕ

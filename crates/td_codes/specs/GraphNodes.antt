@@ -6,7 +6,7 @@ use Rattle.td_codes.specs.declared.code.TypeCode.TheOpen as c
 use Rattle.td_codes.specs.Kinds.{number_of}
 use Rattle.td_codes.specs.Labels.{label_of}
 use Rattle.td_codes.specs.Same.{label_number}
-use Rattle.td_graph_codes.specs.Known.{MemberNode, ArmNode, Numbers, Known}
+use Rattle.td_codes.specs.Known.{MemberNode, ArmNode, Numbers, Known}
 
 abbrev pub member_name : MemberNode → List ℕ
 member_name m = m.0

@@ -24,12 +24,12 @@ use Rattle.td_indirection.specs.Choices.{array, sequence_with}
 use Rattle.td_indirection.specs.Indirections.{target, node_or_fault}
 use Rattle.td_indirection.specs.NodeStarts.{node}
 use Rattle.td_indirection.specs.Ulongs.{ulong-sized}
-use Rattle.td_graph_codes.specs.Known.{ArmNode, Numbers, Known, known, KnownState, begun, chain_under, leaves_chain, may_lead, bare_number}
-use Rattle.td_graph_codes.specs.GraphCodes.{node_labels, enum_parameters, nonempty, most_nodes, crowded, no_node, not_there, led_to}
-use Rattle.td_graph_codes.specs.GraphCodes.{member_node, arm_node, counted_arms, struct_layer, except_layer, union_layer}
-use Rattle.td_graph_codes.specs.GraphCodes.{sequence_layer, array_layer, alias_layer, parameters, behind_kind, behind}
-use Rattle.td_graph_codes.specs.GraphCodes.{kind_or_indirection, edges}
-use Rattle.td_graph_codes.specs.Extension.{Reading, StatefulReading}
+use Rattle.td_codes.specs.Known.{ArmNode, Numbers, Known, known, KnownState, begun, chain_under, leaves_chain, may_lead, bare_number}
+use Rattle.td_codes.specs.GraphCodes.{node_labels, enum_parameters, nonempty, most_nodes, crowded, no_node, not_there, led_to}
+use Rattle.td_codes.specs.GraphCodes.{member_node, arm_node, counted_arms, struct_layer, except_layer, union_layer}
+use Rattle.td_codes.specs.GraphCodes.{sequence_layer, array_layer, alias_layer, parameters, behind_kind, behind}
+use Rattle.td_codes.specs.GraphCodes.{kind_or_indirection, edges}
+use Rattle.td_codes.specs.Extension.{Reading, StatefulReading}
 
 abbrev pub IsLinked : KnownState → Type 0
 IsLinked s = s.linked ≡ true
@@ -49,12 +49,15 @@ lift_on {X = X} p = λ s a. p a >>= λ x. Ok ((x.0, s), x.1)
 abbrev pub made_on : {X Y : Type 0} → (X → Y) → StatefulReading X → StatefulReading Y
 made_on {Y = Y} f t = λ s a. t s a >>= λ x. Ok ((f x.0.0, x.0.1), x.1)
 
-abbrev pub then_on : {X Y : Type 0} → StatefulReading X → (X → StatefulReading Y) → StatefulReading (X × Y)
-then_on {X = X} {Y = Y} t u = λ s a. t s a >>= λ x. u x.0.0 x.0.1 x.1 >>= λ y. Ok (((x.0.0, y.0.0), y.0.1), y.1)
+abbrev pub then_on : {X Y : Type 0} → StatefulReading X → (X → StatefulReading Y)
+    → StatefulReading (X × Y)
+then_on {X = X} {Y = Y} t u = λ s a. t s a >>= λ x. u x.0.0 x.0.1 x.1 >>= λ y.
+    Ok (((x.0.0, y.0.0), y.0.1), y.1)
 
 abbrev pub within_on : {X : Type 0} → StatefulReading X → StatefulReading X
 within_on {X = X} t = λ s a.
-    enclosed_read fault.Cdr (t (inside_state s (a.place - a.origin))) a >>= λ x. Ok ((x.0.0, behind_state s x.0.1), x.1)
+    enclosed_read fault.Cdr (t (inside_state s (a.place - a.origin))) a >>= λ x.
+    Ok ((x.0.0, behind_state s x.0.1), x.1)
 
 -- ---- each keeps the note
 
@@ -70,7 +73,8 @@ plain-leads (Ok k) h j = j k
 plain-leads (Err d) h j = tt
 
 -- what goes on behind two readings
-inside-leads : {X Y : Type 0} (r : Read ValueFault At) (h : At × At → Read ValueFault (X × KnownState))
+inside-leads : {X Y : Type 0} (r : Read ValueFault At)
+    (h : At × At → Read ValueFault (X × KnownState))
     (g : (X × KnownState) × At → Read ValueFault (Y × KnownState))
     → ((k : At × At) → LeadsOn (h k >>= g)) → LeadsOn ((r >>= h) >>= g)
 inside-leads (Ok k) h g j = j k
@@ -82,19 +86,20 @@ lift-keeps p s a e = plain-leads (p a) (λ x. Ok ((x.0, s), x.1)) (λ x. e)
 pub made-keeps : {X Y : Type 0} (f : X → Y) (t : StatefulReading X) → Keeps t → Keeps (made_on f t)
 made-keeps f t j s a e = bind-leads (t s a) (λ x. Ok ((f x.0.0, x.0.1), x.1)) (j s a e) (λ v e. e)
 
-pub then-keeps : {X Y : Type 0} (t : StatefulReading X) (u : X → StatefulReading Y) → Keeps t → ((x : X) → Keeps (u x))
-    → Keeps (then_on t u)
+pub then-keeps : {X Y : Type 0} (t : StatefulReading X) (u : X → StatefulReading Y) → Keeps t
+    → ((x : X) → Keeps (u x)) → Keeps (then_on t u)
 then-keeps t u j k s a e =
     bind-leads (t s a) (λ x. u x.0.0 x.0.1 x.1 >>= λ y. Ok (((x.0.0, y.0.0), y.0.1), y.1)) (j s a e)
-    (λ x e. bind-leads (u x.0.0 x.0.1 x.1) (λ y. Ok (((x.0.0, y.0.0), y.0.1), y.1)) (k x.0.0 x.0.1 x.1 e) (λ y f. f))
+    (λ x e. bind-leads (u x.0.0 x.0.1 x.1) (λ y. Ok (((x.0.0, y.0.0), y.0.1), y.1))
+    (k x.0.0 x.0.1 x.1 e) (λ y f. f))
 
 within-keeps : {X : Type 0} (t : StatefulReading X) → Keeps t → Keeps (within_on t)
 within-keeps {X} t j s a e =
     let inner = inside_state s (a.place - a.origin) in
     let last : (X × KnownState) × At → Read ValueFault (X × KnownState) =
     λ x. Ok ((x.0.0, behind_state s x.0.1), x.1) in
-    inside-leads (as_fault fault.Cdr (encapsulation_at a)) (λ i. t inner i.0 >>= λ v. Ok (v.0, i.1)) last
-    (λ i. bind-leads (t inner i.0 >>= λ v. Ok (v.0, i.1)) last
+    inside-leads (as_fault fault.Cdr (encapsulation_at a)) (λ i. t inner i.0 >>= λ v. Ok (v.0, i.1))
+    last (λ i. bind-leads (t inner i.0 >>= λ v. Ok (v.0, i.1)) last
     (bind-leads (t inner i.0) (λ v. Ok (v.0, i.1)) (j inner i.0 e) (λ v f. f)) (λ v f. f))
 
 pub array-keeps : {X : Type 0} (t : Sound ValueFault Known X) → Keeps t.format.reads → (n : ℕ)
@@ -107,21 +112,24 @@ array-keeps t j (suc n) s a e =
 pub sequence-keeps : {X : Type 0} (t : Sound ValueFault Known X) → Keeps t.format.reads
     → Keeps (sequence_with ulong ulong-sized t).format.reads
 sequence-keeps t j s a e =
-    plain-leads (ulong.format.reads a) (λ n. (array t n.0).format.reads s n.1) (λ n. array-keeps t j n.0 s n.1 e)
+    plain-leads (ulong.format.reads a) (λ n. (array t n.0).format.reads s n.1)
+    (λ n. array-keeps t j n.0 s n.1 e)
 
-pub chosen-leads : {X : Type 0} (bad : ValueFault) (v : (X × KnownState) × At) (b : Bool) → IsLinked v.0.1
-    → LeadsOn (if b then Ok v else Err bad)
+pub chosen-leads : {X : Type 0} (bad : ValueFault) (v : (X × KnownState) × At) (b : Bool)
+    → IsLinked v.0.1 → LeadsOn (if b then Ok v else Err bad)
 chosen-leads bad v true f = f
 chosen-leads bad v false f = tt
 
-if-leads : {X : Type 0} (r : Read ValueFault (X × KnownState)) (good : X → Bool) (bad : X → ValueFault) → LeadsOn r
+if-leads : {X : Type 0} (r : Read ValueFault (X × KnownState)) (good : X → Bool)
+    (bad : X → ValueFault) → LeadsOn r
     → LeadsOn (r >>= λ x. if good x.0.0 then Ok x else Err (bad x.0.0))
 if-leads (Ok v) good bad l = chosen-leads (bad v.0.0) v (good v.0.0) l
 if-leads (Err d) good bad l = tt
 
 nonempty-keeps : {X : Type 0} (t : Sound ValueFault Known (List X)) → Keeps t.format.reads
     → Keeps (nonempty t).format.reads
-nonempty-keeps t j s a e = if-leads (t.format.reads s a) is_some (λ xs. fault.BadValue (aligned 4 a)) (j s a e)
+nonempty-keeps t j s a e = if-leads (t.format.reads s a) is_some
+    (λ xs. fault.BadValue (aligned 4 a)) (j s a e)
 
 node-keeps : (k : CodeKind) (t : Sound ValueFault Known Known) → Keeps t.format.reads → (tag : At)
     → Keeps ((node most_nodes crowded (begun k) t).format.reads tag)
@@ -129,7 +137,8 @@ node-keeps k t j tag s a e = go (nat_lt (length s.table) most_nodes)
   where
     go : (b : Bool) → LeadsOn
         (cond b (t.format.reads (with_blank (begun k) (tag_place s tag) s) a
-        >>= λ v. Ok ((length s.table, with_node v.0.1 (length s.table) v.0.0), v.1)) (Err (crowded tag)))
+        >>= λ v. Ok ((length s.table, with_node v.0.1 (length s.table) v.0.0), v.1))
+        (Err (crowded tag)))
     go true =
         bind-leads (t.format.reads (with_blank (begun k) (tag_place s tag) s) a)
         (λ v. Ok ((length s.table, with_node v.0.1 (length s.table) v.0.0), v.1))
@@ -146,7 +155,8 @@ node_or_fault-leads s bad next None = tt
 pub led_to-leads : (mode : Mode) (chain : Option ℕ) (s : KnownState) (a : At)
     → LeadsOn ((led_to mode chain).format.reads s a)
 led_to-leads mode chain s a =
-    let long = λ (n : ℕ × At). node_or_fault s (no_node a) n.1 (target s (a.place - a.origin) n.0) in
+    let long = λ (n : ℕ × At). node_or_fault s (no_node a) n.1 (target s (a.place - a.origin) n.0)
+    in
     let first = ulong.format.reads a >>= long in
     if-leads
     (first >>= λ x. if leaves_chain chain (nodes s) x.0.0 then Ok x else Err (not_there s x.0.0 a))
@@ -161,28 +171,31 @@ module _ (inner : Mode → Option ℕ → Sound ValueFault Known ℕ)
     (j : (mode : Mode) (chain : Option ℕ) → Keeps (inner mode chain).format.reads) where
   pub member_node-keeps : Keeps (member_node inner).format.reads
   member_node-keeps =
-      then-keeps (lift_on text.format.reads) (λ _. (inner Inner None).format.reads) (lift-keeps text.format.reads)
-      (λ _. j Inner None)
+      then-keeps (lift_on text.format.reads) (λ _. (inner Inner None).format.reads)
+      (lift-keeps text.format.reads) (λ _. j Inner None)
 
   pub arm_node-keeps : (label : Plain ValueFault Value) → Keeps (arm_node inner label).format.reads
   arm_node-keeps label =
-      then-keeps (lift_on label.format.reads) (λ _. (member_node inner).format.reads) (lift-keeps label.format.reads)
-      (λ _. member_node-keeps)
+      then-keeps (lift_on label.format.reads) (λ _. (member_node inner).format.reads)
+      (lift-keeps label.format.reads) (λ _. member_node-keeps)
 
   pub arms-keeps : (label : Plain ValueFault Value) → Keeps (counted_arms inner label).format.reads
   arms-keeps label s a e =
       plain-leads (head.format.reads a)
-      (λ h. (array (arm_node inner label) h.0.1).format.reads s h.1 >>= λ x. Ok (((h.0.0, x.0.0), x.0.1), x.1))
+      (λ h. (array (arm_node inner label) h.0.1).format.reads s h.1 >>= λ x.
+      Ok (((h.0.0, x.0.0), x.0.1), x.1))
       (λ h. bind-leads ((array (arm_node inner label) h.0.1).format.reads s h.1)
       (λ x. Ok (((h.0.0, x.0.0), x.0.1), x.1))
       (array-keeps (arm_node inner label) (arm_node-keeps label) h.0.1 s h.1 e) (λ v f. f))
 
   -- behind the discriminator's number
   pub arms_behind-keeps : (n : ℕ)
-      → Keeps (λ s. (counted_arms inner (node_labels (suc (length (nodes s))) (nodes s) n)).format.reads s)
+      → Keeps (λ s. (counted_arms inner (node_labels (suc (length (nodes s)))
+      (nodes s) n)).format.reads s)
   arms_behind-keeps n s a e = arms-keeps (node_labels (suc (length (nodes s))) (nodes s) n) s a e
 
-  parameters-keeps : (mode : Mode) (chain : Option ℕ) (k : CodeKind) → Keeps (parameters inner mode chain k).format.reads
+  parameters-keeps : (mode : Mode) (chain : Option ℕ) (k : CodeKind)
+      → Keeps (parameters inner mode chain k).format.reads
   parameters-keeps mode chain kind.Null s a e = e
   parameters-keeps mode chain kind.Void s a e = e
   parameters-keeps mode chain kind.Short s a e = e
@@ -197,37 +210,43 @@ module _ (inner : Mode → Option ℕ → Sound ValueFault Known ℕ)
   parameters-keeps mode chain kind.LongLong s a e = e
   parameters-keeps mode chain kind.ULongLong s a e = e
   parameters-keeps mode chain kind.Str s a e =
-      made-keeps (λ n. c.TypeCode::Str n) (lift_on ulong.format.reads) (lift-keeps ulong.format.reads) s a e
+      made-keeps (λ n. c.TypeCode::Str n) (lift_on ulong.format.reads)
+      (lift-keeps ulong.format.reads) s a e
   parameters-keeps mode chain kind.ObjRef s a e =
       let named : (List ℕ × List ℕ) → Numbers = λ p. c.TypeCode::ObjRef p.0 p.1 in
       within-keeps (made_on named (lift_on header.format.reads))
       (made-keeps named (lift_on header.format.reads) (lift-keeps header.format.reads)) s a e
   parameters-keeps mode chain kind.Enum s a e =
-      let named : ((List ℕ × List ℕ) × List (List ℕ)) → Numbers = λ p. c.TypeCode::Enum p.0.0 p.0.1 p.1 in
+      let named : ((List ℕ × List ℕ) × List (List ℕ))
+      → Numbers = λ p. c.TypeCode::Enum p.0.0 p.0.1 p.1 in
       within-keeps (made_on named (lift_on enum_parameters.format.reads))
-      (made-keeps named (lift_on enum_parameters.format.reads) (lift-keeps enum_parameters.format.reads)) s a e
+      (made-keeps named (lift_on enum_parameters.format.reads)
+      (lift-keeps enum_parameters.format.reads)) s a e
   parameters-keeps mode chain kind.Struct s a e =
       let items = (nonempty (sequence_with ulong ulong-sized (member_node inner))).format.reads in
       within-keeps (struct_layer inner).format.reads
-      (made-keeps (λ p. c.TypeCode::Struct p.0.0 p.0.1 p.1) (then_on (lift_on header.format.reads) (λ _. items))
+      (made-keeps (λ p. c.TypeCode::Struct p.0.0 p.0.1 p.1)
+      (then_on (lift_on header.format.reads) (λ _. items))
       (then-keeps (lift_on header.format.reads) (λ _. items) (lift-keeps header.format.reads)
-      (λ _. nonempty-keeps (sequence_with ulong ulong-sized (member_node inner)) (sequence-keeps (member_node inner) member_node-keeps))))
-      s a e
+      (λ _. nonempty-keeps (sequence_with ulong ulong-sized (member_node inner))
+      (sequence-keeps (member_node inner) member_node-keeps)))) s a e
   parameters-keeps mode chain kind.Except s a e =
       let items = (sequence_with ulong ulong-sized (member_node inner)).format.reads in
       within-keeps (except_layer inner).format.reads
-      (made-keeps (λ p. c.Except p.0.0 p.0.1 p.1) (then_on (lift_on header.format.reads) (λ _. items))
+      (made-keeps (λ p. c.Except p.0.0 p.0.1 p.1)
+      (then_on (lift_on header.format.reads) (λ _. items))
       (then-keeps (lift_on header.format.reads) (λ _. items) (lift-keeps header.format.reads)
       (λ _. sequence-keeps (member_node inner) member_node-keeps))) s a e
   parameters-keeps mode chain kind.Union s a e =
       let front = then_on (lift_on header.format.reads) (λ _. (inner Switch None).format.reads) in
       let arms : ((List ℕ × List ℕ) × ℕ) → StatefulReading (ℤ × List ArmNode) =
-      λ p s. (counted_arms inner (node_labels (suc (length (nodes s))) (nodes s) p.1)).format.reads s in
+      λ p s. (counted_arms inner (node_labels (suc (length (nodes s))) (nodes s) p.1)).format.reads
+      s in
       within-keeps (union_layer inner).format.reads
       (made-keeps (λ p. c.TypeCode::Union p.0.0.0 p.0.0.1 p.0.1 p.1.0 p.1.1) (then_on front arms)
       (then-keeps front arms
-      (then-keeps (lift_on header.format.reads) (λ _. (inner Switch None).format.reads) (lift-keeps header.format.reads)
-      (λ _. j Switch None)) (λ p. arms_behind-keeps p.1))) s a e
+      (then-keeps (lift_on header.format.reads) (λ _. (inner Switch None).format.reads)
+      (lift-keeps header.format.reads) (λ _. j Switch None)) (λ p. arms_behind-keeps p.1))) s a e
   parameters-keeps mode chain kind.Sequence s a e =
       within-keeps (sequence_layer inner).format.reads
       (made-keeps (λ p. c.Sequence p.0 p.1)
@@ -253,10 +272,12 @@ module _ (inner : Mode → Option ℕ → Sound ValueFault Known ℕ)
       → Keeps ((behind inner mode chain k).format.reads tag)
   behind-keeps mode chain (Some k) tag s a e =
       node-keeps k (behind_kind inner mode chain k)
-      (made-keeps (known k) (parameters inner mode chain k).format.reads (parameters-keeps mode chain k)) tag s a e
+      (made-keeps (known k) (parameters inner mode chain k).format.reads
+      (parameters-keeps mode chain k)) tag s a e
   behind-keeps mode chain None tag s a e = led_to-leads mode chain s a
 
-pub edges-keeps : (levels : ℕ) (mode : Mode) (chain : Option ℕ) → Keeps (edges levels mode chain).format.reads
+pub edges-keeps : (levels : ℕ) (mode : Mode) (chain : Option ℕ)
+    → Keeps (edges levels mode chain).format.reads
 edges-keeps zero mode chain s a e =
     plain-leads ((deep_kind mode).format.reads a) (λ k. Err (no_value k.1)) (λ k. tt)
 edges-keeps (suc levels) mode chain s a e =

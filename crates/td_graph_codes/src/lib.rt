@@ -1,4 +1,0 @@
-//! TypeCodes with indirections, as graphs: which bytes spell one.
-#![tactic(auto)]
-
-pub mod laws;
