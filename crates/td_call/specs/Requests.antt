@@ -4,7 +4,7 @@ use Rattle.std.specs.Prelude.{ℕ, true, nat_eq, if◌then◌else◌, List, ◌+
 use Rattle.td_cdr.specs.declared.order.Order.TheVariants.{Big}
 use Rattle.td_cdr.specs.Format.{Piece}
 use Rattle.td_cdr.specs.Sound.{◌&◌, text}
-use Rattle.td_codes.specs.Codes.{type_code}
+use Rattle.td_codes.specs.Outermost.{type_code}
 use Rattle.td_codes.specs.Values.{any_value}
 use Rattle.td_codes.specs.declared.code.Any.{Any}
 use Rattle.td_codes.specs.declared.code.TypeCode.{TypeCode}

@@ -1,5 +1,4 @@
 -- What is read with indirections is a whole graph.
-use Rattle.std.proofs.Common.{ℕ}
 use Rattle.td_codes.specs.GraphLaws.{GraphsAreWhole}
 use Rattle.td_codes.specs.WholeGraphs.{all-read, root-read, nodes-whole, known-again}
 use Rattle.td_indirection.specs.States.{nodes}

@@ -1,8 +1,14 @@
 pub mod AtLayers
 pub mod CopiedParts
+pub mod GraphParts
 pub mod GraphsWhole
+pub mod OfBegunNodes
 pub mod OfEnclosed
+pub mod OfGraphNodes
 pub mod OfPlainKind
+pub mod OutermostParts
 pub mod OutermostRows
+pub mod PlacedPieces
+pub mod PlacedWriting
 pub mod ReadParts
 pub mod WrittenParts

@@ -32,7 +32,7 @@ is_plain (c.Except id name members) = false
 is_plain (c.Linked graph) = false
 is_plain l = true
 
-rolled : (t : TypeCode) (l : Layer) → out-TypeCode t ≡ l → t ≡ roll-TypeCode l
+pub rolled : (t : TypeCode) (l : Layer) → out-TypeCode t ≡ l → t ≡ roll-TypeCode l
 rolled t l is = sym (roll-out-TypeCode t) ∙ ap roll-TypeCode is
 
 plain-at : (t : TypeCode) (l : Layer) → out-TypeCode t ≡ l

@@ -21,7 +21,7 @@ use Rattle.td_codes.specs.declared.code.Member.{Member}
 use Rattle.td_codes.specs.declared.kinds.CodeKind.{CodeKind}
 use Rattle.td_codes.specs.declared.kinds.CodeKind.TheVariants as kind
 use Rattle.td_codes.specs.declared.mode.Mode.{Mode}
-use Rattle.td_codes.specs.declared.mode.Mode.TheVariants.{Outer, Inner, Switch}
+use Rattle.td_codes.specs.declared.mode.Mode.TheVariants.{Inner, Switch}
 use Rattle.td_codes.specs.Formats.{nonempty_sequence}
 use Rattle.td_codes.specs.Kinds.{kind_at, deep_kind, under}
 use Rattle.td_codes.specs.Labels.{Layer, no_value, bad_value, labels, plain_piece}
@@ -392,10 +392,6 @@ code_formats (suc levels) mode = record {
 
 abbrev pub codes : ℕ → Mode → Sound ValueFault TypeCode
 codes levels mode = (code_formats levels mode).sound
-
--- a TypeCode as it stands in a body, at level 1 of 16
-abbrev pub type_code : Sound ValueFault TypeCode
-type_code = codes 16 Outer
 
 -- no format of these admits a graph
 pub no-linked : (levels : ℕ) (mode : Mode) (t : TypeCode) (graph : List Node)

@@ -1,5 +1,5 @@
 -- The nodes of a TypeCode that was read with indirections, as the nodes of a graph (tc_graph).
-use Rattle.std.specs.Prelude.{ℕ, ℤ, pos, List, [], ◌∷◌, map, Option, Some, None}
+use Rattle.std.specs.Prelude.{ℕ, ℤ, pos, List, [], ◌∷◌, ◌++◌, map, Option, Some, None}
 use Rattle.tc_graph.specs.declared.node.Node.{Node}
 use Rattle.tc_graph.specs.Nodes.{blank}
 use Rattle.td_codes.specs.declared.code.TypeCode.TheOpen as c
@@ -91,3 +91,32 @@ node_with k None = blank k
 
 abbrev pub node_of : Known → Node
 node_of k = node_with (number_of k.kind) k.layer
+
+-- ---- a node with more
+
+abbrev pub with_names : Node → List (List ℕ) → Node
+with_names p names = record {
+  kind = p.kind;
+  id = p.id;
+  names = p.names ++ names;
+  numbers = p.numbers;
+  edges = p.edges;
+}
+
+abbrev pub with_members : Node → List MemberNode → Node
+with_members p members = record {
+  kind = p.kind;
+  id = p.id;
+  names = p.names ++ map member_name members;
+  numbers = p.numbers;
+  edges = p.edges ++ map member_place members;
+}
+
+abbrev pub with_arms : Node → List ArmNode → Node
+with_arms p arms = record {
+  kind = p.kind;
+  id = p.id;
+  names = p.names ++ map (λ b. member_name b.1) arms;
+  numbers = p.numbers ++ map arm_number arms;
+  edges = p.edges ++ map (λ b. member_place b.1) arms;
+}

@@ -1,7 +1,8 @@
 -- What is known of the nodes of a TypeCode that is spelled with indirections (CORBA's chapter on the General Inter-ORB
 -- Protocol, "TypeCode"): of each its kind, and behind its parameters one layer of it, with the numbers of nodes in place
 -- of the TypeCodes that it holds.
-use Rattle.std.specs.Prelude.{ℕ, zero, suc, ◌+◌, ◌-◌, ◌^◌, min, nat_lt, Bool, true, false, if◌then◌else◌, List, length, Option, Some, None}
+use Rattle.std.specs.Prelude.{ℕ, zero, suc, ◌+◌, ◌-◌, ◌^◌, min, nat_lt, Bool, true, false, if◌then◌else◌, List, length}
+use Rattle.std.specs.Prelude.{Option, Some, None}
 use Rattle.td_cdr.specs.Place.{At}
 use Rattle.td_cdr.specs.Format.{nth}
 use Rattle.td_codes.specs.declared.code.Any.{Any}
@@ -86,4 +87,4 @@ chain_under None own = Some own
 
 -- where a place that the state counts stands in the message; one past the last that a u32 can name is that last one
 abbrev pub message_place : State Known → At → ℕ → ℕ
-message_place s a place = min ((a.place + place) - (s.base + (a.place - a.origin))) (2 ^ 32 - 1)
+message_place s a place = min (place + (a.origin - s.base)) (2 ^ 32 - 1)

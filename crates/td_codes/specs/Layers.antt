@@ -105,6 +105,9 @@ pub code-linked : (graph : List Node) → out-TypeCode (code.Linked graph) ≡ c
 code-linked graph = ap out-TypeCode (sym (code.rolls-Linked graph))
     ∙ out-roll-TypeCode (c.Linked graph)
 
+pub value-empty : out-Value value.Empty ≡ c.Empty
+value-empty = ap out-Value (sym value.rolls-Empty) ∙ out-roll-Value c.Empty
+
 pub value-short : (z : ℤ) → out-Value (value.Short z) ≡ c.Value::Short z
 value-short z = ap out-Value (sym (value.rolls-Short z)) ∙ out-roll-Value (c.Value::Short z)
 

@@ -16,6 +16,9 @@ pub mod Known
 pub mod Labelled
 pub mod Labels
 pub mod Layers
+pub mod NodeLayers
+pub mod NodeReading
+pub mod NodeWriting
 pub mod Outermost
 pub mod OutermostExamples
 pub mod Parameters

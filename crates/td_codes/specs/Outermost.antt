@@ -1,6 +1,6 @@
 -- The format of TypeCodes as they stand in a body or as the type of an any (CORBA's chapter on the General Inter-ORB
 -- Protocol, "TypeCode", on indirections): without indirections, or as a graph where there are some.
-use Rattle.std.proofs.Common.{◌≡◌, ℕ, zero, suc, ◌+◌, ◌-◌, ◌^◌, ◌<◌, ◌≤◌, true, false, List, [], ◌∷◌, ◌++◌, length, map, Ok, Err}
+use Rattle.std.proofs.Common.{◌≡◌, ℕ, ◌-◌, ◌^◌, ◌<◌, ◌≤◌, true, false, List, ◌++◌, length, Ok, Err}
 use Rattle.std.proofs.Common.{refl, sym, ap, subst, ◌∙◌, arith, inl, inr, ◌⊎◌, None}
 use Rattle.tc_graph.specs.declared.node.Node.{Node}
 use Rattle.td_cdr.specs.declared.order.Order.{Order}
@@ -14,7 +14,7 @@ use Rattle.td_cdr.specs.Lawful.{AreOctets, Lawful}
 use Rattle.td_cdr.specs.Faults.{Refuses}
 use Rattle.td_cdr.specs.Joined.{ok_is}
 use Rattle.td_cdr.specs.Sound.{Sound}
-use Rattle.td_indirection.specs.States.{empty, nodes, AreAlike, Agrees, IsRising}
+use Rattle.td_indirection.specs.States.{empty, nodes}
 use Rattle.td_indirection.specs.Stateful.{IsWritten}
 use Rattle.td_codes.specs.declared.code.TypeCode.{TypeCode, out-TypeCode}
 use Rattle.td_codes.specs.declared.code.TypeCode.TheVariants as code
@@ -220,7 +220,7 @@ module _ (levels : ℕ) where
         is = ap (λ (ks : List Known). code.Linked (graph_of ks)) (sym w.alike.nodes) ∙ g.is;
       })
 
-  layer-plain : (p : Piece) (l : Layer) → ((graph : List Node) → l ≡ c.Linked graph → ⊥)
+  pub layer-plain : (p : Piece) (l : Layer) → ((graph : List Node) → l ≡ c.Linked graph → ⊥)
       → outer_layer levels p l ≡ p
   layer-plain p (c.Linked graph) h = absurd (h graph refl)
   layer-plain p l h = refl
@@ -321,3 +321,10 @@ outer levels = record {
   faults = OuterFault levels;
   refuses = outer-refuses levels;
 }
+
+pub outer-written : (levels : ℕ) → (outer levels).format.writes ≡ outer_piece levels
+outer-written levels = refl
+
+-- in a body or as the type of an any
+unfoldable pub type_code : Sound ValueFault TypeCode
+type_code = outer 16

@@ -1,13 +1,14 @@
 -- Nodes that were read are those of a whole graph, and the graph tells what was known of them.
-use Rattle.std.proofs.Common.{◌≡◌, ℕ, ℤ, pos, zero, suc, ◌<◌, ◌≤◌, Bool, true, false, cond, List, [], ◌∷◌, length, map, refl, sym, ap}
+use Rattle.std.proofs.Common.{◌≡◌, ℕ, zero, suc, ◌<◌, ◌≤◌, Bool, true, false, cond, List, [], ◌∷◌, length, map, refl}
+use Rattle.std.proofs.Common.{sym, ap}
 use Rattle.std.proofs.Common.{subst, ◌∙◌, arith, inl, inr, ◌⊎◌}
 use Rattle.std.specs.Prelude.{◌&&◌, nat_eq, slice_index, if◌then◌else◌, Option, Some, None}
 use Rattle.std.proofs.lemmas.Bool.{eq-eqb}
 use Rattle.std.proofs.lemmas.List.{length-map}
 use Rattle.tc_graph.specs.declared.node.Node.{Node}
 use Rattle.tc_graph.specs.Nodes.{node_at, edge, is_alias as is_alias_node}
-use Rattle.tc_graph.specs.Aliases.{bare_within, bare, Chain, IsInLoop}
-use Rattle.tc_graph.specs.Whole.{IsClosed, IsWhole}
+use Rattle.tc_graph.specs.Aliases.{bare_within, bare, Chain}
+use Rattle.tc_graph.specs.Whole.{IsWhole}
 use Rattle.tc_graph.proofs.Chains.{bare-no_alias}
 use Rattle.td_cdr.specs.declared.order.Order.{Order}
 use Rattle.td_cdr.specs.Lawful.{AreOctets}
@@ -18,16 +19,18 @@ use Rattle.td_codes.specs.declared.kinds.CodeKind.{CodeKind}
 use Rattle.td_codes.specs.declared.kinds.CodeKind.TheVariants as kind
 use Rattle.td_codes.specs.declared.mode.Mode.{Mode}
 use Rattle.td_indirection.specs.States.{empty, nodes}
-use Rattle.td_codes.specs.Kinds.{number_of, kind_by_number, all_kinds, each_numbered}
+use Rattle.td_codes.specs.Kinds.{number_of, each_numbered}
 use Rattle.td_codes.specs.WritingCodes.{kind_of_layer}
-use Rattle.td_codes.specs.Known.{MemberNode, ArmNode, Numbers, Known, KnownState, known, layer_of, kind_known, item_of, is_alias}
+use Rattle.td_codes.specs.Known.{MemberNode, ArmNode, Numbers, Known, KnownState, known, layer_of, kind_known, item_of}
+use Rattle.td_codes.specs.Known.{is_alias}
 use Rattle.td_codes.specs.GraphNodes.{member_name, member_place, arm_number, layer_node, node_with, node_of}
 use Rattle.td_codes.specs.GraphCodes.{most_nodes, edges}
-use Rattle.td_codes.specs.ReadNodes.{goes_on, chain_start, LeavesChain, kind_under, bare_kind, AreLabels, LabelsFit, edges_of}
-use Rattle.td_codes.specs.ReadNodes.{AllBelow, IsNoGraph, IsNode, IsEdge}
+use Rattle.td_codes.specs.ReadNodes.{goes_on, chain_start, LeavesChain, kind_under, bare_kind, AreLabels, LabelsFit}
+use Rattle.td_codes.specs.ReadNodes.{edges_of}
+use Rattle.td_codes.specs.ReadNodes.{AllBelow, IsNoGraph, IsNode}
 use Rattle.td_codes.specs.WholeLists.{nth-there}
 use Rattle.td_codes.specs.WholeReadings.{edges-lead}
-use Rattle.td_codes.specs.GraphKnown.{kind_or_null, kind_of_number, behind_first, members_of, arms_of, layer_in, switch_in}
+use Rattle.td_codes.specs.GraphKnown.{kind_or_null, kind_of_number, members_of, arms_of, layer_in, switch_in}
 use Rattle.td_codes.specs.GraphKnown.{known_in, known_of}
 
 abbrev pub graph_of : List Known → List Node

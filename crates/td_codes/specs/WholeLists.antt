@@ -1,5 +1,6 @@
 -- Nodes that were read whole stay so while others are read and begun.
-use Rattle.std.proofs.Common.{◌≡◌, ℕ, zero, suc, ◌+◌, ◌<◌, ◌≤◌, Bool, true, false, List, [], ◌∷◌, ◌++◌, length, refl, sym, ap, subst}
+use Rattle.std.proofs.Common.{◌≡◌, ℕ, zero, suc, ◌+◌, ◌<◌, ◌≤◌, Bool, true, false, List, [], ◌∷◌, ◌++◌, length, refl}
+use Rattle.std.proofs.Common.{sym, ap, subst}
 use Rattle.std.proofs.Common.{◌∙◌, arith, append_assoc, length-append, inl, inr, ◌⊎◌, ⊎_elim}
 use Rattle.std.specs.Prelude.{◌&&◌, nat_eq, if◌then◌else◌, Option, Some, None}
 use Rattle.std.proofs.lemmas.Bool.{cases_lt, eq-eqb, ne_eqb}
@@ -10,9 +11,10 @@ use Rattle.td_codes.specs.declared.kinds.CodeKind.{CodeKind}
 use Rattle.td_codes.specs.declared.kinds.CodeKind.TheVariants as kind
 use Rattle.td_indirection.specs.Tables.{nth-left, nth-seam}
 use Rattle.td_codes.specs.WritingCodes.{kind_of_layer}
-use Rattle.td_codes.specs.Known.{ArmNode, Numbers, Known, known, begun, layer_of, kind_known, item_of, is_alias, chain_under}
+use Rattle.td_codes.specs.Known.{Numbers, Known, known, begun, layer_of, kind_known, item_of, is_alias, chain_under}
 use Rattle.td_codes.specs.GraphCodes.{most_nodes}
-use Rattle.td_codes.specs.ReadNodes.{goes_on, chain_start, first_of, Starts, LeavesChain, kind_under, bare_kind, LabelsFit}
+use Rattle.td_codes.specs.ReadNodes.{goes_on, chain_start, first_of, Starts, LeavesChain, kind_under, bare_kind}
+use Rattle.td_codes.specs.ReadNodes.{LabelsFit}
 use Rattle.td_codes.specs.ReadNodes.{edges_of, AllBelow, IsNode, Adds, IsEdge, LeadsOn, IsLayer}
 
 -- ---- lists

@@ -1,7 +1,8 @@
 -- What is spelled with indirections adds nodes that are whole: each part of it does.
-use Rattle.std.proofs.Common.{◌≡◌, ℕ, ℤ, zero, suc, ◌+◌, ◌-◌, ◌^◌, ◌<◌, ◌≤◌, Bool, true, false, List, [], ◌∷◌, ◌++◌, length, map, refl, sym}
+use Rattle.std.proofs.Common.{◌≡◌, ℕ, ℤ, zero, suc, ◌+◌, ◌-◌, ◌^◌, ◌<◌, Bool, true, false, List, [], ◌∷◌, ◌++◌, length}
+use Rattle.std.proofs.Common.{map, refl, sym}
 use Rattle.std.proofs.Common.{ap, subst, ◌∙◌, arith, append_assoc, length-append, inl, inr, ◌⊎◌}
-use Rattle.std.specs.Prelude.{IsTrue, nat_eq, nat_lt, Option, Some, None}
+use Rattle.std.specs.Prelude.{IsTrue, nat_eq, Option, Some, None}
 use Rattle.std.specs.Int.{Width, w16, w32, w64, cast_signed, cast_unsigned, from_bool}
 use Rattle.std.proofs.lemmas.Bool.{ltb-true}
 use Rattle.std.proofs.lemmas.Int.{to_z-of_z}
@@ -10,7 +11,6 @@ use Rattle.td_cdr.specs.declared.order.Order.{Order}
 use Rattle.td_cdr.specs.declared.value_fault.ValueFault.{ValueFault}
 use Rattle.td_cdr.specs.declared.value_fault.ValueFault.TheVariants as fault
 use Rattle.td_cdr.specs.Truth.{order_of}
-use Rattle.td_cdr.specs.Spelling.{SpellsWithin}
 use Rattle.td_cdr.specs.Lawful.{AreOctets}
 use Rattle.td_cdr.specs.Octets.{octets-front, octets-back}
 use Rattle.td_cdr.specs.Format.{nth, uncons}
@@ -21,8 +21,8 @@ use Rattle.td_codes.specs.declared.code.Value.TheVariants as value
 use Rattle.td_codes.specs.declared.kinds.CodeKind.{CodeKind}
 use Rattle.td_codes.specs.declared.kinds.CodeKind.TheVariants as kind
 use Rattle.td_codes.specs.declared.mode.Mode.{Mode}
-use Rattle.td_codes.specs.declared.mode.Mode.TheVariants.{Outer, Inner, Switch}
-use Rattle.td_indirection.specs.States.{Slot, State, nodes, places, slot, inside_state, behind_state, with_blank, with_node, with_link, Grows, ulong_place}
+use Rattle.td_codes.specs.declared.mode.Mode.TheVariants.{Inner, Switch}
+use Rattle.td_indirection.specs.States.{nodes, places, slot, inside_state, with_blank, with_node, ulong_place}
 use Rattle.td_indirection.specs.Stateful.{Sound}
 use Rattle.td_indirection.specs.Pairs.{lift, pair_on, ◌&◌}
 use Rattle.td_indirection.specs.Variants.{variant}
@@ -31,24 +31,27 @@ use Rattle.td_indirection.specs.Choices.{array, sequence_with}
 use Rattle.td_indirection.specs.Indirections.{number-below}
 use Rattle.td_indirection.specs.Ulongs.{ulong-sized}
 use Rattle.td_indirection.specs.Tables.{with_node-table}
-use Rattle.td_codes.specs.Formats.{is_some}
 use Rattle.td_codes.specs.Kinds.{under}
 use Rattle.td_codes.specs.Labels.{label_of, label_layer}
 use Rattle.td_codes.specs.Layers.{value-short, value-long, value-ushort, value-ulong, value-boolean, value-char}
 use Rattle.td_codes.specs.Layers.{value-longlong, value-ulonglong, value-enum}
 use Rattle.td_codes.specs.Same.{label_number}
 use Rattle.td_codes.specs.WritingCodes.{kind_of_layer}
-use Rattle.td_codes.specs.Codes.{header, positive, head}
-use Rattle.td_codes.specs.Known.{MemberNode, ArmNode, Numbers, Known, KnownState, KnownSlot, known, begun, layer_of, chain_under, leaves_chain}
+use Rattle.td_codes.specs.Codes.{header, positive}
+use Rattle.td_codes.specs.Known.{MemberNode, ArmNode, Numbers, Known, KnownState, KnownSlot, known, begun, layer_of}
+use Rattle.td_codes.specs.Known.{chain_under, leaves_chain}
 use Rattle.td_codes.specs.Known.{is_alias}
 use Rattle.td_codes.specs.GraphNodes.{member_place}
-use Rattle.td_codes.specs.GraphCodes.{labels_of, node_labels, enum_parameters, nonempty, led_to, member_node, arm_node, arms_after}
-use Rattle.td_codes.specs.GraphCodes.{fields_in, object_in, names_in, bound_in, item_in, alias_in, union_in, most_nodes, behind_kind}
-use Rattle.td_codes.specs.GraphCodes.{counted_arms, struct_layer, except_layer, union_layer, sequence_layer, array_layer, alias_layer}
+use Rattle.td_codes.specs.GraphCodes.{labels_of, node_labels, enum_parameters, nonempty, led_to, member_node, arm_node}
+use Rattle.td_codes.specs.GraphCodes.{fields_in, object_in, names_in, bound_in, item_in, most_nodes}
+use Rattle.td_codes.specs.GraphCodes.{counted_arms, struct_layer, except_layer, union_layer, sequence_layer}
+use Rattle.td_codes.specs.GraphCodes.{array_layer, alias_layer}
 use Rattle.td_codes.specs.GraphCodes.{parameters, behind, edges}
-use Rattle.td_codes.specs.ReadNodes.{first_of, Starts, value_of_number, kind_under, bare_kind, AreLabels, SwitchFits, LabelsFit}
-use Rattle.td_codes.specs.ReadNodes.{edges_of, AllBelow, IsNoGraph, IsNode, Adds, IsEdge, LeadsOn, IsLayer}
-use Rattle.td_codes.specs.WholeLists.{below-on, Stays, bare-stays, adds-none, adds-stay, adds-long, adds-on, starts-on, begins-plain}
+use Rattle.td_codes.specs.ReadNodes.{first_of, Starts, value_of_number, kind_under, bare_kind, AreLabels, SwitchFits}
+use Rattle.td_codes.specs.ReadNodes.{LabelsFit}
+use Rattle.td_codes.specs.ReadNodes.{edges_of, AllBelow, IsNoGraph, Adds, IsEdge, LeadsOn, IsLayer}
+use Rattle.td_codes.specs.WholeLists.{Stays, bare-stays, adds-none, adds-stay, adds-long, adds-on, starts-on}
+use Rattle.td_codes.specs.WholeLists.{begins-plain}
 use Rattle.td_codes.specs.WholeLists.{first-under, begins-alias, edge-to-next}
 
 -- ---- labels

@@ -1,11 +1,14 @@
 //! The kinds of TypeCodes, by their numbers.
 
-ghost use Rattle.std.specs.Prelude.{◌≡◌};
+ghost use Rattle.std.specs.Prelude.{◌≡◌, ◌+◌, IfOk};
 ghost use Rattle.td_cdr.specs.Format.{Gives};
+ghost use Rattle.td_cdr.specs.Reading.{aligned};
 ghost use Rattle.td_cdr.specs.ValueFaults.{is_memory};
 ghost use Rattle.td_codes.specs.Codes.{kind_of};
-ghost use Rattle.td_codes.specs.Kinds.{number_of, kind_by_number, all_kinds, may_switch, may_stand, under};
+ghost use Rattle.td_codes.specs.Kinds.{number_of, kind_by_number, all_kinds, may_switch, may_stand};
+ghost use Rattle.td_codes.specs.Kinds.{under};
 ghost use Rattle.td_codes.specs.Kinds.{indirection_fault, kind_in, kind_at, deep_kind};
+ghost use Rattle.td_codes.specs.GraphCodes.{kind_or_indirection};
 
 use crate::code::TypeCode;
 use crate::mode::Mode;
@@ -226,6 +229,32 @@ pub fn kind_at(r: &mut Reader, mode: Mode) -> Result<CodeKind, ValueFault>
     ensures { Gives is_memory r.new result ((kind_at mode).format.reads r.old) }
 {
     kind_in(r, mode, false)
+}
+
+/// The next kind, which may stand there, or `None` for the number that an indirection begins with.
+///
+/// # Errors
+///
+/// As [`kind_at`], but for an indirection.
+pub fn place_at(r: &mut Reader, mode: Mode) -> Result<Option<CodeKind>, ValueFault>
+    ensures gives { Gives is_memory r.new result ((kind_or_indirection mode).format.reads r.old) }
+    ensures place { IfOk result (λ k. r.new.place ≡ aligned 4 r.old + 4) }
+{
+    let place = r.aligned();
+    let number = r.u32()?;
+    if number == INDIRECTION {
+        return Ok(None);
+    }
+    match kind_of_number(number) {
+        Some(kind) if may_stand(mode, kind) => Ok(Some(kind)),
+        Some(_) => Err(ValueFault::BadValue(place)),
+        None if number > LAST_NUMBER => Err(ValueFault::BadKind(place)),
+        None => match mode {
+            Mode::Switch => Err(ValueFault::BadValue(place)),
+            Mode::Inner => Err(ValueFault::Unsupported(number)),
+            Mode::Outer => Err(ValueFault::Unsupported(number)),
+        },
+    }
 }
 
 /// The next kind, one level too deep: none may stand there.

@@ -2,13 +2,20 @@
 #![tactic(auto)]
 
 mod aliases;
+mod begun_nodes;
 mod code;
 mod copy;
+mod graph_nodes;
+mod graph_reader;
+mod graph_reading;
+mod graph_writing;
 mod kinds;
 mod label;
 mod labels;
 mod laws;
 mod mode;
+mod node_layer;
+mod outermost;
 mod plain;
 mod reading;
 mod reference;
@@ -28,5 +35,4 @@ pub use laws::{
 pub use mode::Mode;
 pub use reading::LEVELS;
 pub use reference::{Ior, Profile, read_ior, write_ior};
-pub use spelled::{read_any, read_typecode, write_any};
-pub use writing::write_typecode;
+pub use spelled::{read_any, read_typecode, write_any, write_typecode};

@@ -9,8 +9,10 @@ ghost use Rattle.td_cdr.specs.ValueFaults.{is_memory};
 ghost use Rattle.td_codes.specs.declared.mode.Mode.TheVariants.{Inner, Switch};
 ghost use Rattle.td_codes.specs.Formats.{nonempty_sequence};
 ghost use Rattle.td_codes.specs.Labels.{labels};
-ghost use Rattle.td_codes.specs.Codes.{codes, header, positive, object_code, struct_code, except_code, enum_code};
-ghost use Rattle.td_codes.specs.Codes.{sequence_code, array_code, alias_code, union_code, head, counted_arms, member};
+ghost use Rattle.td_codes.specs.Codes.{codes, header, positive, object_code, struct_code};
+ghost use Rattle.td_codes.specs.Codes.{except_code, enum_code};
+ghost use Rattle.td_codes.specs.Codes.{sequence_code, array_code, alias_code, union_code, head};
+ghost use Rattle.td_codes.specs.Codes.{counted_arms, member};
 ghost use Rattle.td_codes.specs.Codes.{arm_of, parameters, default_index, arm_count};
 ghost use Rattle.td_codes.specs.Enclosed.{enclosed};
 
@@ -113,14 +115,14 @@ fn enclosed_of(
 }
 
 /// The repository id and the name.
-fn header_of(alloc: Global, r: &mut Reader) -> Result<(Text, Text), ValueFault>
+pub(crate) fn header_of(alloc: Global, r: &mut Reader) -> Result<(Text, Text), ValueFault>
     ensures { Gives is_memory r.new result (header.format.reads r.old) }
 {
     <(Text, Text)>::read(alloc, r)
 }
 
 /// A count that is not 0.
-fn count_of(r: &mut Reader) -> Result<u32, ValueFault>
+pub(crate) fn count_of(r: &mut Reader) -> Result<u32, ValueFault>
     ensures { Gives is_memory r.new result (positive.format.reads r.old) }
 {
     let place = r.aligned();
@@ -154,7 +156,7 @@ fn enum_of(alloc: Global, r: &mut Reader) -> Result<TypeCode, ValueFault>
 }
 
 /// One name at least.
-fn names_of(alloc: Global, r: &mut Reader) -> Result<List<Text>, ValueFault>
+pub(crate) fn names_of(alloc: Global, r: &mut Reader) -> Result<List<Text>, ValueFault>
     ensures { Gives is_memory r.new result ((nonempty_sequence text).format.reads r.old) }
 {
     let place = r.aligned();
@@ -332,7 +334,7 @@ fn count_behind(r: &mut Reader, default: i32) -> Result<u32, ValueFault>
 }
 
 /// A union's default index and the count of its arms.
-fn head_of(r: &mut Reader) -> Result<(i32, u32), ValueFault>
+pub(crate) fn head_of(r: &mut Reader) -> Result<(i32, u32), ValueFault>
     ensures { Gives is_memory r.new result (head.format.reads r.old) }
 {
     let place = r.aligned();

@@ -20,11 +20,13 @@ use Rattle.td_cdr.specs.Truth.{order_of}
 use Rattle.td_cdr.specs.Writing.{written_number}
 use Rattle.td_cdr.specs.declared.order.Order.{Order}
 use Rattle.td_cdr.specs.declared.value_fault.ValueFault.{ValueFault}
-use Rattle.td_codes.specs.Codes.{code_formats, codes, kind_of, member as member_format, parameters, type_code}
+use Rattle.td_codes.specs.Codes.{code_formats, codes, kind_of, member as member_format, parameters}
+use Rattle.td_codes.specs.Outermost.{type_code}
 use Rattle.td_codes.specs.Kinds.{kind_at}
 use Rattle.td_codes.specs.Labels.{Layer, label_of, label_piece}
 use Rattle.td_codes.specs.Layers.{code-any, code-code, code-null, code-object, code-struct, value-items, value-str}
-use Rattle.td_codes.specs.Layers.{code-boolean, code-char, code-long, code-longlong, code-octet, code-sequence, code-short}
+use Rattle.td_codes.specs.Layers.{code-boolean, code-char, code-long, code-longlong, code-octet, code-sequence}
+use Rattle.td_codes.specs.Layers.{code-short}
 use Rattle.td_codes.specs.Layers.{code-str, code-ulong, code-ulonglong, code-ushort}
 use Rattle.td_codes.specs.References.{reference}
 use Rattle.td_codes.specs.Values.{any_value, anys, layer, values}
@@ -151,7 +153,8 @@ coded-at levels (Plain i) = item-coded (suc levels) Outer i (inl refl)
 coded-at levels (Sequence i) = sequence-coded levels i
 
 pub code-told : (t : ValueType) → type_code.format.admits (code_of t)
-code-told t = coded-at 14 t
+unfolding type_code
+code-told t = inl (coded-at 14 t)
 
 -- ---- single values
 
@@ -393,8 +396,15 @@ module _ (any : Sound ValueFault Any) (inside : Sound ValueFault TypeCode) (n : 
       → (values any inside (suc (suc n)) (code.Sequence (item_code i) 0)).format.admits (value.Items vs)
   sequence-told bytes low =
       valued any inside (suc n) (code.Sequence (item_code i) 0) (c.Sequence (item_code i) 0) (value.Items vs)
-      (code-sequence (item_code i) 0)
-      (vs, refl, ((refl, low), (sequence-from (one any inside n i) vs low (items-told any inside n i texts vs bytes e)).1))
+      (code-sequence (item_code i) 0) (
+        vs,
+        refl,
+        (
+          (refl, low),
+          (sequence-from (one any inside n i) vs low (items-told any inside n i texts vs bytes
+              e)).1,
+        ),
+      )
 
   sequence-long : (order : Order) (place : ℕ)
       → length vs
@@ -409,7 +419,7 @@ module _ (any : Sound ValueFault Any) (inside : Sound ValueFault TypeCode) (n : 
 
 -- ---- anys
 
-any-told : (t : TypeCode) (v : Value) → type_code.format.admits t
+any-told : (t : TypeCode) (v : Value) → (codes 16 Outer).format.admits t
     → (values (anys 15) (codes 15 Outer) 16 t).format.admits v
     → any_value.format.admits (record { code = t; value = v })
 unfolding anys
@@ -418,18 +428,21 @@ any-told t v h k = (h, k)
 any-long : (t : TypeCode) (v : Value) (least : ℕ)
     → ((order : Order) (place : ℕ)
     → least ≤ length ((values (anys 15) (codes 15 Outer) 16 t).format.writes v order place))
-    → (order : Order) (place : ℕ) → least ≤ length (any_value.format.writes (record { code = t; value = v }) order place)
+    → (order : Order) (place : ℕ) → least ≤ length (any_value.format.writes (record { code = t; value = v }) order
+    place)
 unfolding anys
 any-long t v least h order place =
-    then-second (type_code.format.writes t) ((values (anys 15) (codes 15 Outer) 16 t).format.writes v) order place least
-    (h order)
+    then-second ((codes 16 Outer).format.writes t) ((values (anys 15) (codes 15 Outer) 16 t).format.writes v) order
+    place
+    least (h order)
 
 pub plain-told : (t : ValueType) (text : List ℕ) (v : Value) → AreBytes text → value_of t text ≡ Some v
     → IsToldValue (plain_any t v)
 plain-told (Plain i) text v bytes e = record {
   items = 0;
   long = λ order place. omega arith;
-  admitted = λ _. any-told (item_code i) v (code-told (Plain i)) (item-told (anys 15) (codes 15 Outer) 15 i text v bytes e);
+  admitted = λ _. any-told (item_code i) v (coded-at 14 (Plain i)) (item-told (anys 15) (codes 15 Outer) 15 i text v
+      bytes e);
 }
 plain-told (Sequence i) text v bytes e =
     let m = from-map value.Items (items_of i text) v e in
@@ -441,7 +454,7 @@ plain-told (Sequence i) text v bytes e =
           any-long t (value.Items m.0) (length m.0)
           (sequence-long (anys 15) (codes 15 Outer) 14 i (texts_of text) m.0 m.1);
       admitted = λ low.
-          any-told t (value.Items m.0) (code-told (Sequence i))
+          any-told t (value.Items m.0) (coded-at 14 (Sequence i))
           (sequence-told (anys 15) (codes 15 Outer) 14 i (texts_of text) m.0 m.1 (texts-bytes text bytes) low);
     })
 
@@ -459,7 +472,7 @@ dynamic_members =
     member (letters "eval_if") evaluator_code ∷ member (letters "returned_type") code.Code
     ∷ member (letters "extra_info") code.AnyCode ∷ []
 
-dynamic-coded : type_code.format.admits dynamic_code
+dynamic-coded : (codes 16 Outer).format.admits dynamic_code
 dynamic-coded =
     let name : List ℕ = letters "DynamicProp" in
     let inner = codes 15 Inner in
@@ -496,7 +509,12 @@ dynamic-told evaluator t h =
     let one =
     valued a k 14 evaluator_code (c.TypeCode::ObjRef id name) (value.ObjRef evaluator) (code-object id name)
     (evaluator, refl, h) in
-    let two = valued a k 14 code.Code c.TypeCode::Code (value.Code (code_of t)) code-code (code_of t, refl, coded-at 13 t) in
+    let two = valued a k 14 code.Code c.TypeCode::Code (value.Code (code_of t)) code-code (
+      code_of t,
+      refl,
+      coded-at 13
+          t,
+    ) in
     let three = valued a k 14 code.AnyCode c.AnyCode (value.AnyValue null_any) code-any (null_any, refl, null-told) in
     let vs : List Value = value.ObjRef evaluator ∷ value.Code (code_of t) ∷ value.AnyValue null_any ∷ [] in
     record {

@@ -4,7 +4,7 @@ use Rattle.std.specs.Prelude.{ℕ, ◌≤◌, ◌<◌, ◌^◌, List, [], ◌≡
 use Rattle.std.specs.List.{AllByRecursion}
 use Rattle.td_cdr.specs.Sound.{text, ulong}
 use Rattle.td_cdr.specs.declared.order.Order.{Order}
-use Rattle.td_codes.specs.Codes.{type_code}
+use Rattle.td_codes.specs.Outermost.{type_code}
 use Rattle.td_codes.specs.References.{reference}
 use Rattle.td_codes.specs.Values.{any_value}
 use Rattle.td_codes.specs.declared.code.Any.{Any}

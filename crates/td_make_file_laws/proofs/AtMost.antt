@@ -1,5 +1,6 @@
 -- How long what is written is at most, at any place and in either order.
-use Rattle.std.proofs.Common.{◌≡◌, ℕ, zero, suc, ◌+◌, ◌≤◌, ◌<◌, ◌^◌, Bool, List, [], ◌∷◌, ◌++◌, codes, length, map, refl, sym}
+use Rattle.std.proofs.Common.{◌≡◌, ℕ, zero, suc, ◌+◌, ◌≤◌, ◌<◌, ◌^◌, Bool, List, [], ◌∷◌, ◌++◌, codes, length, map}
+use Rattle.std.proofs.Common.{refl, sym}
 use Rattle.std.proofs.Common.{ap, subst, ◌∙◌, arith, length-append}
 use Rattle.std.proofs.lemmas.Fmt.{length-decimal-le_succ}
 use Rattle.std.specs.Fmt.{decimal}
@@ -10,7 +11,8 @@ use Rattle.td_cdr.specs.Writing.{written_octets}
 use Rattle.td_cdr.specs.declared.order.Order.{Order}
 use Rattle.td_cdr.specs.declared.order.Order.TheVariants.{Big}
 use Rattle.td_cdr.specs.declared.value_fault.ValueFault.{ValueFault}
-use Rattle.td_codes.specs.Codes.{code_formats, codes as code_sounds, type_code}
+use Rattle.td_codes.specs.Codes.{code_formats, codes as code_sounds}
+use Rattle.td_codes.specs.Outermost.{outer_layer, type_code}
 use Rattle.td_codes.specs.Labels.{Layer}
 use Rattle.td_codes.specs.Layers.{code-ulong, value-ulong}
 use Rattle.td_codes.specs.References.{profile, reference}
@@ -97,6 +99,13 @@ code-short : (levels : ℕ) → IsAtMost 7 ((code_sounds levels Outer).format.wr
 code-short levels =
     let is : (code_sounds levels Outer).format.writes code.ULong ≡ kind_piece kind.ULong =
     ap (λ (w : TypeCode → Piece). w code.ULong) (code_formats levels Outer).writes ∙ code-is in
+    subst (λ (p : Piece). IsAtMost 7 p) (sym is) (four-short 5)
+
+outer-short : IsAtMost 7 (type_code.format.writes code.ULong)
+unfolding type_code
+outer-short =
+    let is : type_code.format.writes code.ULong ≡ kind_piece kind.ULong =
+    ap (λ (l : Layer). outer_layer 16 (code_piece code.ULong) l) code-ulong ∙ code-is in
     subst (λ (p : Piece). IsAtMost 7 p) (sym is) (four-short 5)
 
 value-short : (any : Sound ValueFault Any) (codes : Sound ValueFault TypeCode) (n amount : ℕ)
@@ -200,7 +209,7 @@ prop-short mode =
     (type_code.format.writes code.ULong then (number 4).writes (property_mode_number mode))
     (text-short (codes "Cost"))
     (then-short 7 7 (type_code.format.writes code.ULong) ((number 4).writes (property_mode_number mode))
-    (code-short 16) (four-short (property_mode_number mode)))
+    outer-short (four-short (property_mode_number mode)))
 
 -- what it costs is demanded of a type that has these supertypes
 abbrev pub typed : PropertyMode → List (List ℕ) → Bool → IncarnationNumber → TypeStruct
