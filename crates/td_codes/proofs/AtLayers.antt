@@ -12,7 +12,6 @@ use Rattle.td_cdr.specs.Writing.{Draft}
 use Rattle.td_cdr.proofs.Appending.{puts-then}
 use Rattle.td_cdr.specs.Sound.{Sound, ◌&◌}
 use Rattle.td_cdr.specs.declared.value_fault.ValueFault.{ValueFault}
-use Rattle.td_cdr.specs.declared.value_fault.ValueFault.TheVariants as fault
 use Rattle.tc_graph.specs.declared.node.Node.{Node}
 use Rattle.td_codes.specs.declared.code.TypeCode.{TypeCode, out-TypeCode}
 use Rattle.td_codes.specs.declared.code.TypeCode.TheVariants as code
@@ -24,16 +23,18 @@ use Rattle.td_codes.specs.declared.code.Member.{Member}
 use Rattle.td_codes.specs.declared.kinds.CodeKind.{CodeKind}
 use Rattle.td_codes.specs.declared.kinds.CodeKind.TheVariants as kind
 use Rattle.td_codes.specs.declared.mode.Mode.{Mode}
-use Rattle.td_codes.specs.declared.mode.Mode.TheVariants.{Outer, Inner, Switch}
+use Rattle.td_codes.specs.declared.mode.Mode.TheVariants.{Inner, Switch}
 use Rattle.td_codes.specs.Labels.{Layer, labels, spelled_labels, label_layer, no_value}
 use Rattle.td_codes.specs.Layers.{code-object, code-struct, code-union, code-enum, code-str, code-sequence, code-array}
 use Rattle.td_codes.specs.Layers.{code-alias, code-except, code-linked}
-use Rattle.td_codes.specs.Kinds.{kind_at, indirection}
+use Rattle.td_codes.specs.Kinds.{kind_at}
 use Rattle.td_codes.specs.Codes.{codes, code_formats, kind_and_parameters, parameters, header, counted_arms, arm_of}
 use Rattle.td_codes.specs.Codes.{union_code}
 use Rattle.td_codes.specs.WritingCodes.{code_piece, arm_piece, member_piece, layer_pieces, code_piece-layer, code_layer}
 use Rattle.td_codes.specs.WritingCodes.{kind_piece, header_piece, head_piece, encapsulation_piece}
-use Rattle.td_codes.specs.Values.{values, anys, each, layer, first_arm, is_chosen, default_arm, branch_of}
+use Rattle.td_codes.specs.Outermost.{outer, outer_piece, outer-written}
+use Rattle.td_codes.specs.ValueLayers.{Parts, each}
+use Rattle.td_codes.specs.Values.{values, code_values, anys, left, layer, first_arm, is_chosen, default_arm, branch_of}
 
 pub labels-reads : (n : ℕ) (t : TypeCode) (l : Layer) → (n ≡ 0 → ⊥) → out-TypeCode t ≡ l
     → (a : At) → (spelled_labels n t).format.reads a ≡ (label_layer (spelled_labels (n - 1)) l).format.reads a
@@ -172,10 +173,10 @@ encapsulation-two p q order start mid new s o e m f =
 
 -- an any's TypeCode is read, and then its value is not
 pub any-fails : (levels : ℕ) (a b new : At) (t : TypeCode) (e : ValueFault) → (levels ≡ 0 → ⊥)
-    → (codes levels Outer).format.reads a ≡ Ok (t, b)
-    → Gives is_memory new (error e) ((values (anys (levels - 1)) (codes (levels - 1) Outer) levels t).format.reads b)
+    → (outer levels).format.reads a ≡ Ok (t, b)
+    → Gives is_memory new (error e) ((code_values (levels - 1) levels t).format.reads b)
     → Gives is_memory new (error e) ((anys levels).format.reads a)
-unfolding anys
+unfolding left
 any-fails zero a b new t e some h = absurd (some refl)
 any-fails (suc levels) a b new t e some h =
     let less : suc levels - 1 ≡ levels = omega arith in
@@ -183,71 +184,81 @@ any-fails (suc levels) a b new t e some h =
 
 -- no TypeCode is read for an any
 pub any-codeless : (levels : ℕ) (a new : At) (e : ValueFault)
-    → Gives is_memory new (error e) ((codes levels Outer).format.reads a)
+    → Gives is_memory new (error e) ((outer levels).format.reads a)
     → Gives is_memory new (error e) ((anys levels).format.reads a)
-unfolding anys
+unfolding left
 any-codeless zero a new e = unless-map (is_memory e) _ _ (λ g. rw g refl)
 any-codeless (suc levels) a new e = unless-map (is_memory e) _ _ (λ g. rw g refl)
 
 -- no value is read where no level is left
-pub any-none : (levels : ℕ) (a b : At) (t : TypeCode) → levels ≡ 0 → (codes levels Outer).format.reads a ≡ Ok (t, b)
+pub any-none : (levels : ℕ) (a b : At) (t : TypeCode) → levels ≡ 0 → (outer levels).format.reads a ≡ Ok (t, b)
     → (anys levels).format.reads a ≡ Err (no_value b)
-unfolding anys
+unfolding left
 any-none zero a b t none h = rw h refl
 any-none (suc levels) a b t none h = absurd (let e : ⊥ = omega arith in e)
 
 -- its TypeCode and its value are read
 pub any-read : (levels : ℕ) (a b new : At) (t : TypeCode) (v : Value) → (levels ≡ 0 → ⊥)
-    → (codes levels Outer).format.reads a ≡ Ok (t, b)
-    → (values (anys (levels - 1)) (codes (levels - 1) Outer) levels t).format.reads b ≡ Ok (v, new)
+    → (outer levels).format.reads a ≡ Ok (t, b)
+    → (code_values (levels - 1) levels t).format.reads b ≡ Ok (v, new)
     → (anys levels).format.reads a ≡ Ok (record { code = t; value = v }, new)
-unfolding anys
+unfolding left
 any-read zero a b new t v some h = absurd (some refl)
 any-read (suc levels) a b new t v some h =
     let less : suc levels - 1 ≡ levels = omega arith in
     rw less (λ g. rw (h, g) refl)
 
-pub values-reads : (any : Sound ValueFault Any) (code : Sound ValueFault TypeCode) (n : ℕ) (t : TypeCode) (l : Layer)
+pub values-reads : (any : Sound ValueFault Any) (code : Sound ValueFault TypeCode)
+    (graphs : List Node → Sound ValueFault Value) (n : ℕ) (t : TypeCode) (l : Layer)
     → (n ≡ 0 → ⊥) → out-TypeCode t ≡ l → (a : At)
-    → (values any code n t).format.reads a ≡ (layer any code (values any code (n - 1)) (n - 1) l).format.reads a
+    → (values any code graphs n t).format.reads a
+    ≡ (layer any code (values any code graphs (n - 1)) graphs (n - 1) l).format.reads a
 unfolding values
-values-reads any code zero t l some is a = absurd (some refl)
-values-reads any code (suc n) t l some is a =
+values-reads any code graphs zero t l some is a = absurd (some refl)
+values-reads any code graphs (suc n) t l some is a =
     let less : suc n - 1 ≡ n = omega arith in
-    rw less (ap (λ (x : Layer). (layer any code (values any code n) n x).format.reads a) is)
+    rw less (ap (λ (x : Layer). (layer any code (values any code graphs n) graphs n x).format.reads a) is)
 
--- no value stands under a graph
-pub graph-reads : (any : Sound ValueFault Any) (inner : Sound ValueFault TypeCode) (n : ℕ) (t : TypeCode)
-    (graph : List Node)
+-- a value stands under a graph as that says
+pub graph-reads : (any : Sound ValueFault Any) (inner : Sound ValueFault TypeCode)
+    (graphs : List Node → Sound ValueFault Value) (n : ℕ) (t : TypeCode) (graph : List Node)
     → (n ≡ 0 → ⊥) → t ≡ code.Linked graph → (a : At)
-    → (values any inner n t).format.reads a ≡ Err (fault.Unsupported indirection)
-graph-reads any inner n t graph some is a =
-    values-reads any inner n t (layer_of.Linked graph) some (ap out-TypeCode is ∙ code-linked graph) a
+    → (values any inner graphs n t).format.reads a ≡ (graphs graph).format.reads a
+graph-reads any inner graphs n t graph some is a =
+    values-reads any inner graphs n t (layer_of.Linked graph) some (ap out-TypeCode is ∙ code-linked graph) a
 
-pub values-writes : (any : Sound ValueFault Any) (code : Sound ValueFault TypeCode) (n : ℕ) (t : TypeCode) (l : Layer)
-    (v : Value)
+pub values-writes : (any : Sound ValueFault Any) (code : Sound ValueFault TypeCode)
+    (graphs : List Node → Sound ValueFault Value) (n : ℕ) (t : TypeCode) (l : Layer) (v : Value)
     → (n ≡ 0 → ⊥) → out-TypeCode t ≡ l
-    → (values any code n t).format.writes v ≡ (layer any code (values any code (n - 1)) (n - 1) l).format.writes v
+    → (values any code graphs n t).format.writes v
+    ≡ (layer any code (values any code graphs (n - 1)) graphs (n - 1) l).format.writes v
 unfolding values
-values-writes any code zero t l v some is = absurd (some refl)
-values-writes any code (suc n) t l v some is =
+values-writes any code graphs zero t l v some is = absurd (some refl)
+values-writes any code graphs (suc n) t l v some is =
     let less : suc n - 1 ≡ n = omega arith in
-    rw less (ap (λ (x : Layer). (layer any code (values any code n) n x).format.writes v) is)
+    rw less (ap (λ (x : Layer). (layer any code (values any code graphs n) graphs n x).format.writes v) is)
+
+pub graph-writes : (any : Sound ValueFault Any) (inner : Sound ValueFault TypeCode)
+    (graphs : List Node → Sound ValueFault Value) (n : ℕ) (t : TypeCode) (graph : List Node) (v : Value)
+    → (n ≡ 0 → ⊥) → t ≡ code.Linked graph
+    → (values any inner graphs n t).format.writes v ≡ (graphs graph).format.writes v
+graph-writes any inner graphs n t graph v some is =
+    values-writes any inner graphs n t (layer_of.Linked graph) v some (ap out-TypeCode is ∙ code-linked graph)
 
 pub any-writes : (levels : ℕ) (a : Any) → (levels ≡ 0 → ⊥)
-    → (anys levels).format.writes a ≡ code_piece a.code
-    then (values (anys (levels - 1)) (codes (levels - 1) Outer) levels a.code).format.writes a.value
-unfolding anys
+    → (anys levels).format.writes a ≡ outer_piece levels a.code
+    then (code_values (levels - 1) levels a.code).format.writes a.value
+unfolding left
 any-writes zero a some = absurd (some refl)
 any-writes (suc levels) a some =
     let less : suc levels - 1 ≡ levels = omega arith in
     rw less (ap (λ (w : TypeCode → Piece).
-    w a.code then (values (anys levels) (codes levels Outer) (suc levels) a.code).format.writes a.value)
-    (code_formats (suc levels) Outer).writes)
+    w a.code then (code_values levels (suc levels) a.code).format.writes a.value)
+    (outer-written (suc levels)))
 
-pub any-writes-none : (levels : ℕ) (a : Any) → levels ≡ 0 → (anys levels).format.writes a ≡ code_piece a.code then none
-unfolding anys
-any-writes-none zero a is = ap (λ (w : TypeCode → Piece). w a.code then none) (code_formats zero Outer).writes
+pub any-writes-none : (levels : ℕ) (a : Any) → levels ≡ 0 → (anys levels).format.writes a ≡ outer_piece levels a.code then none
+unfolding left
+any-writes-none zero a is = ap (λ (w : TypeCode → Piece). w a.code then none) (outer-written zero)
 any-writes-none (suc levels) a is = absurd (let e : ⊥ = omega arith in e)
 
 -- ---- the branch of a union
@@ -270,32 +281,36 @@ branch-last default i label arms le so_far =
 
 -- ---- the members' values
 
--- the members' TypeCodes with their values
+-- what stands for the members' TypeCodes, with their values
+abbrev pub pairs : {T M : Type 0} → (M → T) → List M → List Value → List (T × Value)
+pairs code_of [] vs = []
+pairs code_of (m ∷ ms) [] = []
+pairs code_of (m ∷ ms) (v ∷ vs) = (code_of m, v) ∷ pairs code_of ms vs
+
 abbrev pub member_pairs : List Member → List Value → List (TypeCode × Value)
-member_pairs [] vs = []
-member_pairs (m ∷ ms) [] = []
-member_pairs (m ∷ ms) (v ∷ vs) = (m.code, v) ∷ member_pairs ms vs
+member_pairs = pairs (λ m. m.code)
 
-pub each-row : (any : Sound ValueFault Any) (code : Sound ValueFault TypeCode)
-    (inner : TypeCode → Sound ValueFault Value) (ms : List Member) (vs : List Value) (order : Order) (place : ℕ)
-    → (each any code inner ms).format.writes vs order place
-    ≡ row (map (λ p. (inner p.0).format.writes p.1) (member_pairs ms vs)) order place
-each-row any code inner [] vs order place = refl
-each-row any code inner (m ∷ ms) [] order place = refl
-each-row any code inner (m ∷ ms) (v ∷ vs) order place =
-    let first = (inner m.code).format.writes v order place in
-    ap (λ (b : List ℕ). first ++ b) (each-row any code inner ms vs order (place + length first))
+pub each-row : {T R M : Type 0} (parts : Parts T R M) (any : Sound ValueFault Any) (code : Sound ValueFault TypeCode)
+    (inner : T → Sound ValueFault Value) (ms : List M) (vs : List Value) (order : Order) (place : ℕ)
+    → (each parts any code inner ms).format.writes vs order place
+    ≡ row (map (λ p. (inner p.0).format.writes p.1) (pairs parts.member_code ms vs)) order place
+each-row parts any code inner [] vs order place = refl
+each-row parts any code inner (m ∷ ms) [] order place = refl
+each-row parts any code inner (m ∷ ms) (v ∷ vs) order place =
+    let first = (inner (parts.member_code m)).format.writes v order place in
+    ap (λ (b : List ℕ). first ++ b) (each-row parts any code inner ms vs order (place + length first))
 
-pub member_pairs-at : (ms : List Member) (vs : List Value) (i : ℕ) (m : Member) (v : Value) → i < length ms
-    → i < length vs → m ≡ get_or ms i m → v ≡ get_or vs i v → (m.code, v) ≡ get_or (member_pairs ms vs) i (m.code, v)
-member_pairs-at [] vs i m v lm lv em ev = absurd (let e : ⊥ = omega arith in e)
-member_pairs-at (n ∷ ms) [] i m v lm lv em ev = absurd (let e : ⊥ = omega arith in e)
-member_pairs-at (n ∷ ms) (w ∷ vs) zero m v lm lv em ev = cc
-member_pairs-at (n ∷ ms) (w ∷ vs) (suc i) m v lm lv em ev =
-    member_pairs-at ms vs i m v (omega arith) (omega arith) em ev
+pub pairs-at : {T M : Type 0} (code_of : M → T) (ms : List M) (vs : List Value) (i : ℕ) (m : M) (v : Value)
+    → i < length ms → i < length vs → m ≡ get_or ms i m → v ≡ get_or vs i v
+    → (code_of m, v) ≡ get_or (pairs code_of ms vs) i (code_of m, v)
+pairs-at code_of [] vs i m v lm lv em ev = absurd (let e : ⊥ = omega arith in e)
+pairs-at code_of (n ∷ ms) [] i m v lm lv em ev = absurd (let e : ⊥ = omega arith in e)
+pairs-at code_of (n ∷ ms) (w ∷ vs) zero m v lm lv em ev = cc
+pairs-at code_of (n ∷ ms) (w ∷ vs) (suc i) m v lm lv em ev =
+    pairs-at code_of ms vs i m v (omega arith) (omega arith) em ev
 
-pub member_pairs-length : (ms : List Member) (vs : List Value)
-    → length (member_pairs ms vs) ≡ min (length ms) (length vs)
-member_pairs-length [] vs = omega arith
-member_pairs-length (n ∷ ms) [] = omega arith
-member_pairs-length (n ∷ ms) (w ∷ vs) = omega (arith, member_pairs-length ms vs)
+pub pairs-length : {T M : Type 0} (code_of : M → T) (ms : List M) (vs : List Value)
+    → length (pairs code_of ms vs) ≡ min (length ms) (length vs)
+pairs-length code_of [] vs = omega arith
+pairs-length code_of (n ∷ ms) [] = omega arith
+pairs-length code_of (n ∷ ms) (w ∷ vs) = omega (arith, pairs-length code_of ms vs)

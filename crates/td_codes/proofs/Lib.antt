@@ -2,9 +2,11 @@ pub mod AtLayers
 pub mod CopiedParts
 pub mod GraphParts
 pub mod GraphsWhole
+pub mod NodeKinds
 pub mod OfBegunNodes
 pub mod OfEnclosed
 pub mod OfGraphNodes
+pub mod OfNodes
 pub mod OfPlainKind
 pub mod OutermostParts
 pub mod OutermostRows

@@ -210,31 +210,32 @@ number-else t m0 m1 m2 m3 n0 n1 n2 n3 n4 n5 n6 n7 n8 =
     number-at t (out-TypeCode t) refl m0 m1 m2 m3 n0 n1 n2 n3 n4 n5 n6 n7 n8
 
 pub number-piece : (any : Sound ValueFault Any) (code : Sound ValueFault TypeCode)
-    (inner : TypeCode → Sound ValueFault Value) (n : ℕ) (l : Layer) (v : Value)
-    → is_number l ≡ true → (layer any code inner n l).format.writes v ≡ plain_piece v
-number-piece any code inner n c.TypeCode::Short v is = refl
-number-piece any code inner n c.TypeCode::Long v is = refl
-number-piece any code inner n c.TypeCode::UShort v is = refl
-number-piece any code inner n c.TypeCode::ULong v is = refl
-number-piece any code inner n c.TypeCode::Boolean v is = refl
-number-piece any code inner n c.TypeCode::Char v is = refl
-number-piece any code inner n c.TypeCode::Octet v is = refl
-number-piece any code inner n c.TypeCode::LongLong v is = refl
-number-piece any code inner n c.TypeCode::ULongLong v is = refl
-number-piece any code inner n (c.TypeCode::Enum id name names) v is = refl
-number-piece any code inner n c.Null v is = absurd (true≢false (sym is))
-number-piece any code inner n c.Void v is = absurd (true≢false (sym is))
-number-piece any code inner n c.AnyCode v is = absurd (true≢false (sym is))
-number-piece any code inner n c.TypeCode::Code v is = absurd (true≢false (sym is))
-number-piece any code inner n (c.TypeCode::Str bound) v is = absurd (true≢false (sym is))
-number-piece any code inner n (c.TypeCode::ObjRef id name) v is = absurd (true≢false (sym is))
-number-piece any code inner n (c.TypeCode::Struct id name members) v is = absurd (true≢false (sym is))
-number-piece any code inner n (c.TypeCode::Union id name switch default arms) v is = absurd (true≢false (sym is))
-number-piece any code inner n (c.Sequence item bound) v is = absurd (true≢false (sym is))
-number-piece any code inner n (c.Array item len) v is = absurd (true≢false (sym is))
-number-piece any code inner n (c.Alias id name item) v is = absurd (true≢false (sym is))
-number-piece any code inner n (c.Except id name members) v is = absurd (true≢false (sym is))
-number-piece any code inner n (c.Linked graph) v is = absurd (true≢false (sym is))
+    (inner : TypeCode → Sound ValueFault Value)
+    (graphs : List Node → Sound ValueFault Value) (n : ℕ) (l : Layer) (v : Value)
+    → is_number l ≡ true → (layer any code inner graphs n l).format.writes v ≡ plain_piece v
+number-piece any code inner graphs n c.TypeCode::Short v is = refl
+number-piece any code inner graphs n c.TypeCode::Long v is = refl
+number-piece any code inner graphs n c.TypeCode::UShort v is = refl
+number-piece any code inner graphs n c.TypeCode::ULong v is = refl
+number-piece any code inner graphs n c.TypeCode::Boolean v is = refl
+number-piece any code inner graphs n c.TypeCode::Char v is = refl
+number-piece any code inner graphs n c.TypeCode::Octet v is = refl
+number-piece any code inner graphs n c.TypeCode::LongLong v is = refl
+number-piece any code inner graphs n c.TypeCode::ULongLong v is = refl
+number-piece any code inner graphs n (c.TypeCode::Enum id name names) v is = refl
+number-piece any code inner graphs n c.Null v is = absurd (true≢false (sym is))
+number-piece any code inner graphs n c.Void v is = absurd (true≢false (sym is))
+number-piece any code inner graphs n c.AnyCode v is = absurd (true≢false (sym is))
+number-piece any code inner graphs n c.TypeCode::Code v is = absurd (true≢false (sym is))
+number-piece any code inner graphs n (c.TypeCode::Str bound) v is = absurd (true≢false (sym is))
+number-piece any code inner graphs n (c.TypeCode::ObjRef id name) v is = absurd (true≢false (sym is))
+number-piece any code inner graphs n (c.TypeCode::Struct id name members) v is = absurd (true≢false (sym is))
+number-piece any code inner graphs n (c.TypeCode::Union id name switch default arms) v is = absurd (true≢false (sym is))
+number-piece any code inner graphs n (c.Sequence item bound) v is = absurd (true≢false (sym is))
+number-piece any code inner graphs n (c.Array item len) v is = absurd (true≢false (sym is))
+number-piece any code inner graphs n (c.Alias id name item) v is = absurd (true≢false (sym is))
+number-piece any code inner graphs n (c.Except id name members) v is = absurd (true≢false (sym is))
+number-piece any code inner graphs n (c.Linked graph) v is = absurd (true≢false (sym is))
 
 -- ---- the kinds whose values are read as those of a discriminator
 
@@ -331,42 +332,44 @@ one : ◌≡◌ {A = ℕ} 1 0 → ⊥
 one e = let no_one : ⊥ = omega arith in no_one
 
 label-reads-at : (any : Sound ValueFault Any) (code : Sound ValueFault TypeCode)
-    (inner : TypeCode → Sound ValueFault Value) (n : ℕ) (t : TypeCode) (l : Layer) → out-TypeCode t ≡ l
-    → is_label l ≡ true → (a : At) → (layer any code inner n l).format.reads a ≡ (labels 1 t).format.reads a
-label-reads-at any code inner n t c.TypeCode::Short is ok a = sym (labels-reads 1 t c.TypeCode::Short one is a)
-label-reads-at any code inner n t c.TypeCode::Long is ok a = sym (labels-reads 1 t c.TypeCode::Long one is a)
-label-reads-at any code inner n t c.TypeCode::UShort is ok a = sym (labels-reads 1 t c.TypeCode::UShort one is a)
-label-reads-at any code inner n t c.TypeCode::ULong is ok a = sym (labels-reads 1 t c.TypeCode::ULong one is a)
-label-reads-at any code inner n t c.TypeCode::Boolean is ok a = sym (labels-reads 1 t c.TypeCode::Boolean one is a)
-label-reads-at any code inner n t c.TypeCode::Char is ok a = sym (labels-reads 1 t c.TypeCode::Char one is a)
-label-reads-at any code inner n t c.TypeCode::LongLong is ok a = sym (labels-reads 1 t c.TypeCode::LongLong one is a)
-label-reads-at any code inner n t c.TypeCode::ULongLong is ok a = sym (labels-reads 1 t c.TypeCode::ULongLong one is a)
-label-reads-at any code inner n t (c.TypeCode::Enum id name names) is ok a =
+    (inner : TypeCode → Sound ValueFault Value)
+    (graphs : List Node → Sound ValueFault Value) (n : ℕ) (t : TypeCode) (l : Layer) → out-TypeCode t ≡ l
+    → is_label l ≡ true → (a : At) → (layer any code inner graphs n l).format.reads a ≡ (labels 1 t).format.reads a
+label-reads-at any code inner graphs n t c.TypeCode::Short is ok a = sym (labels-reads 1 t c.TypeCode::Short one is a)
+label-reads-at any code inner graphs n t c.TypeCode::Long is ok a = sym (labels-reads 1 t c.TypeCode::Long one is a)
+label-reads-at any code inner graphs n t c.TypeCode::UShort is ok a = sym (labels-reads 1 t c.TypeCode::UShort one is a)
+label-reads-at any code inner graphs n t c.TypeCode::ULong is ok a = sym (labels-reads 1 t c.TypeCode::ULong one is a)
+label-reads-at any code inner graphs n t c.TypeCode::Boolean is ok a = sym (labels-reads 1 t c.TypeCode::Boolean one is a)
+label-reads-at any code inner graphs n t c.TypeCode::Char is ok a = sym (labels-reads 1 t c.TypeCode::Char one is a)
+label-reads-at any code inner graphs n t c.TypeCode::LongLong is ok a = sym (labels-reads 1 t c.TypeCode::LongLong one is a)
+label-reads-at any code inner graphs n t c.TypeCode::ULongLong is ok a = sym (labels-reads 1 t c.TypeCode::ULongLong one is a)
+label-reads-at any code inner graphs n t (c.TypeCode::Enum id name names) is ok a =
     sym (labels-reads 1 t (c.TypeCode::Enum id name names) one is a)
-label-reads-at any code inner n t c.Null is ok a = absurd (true≢false (sym ok))
-label-reads-at any code inner n t c.Void is ok a = absurd (true≢false (sym ok))
-label-reads-at any code inner n t c.AnyCode is ok a = absurd (true≢false (sym ok))
-label-reads-at any code inner n t c.TypeCode::Code is ok a = absurd (true≢false (sym ok))
-label-reads-at any code inner n t c.TypeCode::Octet is ok a = absurd (true≢false (sym ok))
-label-reads-at any code inner n t (c.TypeCode::Str bound) is ok a =
+label-reads-at any code inner graphs n t c.Null is ok a = absurd (true≢false (sym ok))
+label-reads-at any code inner graphs n t c.Void is ok a = absurd (true≢false (sym ok))
+label-reads-at any code inner graphs n t c.AnyCode is ok a = absurd (true≢false (sym ok))
+label-reads-at any code inner graphs n t c.TypeCode::Code is ok a = absurd (true≢false (sym ok))
+label-reads-at any code inner graphs n t c.TypeCode::Octet is ok a = absurd (true≢false (sym ok))
+label-reads-at any code inner graphs n t (c.TypeCode::Str bound) is ok a =
     absurd (true≢false (sym ok))
-label-reads-at any code inner n t (c.TypeCode::ObjRef id name) is ok a =
+label-reads-at any code inner graphs n t (c.TypeCode::ObjRef id name) is ok a =
     absurd (true≢false (sym ok))
-label-reads-at any code inner n t (c.TypeCode::Struct id name members) is ok a =
+label-reads-at any code inner graphs n t (c.TypeCode::Struct id name members) is ok a =
     absurd (true≢false (sym ok))
-label-reads-at any code inner n t (c.TypeCode::Union id name switch default arms) is ok a =
+label-reads-at any code inner graphs n t (c.TypeCode::Union id name switch default arms) is ok a =
     absurd (true≢false (sym ok))
-label-reads-at any code inner n t (c.Sequence item bound) is ok a =
+label-reads-at any code inner graphs n t (c.Sequence item bound) is ok a =
     absurd (true≢false (sym ok))
-label-reads-at any code inner n t (c.Array item len) is ok a =
+label-reads-at any code inner graphs n t (c.Array item len) is ok a =
     absurd (true≢false (sym ok))
-label-reads-at any code inner n t (c.Alias id name item) is ok a =
+label-reads-at any code inner graphs n t (c.Alias id name item) is ok a =
     absurd (true≢false (sym ok))
-label-reads-at any code inner n t (c.Except id name members) is ok a =
+label-reads-at any code inner graphs n t (c.Except id name members) is ok a =
     absurd (true≢false (sym ok))
-label-reads-at any code inner n t (c.Linked graph) is ok a = absurd (true≢false (sym ok))
+label-reads-at any code inner graphs n t (c.Linked graph) is ok a = absurd (true≢false (sym ok))
 
 pub label-reads : (any : Sound ValueFault Any) (code : Sound ValueFault TypeCode)
-    (inner : TypeCode → Sound ValueFault Value) (n : ℕ) (t : TypeCode) → is_label (out-TypeCode t) ≡ true → (a : At)
-    → (layer any code inner n (out-TypeCode t)).format.reads a ≡ (labels 1 t).format.reads a
-label-reads any code inner n t ok a = label-reads-at any code inner n t (out-TypeCode t) refl ok a
+    (inner : TypeCode → Sound ValueFault Value)
+    (graphs : List Node → Sound ValueFault Value) (n : ℕ) (t : TypeCode) → is_label (out-TypeCode t) ≡ true → (a : At)
+    → (layer any code inner graphs n (out-TypeCode t)).format.reads a ≡ (labels 1 t).format.reads a
+label-reads any code inner graphs n t ok a = label-reads-at any code inner graphs n t (out-TypeCode t) refl ok a

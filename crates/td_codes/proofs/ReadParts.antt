@@ -19,7 +19,7 @@ use Rattle.td_codes.specs.Formats.{nonempty_sequence}
 use Rattle.td_codes.specs.Codes.{header, positive, member, arm_of, struct_code, except_code, sequence_code, array_code}
 use Rattle.td_codes.specs.Codes.{alias_code, object_code, enum_code}
 use Rattle.td_codes.specs.declared.code.Any.{Any}
-use Rattle.td_codes.specs.Values.{each}
+use Rattle.td_codes.specs.ValueLayers.{Parts, each}
 
 abbrev failed : {F A : Type 0} → F → Result A F
 failed e = Err e
@@ -121,43 +121,43 @@ regroup : {F X : Type 0} (front : List X) (m : X) (r : Read F (List X))
 regroup {X = X} front m (Ok x) = ap (λ (ms : List X). Ok (ms, x.1)) (simp append_assoc)
 regroup front m (Err e) = refl
 
-module _ (any : Sound ValueFault Any) (code : Sound ValueFault TypeCode) (inner : TypeCode → Sound ValueFault Value)
-  where
-    abbrev pub rest : List Value → List Member → ℕ → At → Read ValueFault (List Value)
-    rest front ms i a = with_front front ((each any code inner (drop i ms)).format.reads a)
+module _ {T R M : Type 0} (parts : Parts T R M) (any : Sound ValueFault Any) (code : Sound ValueFault TypeCode)
+    (inner : T → Sound ValueFault Value) where
+  abbrev pub rest : List Value → List M → ℕ → At → Read ValueFault (List Value)
+  rest front ms i a = with_front front ((each parts any code inner (drop i ms)).format.reads a)
 
-    member-next : (ms : List Member) (i : ℕ) (m : Member) → i < length ms → m ≡ get_or ms i m
-        → drop i ms ≡ m ∷ drop (i + 1) ms
-    member-next ms i m lt is = drop_more ms i m lt ∙ ap (λ (x : Member). x ∷ drop (i + 1) ms) (sym is)
+  member-next : (ms : List M) (i : ℕ) (m : M) → i < length ms → m ≡ get_or ms i m
+      → drop i ms ≡ m ∷ drop (i + 1) ms
+  member-next ms i m lt is = drop_more ms i m lt ∙ ap (λ (x : M). x ∷ drop (i + 1) ms) (sym is)
 
-    pub each-goes-on : (front : List Value) (ms : List Member) (i : ℕ) (m : Member) (a b : At) (v : Value)
-        (total : Read ValueFault (List Value))
-        → i < length ms → m ≡ get_or ms i m → (inner m.code).format.reads a ≡ Ok (v, b) → rest front ms i a ≡ total
-        → rest (front ++ v ∷ []) ms (i + 1) b ≡ total
-    each-goes-on front ms i m a b v total lt is h so_far =
-        let step : rest front ms i a ≡ rest (front ++ v ∷ []) ms (i + 1) b =
-        rw (member-next ms i m lt is, h) (regroup front v ((each any code inner (drop (i + 1) ms)).format.reads b)) in
-        sym step ∙ so_far
+  pub each-goes-on : (front : List Value) (ms : List M) (i : ℕ) (m : M) (a b : At) (v : Value)
+      (total : Read ValueFault (List Value))
+      → i < length ms → m ≡ get_or ms i m → (inner (parts.member_code m)).format.reads a ≡ Ok (v, b) → rest front ms i a ≡ total
+      → rest (front ++ v ∷ []) ms (i + 1) b ≡ total
+  each-goes-on front ms i m a b v total lt is h so_far =
+      let step : rest front ms i a ≡ rest (front ++ v ∷ []) ms (i + 1) b =
+      rw (member-next ms i m lt is, h) (regroup front v ((each parts any code inner (drop (i + 1) ms)).format.reads b)) in
+      sym step ∙ so_far
 
-    each-error : (front : List Value) (ms : List Member) (i : ℕ) (m : Member) (a : At) (e : ValueFault)
-        (total : Read ValueFault (List Value))
-        → i < length ms → m ≡ get_or ms i m → (inner m.code).format.reads a ≡ Err e → rest front ms i a ≡ total
-        → total ≡ Err e
-    each-error front ms i m a e total lt is h so_far =
-        let stop : rest front ms i a ≡ Err e = rw (member-next ms i m lt is, h) refl in
-        sym so_far ∙ stop
+  each-error : (front : List Value) (ms : List M) (i : ℕ) (m : M) (a : At) (e : ValueFault)
+      (total : Read ValueFault (List Value))
+      → i < length ms → m ≡ get_or ms i m → (inner (parts.member_code m)).format.reads a ≡ Err e → rest front ms i a ≡ total
+      → total ≡ Err e
+  each-error front ms i m a e total lt is h so_far =
+      let stop : rest front ms i a ≡ Err e = rw (member-next ms i m lt is, h) refl in
+      sym so_far ∙ stop
 
-    pub each-fails : (front : List Value) (ms : List Member) (i : ℕ) (m : Member) (a b : At) (e : ValueFault)
-        (total : Read ValueFault (List Value))
-        → i < length ms → m ≡ get_or ms i m → Gives is_memory b (failed e) ((inner m.code).format.reads a)
-        → rest front ms i a ≡ total → Gives is_memory b (failed e) total
-    each-fails front ms i m a b e total lt is h so_far =
-        unless-map (is_memory e) _ _ (λ g. each-error front ms i m a e total lt is g so_far) h
+  pub each-fails : (front : List Value) (ms : List M) (i : ℕ) (m : M) (a b : At) (e : ValueFault)
+      (total : Read ValueFault (List Value))
+      → i < length ms → m ≡ get_or ms i m → Gives is_memory b (failed e) ((inner (parts.member_code m)).format.reads a)
+      → rest front ms i a ≡ total → Gives is_memory b (failed e) total
+  each-fails front ms i m a b e total lt is h so_far =
+      unless-map (is_memory e) _ _ (λ g. each-error front ms i m a e total lt is g so_far) h
 
-    pub each-done : (front : List Value) (ms : List Member) (i : ℕ) (a : At) (total : Read ValueFault (List Value))
-        → length ms ≤ i → rest front ms i a ≡ total → total ≡ Ok (front, a)
-    each-done front ms i a total le so_far =
-        let none : drop i ms ≡ [] = drop_all i ms le in
-        let last : rest front ms i a ≡ Ok (front, a) =
-        rw none (ap (λ (vs : List Value). Ok (vs, a)) (append-nil front)) in
-        sym so_far ∙ last
+  pub each-done : (front : List Value) (ms : List M) (i : ℕ) (a : At) (total : Read ValueFault (List Value))
+      → length ms ≤ i → rest front ms i a ≡ total → total ≡ Ok (front, a)
+  each-done front ms i a total le so_far =
+      let none : drop i ms ≡ [] = drop_all i ms le in
+      let last : rest front ms i a ≡ Ok (front, a) =
+      rw none (ap (λ (vs : List Value). Ok (vs, a)) (append-nil front)) in
+      sym so_far ∙ last

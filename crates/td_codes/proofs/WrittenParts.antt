@@ -1,8 +1,8 @@
 -- What is written part by part.
-use Rattle.std.proofs.Common.{◌≡◌, ℕ, List, [], ◌∷◌, ◌++◌, length, take, Result, Ok, Err, refl, ap, ◌∙◌, arith}
-use Rattle.std.proofs.lemmas.List.{take_all, take_at}
+use Rattle.std.proofs.Common.{◌≡◌, ℕ, List, [], ◌∷◌, ◌++◌, length, take, Result, Ok, Err, refl, sym, ap, ◌∙◌, arith}
+use Rattle.std.proofs.lemmas.List.{take_all, take_at, append-nil}
 use Rattle.td_cdr.specs.declared.order.Order.{Order}
-use Rattle.td_cdr.specs.Format.{Piece, ◌then◌, Puts, Appends, octets}
+use Rattle.td_cdr.specs.Format.{Piece, none, ◌then◌, Puts, Appends, octets}
 use Rattle.td_cdr.specs.Gap.{flag}
 use Rattle.td_cdr.specs.Writing.{Draft, Adds}
 use Rattle.td_cdr.proofs.Appending.{puts-then}
@@ -45,6 +45,10 @@ encapsulated k p order start inner old new result s o same e a =
 -- what was there is kept where nothing was written
 pub kept-whole : (old new : Draft) → new.bytes ≡ old.bytes → take (length old.bytes) new.bytes ≡ old.bytes
 kept-whole old new same = rw same (take_all (length old.bytes) old.bytes (omega arith))
+
+-- where nothing is to be written, nothing is
+pub puts-none : {E : Type 0} (w : Draft) → Puts {E = E} none w w (Ok tt)
+puts-none w = record { done = sym (append-nil w.bytes); order = refl; kept = tt }
 
 pub puts-whole : {E : Type 0} (p : Piece) (old new : Draft) (result : Result (Unit {0}) E)
     → Appends p old new result → Puts p old new result

@@ -275,10 +275,11 @@ label_layer inner (c.TypeCode::Enum id name names) = one_of (length names)
 label_layer inner (c.Alias id name item) = inner item
 label_layer inner l = no_label
 
-pub label_layer-plain : (inner : TypeCode → Sound ValueFault Value)
-    → ((t : TypeCode) (v : Value) (order : Order) (place : ℕ) → (inner t).format.admits v
+pub label_layer-plain : {T V A R M : Type 0} (inner : T → Sound ValueFault Value)
+    → ((t : T) (v : Value) (order : Order) (place : ℕ) → (inner t).format.admits v
     → (inner t).format.writes v order place ≡ plain_piece v order place)
-    → (l : Layer) (v : Value) (order : Order) (place : ℕ) → (label_layer inner l).format.admits v
+    → (l : TypeCode-F T V A R M) (v : Value) (order : Order) (place : ℕ)
+    → (label_layer inner l).format.admits v
     → (label_layer inner l).format.writes v order place ≡ plain_piece v order place
 label_layer-plain inner j c.TypeCode::Short v order place ok = refl
 label_layer-plain inner j c.TypeCode::Long v order place ok = refl

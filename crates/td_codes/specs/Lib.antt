@@ -1,4 +1,5 @@
 pub mod Codes
+pub mod EdgeLayers
 pub mod Enclosed
 pub mod ExtendedCodes
 pub mod ExtendedKinds
@@ -16,8 +17,10 @@ pub mod Known
 pub mod Labelled
 pub mod Labels
 pub mod Layers
+pub mod NodeLabels
 pub mod NodeLayers
 pub mod NodeReading
+pub mod NodeValues
 pub mod NodeWriting
 pub mod Outermost
 pub mod OutermostExamples
@@ -25,6 +28,7 @@ pub mod Parameters
 pub mod ReadNodes
 pub mod References
 pub mod Same
+pub mod ValueExamples
 pub mod ValueLayers
 pub mod Values
 pub mod WholeGraphs

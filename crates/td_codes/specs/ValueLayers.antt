@@ -10,6 +10,7 @@ use Rattle.td_cdr.specs.Sound.{restriction, failure, union, other_writing, seque
 use Rattle.td_cdr.specs.LawfulFormats.{times-row}
 use Rattle.td_cdr.specs.declared.value_fault.ValueFault.{ValueFault}
 use Rattle.td_cdr.specs.declared.value_fault.ValueFault.TheVariants as fault
+use Rattle.tc_graph.specs.declared.node.Node.{Node}
 use Rattle.td_codes.specs.declared.code.TypeCode.{TypeCode, TypeCode-F}
 use Rattle.td_codes.specs.declared.code.TypeCode.TheOpen as c
 use Rattle.td_codes.specs.declared.code.Value.{Value, out-Value}
@@ -18,8 +19,8 @@ use Rattle.td_codes.specs.declared.code.Any.{Any}
 use Rattle.td_codes.specs.declared.reference.Ior.{Ior}
 use Rattle.td_codes.specs.declared.kinds.CodeKind.TheVariants as kind
 use Rattle.td_codes.specs.Formats.{array-size}
-use Rattle.td_codes.specs.Kinds.{number_of, indirection}
-use Rattle.td_codes.specs.Labels.{Held, bad_value, one_of, label_of, same_label, plain_piece}
+use Rattle.td_codes.specs.Kinds.{number_of}
+use Rattle.td_codes.specs.Labels.{Held, bad_value, one_of, plain_piece}
 use Rattle.td_codes.specs.Labels.{short_value, long_value, ushort_value, ulong_value, longlong_value, ulonglong_value}
 use Rattle.td_codes.specs.Labels.{boolean_value, char_value, octet_value}
 use Rattle.td_codes.specs.Layers.{value-str, value-any, value-code, value-object, value-struct, value-union}
@@ -41,10 +42,9 @@ abbrev pub is_default : Option ℕ → ℕ → Bool
 is_default (Some d) i = nat_eq d i
 is_default None i = false
 
--- whether the arm at index i, of this label, is chosen by it
-abbrev pub is_labelled : Option ℕ → Value → ℕ → Value → Bool
-is_labelled default label i of_arm = not (is_default default i)
-    && same_label (label_of of_arm) (label_of label)
+-- whether the arm at index i is chosen by the label, where this tells whether an arm has a label
+abbrev pub is_chosen_by : {R : Type 0} → (R → Value → Bool) → Option ℕ → Value → ℕ → R → Bool
+is_chosen_by has default label i arm = not (is_default default i) && has arm label
 
 abbrev pub default_arm : {R : Type 0} → Option ℕ → List R → Option R
 default_arm (Some d) arms = slice_get arms d
@@ -55,15 +55,17 @@ or_else (Some x) o = Some x
 or_else None o = o
 
 -- the first arm but the default whose label this is, the arms being counted from i
-abbrev pub first_labelled : {R : Type 0} → (R → Value) → Option ℕ → Value → ℕ → List R → Option R
-first_labelled label_of_arm default label i [] = None
-first_labelled label_of_arm default label i (arm ∷ arms) =
-    if is_labelled default label i (label_of_arm arm) then Some arm
-    else first_labelled label_of_arm default label (i + 1) arms
+abbrev pub first_labelled : {R : Type 0} → (R → Value → Bool) → Option ℕ → Value → ℕ → List R
+    → Option R
+first_labelled has default label i [] = None
+first_labelled has default label i (arm ∷ arms) =
+    if is_chosen_by has default label i arm then Some arm
+    else first_labelled has default label (i + 1) arms
 
-abbrev pub branch_labelled : {R : Type 0} → (R → Value) → Option ℕ → Value → List R → Option R
-branch_labelled label_of_arm default label arms =
-    or_else (first_labelled label_of_arm default label 0 arms) (default_arm default arms)
+abbrev pub branch_labelled : {R : Type 0} → (R → Value → Bool) → Option ℕ → Value → List R
+    → Option R
+branch_labelled has default label arms =
+    or_else (first_labelled has default label 0 arms) (default_arm default arms)
 
 -- ---- what a value holds, where it holds it
 
@@ -113,17 +115,27 @@ bounded_text bound = restriction (λ v. fits bound (length v)) bad_value text
 abbrev pub count_within : ℕ → Sound ValueFault ℕ
 count_within bound = restriction (fits bound) bad_value ulong
 
+abbrev pub string_value : ℕ → Sound ValueFault Value
+string_value bound =
+    variant (λ t. value.Str t) (λ v. text_in (out-Value v)) (λ t. ap text_in (value-str t))
+    (bounded_text bound)
+
+abbrev pub reference_value : Sound ValueFault Value
+reference_value =
+    variant (λ r. value.ObjRef r) (λ v. reference_in (out-Value v))
+    (λ r. ap reference_in (value-object r)) reference
+
 -- ---- a layer
 
 -- what the parts of a layer are: the discriminators under a TypeCode in it, each written as a plain value is; the
--- TypeCodes of members and arms, and the labels of arms
+-- TypeCodes of members and arms, and whether an arm has a label
 pub record Parts (T R M : Type 0) : Type 1 where
   pub labels : ℕ → T → Sound ValueFault Value
   pub plain : (n : ℕ) (t : T) (v : Value) (order : Order) (place : ℕ)
       → (labels n t).format.writes v order place ≡ plain_piece v order place
   pub member_code : M → T
   pub arm_code : R → T
-  pub arm_label : R → Value
+  pub has_label : R → Value → Bool
 
 -- where an any, and a TypeCode, that stand inside are of one level more
 module _ {T R M : Type 0} (parts : Parts T R M) (any : Sound ValueFault Any)
@@ -149,8 +161,8 @@ module _ {T R M : Type 0} (parts : Parts T R M) (any : Sound ValueFault Any)
   abbrev pub spelled_union : ℕ → T → Option ℕ → List R → Sound ValueFault Value
   spelled_union n switch default arms =
       union (parts.labels n switch) discriminator
-      (λ label. branch label (branch_labelled parts.arm_label default label arms))
-      (λ label. branch-label label (branch_labelled parts.arm_label default label arms))
+      (λ label. branch label (branch_labelled parts.has_label default label arms))
+      (λ label. branch-label label (branch_labelled parts.has_label default label arms))
 
   abbrev pub branch_piece : Option R → Option Value → Piece
   branch_piece None v = none
@@ -160,7 +172,7 @@ module _ {T R M : Type 0} (parts : Parts T R M) (any : Sound ValueFault Any)
   -- a value that is no union is written as nothing
   abbrev pub union_piece : Option ℕ → List R → Held → Piece
   union_piece default arms (c.Value::Union label arm) =
-      plain_piece label then branch_piece (branch_labelled parts.arm_label default label arms) arm
+      plain_piece label then branch_piece (branch_labelled parts.has_label default label arms) arm
   union_piece default arms l = none
 
   branch-is : (label : Value) (o : Option R) (v : Value) → (branch label o).format.admits v
@@ -182,14 +194,14 @@ module _ {T R M : Type 0} (parts : Parts T R M) (any : Sound ValueFault Any)
       ≡ union_piece default arms (out-Value v) order place
   union-written n switch default arms v order place ok =
       let is = branch-is (discriminator v)
-      (branch_labelled parts.arm_label default (discriminator v) arms) v ok.1 in
+      (branch_labelled parts.has_label default (discriminator v) arms) v ok.1 in
       subst (λ (u : Value). (spelled_union n switch default arms).format.writes u order place
       ≡ union_piece default arms (out-Value u) order place)
       is.1
       (let label = discriminator v in
       rw (value-union label is.0, parts.plain n switch label order place)
       (ap (λ (b : List ℕ). plain_piece label order place ++ b)
-      (branch-written label (branch_labelled parts.arm_label default label arms) is.0 order
+      (branch-written label (branch_labelled parts.has_label default label arms) is.0 order
       (place + length (plain_piece label order place)))))
 
   abbrev pub union_value : ℕ → T → Option ℕ → List R → Sound ValueFault Value
@@ -253,34 +265,33 @@ module _ {T R M : Type 0} (parts : Parts T R M) (any : Sound ValueFault Any)
       other_writing (λ v. none_or (items_piece item) (items_in (out-Value v)))
       (spelled_array item len) (array-written item len)
 
-  abbrev pub layer : ℕ → TypeCode-F T Value Any R M → Sound ValueFault Value
-  layer n c.Null = constant value.Empty
-  layer n c.Void = constant value.Empty
-  layer n c.TypeCode::Short = short_value
-  layer n c.TypeCode::Long = long_value
-  layer n c.TypeCode::UShort = ushort_value
-  layer n c.TypeCode::ULong = ulong_value
-  layer n c.TypeCode::Boolean = boolean_value
-  layer n c.TypeCode::Char = char_value
-  layer n c.TypeCode::Octet = octet_value
-  layer n c.TypeCode::LongLong = longlong_value
-  layer n c.TypeCode::ULongLong = ulonglong_value
-  layer n c.AnyCode = variant (λ a. value.AnyValue a) (λ v. any_in (out-Value v))
+  -- graphs: the values under a graph
+  abbrev pub layer : (List Node → Sound ValueFault Value) → ℕ → TypeCode-F T Value Any R M
+      → Sound ValueFault Value
+  layer graphs n c.Null = constant value.Empty
+  layer graphs n c.Void = constant value.Empty
+  layer graphs n c.TypeCode::Short = short_value
+  layer graphs n c.TypeCode::Long = long_value
+  layer graphs n c.TypeCode::UShort = ushort_value
+  layer graphs n c.TypeCode::ULong = ulong_value
+  layer graphs n c.TypeCode::Boolean = boolean_value
+  layer graphs n c.TypeCode::Char = char_value
+  layer graphs n c.TypeCode::Octet = octet_value
+  layer graphs n c.TypeCode::LongLong = longlong_value
+  layer graphs n c.TypeCode::ULongLong = ulonglong_value
+  layer graphs n c.AnyCode = variant (λ a. value.AnyValue a) (λ v. any_in (out-Value v))
       (λ a. ap any_in (value-any a)) any
-  layer n c.TypeCode::Code =
+  layer graphs n c.TypeCode::Code =
       variant (λ t. value.Code t) (λ v. code_in (out-Value v)) (λ t. ap code_in (value-code t)) code
-  layer n (c.TypeCode::Str bound) =
-      variant (λ t. value.Str t) (λ v. text_in (out-Value v)) (λ t. ap text_in (value-str t))
-      (bounded_text bound)
-  layer n (c.TypeCode::ObjRef id name) =
-      variant (λ r. value.ObjRef r) (λ v. reference_in (out-Value v))
-      (λ r. ap reference_in (value-object r)) reference
-  layer n (c.TypeCode::Struct id name members) = struct_value members
-  layer n (c.TypeCode::Union id name switch default arms) = union_value n switch (index_of default)
-      arms
-  layer n (c.TypeCode::Enum id name names) = one_of (length names)
-  layer n (c.Sequence item bound) = sequence_value item bound
-  layer n (c.Array item len) = array_value item len
-  layer n (c.Alias id name item) = inner item
-  layer n (c.Except id name members) = failure (λ a. fault.Unsupported (number_of kind.Except))
-  layer n (c.Linked graph) = failure (λ a. fault.Unsupported indirection)
+  layer graphs n (c.TypeCode::Str bound) = string_value bound
+  layer graphs n (c.TypeCode::ObjRef id name) = reference_value
+  layer graphs n (c.TypeCode::Struct id name members) = struct_value members
+  layer graphs n (c.TypeCode::Union id name switch default arms) =
+      union_value n switch (index_of default) arms
+  layer graphs n (c.TypeCode::Enum id name names) = one_of (length names)
+  layer graphs n (c.Sequence item bound) = sequence_value item bound
+  layer graphs n (c.Array item len) = array_value item len
+  layer graphs n (c.Alias id name item) = inner item
+  layer graphs n (c.Except id name members) =
+      failure (λ a. fault.Unsupported (number_of kind.Except))
+  layer graphs n (c.Linked graph) = graphs graph

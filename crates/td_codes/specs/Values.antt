@@ -9,10 +9,17 @@ use Rattle.td_codes.specs.declared.code.Value.{Value}
 use Rattle.td_codes.specs.declared.code.Arm.{Arm}
 use Rattle.td_codes.specs.declared.code.Any.{Any}
 use Rattle.td_codes.specs.declared.code.Member.{Member}
-use Rattle.td_codes.specs.declared.mode.Mode.TheVariants.{Outer}
-use Rattle.td_codes.specs.Labels.{Layer, Held, no_value, labels}
-use Rattle.td_codes.specs.Codes.{codes}
-use Rattle.td_codes.specs.ValueLayers.{Parts, first_labelled, branch_labelled, is_labelled, discriminator}
+use Rattle.tc_edges.specs.declared.edges.Edge.{Edge}
+use Rattle.td_codes.specs.declared.kinds.CodeKind.{CodeKind}
+use Rattle.tc_graph.specs.declared.node.Node.{Node}
+use Rattle.td_codes.specs.Labels.{Layer, Held, no_value, labels, label_of, same_label}
+use Rattle.tc_graph.specs.Nodes.{node_at}
+use Rattle.tc_edges.specs.Edges.{edge_of}
+use Rattle.td_codes.specs.NodeLabels.{most_levels, too_deep, along}
+use Rattle.td_codes.specs.EdgeLayers.{kind_layer}
+use Rattle.td_codes.specs.NodeValues.{node_parts, value_of_node, value_at_node}
+use Rattle.td_codes.specs.Outermost.{outer}
+use Rattle.td_codes.specs.ValueLayers.{Parts, first_labelled, branch_labelled, is_chosen_by, discriminator}
 pub use Rattle.td_codes.specs.ValueLayers.{fits, index_of, is_default, default_arm, or_else, text_in, any_in, code_in}
 pub use Rattle.td_codes.specs.ValueLayers.{reference_in, struct_in, items_in, label_in, arm_in, bounded_text}
 pub use Rattle.td_codes.specs.ValueLayers.{count_within}
@@ -26,18 +33,18 @@ code_parts = record {
   plain = λ n t v order place. refl;
   member_code = λ m. m.code;
   arm_code = λ a. a.code;
-  arm_label = λ a. a.label;
+  has_label = λ a v. same_label (label_of a.label) (label_of v);
 }
 
 -- whether the arm at index i is chosen by its label
 abbrev pub is_chosen : Option ℕ → Value → ℕ → Arm → Bool
-is_chosen default label i arm = is_labelled default label i arm.label
+is_chosen = is_chosen_by code_parts.has_label
 
 abbrev pub first_arm : Option ℕ → Value → ℕ → List Arm → Option Arm
-first_arm = first_labelled (λ a. a.label)
+first_arm = first_labelled code_parts.has_label
 
 abbrev pub branch_of : Option ℕ → Value → List Arm → Option Arm
-branch_of = branch_labelled (λ a. a.label)
+branch_of = branch_labelled code_parts.has_label
 
 module _ (any : Sound ValueFault Any) (code : Sound ValueFault TypeCode)
     (inner : TypeCode → Sound ValueFault Value) where
@@ -71,14 +78,16 @@ module _ (any : Sound ValueFault Any) (code : Sound ValueFault TypeCode)
   abbrev pub array_value : TypeCode → ℕ → Sound ValueFault Value
   array_value = over.array_value code_parts any code inner
 
-  abbrev pub layer : ℕ → Layer → Sound ValueFault Value
+  -- graphs: the values under a graph
+  abbrev pub layer : (List Node → Sound ValueFault Value) → ℕ → Layer → Sound ValueFault Value
   layer = over.layer code_parts any code inner
 
 -- a value under a TypeCode of at most so many levels
-unfoldable pub values : Sound ValueFault Any → Sound ValueFault TypeCode → ℕ → TypeCode
-    → Sound ValueFault Value
-values any code zero t = failure no_value
-values any code (suc n) t = layer any code (values any code n) n (out-TypeCode t)
+unfoldable pub values : Sound ValueFault Any → Sound ValueFault TypeCode
+    → (List Node → Sound ValueFault Value) → ℕ → TypeCode → Sound ValueFault Value
+values any code graphs zero t = failure no_value
+values any code graphs (suc n) t =
+    layer any code (values any code graphs n) graphs n (out-TypeCode t)
 
 abbrev pub any_of : Sound ValueFault TypeCode → (TypeCode → Sound ValueFault Value)
     → Sound ValueFault Any
@@ -86,11 +95,78 @@ any_of code value =
     structure (λ p. record { code = p.0; value = p.1 }) (λ a. (a.code, a.value)) (λ _. refl)
     (λ _. refl) (pair_on code value)
 
+-- ---- levels
+
+-- what so many levels are left for: an any, and what stands behind an indirection to a node of a graph
+pub record Left : Type 1 where
+  pub any : Sound ValueFault Any
+  pub behind : List Node → ℕ → Sound ValueFault Value
+
+abbrev none_left : Left
+none_left = record {
+  any = any_of (outer zero) (λ t. failure no_value);
+  behind = λ graph i. failure too_deep;
+}
+
+-- one level more; what stands in a value has one less
+abbrev one_more : ℕ → Left → Left
+one_more levels less = let under : List Node → ℕ → Sound ValueFault Value =
+    λ graph. value_at_node levels less.any (outer levels) graph (less.behind graph) most_levels in
+    record {
+      any = any_of (outer (suc levels))
+          (values less.any (outer levels) (λ graph. under graph 0) (suc levels));
+      behind = under;
+    }
+
+unfoldable pub left : ℕ → Left
+left zero = none_left
+left (suc levels) = one_more levels (left levels)
+
 -- an any of at most so many levels
-unfoldable pub anys : ℕ → Sound ValueFault Any
-anys zero = any_of (codes zero Outer) (λ t. failure no_value)
-anys (suc levels) = any_of (codes (suc levels) Outer)
-    (values (anys levels) (codes levels Outer) (suc levels))
+abbrev pub anys : ℕ → Sound ValueFault Any
+anys levels = (left levels).any
+
+-- what stands behind an indirection, where so many levels are left
+abbrev pub behind : ℕ → List Node → ℕ → Sound ValueFault Value
+behind levels = (left levels).behind
+
+-- a value in which an any may have so many levels, under a node from which edges that are no indirections lead so deep
+-- at most
+abbrev pub node_values : ℕ → List Node → ℕ → ℕ → Sound ValueFault Value
+node_values levels graph =
+    value_at_node levels (anys levels) (outer levels) graph (behind levels graph)
+
+-- behind an edge
+abbrev pub edge_values : ℕ → List Node → ℕ → Edge → Sound ValueFault Value
+edge_values levels graph n = along (behind levels graph) (node_values levels graph n)
+
+-- under a graph
+abbrev pub graph_values : ℕ → List Node → Sound ValueFault Value
+graph_values levels graph = node_values levels graph most_levels 0
+
+-- under a TypeCode of at most so many levels
+abbrev pub code_values : ℕ → ℕ → TypeCode → Sound ValueFault Value
+code_values levels = values (anys levels) (outer levels) (graph_values levels)
+
+-- ---- under a node of a graph
+
+module _ (levels : ℕ) (graph : List Node) (n i : ℕ) where
+  -- of this kind
+  abbrev pub node_kind : CodeKind → Sound ValueFault Value
+  node_kind k = value_of_node levels (anys levels) (outer levels) graph (behind levels graph) i
+      (edge_values levels graph n) n (kind_layer (node_at graph i) (edge_of graph i) k)
+
+  abbrev pub node_each : List ℕ → Sound ValueFault (List Value)
+  node_each = over.each (node_parts levels graph i) (anys levels) (outer levels)
+      (edge_values levels graph n)
+
+  abbrev pub node_branch : Value → Option ℕ → Arm_of ValueFault Value Value discriminator
+  node_branch = over.branch (node_parts levels graph i) (anys levels) (outer levels)
+      (edge_values levels graph n)
+
+  abbrev pub node_branch_piece : Option ℕ → Option Value → Piece
+  node_branch_piece = over.branch_piece (node_parts levels graph i) (anys levels) (outer levels)
+      (edge_values levels graph n)
 
 -- an any as it stands in a body, at level 1 of 16
 abbrev pub any_value : Sound ValueFault Any

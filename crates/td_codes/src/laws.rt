@@ -6,6 +6,7 @@ ghost use Rattle.td_cdr.specs.Lawful.{Lawful};
 ghost use Rattle.td_cdr.specs.Faults.{Refuses};
 ghost use Rattle.td_codes.specs.declared.mode.Mode.{Mode};
 ghost use Rattle.td_codes.specs.Codes.{codes};
+ghost use Rattle.td_codes.specs.ValueExamples.{WorkedValues};
 ghost use Rattle.td_codes.specs.Values.{anys};
 ghost use Rattle.td_codes.specs.WritingCodes.{code_piece};
 ghost use Rattle.td_codes.specs.Extension.{CodesAreExtended};
@@ -71,4 +72,10 @@ pub fn outermost_codes_are_spelled()
 pub fn worked_graphs()
     ensures graph { WorkedGraph }
     ensures outermost { WorkedOutermost }
+{}
+
+/// Worked examples: a struct that holds itself through a sequence, and one with two members of one struct.
+/// Values under them that are read and written, and how many indirections a value may pass.
+pub fn worked_values()
+    ensures { WorkedValues }
 {}

@@ -14,7 +14,10 @@ mod label;
 mod labels;
 mod laws;
 mod mode;
+mod node_labels;
 mod node_layer;
+mod node_leaves;
+mod nodes;
 mod outermost;
 mod plain;
 mod reading;
@@ -30,7 +33,7 @@ pub use kinds::{CodeKind, INDIRECTION, kind_of};
 pub use label::{Label, label_of, same_label};
 pub use laws::{
     anys_are_spelled, codes_are_extended, codes_are_spelled, graphs_are_spelled,
-    outermost_codes_are_spelled, worked_graphs,
+    outermost_codes_are_spelled, worked_graphs, worked_values,
 };
 pub use mode::Mode;
 pub use reading::LEVELS;

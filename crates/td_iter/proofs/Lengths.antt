@@ -13,6 +13,10 @@ use Rattle.td_cdr.specs.Sound.{text}
 use Rattle.td_codes.specs.declared.reference.Ior.{Ior}
 use Rattle.td_codes.specs.declared.reference.Profile.{Profile}
 use Rattle.td_cdr.specs.Format.{number as number_format}
+use Rattle.td_codes.specs.declared.code.Value.{Value}
+use Rattle.td_codes.specs.declared.label.Label.{Label}
+use Rattle.td_codes.specs.declared.label.Label.TheVariants.{One, Two, Four, Eight}
+use Rattle.td_codes.specs.Labels.{label_of, label_piece, plain_piece}
 use Rattle.td_codes.specs.References.{reference, profile}
 use Rattle.td_iter.specs.Filling.{counted}
 
@@ -174,3 +178,12 @@ profile-steady p = then-steady ((number_format 4).writes p.tag) (λ order place.
 pub reference-steady : (r : Ior) → Steady (reference.format.writes r)
 reference-steady r = then-steady (text.format.writes r.id) (counted profile.format.writes r.profiles)
     (text-steady r.id) (counted-steady profile.format.writes profile-steady r.profiles)
+
+pub label-steady : (l : Label) → Steady (label_piece l)
+label-steady (One n) = one-steady n
+label-steady (Two n) = two-steady n
+label-steady (Four n) = four-steady n
+label-steady (Eight n) = eight-steady n
+
+pub plain-steady : (v : Value) → Steady (plain_piece v)
+plain-steady v = label-steady (label_of v)

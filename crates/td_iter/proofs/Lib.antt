@@ -4,6 +4,7 @@ pub mod Giving
 pub mod Greatest
 pub mod Lengths
 pub mod Loading
+pub mod PlacedLengths
 pub mod Places
 pub mod Steadiness
 pub mod Whole

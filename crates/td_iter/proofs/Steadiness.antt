@@ -1,9 +1,9 @@
 -- An offer is at most twice as long in one place as in another.
-use Rattle.std.proofs.Common.{◌≡◌, ℕ, zero, suc, List, [], ◌∷◌, map, Option, Some, None, sym, ap, subst, ◌∙◌, arith}
+use Rattle.std.proofs.Common.{◌≡◌, ℕ, zero, suc, Bool, true, false, List, [], ◌∷◌, map, Option, Some, None, sym, ap, subst, ◌∙◌, arith}
 use Rattle.td_cdr.specs.declared.value_fault.ValueFault.{ValueFault}
 use Rattle.td_cdr.specs.Gap.{flag}
 use Rattle.td_cdr.specs.Format.{Piece, none_or, ◌then◌, row}
-use Rattle.td_cdr.specs.Sound.{Sound, text}
+use Rattle.td_cdr.specs.Sound.{Sound, text, either, failure}
 use Rattle.td_codes.specs.declared.code.TypeCode.{TypeCode, TypeCode-F, out-TypeCode, ind-TypeCode, map-TypeCode}
 use Rattle.td_codes.specs.declared.code.TypeCode.{roll-TypeCode, out-roll-TypeCode}
 use Rattle.td_codes.specs.WritingCodes.{code_piece, arm_piece, member_piece, layer_pieces, code_piece-layer}
@@ -13,9 +13,12 @@ use Rattle.td_codes.specs.declared.kinds.CodeKind.{CodeKind}
 use Rattle.td_codes.specs.declared.kinds.CodeKind.TheVariants as kind
 use Rattle.td_codes.specs.Kinds.{number_of}
 use Rattle.std.specs.Int.{w32, cast_unsigned}
-use Rattle.td_codes.specs.Codes.{codes, code_formats}
-use Rattle.td_codes.specs.declared.mode.Mode.{Mode}
-use Rattle.td_codes.specs.declared.mode.Mode.TheVariants.{Outer}
+use Rattle.tc_graph.specs.declared.node.Node.{Node}
+use Rattle.tc_edges.specs.declared.edges.Edge.{Edge}
+use Rattle.td_codes.specs.NodeLabels.{along, most_levels}
+use Rattle.td_codes.specs.EdgeLayers.{EdgeLayer, node_layer}
+use Rattle.td_codes.specs.NodeValues.{node_parts, value_of_node, value_at_node}
+use Rattle.td_codes.specs.Outermost.{outer, outer_layer}
 use Rattle.td_value.specs.declared.structures.Offer.{Offer}
 use Rattle.td_value.specs.declared.structures.Property.{Property}
 use Rattle.td_value.specs.Structures.{offer, property}
@@ -24,27 +27,17 @@ use Rattle.td_codes.specs.declared.code.Value.{Value, out-Value}
 use Rattle.td_codes.specs.declared.code.Any.{Any}
 use Rattle.td_codes.specs.declared.code.Arm.{Arm, roll-Arm}
 use Rattle.td_codes.specs.declared.code.Member.{Member, roll-Member}
-use Rattle.td_codes.specs.declared.label.Label.{Label}
-use Rattle.td_codes.specs.declared.label.Label.TheVariants.{One, Two, Four, Eight}
 use Rattle.td_cdr.specs.Format.{number as number_format}
-use Rattle.td_codes.specs.Labels.{Layer, Held, label_of, label_piece, plain_piece}
+use Rattle.td_codes.specs.Labels.{Layer, Held, no_value, label_of, label_piece, plain_piece}
 use Rattle.td_codes.specs.References.{reference}
 use Rattle.td_codes.specs.ValueLayers.{Parts, index_of, branch_labelled, each, branch_piece, union_piece, items_piece}
 use Rattle.td_codes.specs.ValueLayers.{sequence_piece, layer, text_in, any_in, code_in, reference_in, struct_in}
 use Rattle.td_codes.specs.ValueLayers.{items_in}
-use Rattle.td_codes.specs.Values.{code_parts, values, anys, any_value}
+use Rattle.td_codes.specs.Values.{code_parts, values, code_values, graph_values, left, anys, behind, any_value}
 use Rattle.td_iter.specs.Filling.{counted}
-use Rattle.td_iter.proofs.Lengths.{Steady, one-steady, two-steady, four-steady, eight-steady, octets-length}
+use Rattle.td_iter.proofs.Lengths.{Steady, four-steady, octets-length, label-steady, plain-steady}
 use Rattle.td_iter.proofs.Lengths.{none-steady, then-steady, rows-steady, counted-steady, text-steady, reference-steady}
-
-pub label-steady : (l : Label) → Steady (label_piece l)
-label-steady (One n) = one-steady n
-label-steady (Two n) = two-steady n
-label-steady (Four n) = four-steady n
-label-steady (Eight n) = eight-steady n
-
-plain-steady : (v : Value) → Steady (plain_piece v)
-plain-steady v = label-steady (label_of v)
+use Rattle.td_iter.proofs.PlacedLengths.{graph_piece-steady}
 
 or_none-steady : {X : Type 0} (write : X → Piece) → ((x : X) → Steady (write x)) → (o : Option X)
     → Steady (none_or write o)
@@ -73,41 +66,43 @@ module _ {T R M : Type 0} (parts : Parts T R M) (any : Sound ValueFault Any) (co
       → Steady (union_piece parts any code inner default arms l)
   union-steady default arms (c.Value::Union label arm) =
       then-steady (plain_piece label)
-      (branch_piece parts any code inner (branch_labelled parts.arm_label default label arms) arm)
-      (plain-steady label) (branch-steady (branch_labelled parts.arm_label default label arms) arm)
+      (branch_piece parts any code inner (branch_labelled parts.has_label default label arms) arm)
+      (plain-steady label) (branch-steady (branch_labelled parts.has_label default label arms) arm)
   union-steady default arms l = none-steady
 
-  pub layer-steady : (n : ℕ) (l : TypeCode-F T Value Any R M) (v : Value)
-      → Steady ((layer parts any code inner n l).format.writes v)
-  layer-steady n c.Null v = none-steady
-  layer-steady n c.Void v = none-steady
-  layer-steady n c.TypeCode::Short v = plain-steady v
-  layer-steady n c.TypeCode::Long v = plain-steady v
-  layer-steady n c.TypeCode::UShort v = plain-steady v
-  layer-steady n c.TypeCode::ULong v = plain-steady v
-  layer-steady n c.TypeCode::Boolean v = plain-steady v
-  layer-steady n c.TypeCode::Char v = plain-steady v
-  layer-steady n c.TypeCode::Octet v = plain-steady v
-  layer-steady n c.TypeCode::LongLong v = plain-steady v
-  layer-steady n c.TypeCode::ULongLong v = plain-steady v
-  layer-steady n c.AnyCode v = or_none-steady any.format.writes any-steady (any_in (out-Value v))
-  layer-steady n c.TypeCode::Code v = or_none-steady code.format.writes code-steady (code_in (out-Value v))
-  layer-steady n (c.TypeCode::Str bound) v = or_none-steady text.format.writes text-steady (text_in (out-Value v))
-  layer-steady n (c.TypeCode::ObjRef id name) v =
+  pub layer-steady : (graphs : List Node → Sound ValueFault Value)
+      (graph-steady : (graph : List Node) (v : Value) → Steady ((graphs graph).format.writes v))
+      (n : ℕ) (l : TypeCode-F T Value Any R M) (v : Value)
+      → Steady ((layer parts any code inner graphs n l).format.writes v)
+  layer-steady graphs graph-steady n c.Null v = none-steady
+  layer-steady graphs graph-steady n c.Void v = none-steady
+  layer-steady graphs graph-steady n c.TypeCode::Short v = plain-steady v
+  layer-steady graphs graph-steady n c.TypeCode::Long v = plain-steady v
+  layer-steady graphs graph-steady n c.TypeCode::UShort v = plain-steady v
+  layer-steady graphs graph-steady n c.TypeCode::ULong v = plain-steady v
+  layer-steady graphs graph-steady n c.TypeCode::Boolean v = plain-steady v
+  layer-steady graphs graph-steady n c.TypeCode::Char v = plain-steady v
+  layer-steady graphs graph-steady n c.TypeCode::Octet v = plain-steady v
+  layer-steady graphs graph-steady n c.TypeCode::LongLong v = plain-steady v
+  layer-steady graphs graph-steady n c.TypeCode::ULongLong v = plain-steady v
+  layer-steady graphs graph-steady n c.AnyCode v = or_none-steady any.format.writes any-steady (any_in (out-Value v))
+  layer-steady graphs graph-steady n c.TypeCode::Code v = or_none-steady code.format.writes code-steady (code_in (out-Value v))
+  layer-steady graphs graph-steady n (c.TypeCode::Str bound) v = or_none-steady text.format.writes text-steady (text_in (out-Value v))
+  layer-steady graphs graph-steady n (c.TypeCode::ObjRef id name) v =
       or_none-steady reference.format.writes reference-steady (reference_in (out-Value v))
-  layer-steady n (c.TypeCode::Struct id name members) v =
+  layer-steady graphs graph-steady n (c.TypeCode::Struct id name members) v =
       or_none-steady (each parts any code inner members).format.writes (each-steady members) (struct_in (out-Value v))
-  layer-steady n (c.TypeCode::Union id name switch default arms) v = union-steady (index_of default) arms (out-Value v)
-  layer-steady n (c.TypeCode::Enum id name names) v = plain-steady v
-  layer-steady n (c.Sequence item bound) v =
+  layer-steady graphs graph-steady n (c.TypeCode::Union id name switch default arms) v = union-steady (index_of default) arms (out-Value v)
+  layer-steady graphs graph-steady n (c.TypeCode::Enum id name names) v = plain-steady v
+  layer-steady graphs graph-steady n (c.Sequence item bound) v =
       or_none-steady (sequence_piece parts any code inner item) (counted-steady (inner item).format.writes
       (inner-steady item)) (items_in (out-Value v))
-  layer-steady n (c.Array item len) v =
+  layer-steady graphs graph-steady n (c.Array item len) v =
       or_none-steady (items_piece parts any code inner item) (rows-steady (inner item).format.writes (inner-steady item))
       (items_in (out-Value v))
-  layer-steady n (c.Alias id name item) v = inner-steady item v
-  layer-steady n (c.Except id name members) v = none-steady
-  layer-steady n (c.Linked graph) v = none-steady
+  layer-steady graphs graph-steady n (c.Alias id name item) v = inner-steady item v
+  layer-steady graphs graph-steady n (c.Except id name members) v = none-steady
+  layer-steady graphs graph-steady n (c.Linked graph) v = graph-steady graph v
 
 enclosed-steady : (inner : Piece) → Steady inner → Steady (encapsulation_piece inner)
 enclosed-steady inner h = record {
@@ -211,27 +206,85 @@ code-steady = ind-TypeCode (λ t. Steady (code_piece t)) (λ v. Unit {0}) (λ a.
     (λ x y is. member-made (roll-Member x) (subst (λ (t : TypeCode). Steady (code_piece t)) (ap (λ z. z.code) is)
     y.code.1))
 
-codes-steady : (n : ℕ) (mode : Mode) (t : TypeCode) → Steady ((codes n mode).format.writes t)
-codes-steady n mode t = subst (λ (w : TypeCode → Piece). Steady (w t)) (sym (code_formats n mode).writes)
-    (code-steady t)
+layer_written-steady : (n : ℕ) (p : Piece) → Steady p → (l : Layer) → Steady (outer_layer n p l)
+layer_written-steady n p h (c.Linked g) = graph_piece-steady n g
+layer_written-steady n p h l = h
+
+outer-steady : (n : ℕ) (t : TypeCode) → Steady ((outer n).format.writes t)
+outer-steady n t = layer_written-steady n (code_piece t) (code-steady t) (out-TypeCode t)
 
 values-steady : (any : Sound ValueFault Any) (code : Sound ValueFault TypeCode)
+    (graphs : List Node → Sound ValueFault Value)
     → ((a : Any) → Steady (any.format.writes a)) → ((t : TypeCode) → Steady (code.format.writes t))
-    → (n : ℕ) (t : TypeCode) (v : Value) → Steady ((values any code n t).format.writes v)
+    → ((graph : List Node) (v : Value) → Steady ((graphs graph).format.writes v))
+    → (n : ℕ) (t : TypeCode) (v : Value) → Steady ((values any code graphs n t).format.writes v)
 unfolding values
-values-steady any code a c zero t v = none-steady
-values-steady any code a c (suc n) t v =
-    layer-steady code_parts any code (values any code n) a c (values-steady any code a c n) n (out-TypeCode t) v
+values-steady any code graphs a c g zero t v = none-steady
+values-steady any code graphs a c g (suc n) t v =
+    layer-steady code_parts any code (values any code graphs n) a c (values-steady any code graphs a c g n) graphs g n
+    (out-TypeCode t) v
+
+-- ---- under a graph
+
+either-steady : (b : Bool) (g k : Sound ValueFault Value) (v : Value) → Steady (g.format.writes v)
+    → Steady (k.format.writes v) → Steady ((either b g k).format.writes v)
+either-steady true g k v p q = p
+either-steady false g k v p q = q
+
+along-steady : (behind here : ℕ → Sound ValueFault Value)
+    → ((i : ℕ) (v : Value) → Steady ((behind i).format.writes v))
+    → ((i : ℕ) (v : Value) → Steady ((here i).format.writes v))
+    → (e : Edge) (v : Value) → Steady ((along behind here e).format.writes v)
+along-steady behind here b h e v =
+    either-steady e.is_indirection (behind e.place) (here e.place) v (b e.place v) (h e.place v)
+
+module _ (levels : ℕ) (any : Sound ValueFault Any) (code : Sound ValueFault TypeCode) (graph : List Node)
+    (behind : ℕ → Sound ValueFault Value)
+    (a : (x : Any) → Steady (any.format.writes x)) (c : (t : TypeCode) → Steady (code.format.writes t))
+    (b : (i : ℕ) (v : Value) → Steady ((behind i).format.writes v)) where
+  of_node-steady : (i : ℕ) (inner : Edge → Sound ValueFault Value)
+      → ((e : Edge) (v : Value) → Steady ((inner e).format.writes v)) → (n : ℕ) (l : Option EdgeLayer) (v : Value)
+      → Steady ((value_of_node levels any code graph behind i inner n l).format.writes v)
+  of_node-steady i inner h n (Some l) v =
+      layer-steady (node_parts levels graph i) any code inner a c h (λ g. failure no_value) (λ g u. none-steady) n l v
+  of_node-steady i inner h n None v = none-steady
+
+  at_node-steady : (n i : ℕ) (v : Value)
+      → Steady ((value_at_node levels any code graph behind n i).format.writes v)
+  unfolding value_at_node
+  at_node-steady zero i v = none-steady
+  at_node-steady (suc n) i v =
+      of_node-steady i (along behind (value_at_node levels any code graph behind n))
+      (along-steady behind (value_at_node levels any code graph behind n) b (at_node-steady n)) n (node_layer graph i) v
+
+-- ---- levels
+
+record LeftSteady (n : ℕ) : Type 0 where
+  any : (a : Any) → Steady ((anys n).format.writes a)
+  behind : (graph : List Node) (i : ℕ) (v : Value) → Steady ((behind n graph i).format.writes v)
+
+left-steady : (n : ℕ) → LeftSteady n
+unfolding left
+left-steady zero = record {
+  any = λ a. then-steady ((outer zero).format.writes a.code) (λ order place. []) (outer-steady zero a.code) none-steady;
+  behind = λ graph i v. none-steady;
+}
+left-steady (suc n) =
+    let less = left-steady n in
+    let under : (graph : List Node) (i : ℕ) (v : Value)
+    → Steady ((value_at_node n (anys n) (outer n) graph (behind n graph) most_levels i).format.writes v) =
+    λ graph. at_node-steady n (anys n) (outer n) graph (behind n graph) less.any (outer-steady n) (less.behind graph)
+    most_levels in
+    record {
+      any = λ a. then-steady ((outer (suc n)).format.writes a.code)
+          ((code_values n (suc n) a.code).format.writes a.value)
+          (outer-steady (suc n) a.code) (values-steady (anys n) (outer n) (graph_values n) less.any (outer-steady n)
+          (λ graph. under graph 0) (suc n) a.code a.value);
+      behind = under;
+    }
 
 pub anys-steady : (n : ℕ) (a : Any) → Steady ((anys n).format.writes a)
-unfolding anys
-anys-steady zero a = then-steady ((codes zero Outer).format.writes a.code) (λ order place. [])
-    (codes-steady zero Outer a.code) none-steady
-anys-steady (suc n) a =
-    then-steady ((codes (suc n) Outer).format.writes a.code)
-    ((values (anys n) (codes n Outer) (suc n) a.code).format.writes a.value)
-    (codes-steady (suc n) Outer a.code) (values-steady (anys n) (codes n Outer) (anys-steady n)
-    (codes-steady n Outer) (suc n) a.code a.value)
+anys-steady n = (left-steady n).any
 
 pub property-steady : (p : Property) → Steady (property.format.writes p)
 property-steady p = then-steady (text.format.writes p.name) (any_value.format.writes p.value) (text-steady p.name)

@@ -21,15 +21,15 @@ use Rattle.td_cdr.specs.Writing.{written_number}
 use Rattle.td_cdr.specs.declared.order.Order.{Order}
 use Rattle.td_cdr.specs.declared.value_fault.ValueFault.{ValueFault}
 use Rattle.td_codes.specs.Codes.{code_formats, codes, kind_of, member as member_format, parameters}
-use Rattle.td_codes.specs.Outermost.{type_code}
 use Rattle.td_codes.specs.Kinds.{kind_at}
 use Rattle.td_codes.specs.Labels.{Layer, label_of, label_piece}
 use Rattle.td_codes.specs.Layers.{code-any, code-code, code-null, code-object, code-struct, value-items, value-str}
-use Rattle.td_codes.specs.Layers.{code-boolean, code-char, code-long, code-longlong, code-octet, code-sequence}
-use Rattle.td_codes.specs.Layers.{code-short}
+use Rattle.td_codes.specs.Layers.{code-boolean, code-char, code-long, code-longlong, code-octet, code-sequence, code-short}
 use Rattle.td_codes.specs.Layers.{code-str, code-ulong, code-ulonglong, code-ushort}
 use Rattle.td_codes.specs.References.{reference}
-use Rattle.td_codes.specs.Values.{any_value, anys, layer, values}
+use Rattle.tc_graph.specs.declared.node.Node.{Node}
+use Rattle.td_codes.specs.Outermost.{outer, type_code}
+use Rattle.td_codes.specs.Values.{any_value, anys, left, graph_values, code_values, layer, values}
 use Rattle.td_codes.specs.WritingCodes.{kind_of_layer}
 use Rattle.td_codes.specs.declared.code.Any.{Any}
 use Rattle.td_codes.specs.declared.code.Member.{Member}
@@ -221,16 +221,18 @@ unfolding IsWithin
 fits-64 (pos n) h = record { sfits = omega (arith, h) }
 fits-64 (negsuc n) h = record { sfits = omega (arith, h) }
 
-module _ (any : Sound ValueFault Any) (inside : Sound ValueFault TypeCode) (n : ℕ) where
+module _ (any : Sound ValueFault Any) (inside : Sound ValueFault TypeCode)
+    (graphs : List Node → Sound ValueFault Value) (n : ℕ) where
   valued : (t : TypeCode) (l : Layer) (v : Value) → out-TypeCode t ≡ l
-      → (layer any inside (values any inside n) n l).format.admits v → (values any inside (suc n) t).format.admits v
+      → (layer any inside (values any inside graphs n) graphs n l).format.admits v
+      → (values any inside graphs (suc n) t).format.admits v
   unfolding values
   valued t l v e h =
-      subst (λ (x : Layer). (layer any inside (values any inside n) n x).format.admits v) (sym e) h
+      subst (λ (x : Layer). (layer any inside (values any inside graphs n) graphs n x).format.admits v) (sym e) h
 
   string-when : (nul : Bool) (text : List ℕ) (v : Value) → has_nul text ≡ nul
       → cond nul None (Some (value.Str text)) ≡ Some v
-      → (values any inside (suc n) (code.Str 0)).format.admits v
+      → (values any inside graphs (suc n) (code.Str 0)).format.admits v
   string-when true text v is e = absurd (let bad : ⊥ = cc in bad)
   string-when false text v is e =
       valued (code.Str 0) (c.TypeCode::Str 0) v (code-str 0)
@@ -238,7 +240,7 @@ module _ (any : Sound ValueFault Any) (inside : Sound ValueFault TypeCode) (n : 
 
   -- a byte is below 256
   char-told : (text : List ℕ) (v : Value) → AllByRecursion (λ b. b < 256) text → item_value item.Char text ≡ Some v
-      → (values any inside (suc n) code.Char).format.admits v
+      → (values any inside graphs (suc n) code.Char).format.admits v
   unfolding item_value
   char-told [] v bytes e = absurd (let bad : ⊥ = cc in bad)
   char-told (b ∷ []) v bytes e =
@@ -246,7 +248,7 @@ module _ (any : Sound ValueFault Any) (inside : Sound ValueFault TypeCode) (n : 
   char-told (a ∷ b ∷ others) v bytes e = absurd (let bad : ⊥ = cc in bad)
 
   pub item-told : (i : ItemType) (text : List ℕ) (v : Value) → AllByRecursion (λ b. b < 256) text
-      → item_value i text ≡ Some v → (values any inside (suc n) (item_code i)).format.admits v
+      → item_value i text ≡ Some v → (values any inside graphs (suc n) (item_code i)).format.admits v
   unfolding item_value
   item-told item.Short text v bytes e =
       let m = from-map value.Short (signed_below 32768 text) v e in
@@ -318,28 +320,30 @@ text-long x order place =
     let f = length-append x (0 ∷ []) in
     omega (arith, e, f)
 
-module _ (any : Sound ValueFault Any) (inside : Sound ValueFault TypeCode) (n : ℕ) where
+module _ (any : Sound ValueFault Any) (inside : Sound ValueFault TypeCode)
+    (graphs : List Node → Sound ValueFault Value) (n : ℕ) where
   -- each takes a byte or more
   written : (least : ℕ) (t : TypeCode) (l : Layer) (v : Value) (order : Order) (place : ℕ) → out-TypeCode t ≡ l
-      → least ≤ length ((layer any inside (values any inside n) n l).format.writes v order place)
-      → least ≤ length ((values any inside (suc n) t).format.writes v order place)
+      → least ≤ length ((layer any inside (values any inside graphs n) graphs n l).format.writes v order place)
+      → least ≤ length ((values any inside graphs (suc n) t).format.writes v order place)
   unfolding values
   written least t l v order place e h =
-      subst (λ (x : Layer). least ≤ length ((layer any inside (values any inside n) n x).format.writes v order place))
+      subst (λ (x : Layer).
+      least ≤ length ((layer any inside (values any inside graphs n) graphs n x).format.writes v order place))
       (sym e) h
 
   string-long : (nul : Bool) (x : List ℕ) (v : Value) (order : Order) (place : ℕ)
       → cond nul None (Some (value.Str x)) ≡ Some v
-      → 1 ≤ length ((values any inside (suc n) (code.Str 0)).format.writes v order place)
+      → 1 ≤ length ((values any inside graphs (suc n) (code.Str 0)).format.writes v order place)
   string-long true x v order place e = absurd (let bad : ⊥ = cc in bad)
   string-long false x v order place e =
       written 1 (code.Str 0) (c.TypeCode::Str 0) v order place (code-str 0)
       (subst (λ (u : Value).
-      1 ≤ length ((layer any inside (values any inside n) n (c.TypeCode::Str 0)).format.writes u order place))
+      1 ≤ length ((layer any inside (values any inside graphs n) graphs n (c.TypeCode::Str 0)).format.writes u order place))
       (some-is (value.Str x) v e) (rw (value-str x) (text-long x order place)))
 
   item-long : (i : ItemType) (x : List ℕ) (v : Value) (order : Order) (place : ℕ) → item_value i x ≡ Some v
-      → 1 ≤ length ((values any inside (suc n) (item_code i)).format.writes v order place)
+      → 1 ≤ length ((values any inside graphs (suc n) (item_code i)).format.writes v order place)
   unfolding item_value
   item-long item.Short x v order place e =
       written 1 code.Short c.TypeCode::Short v order place code-short (label-long (label_of v) order place)
@@ -362,7 +366,7 @@ module _ (any : Sound ValueFault Any) (inside : Sound ValueFault TypeCode) (n : 
   item-long item.Str x v order place e = string-long (has_nul x) x v order place e
 
   abbrev one : ItemType → Sound ValueFault Value
-  one i = values any inside (suc n) (item_code i)
+  one i = values any inside graphs (suc n) (item_code i)
 
   items-told : (i : ItemType) (texts : List (List ℕ)) (vs : List Value) → AllByRecursion AreBytes texts
       → all_values i texts ≡ Some vs → AllByRecursion (one i).format.admits vs
@@ -372,7 +376,7 @@ module _ (any : Sound ValueFault Any) (inside : Sound ValueFault TypeCode) (n : 
       bind-Some (item_value i x) (λ (v : Value). all_values i texts >>= λ (ws : List Value). Some (v ∷ ws)) vs e in
       let rest = bind-Some (all_values i texts) (λ (ws : List Value). Some (first.0 ∷ ws)) vs first.2 in
       subst (AllByRecursion (one i).format.admits) (some-is (first.0 ∷ rest.0) vs rest.2)
-      (item-told any inside n i x first.0 bytes.0 first.1, items-told i texts rest.0 bytes.1 rest.1)
+      (item-told any inside graphs n i x first.0 bytes.0 first.1, items-told i texts rest.0 bytes.1 rest.1)
 
   items-long : (i : ItemType) (texts : List (List ℕ)) (vs : List Value) → all_values i texts ≡ Some vs
       → (order : Order) (place : ℕ) → length vs ≤ length (row (map (one i).format.writes vs) order place)
@@ -390,59 +394,58 @@ module _ (any : Sound ValueFault Any) (inside : Sound ValueFault TypeCode) (n : 
       subst (λ (ws : List Value). length ws ≤ length (row (map (one i).format.writes ws) order place))
       (some-is (first.0 ∷ rest.0) vs rest.2) (omega (arith, here, there, joined))
 
-module _ (any : Sound ValueFault Any) (inside : Sound ValueFault TypeCode) (n : ℕ) (i : ItemType)
+module _ (any : Sound ValueFault Any) (inside : Sound ValueFault TypeCode)
+    (graphs : List Node → Sound ValueFault Value) (n : ℕ) (i : ItemType)
     (texts : List (List ℕ)) (vs : List Value) (e : all_values i texts ≡ Some vs) where
   sequence-told : AllByRecursion AreBytes texts → length vs < 2 ^ 32
-      → (values any inside (suc (suc n)) (code.Sequence (item_code i) 0)).format.admits (value.Items vs)
+      → (values any inside graphs (suc (suc n)) (code.Sequence (item_code i) 0)).format.admits (value.Items vs)
   sequence-told bytes low =
-      valued any inside (suc n) (code.Sequence (item_code i) 0) (c.Sequence (item_code i) 0) (value.Items vs)
+      valued any inside graphs (suc n) (code.Sequence (item_code i) 0) (c.Sequence (item_code i) 0) (value.Items vs)
       (code-sequence (item_code i) 0) (
         vs,
         refl,
         (
           (refl, low),
-          (sequence-from (one any inside n i) vs low (items-told any inside n i texts vs bytes
-              e)).1,
+          (sequence-from (one any inside graphs n i) vs low (items-told any inside graphs n i texts vs bytes e)).1,
         ),
       )
 
   sequence-long : (order : Order) (place : ℕ)
       → length vs
-      ≤ length ((values any inside (suc (suc n)) (code.Sequence (item_code i) 0)).format.writes (value.Items vs) order
+      ≤ length ((values any inside graphs (suc (suc n)) (code.Sequence (item_code i) 0)).format.writes (value.Items vs) order
       place)
   sequence-long order place =
-      written any inside (suc n) (length vs) (code.Sequence (item_code i) 0) (c.Sequence (item_code i) 0)
+      written any inside graphs (suc n) (length vs) (code.Sequence (item_code i) 0) (c.Sequence (item_code i) 0)
       (value.Items vs) order place (code-sequence (item_code i) 0)
       (rw (value-items vs)
-      (then-second ((number 4).writes (length vs)) (row (map (one any inside n i).format.writes vs)) order place
-      (length vs) (items-long any inside n i texts vs e order)))
+      (then-second ((number 4).writes (length vs)) (row (map (one any inside graphs n i).format.writes vs)) order place
+      (length vs) (items-long any inside graphs n i texts vs e order)))
 
 -- ---- anys
 
-any-told : (t : TypeCode) (v : Value) → (codes 16 Outer).format.admits t
-    → (values (anys 15) (codes 15 Outer) 16 t).format.admits v
+any-told : (t : TypeCode) (v : Value) → type_code.format.admits t
+    → (code_values 15 16 t).format.admits v
     → any_value.format.admits (record { code = t; value = v })
-unfolding anys
+unfolding left type_code
 any-told t v h k = (h, k)
 
 any-long : (t : TypeCode) (v : Value) (least : ℕ)
     → ((order : Order) (place : ℕ)
-    → least ≤ length ((values (anys 15) (codes 15 Outer) 16 t).format.writes v order place))
-    → (order : Order) (place : ℕ) → least ≤ length (any_value.format.writes (record { code = t; value = v }) order
-    place)
-unfolding anys
+    → least ≤ length ((code_values 15 16 t).format.writes v order place))
+    → (order : Order) (place : ℕ) → least ≤ length (any_value.format.writes (record { code = t; value = v }) order place)
+unfolding left type_code
 any-long t v least h order place =
-    then-second ((codes 16 Outer).format.writes t) ((values (anys 15) (codes 15 Outer) 16 t).format.writes v) order
-    place
-    least (h order)
+    then-second (type_code.format.writes t) ((code_values 15 16 t).format.writes v) order place least
+    (h order)
 
 pub plain-told : (t : ValueType) (text : List ℕ) (v : Value) → AreBytes text → value_of t text ≡ Some v
     → IsToldValue (plain_any t v)
 plain-told (Plain i) text v bytes e = record {
   items = 0;
   long = λ order place. omega arith;
-  admitted = λ _. any-told (item_code i) v (coded-at 14 (Plain i)) (item-told (anys 15) (codes 15 Outer) 15 i text v
-      bytes e);
+  admitted = λ _.
+      any-told (item_code i) v (code-told (Plain i))
+      (item-told (anys 15) (outer 15) (graph_values 15) 15 i text v bytes e);
 }
 plain-told (Sequence i) text v bytes e =
     let m = from-map value.Items (items_of i text) v e in
@@ -452,10 +455,10 @@ plain-told (Sequence i) text v bytes e =
       items = length m.0;
       long =
           any-long t (value.Items m.0) (length m.0)
-          (sequence-long (anys 15) (codes 15 Outer) 14 i (texts_of text) m.0 m.1);
+          (sequence-long (anys 15) (outer 15) (graph_values 15) 14 i (texts_of text) m.0 m.1);
       admitted = λ low.
-          any-told t (value.Items m.0) (coded-at 14 (Sequence i))
-          (sequence-told (anys 15) (codes 15 Outer) 14 i (texts_of text) m.0 m.1 (texts-bytes text bytes) low);
+          any-told t (value.Items m.0) (code-told (Sequence i))
+          (sequence-told (anys 15) (outer 15) (graph_values 15) 14 i (texts_of text) m.0 m.1 (texts-bytes text bytes) low);
     })
 
 -- ---- dynamic properties
@@ -472,13 +475,14 @@ dynamic_members =
     member (letters "eval_if") evaluator_code ∷ member (letters "returned_type") code.Code
     ∷ member (letters "extra_info") code.AnyCode ∷ []
 
-dynamic-coded : (codes 16 Outer).format.admits dynamic_code
+dynamic-coded : type_code.format.admits dynamic_code
+unfolding type_code
 dynamic-coded =
     let name : List ℕ = letters "DynamicProp" in
     let inner = codes 15 Inner in
     let code_in = coded 14 Inner code.Code kind.Code (ap kind_of_layer code-code) (refl, omega arith) refl in
     let any_in = coded 14 Inner code.AnyCode kind.AnyCode (ap kind_of_layer code-any) (refl, omega arith) refl in
-    coded 15 Outer dynamic_code kind.Struct (ap kind_of_layer (code-struct dynamic_id name dynamic_members))
+    inl (coded 15 Outer dynamic_code kind.Struct (ap kind_of_layer (code-struct dynamic_id name dynamic_members))
     (refl, omega arith) (
       ((dynamic_id, name), dynamic_members),
       refl,
@@ -490,39 +494,35 @@ dynamic-coded =
               ((refl, evaluator-coded 14), ((refl, code_in), ((refl, any_in), tt))),
         ),
       ),
-    )
+    ))
 
 null-told : (anys 15).format.admits null_any
-unfolding anys
+unfolding left
 null-told = (
-  coded 14 Outer code.Null kind.Null (ap kind_of_layer code-null) (refl, omega arith) refl,
-  valued (anys 14) (codes 14 Outer) 14 code.Null c.Null value.Empty code-null refl,
+  inl (coded 14 Outer code.Null kind.Null (ap kind_of_layer code-null) (refl, omega arith) refl),
+  valued (anys 14) (outer 14) (graph_values 14) 14 code.Null c.Null value.Empty code-null refl,
 )
 
 pub dynamic-told : (evaluator : Ior) (t : ValueType) → reference.format.admits evaluator
     → IsToldValue (dynamic_any evaluator (code_of t))
 dynamic-told evaluator t h =
     let a = anys 15 in
-    let k = codes 15 Outer in
+    let k = outer 15 in
+    let g = graph_values 15 in
     let id : List ℕ = letters "IDL:omg.org/CosTradingDynamic/DynamicPropEval:1.0" in
     let name : List ℕ = letters "DynamicPropEval" in
     let one =
-    valued a k 14 evaluator_code (c.TypeCode::ObjRef id name) (value.ObjRef evaluator) (code-object id name)
+    valued a k g 14 evaluator_code (c.TypeCode::ObjRef id name) (value.ObjRef evaluator) (code-object id name)
     (evaluator, refl, h) in
-    let two = valued a k 14 code.Code c.TypeCode::Code (value.Code (code_of t)) code-code (
-      code_of t,
-      refl,
-      coded-at 13
-          t,
-    ) in
-    let three = valued a k 14 code.AnyCode c.AnyCode (value.AnyValue null_any) code-any (null_any, refl, null-told) in
+    let two = valued a k g 14 code.Code c.TypeCode::Code (value.Code (code_of t)) code-code (code_of t, refl, inl (coded-at 13 t)) in
+    let three = valued a k g 14 code.AnyCode c.AnyCode (value.AnyValue null_any) code-any (null_any, refl, null-told) in
     let vs : List Value = value.ObjRef evaluator ∷ value.Code (code_of t) ∷ value.AnyValue null_any ∷ [] in
     record {
       items = 0;
       long = λ order place. omega arith;
       admitted = λ _.
           any-told dynamic_code (value.Struct vs) dynamic-coded
-          (valued a k 15 dynamic_code (c.TypeCode::Struct dynamic_id (letters "DynamicProp") dynamic_members)
+          (valued a k g 15 dynamic_code (c.TypeCode::Struct dynamic_id (letters "DynamicProp") dynamic_members)
           (value.Struct vs) (code-struct dynamic_id (letters "DynamicProp") dynamic_members) (
             vs,
             refl,

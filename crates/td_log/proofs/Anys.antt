@@ -5,16 +5,16 @@ use Rattle.td_cdr.specs.Place.{At}
 use Rattle.td_cdr.specs.Reading.{number_at, cell_at}
 use Rattle.td_cdr.specs.declared.order.Order.TheVariants.{Big}
 use Rattle.td_cdr.specs.declared.value_fault.ValueFault.{ValueFault}
-use Rattle.td_codes.specs.Codes.{code_formats, codes}
+use Rattle.td_codes.specs.Codes.{code_formats}
 use Rattle.td_codes.specs.Labels.{Layer, ulong_value}
 use Rattle.td_codes.specs.Layers.{code-ulong}
-use Rattle.td_codes.specs.Values.{anys, layer, values}
+use Rattle.td_codes.specs.Outermost.{outer}
+use Rattle.td_codes.specs.Values.{anys, left, layer, values, code_values, graph_values}
 use Rattle.td_codes.specs.declared.code.Any.{Any}
 use Rattle.td_codes.specs.declared.code.TypeCode.{TypeCode}
 use Rattle.td_codes.specs.declared.code.TypeCode.TheVariants as code
 use Rattle.td_codes.specs.declared.code.Value.{Value}
 use Rattle.td_codes.specs.declared.code.Value.TheVariants as value
-use Rattle.td_codes.specs.declared.mode.Mode.TheVariants.{Outer}
 use Rattle.td_log.specs.Lines.{alone, any_of, start}
 
 -- behind the TypeCode's octets
@@ -25,7 +25,7 @@ abbrev pub is_ulong : List ℕ → Read ValueFault TypeCode
 is_ulong rest = Ok (code.ULong, behind_code rest)
 
 abbrev valued : TypeCode → At → Read ValueFault Value
-valued t a = (values (anys 15) (codes 15 Outer) 16 t).format.reads a
+valued t a = (code_values 15 16 t).format.reads a
 
 -- the steps of the format
 abbrev pub join : TypeCode → Value × At → Read ValueFault (TypeCode × Value)
@@ -44,12 +44,12 @@ any_with v = alone ((v >>= join code.ULong) >>= to_any)
 valued-ulong : (a : At) → valued code.ULong a ≡ ulong_value.format.reads a
 unfolding values
 valued-ulong a =
-    ap (λ (l : Layer). (layer (anys 15) (codes 15 Outer) (values (anys 15) (codes 15 Outer) 15) 15 l).format.reads a)
+    ap (λ (l : Layer). (layer (anys 15) (outer 15) (code_values 15 15) (graph_values 15) 15 l).format.reads a)
     code-ulong
 
-pub any-ulong : (octets rest : List ℕ) → (codes 16 Outer).format.reads (start octets) ≡ is_ulong rest
+pub any-ulong : (octets rest : List ℕ) → (outer 16).format.reads (start octets) ≡ is_ulong rest
     → any_of octets ≡ any_with (ulong_value.format.reads (behind_code rest))
-unfolding any_of anys
+unfolding any_of left
 any-ulong octets rest e =
     ap (λ (r : Read ValueFault TypeCode). alone ((r >>= pairing) >>= to_any)) e
     ∙ ap any_with (valued-ulong (behind_code rest))

@@ -1,6 +1,5 @@
 -- How long what is written is at most, at any place and in either order.
-use Rattle.std.proofs.Common.{◌≡◌, ℕ, zero, suc, ◌+◌, ◌≤◌, ◌<◌, ◌^◌, Bool, List, [], ◌∷◌, ◌++◌, codes, length, map}
-use Rattle.std.proofs.Common.{refl, sym}
+use Rattle.std.proofs.Common.{◌≡◌, ℕ, zero, suc, ◌+◌, ◌≤◌, ◌<◌, ◌^◌, Bool, List, [], ◌∷◌, ◌++◌, codes, length, map, refl, sym}
 use Rattle.std.proofs.Common.{ap, subst, ◌∙◌, arith, length-append}
 use Rattle.std.proofs.lemmas.Fmt.{length-decimal-le_succ}
 use Rattle.std.specs.Fmt.{decimal}
@@ -11,12 +10,12 @@ use Rattle.td_cdr.specs.Writing.{written_octets}
 use Rattle.td_cdr.specs.declared.order.Order.{Order}
 use Rattle.td_cdr.specs.declared.order.Order.TheVariants.{Big}
 use Rattle.td_cdr.specs.declared.value_fault.ValueFault.{ValueFault}
-use Rattle.td_codes.specs.Codes.{code_formats, codes as code_sounds}
-use Rattle.td_codes.specs.Outermost.{outer_layer, type_code}
 use Rattle.td_codes.specs.Labels.{Layer}
 use Rattle.td_codes.specs.Layers.{code-ulong, value-ulong}
 use Rattle.td_codes.specs.References.{profile, reference}
-use Rattle.td_codes.specs.Values.{any_value, anys, values}
+use Rattle.tc_graph.specs.declared.node.Node.{Node}
+use Rattle.td_codes.specs.Outermost.{outer, outer_layer, type_code}
+use Rattle.td_codes.specs.Values.{any_value, anys, left, values, code_values, graph_values}
 use Rattle.td_codes.specs.WritingCodes.{code_layer, code_piece, code_piece-layer, kind_piece, layer_pieces}
 use Rattle.td_codes.specs.declared.code.Any.{Any}
 use Rattle.td_codes.specs.declared.code.TypeCode.{TypeCode}
@@ -24,7 +23,6 @@ use Rattle.td_codes.specs.declared.code.TypeCode.TheVariants as code
 use Rattle.td_codes.specs.declared.code.Value.{Value}
 use Rattle.td_codes.specs.declared.code.Value.TheVariants as value
 use Rattle.td_codes.specs.declared.kinds.CodeKind.TheVariants as kind
-use Rattle.td_codes.specs.declared.mode.Mode.TheVariants.{Outer}
 use Rattle.td_codes.specs.declared.reference.Ior.{Ior}
 use Rattle.td_ior.specs.Profiles.{front, made_octets, made_reference}
 use Rattle.td_ior.specs.declared.profile.Iiop.{Iiop}
@@ -95,31 +93,25 @@ no-item-short g = then-short 7 0 ((number 4).writes 0) (row []) (four-short 0) n
 code-is : code_piece code.ULong ≡ kind_piece kind.ULong
 code-is = code_piece-layer code.ULong ∙ ap (λ (l : Layer). code_layer (layer_pieces l)) code-ulong
 
-code-short : (levels : ℕ) → IsAtMost 7 ((code_sounds levels Outer).format.writes code.ULong)
+code-short : (levels : ℕ) → IsAtMost 7 ((outer levels).format.writes code.ULong)
 code-short levels =
-    let is : (code_sounds levels Outer).format.writes code.ULong ≡ kind_piece kind.ULong =
-    ap (λ (w : TypeCode → Piece). w code.ULong) (code_formats levels Outer).writes ∙ code-is in
+    let is : (outer levels).format.writes code.ULong ≡ kind_piece kind.ULong =
+    ap (λ (l : Layer). outer_layer levels (code_piece code.ULong) l) code-ulong ∙ code-is in
     subst (λ (p : Piece). IsAtMost 7 p) (sym is) (four-short 5)
 
-outer-short : IsAtMost 7 (type_code.format.writes code.ULong)
-unfolding type_code
-outer-short =
-    let is : type_code.format.writes code.ULong ≡ kind_piece kind.ULong =
-    ap (λ (l : Layer). outer_layer 16 (code_piece code.ULong) l) code-ulong ∙ code-is in
-    subst (λ (p : Piece). IsAtMost 7 p) (sym is) (four-short 5)
-
-value-short : (any : Sound ValueFault Any) (codes : Sound ValueFault TypeCode) (n amount : ℕ)
-    → IsAtMost 7 ((values any codes (suc n) code.ULong).format.writes (value.ULong amount))
+value-short : (any : Sound ValueFault Any) (codes : Sound ValueFault TypeCode)
+    (graphs : List Node → Sound ValueFault Value) (n amount : ℕ)
+    → IsAtMost 7 ((values any codes graphs (suc n) code.ULong).format.writes (value.ULong amount))
 unfolding values
-value-short any codes n amount = rw (code-ulong, value-ulong amount) (four-short amount)
+value-short any codes graphs n amount = rw (code-ulong, value-ulong amount) (four-short amount)
 
 any-short : (n amount : ℕ)
     → IsAtMost 14 ((anys (suc n)).format.writes (record { code = code.ULong; value = value.ULong amount }))
-unfolding anys
+unfolding left
 any-short n amount =
-    then-short 7 7 ((code_sounds (suc n) Outer).format.writes code.ULong)
-    ((values (anys n) (code_sounds n Outer) (suc n) code.ULong).format.writes (value.ULong amount))
-    (code-short (suc n)) (value-short (anys n) (code_sounds n Outer) n amount)
+    then-short 7 7 ((outer (suc n)).format.writes code.ULong)
+    ((code_values n (suc n) code.ULong).format.writes (value.ULong amount))
+    (code-short (suc n)) (value-short (anys n) (outer n) (graph_values n) n amount)
 
 -- ---- names of traders and keys of objects, by numbers up to 64
 
@@ -204,12 +196,13 @@ offer-short trader number amount t n =
 
 prop-short : (mode : PropertyMode)
     → IsAtMost 26 (prop_struct.format.writes (record { name = codes "Cost"; value_type = code.ULong; mode = mode }))
+unfolding type_code
 prop-short mode =
     then-short 12 14 (text.format.writes (codes "Cost"))
     (type_code.format.writes code.ULong then (number 4).writes (property_mode_number mode))
     (text-short (codes "Cost"))
     (then-short 7 7 (type_code.format.writes code.ULong) ((number 4).writes (property_mode_number mode))
-    outer-short (four-short (property_mode_number mode)))
+    (code-short 16) (four-short (property_mode_number mode)))
 
 -- what it costs is demanded of a type that has these supertypes
 abbrev pub typed : PropertyMode → List (List ℕ) → Bool → IncarnationNumber → TypeStruct

@@ -1,6 +1,6 @@
 -- Where what is written of an any big-endian from a place on ends.
 use Rattle.std.proofs.Common.{◌≡◌, ℕ, ◌+◌, length, replicate, true, Option, Some, None, refl, sym, ap, ◌∙◌}
-use Rattle.std.proofs.Common.{length-append, arith}
+use Rattle.std.proofs.Common.{length-append, arith, true≢false}
 use Rattle.std.specs.Option.{IfSome}
 use Rattle.std.proofs.lemmas.List.{length-replicate}
 use Rattle.td_cdr.specs.declared.order.Order.TheVariants.{Big}
@@ -14,13 +14,13 @@ use Rattle.td_codes.specs.declared.code.TypeCode.TheOpen as layer_of
 use Rattle.td_codes.specs.declared.code.Value.{out-Value}
 use Rattle.td_codes.specs.declared.code.Any.{Any}
 use Rattle.td_codes.specs.declared.kinds.CodeKind.TheVariants as kind
-use Rattle.td_codes.specs.declared.mode.Mode.TheVariants.{Outer}
-use Rattle.td_codes.specs.Codes.{codes, kind_of}
+use Rattle.td_codes.specs.Codes.{kind_of}
 use Rattle.td_codes.specs.Kinds.{number_of}
-use Rattle.td_codes.specs.Labels.{plain_piece}
+use Rattle.td_codes.specs.Labels.{Layer, plain_piece}
 use Rattle.td_codes.specs.Layers.{code-str}
-use Rattle.td_codes.specs.Values.{anys, any_value, values, text_in}
-use Rattle.td_codes.specs.WritingCodes.{kind_piece}
+use Rattle.td_codes.specs.Outermost.{outer, outer_layer, layer-plain}
+use Rattle.td_codes.specs.Values.{anys, any_value, code_values, graph_values, text_in}
+use Rattle.td_codes.specs.WritingCodes.{code_piece, kind_piece}
 use Rattle.td_codes.proofs.AtLayers.{any-writes, code_piece-at, values-writes}
 use Rattle.td_codes.proofs.OfPlainKind.{is_plain, is_number, plain-piece, number-piece}
 
@@ -61,12 +61,12 @@ plain_any : (a : Any) → is_plain (out-TypeCode a.code) ≡ true → is_number 
 plain_any a p n =
     let l = out-TypeCode a.code in
     let some : ◌≡◌ {A = ℕ} 16 0 → ⊥ = λ e. omega (arith, e) in
-    let value : (values (anys 15) (codes 15 Outer) 16 a.code).format.writes a.value ≡ plain_piece a.value =
-    values-writes (anys 15) (codes 15 Outer) 16 a.code l a.value some refl
-    ∙ number-piece (anys 15) (codes 15 Outer) (values (anys 15) (codes 15 Outer) 15) 15 l a.value n in
+    let value : (code_values 15 16 a.code).format.writes a.value ≡ plain_piece a.value =
+    values-writes (anys 15) (outer 15) (graph_values 15) 16 a.code l a.value some refl
+    ∙ number-piece (anys 15) (outer 15) (code_values 15 15) (graph_values 15) 15 l a.value n in
     any-writes 16 a some
-    ∙ ap (λ (p : Piece). p then (values (anys 15) (codes 15 Outer) 16 a.code).format.writes a.value)
-    (plain-piece a.code p)
+    ∙ ap (λ (p : Piece). p then (code_values 15 16 a.code).format.writes a.value)
+    (layer-plain 16 (code_piece a.code) l (λ graph e. true≢false (sym p ∙ ap is_plain e)) ∙ plain-piece a.code p)
     ∙ ap (λ (q : Piece). kind_piece (kind_of a.code) then q) value
 
 pub plain_any_ends : (a : Any) (place behind : ℕ) (r : Option ℕ) → is_plain (out-TypeCode a.code) ≡ true
@@ -89,12 +89,12 @@ string_any a bound is =
     let l = layer_of.TypeCode::Str bound in
     let out : out-TypeCode a.code ≡ l = ap out-TypeCode is ∙ code-str bound in
     let some : ◌≡◌ {A = ℕ} 16 0 → ⊥ = λ e. omega (arith, e) in
-    let value : (values (anys 15) (codes 15 Outer) 16 a.code).format.writes a.value
+    let value : (code_values 15 16 a.code).format.writes a.value
     ≡ none_or text.writes (text_in (out-Value a.value)) =
-    values-writes (anys 15) (codes 15 Outer) 16 a.code l a.value some out in
+    values-writes (anys 15) (outer 15) (graph_values 15) 16 a.code l a.value some out in
     any-writes 16 a some
-    ∙ ap (λ (p : Piece). p then (values (anys 15) (codes 15 Outer) 16 a.code).format.writes a.value)
-    (code_piece-at a.code l out)
+    ∙ ap (λ (p : Piece). p then (code_values 15 16 a.code).format.writes a.value)
+    (ap (λ (x : Layer). outer_layer 16 (code_piece a.code) x) out ∙ code_piece-at a.code l out)
     ∙ ap (λ (q : Piece). (kind_piece kind.Str then (number 4).writes bound) then q) value
 
 pub string_any_ends : (a : Any) (bound place mid behind : ℕ) (r : Option ℕ) → a.code ≡ code.Str bound
