@@ -4,4 +4,6 @@
 #[cfg(test)]
 mod making;
 #[cfg(test)]
+mod outermost;
+#[cfg(test)]
 mod trees;
