@@ -2,6 +2,8 @@
 #![tactic(auto)]
 
 #[cfg(test)]
+mod anys;
+#[cfg(test)]
 mod making;
 #[cfg(test)]
 mod outermost;
