@@ -1,12 +1,14 @@
 -- A command to which an argument or a subcommand is added, and one that is named otherwise.
-use Rattle.std.proofs.Common.{◌≡◌, ◌∙◌, ◌||◌, ap, ap₂, false}
-use Rattle.clap.specs.Words.{AddsArg, AddsSubcommand, App, Rule, rule_of, with_rule, with_subcommand}
+use Rattle.std.proofs.Common.{◌≡◌, ◌∙◌, ◌||◌, ◌+◌, ◌<◌, add-one, ap, ap₂, refl, subst, false, drop, drop-cons, get_or, length}
+use Rattle.std.proofs.Common.{map, suc, ℕ, List}
+use Rattle.clap.specs.Words.{AddsArg, AddsSubcommand, App, Rule, app_of, rule_of, with_rule, with_subcommand}
 use Rattle.clap.specs.Simple.{app_of_fields}
 use Rattle.clap.specs.declared.builder.arg.Arg.{Arg}
 use Rattle.clap.specs.declared.builder.command.Command.{Command}
 use Rattle.clap.specs.declared.builder.command.Command.TheOpen.{Command-F}
 use Rattle.clap.specs.declared.builder.command.Command.TheViews.{out-Command}
-use Rattle.td_tool.specs.Tool.{IsCommand}
+use Rattle.td_tool.specs.Tool.{IsCommand, usage_in, with_apps}
+use Rattle.td_tool.specs.declared.usages.Usage.{Usage}
 
 pub added : (old : Command) (arg : Arg) (new : Command) (a : App) (r : Rule) → AddsArg old arg new
     → IsCommand a old → rule_of arg ≡ r → arg.global ≡ false
@@ -31,3 +33,19 @@ same_fields old new a same is = record {
   app = ap (λ (f : Command-F Command). app_of_fields f) same ∙ is.app;
   local = ap (λ (f : Command-F Command). f.has_globals) same ∙ is.local;
 }
+
+-- ---- the first of the subcommands that are left
+
+-- with these it becomes that, and it has no global argument
+abbrev pub Becomes : List App → Command → App → Type 0
+Becomes bs c a = (with_apps (app_of c) bs ≡ a) × ((out-Command c).has_globals ≡ false)
+
+pub becomes : (old sub new : Command) (us : List Usage) (i : ℕ) (d : Usage) (a : App) → i < length us
+    → AddsSubcommand old sub new → IsCommand (usage_in (get_or us i d)) sub
+    → Becomes (map usage_in (drop i us)) old a → Becomes (map usage_in (drop (i + 1) us)) new a
+becomes old sub new us i d a h adds below e =
+    let one = usage_in (get_or us i d) in
+    let left = subst (λ (t : List Usage). Becomes (map usage_in t) old a) (drop-cons us i d h) e in
+    let next = entered old sub new (app_of old) one adds (record { app = refl; local = left.1 }) below in
+    rw add-one
+    (ap (λ (x : App). with_apps x (map usage_in (drop (suc i) us))) next.app ∙ left.0, next.local)

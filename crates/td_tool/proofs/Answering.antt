@@ -8,7 +8,7 @@ use Rattle.clap.specs.declared.error.kind.ErrorKind.TheVariants as kind
 use Rattle.clap.specs.declared.parser.matches.ArgMatches.{ArgMatches}
 use Rattle.td_tool.specs.Answers.{IsRefusal, asked_of, is_taken, refusals}
 use Rattle.td_tool.specs.Matches.{read_matches}
-use Rattle.td_tool.specs.Stages.{tool_app}
+use Rattle.td_tool.specs.Tool.{tool_app}
 use Rattle.td_tool.specs.declared.asking.Refusal.{Refusal}
 use Rattle.td_tool.specs.declared.asking.Refusal.TheVariants as refusal
 

@@ -10,7 +10,7 @@ use Rattle.clap.specs.Takes.{default_passes, is_valid, level_passes, settle_pass
 use Rattle.clap.specs.Takes.{walk_passes}
 use Rattle.clap.proofs.SimpleLemmas.{is_nil}
 use Rattle.td_tool.specs.Matches.{read_matches}
-use Rattle.td_tool.specs.Stages.{tool_app}
+use Rattle.td_tool.specs.Tool.{tool_app}
 use Rattle.td_tool.specs.Wishes.{Asked}
 use Rattle.td_tool.proofs.Places.{Ended}
 use Rattle.td_tool.proofs.Rows.{first_half, second_half}
@@ -24,7 +24,7 @@ leaf a = built_leaf (inherited (with_leaf_noted (marked_built tool_app.top)) a.t
 
 -- ---- after the subcommand's name all words are its own
 
-abbrev stopped_at : Walk → Text → List Text → Walk
+abbrev pub stopped_at : Walk → Text → List Text → Walk
 stopped_at w name words = record w { stopped = Some (name, words) }
 
 stopped_runs : (c : List Rule) (names : Names) (w : Walk) (name : Text) (before words : List Text)

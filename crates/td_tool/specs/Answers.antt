@@ -1,7 +1,7 @@
 -- What the words come to: what they ask for, or why they are refused.
 use Rattle.std.specs.Prelude.{◌≡◌, Bool, false, List, [], Option, Some, None, ⊤, MatchResult, Result}
 use Rattle.clap.specs.Words.{Text, takes, subcommand_of, fault_of, IsAmong, Kinds, kind_of}
-use Rattle.td_tool.specs.Stages.{tool_app}
+use Rattle.td_tool.specs.Tool.{tool_app}
 use Rattle.td_tool.specs.Matches.{read_matches}
 use Rattle.td_tool.specs.Wishes.{Asked, asked_by}
 use Rattle.td_tool.specs.declared.wanted.Wanted.{Wanted}

@@ -1,10 +1,11 @@
 -- The documented form of the words: a subcommand's name, its options, each at most once, and then the words that stand
 -- in their places, none of which begins with `-`.
-use Rattle.std.specs.Prelude.{◌≡◌, Bool, true, false, not, ◌==◌, ◌&&◌, List, [], ◌∷◌, ◌++◌, Option, Some, None}
-use Rattle.std.specs.Prelude.{codes, if◌then◌else◌}
+use Rattle.std.specs.Prelude.{◌≡◌, Bool, true, false, not, ◌==◌, ◌&&◌, ◌||◌, List, [], ◌∷◌, ◌++◌, Option, Some, None}
+use Rattle.std.specs.Prelude.{codes, if◌then◌else◌, is_some, length}
 use Rattle.std.specs.List.{list_any, list_all}
 use Rattle.clap.specs.Words.{Text}
-use Rattle.td_tool.specs.Wishes.{Asked, query, export, withdraw, describe, link, links, types, addtype}
+use Rattle.clap.specs.Walk.{is_empty}
+use Rattle.td_tool.specs.Wishes.{Asked, IsAmongUsages, Usage, query, usages}
 
 -- the word doesn't begin with `-`
 abbrev pub is_plain : Text → Bool
@@ -91,42 +92,10 @@ pub data Spells : List Text → Asked → Type 0 where
         id = value_given id choices;
         exact = is_exact choices;
       }))
-  of_export : (reference service object : Text) (properties : List Text)
-      → is_plain reference ≡ true → is_plain service ≡ true → is_plain object ≡ true
-      → list_all is_plain properties ≡ true
-      → Spells (codes "export" ∷ reference ∷ service ∷ object ∷ properties)
-      (export (record {
-        reference = reference;
-        service = service;
-        object = object;
-        properties = properties;
-      }))
-  of_withdraw : (reference number : Text) → is_plain reference ≡ true → is_plain number ≡ true
-      → Spells (codes "withdraw" ∷ reference ∷ number ∷ []) (withdraw reference number)
-  of_describe : (reference number : Text) → is_plain reference ≡ true → is_plain number ≡ true
-      → Spells (codes "describe" ∷ reference ∷ number ∷ []) (describe reference number)
-  of_link : (reference name target def_pass_on limiting : Text)
-      → is_plain reference ≡ true → is_plain name ≡ true → is_plain target ≡ true
-      → is_plain def_pass_on ≡ true → is_plain limiting ≡ true
-      → Spells (codes "link" ∷ reference ∷ name ∷ target ∷ def_pass_on ∷ limiting ∷ [])
-      (link (record {
-        reference = reference;
-        name = name;
-        target = target;
-        def_pass_on = def_pass_on;
-        limiting = limiting;
-      }))
-  of_links : (reference : Text) → is_plain reference ≡ true
-      → Spells (codes "links" ∷ reference ∷ []) (links reference)
-  of_types : (reference : Text) → is_plain reference ≡ true
-      → Spells (codes "types" ∷ reference ∷ []) (types reference)
-  of_addtype : (reference name interface : Text) (items : List Text)
-      → is_plain reference ≡ true → is_plain name ≡ true → is_plain interface ≡ true
-      → list_all is_plain items ≡ true
-      → Spells (codes "addtype" ∷ reference ∷ name ∷ interface ∷ items)
-      (addtype (record {
-        reference = reference;
-        name = name;
-        interface = interface;
-        items = items;
-      }))
+  -- of the others as many words as they have places, and more only where they may come
+  of_usage : (u : Usage) (words more : List Text) (asked : Asked)
+      → IsAmongUsages u usages → length words ≡ length u.places
+      → (is_some u.more || is_empty more) ≡ true
+      → list_all is_plain words ≡ true → list_all is_plain more ≡ true
+      → u.asks words more ≡ Some asked
+      → Spells (u.name ∷ (words ++ more)) asked

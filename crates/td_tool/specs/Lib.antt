@@ -1,6 +1,5 @@
-pub mod Tool
-pub mod Stages
 pub mod Wishes
+pub mod Tool
 pub mod Forms
 pub mod Matches
 pub mod Answers

@@ -1,6 +1,9 @@
--- The program's subcommands, as clap reads them.
-use Rattle.std.specs.Prelude.{◌≡◌, false, true, codes, Some}
-use Rattle.clap.specs.Words.{App, Rule, Text, app_of, new_app, new_rule, with_rule}
+-- The program with its subcommands, as clap reads them.
+use Rattle.std.specs.Prelude.{◌≡◌, false, true, codes, map, List, [], ◌∷◌, Option, None, Some, option_map}
+use Rattle.clap.specs.Words.{App, Rule, Text, app_of, new_app, new_rule, with_rule, with_subcommand}
+use Rattle.clap.specs.Simple.{on_top}
+use Rattle.td_tool.specs.Wishes.{Usage, usages}
+use Rattle.td_tool.specs.declared.usages.Usage.{Usage as Told}
 use Rattle.clap.specs.Lexer.{usize_max}
 use Rattle.clap.specs.declared.builder.action.ArgAction.TheVariants.{SetTrue, Set}
 use Rattle.clap.specs.declared.builder.command.Command.{Command}
@@ -47,34 +50,37 @@ with_places a =
 abbrev pub query_app : App
 query_app = with_places (with_options (new_app (codes "query")))
 
-abbrev pub export_app : App
-export_app =
-    with_rule (with_rule (with_rule (with_rule (new_app (codes "export"))
-    (fixed (codes "ref"))) (fixed (codes "type"))) (fixed (codes "object")))
-    (many (codes "property"))
+-- ---- those without options, by their words
 
-abbrev pub withdraw_app : App
-withdraw_app = with_rule (with_rule (new_app (codes "withdraw")) (fixed (codes "ref")))
-    (fixed (codes "id"))
+abbrev pub with_words : App → List Text → App
+with_words a [] = a
+with_words a (id ∷ ids) = with_words (with_rule a (fixed id)) ids
 
-abbrev pub describe_app : App
-describe_app = with_rule (with_rule (new_app (codes "describe")) (fixed (codes "ref")))
-    (fixed (codes "id"))
+abbrev pub with_more : App → Option Text → App
+with_more a None = a
+with_more a (Some id) = with_rule a (many id)
 
-abbrev pub link_app : App
-link_app =
-    with_rule (with_rule (with_rule (with_rule (with_rule (new_app (codes "link"))
-    (fixed (codes "ref"))) (fixed (codes "name"))) (fixed (codes "target"))) (fixed (codes "def")))
-    (fixed (codes "limit"))
+abbrev pub app_in : (name : Text) (places : List Text) (more : Option Text) → App
+app_in name places more = with_more (with_words (new_app name) places) more
 
-abbrev pub links_app : App
-links_app = with_rule (new_app (codes "links")) (fixed (codes "ref"))
+abbrev pub usage_app : Usage → App
+usage_app u = app_in u.name u.places u.more
 
-abbrev pub types_app : App
-types_app = with_rule (new_app (codes "types")) (fixed (codes "ref"))
+-- as the code has it
+abbrev pub usage_in : Told → App
+usage_in u = app_in u.name.now (map (λ w. w.id.now) u.places.now) (option_map (λ w. w.id.now) u.more)
 
-abbrev pub addtype_app : App
-addtype_app =
-    with_rule (with_rule (with_rule (with_rule (new_app (codes "addtype"))
-    (fixed (codes "ref"))) (fixed (codes "name"))) (fixed (codes "interface")))
-    (many (codes "item"))
+-- ---- the whole program
+
+-- the first word is a subcommand's name
+abbrev pub top_app : App
+top_app =
+    on_top (λ s. record s { no_binary_name = true; subcommand_required = true })
+    (new_app (codes "tradecli"))
+
+abbrev pub with_apps : App → List App → App
+with_apps a [] = a
+with_apps a (b ∷ bs) = with_apps (with_subcommand a b.top) bs
+
+abbrev pub tool_app : App
+tool_app = with_apps (with_subcommand top_app query_app.top) (map usage_app usages)

@@ -1,5 +1,5 @@
--- What the words ask for.
-use Rattle.std.specs.Prelude.{Bool, map, List, Option, option_map}
+-- What the words ask for, and which words of each subcommand do.
+use Rattle.std.specs.Prelude.{◌≡◌, ◌⊎◌, Bool, codes, map, List, [], ◌∷◌, Option, None, Some, option_map}
 use Rattle.clap.specs.Words.{Text}
 use Rattle.td_tool.specs.declared.wanted.QueryWords.{QueryWords}
 use Rattle.td_tool.specs.declared.wanted.ExportWords.{ExportWords}
@@ -101,3 +101,106 @@ asked_by (wanted.Link l) = link (asked_link l)
 asked_by (wanted.Links reference) = links reference.now
 asked_by (wanted.Types reference) = types reference.now
 asked_by (wanted.AddType t) = addtype (asked_type t)
+
+-- ---- which words ask for it
+
+-- a subcommand without options: the words that stand in their places, by clap's names for them, those that may come any
+-- number of times behind them, and what it asks for by these words
+pub record Usage : Type 0 where
+  pub name : Text
+  pub places : List Text
+  pub more : Option Text
+  pub asks : List Text → List Text → Option Asked
+
+-- ---- as many words as a subcommand has places
+
+abbrev pub one : (Text → Asked) → List Text → List Text → Option Asked
+one f (a ∷ []) more = Some (f a)
+one f _ more = None
+
+abbrev pub two : (Text → Text → Asked) → List Text → List Text → Option Asked
+two f (a ∷ b ∷ []) more = Some (f a b)
+two f _ more = None
+
+abbrev pub three : (Text → Text → Text → List Text → Asked) → List Text → List Text → Option Asked
+three f (a ∷ b ∷ c ∷ []) more = Some (f a b c more)
+three f _ more = None
+
+abbrev pub five : (Text → Text → Text → Text → Text → Asked) → List Text → List Text → Option Asked
+five f (a ∷ b ∷ c ∷ d ∷ e ∷ []) more = Some (f a b c d e)
+five f _ more = None
+
+-- ---- each of them
+
+abbrev pub export_usage : Usage
+export_usage = record {
+  name = codes "export";
+  places = codes "ref" ∷ codes "type" ∷ codes "object" ∷ [];
+  more = Some (codes "property");
+  asks = three (λ a b c more. export (record {
+    reference = a;
+    service = b;
+    object = c;
+    properties = more;
+  }));
+}
+
+abbrev pub withdraw_usage : Usage
+withdraw_usage = record {
+  name = codes "withdraw";
+  places = codes "ref" ∷ codes "id" ∷ [];
+  more = None;
+  asks = two withdraw;
+}
+
+abbrev pub describe_usage : Usage
+describe_usage = record {
+  name = codes "describe";
+  places = codes "ref" ∷ codes "id" ∷ [];
+  more = None;
+  asks = two describe;
+}
+
+abbrev pub link_usage : Usage
+link_usage = record {
+  name = codes "link";
+  places = codes "ref" ∷ codes "name" ∷ codes "target" ∷ codes "def" ∷ codes "limit" ∷ [];
+  more = None;
+  asks = five (λ a b c d e. link (record {
+    reference = a;
+    name = b;
+    target = c;
+    def_pass_on = d;
+    limiting = e;
+  }));
+}
+
+abbrev pub links_usage : Usage
+links_usage =
+    record { name = codes "links"; places = codes "ref" ∷ []; more = None; asks = one links }
+
+abbrev pub types_usage : Usage
+types_usage =
+    record { name = codes "types"; places = codes "ref" ∷ []; more = None; asks = one types }
+
+abbrev pub addtype_usage : Usage
+addtype_usage = record {
+  name = codes "addtype";
+  places = codes "ref" ∷ codes "name" ∷ codes "interface" ∷ [];
+  more = Some (codes "item");
+  asks = three (λ a b c more. addtype (record {
+    reference = a;
+    name = b;
+    interface = c;
+    items = more;
+  }));
+}
+
+-- in the order in which the help names them
+abbrev pub usages : List Usage
+usages = export_usage ∷ withdraw_usage ∷ describe_usage ∷ link_usage ∷ links_usage ∷ types_usage
+    ∷ addtype_usage ∷ []
+
+abbrev pub IsAmongUsages : Usage → List Usage → Type 0
+IsAmongUsages u [] = ⊥
+IsAmongUsages u (v ∷ vs) = (u ≡ v) ⊎ IsAmongUsages u vs

@@ -6,8 +6,8 @@ ghost use Rattle.td_tool.specs.Answers.{IsAnswer, IsRefusal, asked_of, refusals}
 ghost use Rattle.td_tool.specs.Matches.{read_matches};
 ghost use Rattle.td_tool.specs.declared.asking.Refusal.TheVariants as refusal;
 
-use crate::read_many::read_matches;
-use crate::stages::tool;
+use crate::command::tool;
+use crate::read::read_matches;
 use crate::wanted::Wanted;
 use clap::ArgMatches;
 use clap::error::ErrorKind;

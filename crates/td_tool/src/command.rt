@@ -1,12 +1,13 @@
-//! The subcommands, each with its help.
+//! The program for clap: its subcommands, each with its help.
 
-ghost use Rattle.std.specs.Prelude.{◌≡◌, IfOk, false};
-ghost use Rattle.clap.specs.Words.{app_of, new_app, rule_of};
+ghost use Rattle.std.specs.Prelude.{◌≡◌, IfOk, false, map};
+ghost use Rattle.clap.specs.Words.{app_of, new_app, rule_of, with_subcommand};
 ghost use Rattle.clap.specs.declared.builder.command.Command.TheViews.{out-Command};
-ghost use Rattle.td_tool.specs.Tool.{IsCommand, fixed, many, valued, flag, query_app, export_app, withdraw_app};
-ghost use Rattle.td_tool.specs.Tool.{describe_app, link_app, links_app, types_app, addtype_app};
+ghost use Rattle.td_tool.specs.Tool.{IsCommand, fixed, flag, many, query_app, tool_app, top_app, usage_in, valued};
+ghost use Rattle.td_tool.specs.Tool.{with_apps};
 
 use crate::help;
+use crate::usages::{USAGES, Usage};
 use clap::{Arg, ArgAction, Command};
 use std::alloc::{AllocError, Global};
 
@@ -60,7 +61,7 @@ fn flag<'a>(alloc: Global, name: &'a str, help: &'a str) -> Arg<'a>
 }
 
 /// `query`.
-pub(crate) fn query<'a>(alloc: Global) -> Result<Command<'a>, AllocError>
+fn query<'a>(alloc: Global) -> Result<Command<'a>, AllocError>
     ensures { IfOk result (IsCommand query_app) }
 {
     let command = named(alloc, "query", help::QUERY, help::QUERY_EXAMPLE)
@@ -77,76 +78,63 @@ pub(crate) fn query<'a>(alloc: Global) -> Result<Command<'a>, AllocError>
         .arg(many(alloc, "name", help::NAMES))
 }
 
-/// `export`.
-pub(crate) fn export<'a>(alloc: Global) -> Result<Command<'a>, AllocError>
-    ensures { IfOk result (IsCommand export_app) }
+/// A subcommand without options.
+fn placed<'a>(alloc: Global, usage: &Usage) -> Result<Command<'a>, AllocError>
+    ensures { IfOk result (IsCommand (usage_in usage.now)) }
 {
-    named(alloc, "export", help::EXPORT, help::EXPORT_EXAMPLE)
-        .arg(fixed(alloc, "ref", help::REGISTER))?
-        .arg(fixed(alloc, "type", help::SERVICE_TYPE))?
-        .arg(fixed(alloc, "object", help::OBJECT))?
-        .arg(many(alloc, "property", help::PROPERTIES))
+    let mut command = named(alloc, usage.name, usage.about, usage.example);
+    for word in usage.places {
+        command = command.arg(fixed(alloc, word.id, word.help))?;
+    }
+    match &usage.more {
+        Some(word) => command.arg(many(alloc, word.id, word.help)),
+        None => Ok(command),
+    }
 }
 
-/// `withdraw`.
-pub(crate) fn withdraw<'a>(alloc: Global) -> Result<Command<'a>, AllocError>
-    ensures { IfOk result (IsCommand withdraw_app) }
+/// The program without its subcommands.
+fn top<'a>(alloc: Global) -> Result<Command<'a>, AllocError>
+    ensures { IfOk result (IsCommand top_app) }
 {
-    named(alloc, "withdraw", help::WITHDRAW, help::WITHDRAW_EXAMPLE)
-        .arg(fixed(alloc, "ref", help::REGISTER))?
-        .arg(fixed(alloc, "id", help::OFFER_ID))
+    Command::new(alloc, "tradecli")
+        .about(help::PROGRAM)
+        .after_help(help::PROGRAM_END)
+        .no_binary_name(true)
+        .subcommand_required(true)
+        .bin_name("tradecli")
 }
 
-/// `describe`.
-pub(crate) fn describe<'a>(alloc: Global) -> Result<Command<'a>, AllocError>
-    ensures { IfOk result (IsCommand describe_app) }
+/// With these subcommands.
+fn with_usages<'a>(
+    alloc: Global,
+    mut command: Command<'a>,
+    usages: &[Usage],
+) -> Result<Command<'a>, AllocError>
+    requires { (out-Command command).has_globals ≡ false }
+    ensures { IfOk result (IsCommand (with_apps (app_of command.entry)
+        (map usage_in usages.now))) }
 {
-    named(alloc, "describe", help::DESCRIBE, help::DESCRIBE_EXAMPLE)
-        .arg(fixed(alloc, "ref", help::REGISTER))?
-        .arg(fixed(alloc, "id", help::OFFER_ID))
+    for usage in usages {
+        command = command.subcommand(placed(alloc, usage)?)?;
+    }
+    Ok(command)
 }
 
-/// `link`.
-pub(crate) fn link<'a>(alloc: Global) -> Result<Command<'a>, AllocError>
-    ensures { IfOk result (IsCommand link_app) }
+/// With the queries.
+fn with_query<'a>(alloc: Global) -> Result<Command<'a>, AllocError>
+    ensures { IfOk result (IsCommand (with_subcommand top_app query_app.top)) }
 {
-    named(alloc, "link", help::LINK, help::LINK_EXAMPLE)
-        .arg(fixed(alloc, "ref", help::LINK_OBJECT))?
-        .arg(fixed(alloc, "name", help::LINK_NAME))?
-        .arg(fixed(alloc, "target", help::TARGET))?
-        .arg(fixed(alloc, "def", help::DEF))?
-        .arg(fixed(alloc, "limit", help::LIMIT))
+    top(alloc)?.subcommand(query(alloc)?)
 }
 
-/// `links`.
-pub(crate) fn links<'a>(alloc: Global) -> Result<Command<'a>, AllocError>
-    ensures { IfOk result (IsCommand links_app) }
+/// The whole program.
+///
+/// # Errors
+///
+/// `AllocError` for want of memory.
+pub fn tool<'a>(alloc: Global) -> Result<Command<'a>, AllocError>
+    ensures { IfOk result (IsCommand tool_app) }
 {
-    named(alloc, "links", help::LINKS, help::LINKS_EXAMPLE).arg(fixed(
-        alloc,
-        "ref",
-        help::LINK_OBJECT,
-    ))
-}
-
-/// `types`.
-pub(crate) fn types<'a>(alloc: Global) -> Result<Command<'a>, AllocError>
-    ensures { IfOk result (IsCommand types_app) }
-{
-    named(alloc, "types", help::TYPES, help::TYPES_EXAMPLE).arg(fixed(
-        alloc,
-        "ref",
-        help::REPOSITORY,
-    ))
-}
-
-/// `addtype`.
-pub(crate) fn addtype<'a>(alloc: Global) -> Result<Command<'a>, AllocError>
-    ensures { IfOk result (IsCommand addtype_app) }
-{
-    named(alloc, "addtype", help::ADDTYPE, help::ADDTYPE_EXAMPLE)
-        .arg(fixed(alloc, "ref", help::REPOSITORY))?
-        .arg(fixed(alloc, "name", help::TYPE_NAME))?
-        .arg(fixed(alloc, "interface", help::INTERFACE))?
-        .arg(many(alloc, "item", help::ITEMS))
+    let command = with_query(alloc)?;
+    with_usages(alloc, command, &USAGES)
 }

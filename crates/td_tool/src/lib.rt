@@ -5,8 +5,7 @@ mod asking;
 mod command;
 mod help;
 mod read;
-mod read_many;
-mod stages;
+mod usages;
 mod wanted;
 
 ghost use Rattle.std.specs.Prelude.{◌≡◌, ◌≤◌, true, List, ℕ, length, Some};
@@ -16,7 +15,7 @@ ghost use Rattle.td_tool.specs.Forms.{Spells};
 ghost use Rattle.td_tool.specs.Wishes.{Asked};
 
 pub use asking::{Refusal, ask};
-pub use stages::tool;
+pub use command::tool;
 pub use wanted::{ExportWords, LinkWords, QueryWords, TypeWords, Wanted};
 
 /// Of words in the documented form clap makes what they ask for, or it has no memory.

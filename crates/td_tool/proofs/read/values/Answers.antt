@@ -2,7 +2,7 @@ use Rattle.std.proofs.Common.{◌∙◌, ap, [], map, unwrap_or, List, Option}
 use Rattle.std.proofs.lemmas.Result.{IfOk-weaker}
 use Rattle.clap.specs.Words.{Text, found_of}
 use Rattle.clap.proofs.WalkLemmas.{raw_values-rows}
-use Rattle.td_tool.proofs.read_many.values.Goals as goal
+use Rattle.td_tool.proofs.read.values.Goals as goal
 
 pub returns-in-Some : goal.returns-in-Some
 returns-in-Some c =
