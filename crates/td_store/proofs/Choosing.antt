@@ -15,8 +15,8 @@ use Rattle.td_types.specs.declared.entry.ServiceType.{ServiceType}
 use Rattle.td_types.proofs.Equal.{bytes_same, bytes_refl}
 use Rattle.td_policy.specs.declared.attributes.Attributes.{Attributes}
 use Rattle.td_policy.specs.declared.stated.Stated.{Stated}
-use Rattle.td_store.specs.Candidates.{is_incarnation, belongs, is_exact, is_asked, has_asked_type, passes_proxy}
-use Rattle.td_store.specs.Candidates.{passes_dynamic, passes_modifiable, is_candidate, candidates, is_among, most_steps}
+use Rattle.td_store.specs.Candidates.{is_incarnation, belongs, is_exact, is_asked, has_asked_type, is_used}
+use Rattle.td_store.specs.Candidates.{is_candidate, candidates, is_among, most_steps}
 use Rattle.td_store.specs.Candidates.{has_conforming_type}
 use Rattle.td_store.specs.OfferLists.{is_of}
 use Rattle.td_store.specs.Searches.{AreApart, only, searched}
@@ -131,11 +131,7 @@ asked-listed types s asked o h =
 
 pub candidate-asked : (types : List ServiceType) (a : Attributes) (s : Stated) (asked : List ℕ) (o : OfferRecord)
     → is_candidate types a s asked o ≡ true → has_asked_type types s asked o ≡ true
-candidate-asked types a s asked o h =
-    let t = has_asked_type types s asked o in
-    let p = passes_proxy a s o in
-    let d = passes_dynamic a s o in
-    (and_parts t p (and_parts (t && p) d (and_parts ((t && p) && d) (passes_modifiable types a s o) h).0).0).0
+candidate-asked types a s asked o h = (and_parts (has_asked_type types s asked o) (is_used types a s o) h).0
 
 -- the candidates among the offers of the searched types are those among all offers
 pub same-candidates : (types : List ServiceType) (a : Attributes) (s : Stated) (asked : List ℕ) (count : ℕ)

@@ -19,7 +19,7 @@ use Rattle.td_value.specs.Enumerations.{follow_option}
 use Rattle.td_value.specs.declared.enumerations.FollowOption.{FollowOption}
 use Rattle.td_value.specs.declared.enumerations.FollowOption.TheVariants.{LocalOnly, IfNoLocal, Always}
 use Rattle.td_value.specs.declared.structures.Property.{Property}
-use Rattle.td_store.specs.Candidates.{belongs, is_exact, is_asked, has_dynamic, is_candidate, candidates}
+use Rattle.td_store.specs.Candidates.{belongs, is_exact, is_asked, has_dynamic, is_candidate, is_used, candidates}
 use Rattle.td_store.specs.Candidates.{has_conforming_type}
 use Rattle.td_store.specs.Laws.{HasConformingType, IsPlain}
 use Rattle.td_store.specs.LinkLists.{most_links, link_of, is_linked, ruled, without_link}
@@ -119,9 +119,9 @@ all-conform types a s asked count offers =
     (candidate-conforms types a s asked)
     (all-front (λ o. test o ≡ true) count (filter test offers) (all-passing test offers))
 
-thrice : (t p d m : Bool) → p ≡ true → d ≡ true → m ≡ true → (((t && p) && d) && m) ≡ t
-thrice true p d m x y z = rw (x, y, z) refl
-thrice false p d m x y z = refl
+and_true : (t u : Bool) → u ≡ true → (t && u) ≡ t
+and_true true u e = e
+and_true false u e = refl
 
 or_fixed : (b c : Bool) → c ≡ false → (b || not c) ≡ true
 or_fixed true c e = refl
@@ -130,9 +130,11 @@ or_fixed false c e = ap not e
 plain-searched : (types : List ServiceType) (a : Attributes) (asked : List ℕ) (o : OfferRecord) → IsPlain o
     → is_candidate types a nothing asked o ≡ has_conforming_type types asked o
 plain-searched types a asked o plain =
-    thrice (has_conforming_type types asked o) _ _ _
-    (ap (λ proxy. is_none proxy || a.supports_proxy_offers) plain.ordinary)
-    (or_fixed a.supports_dynamic_properties (has_dynamic o.properties) plain.fixed) refl
+    and_true (has_conforming_type types asked o) (is_used types a nothing o)
+    (rw (
+      ap (λ proxy. is_none proxy || a.supports_proxy_offers) plain.ordinary,
+      or_fixed a.supports_dynamic_properties (has_dynamic o.properties) plain.fixed,
+    ) refl)
 
 pub all-searched : (types : List ServiceType) (a : Attributes) (asked : List ℕ) (offers : List OfferRecord)
     → AllByRecursion IsPlain offers

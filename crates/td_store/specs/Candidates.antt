@@ -89,11 +89,13 @@ passes_modifiable types a s o =
 
 -- ---- all together
 
+-- the policies on what is used leave it in
+abbrev pub is_used : List ServiceType → Attributes → Stated → OfferRecord → Bool
+is_used types a s o = (passes_proxy a s o && passes_dynamic a s o) && passes_modifiable types a s o
+
 abbrev pub is_candidate : List ServiceType → Attributes → Stated → (asked : List ℕ) → OfferRecord
     → Bool
-is_candidate types a s asked o =
-    ((has_asked_type types s asked o && passes_proxy a s o) && passes_dynamic a s o)
-    && passes_modifiable types a s o
+is_candidate types a s asked o = has_asked_type types s asked o && is_used types a s o
 
 -- the first so many of them, in the order of the offers
 abbrev pub candidates : List ServiceType → Attributes → Stated → (asked : List ℕ) → (count : ℕ)

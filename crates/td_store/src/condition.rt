@@ -4,7 +4,7 @@ ghost use Rattle.std.specs.Prelude.{◌≡◌};
 ghost use Rattle.std.specs.List.{list_all};
 ghost use Rattle.td_store.specs.Candidates.{belongs, has_asked_type, has_conforming_type, is_asked, is_candidate};
 ghost use Rattle.td_store.specs.Candidates.{has_dynamic, is_exact, is_fixed, mode_of, passes_dynamic};
-ghost use Rattle.td_store.specs.Candidates.{passes_modifiable, passes_proxy, uses};
+ghost use Rattle.td_store.specs.Candidates.{is_used, passes_modifiable, passes_proxy, uses};
 
 use crate::record::OfferRecord;
 use td_cdr::Text;
@@ -50,8 +50,14 @@ pub(crate) fn is_candidate(
 ) -> bool
     ensures { result ≡ is_candidate types.now.types attributes.now stated.now asked.now offer.now }
 {
-    has_asked_type(types, stated, asked, offer)
-        && passes_proxy(attributes, stated, offer)
+    has_asked_type(types, stated, asked, offer) && is_used(types, attributes, stated, offer)
+}
+
+/// Whether the policies on what is used leave an offer in.
+fn is_used(types: &Types, attributes: &Attributes, stated: &Stated, offer: &OfferRecord) -> bool
+    ensures { result ≡ is_used types.now.types attributes.now stated.now offer.now }
+{
+    passes_proxy(attributes, stated, offer)
         && passes_dynamic(attributes, stated, offer)
         && passes_modifiable(types, attributes, stated, offer)
 }
