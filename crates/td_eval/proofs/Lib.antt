@@ -13,3 +13,4 @@ pub mod Ordered
 pub mod Parts
 pub mod Scaling
 pub mod Sizes
+pub mod Truths

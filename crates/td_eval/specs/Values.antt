@@ -68,6 +68,19 @@ decides op.Or (Truth p) = p
 decides op.And (Truth p) = not p
 decides o x = false
 
+-- the operators between truths, and those between numbers that give a number
+abbrev pub is_connective : Op → Bool
+is_connective op.Or = true
+is_connective op.And = true
+is_connective o = false
+
+abbrev pub is_arithmetic : Op → Bool
+is_arithmetic op.Add = true
+is_arithmetic op.Sub = true
+is_arithmetic op.Mul = true
+is_arithmetic op.Div = true
+is_arithmetic o = false
+
 abbrev pub binary : Op → Option Simple → Option Simple → Option Simple
 binary o None right = None
 binary o (Some x) right = if decides o x then Some x else option_and_then (application o x) right
@@ -94,6 +107,11 @@ within (Some x) list = option_and_then (membership x) list
 abbrev pub is_true : Option Simple → Bool
 is_true (Some (Truth p)) = p
 is_true o = false
+
+-- the truth that a value is, where it is one
+abbrev pub truth_in : Option Simple → Option Bool
+truth_in (Some (Truth p)) = Some p
+truth_in o = None
 
 module _ (map : List Property) where
   abbrev pub value_layer : Expr-F (Option Content) → Option Content

@@ -4,6 +4,7 @@ ghost use Rattle.std.specs.Prelude.{◌≡◌, Some, option_map};
 ghost use Rattle.td_eval.specs.Comparing.{order_of, comparison, equals, occurs_in, occurrence};
 ghost use Rattle.td_eval.specs.Operands.{view};
 ghost use Rattle.td_eval.specs.Values.{asks};
+ghost use Rattle.td_eval.specs.declared.simple.Simple.TheVariants.{Truth};
 
 use crate::arithmetic::times;
 use crate::simple::Operand;
@@ -47,21 +48,22 @@ fn asks(op: Op, order: Ordering) -> bool
 }
 
 /// A comparison of two values.
-pub(crate) fn comparison(op: Op, left: Operand, right: Operand) -> Option<Operand<'static>>
-    ensures { option_map view result ≡ comparison (asks op) (view left.entry) (view right.entry) }
+pub(crate) fn comparison(op: Op, left: Operand, right: Operand) -> Option<bool>
+    ensures { option_map (λ t. Truth t) result
+        ≡ comparison (asks op) (view left.entry) (view right.entry) }
 {
     match order_of(left, right) {
         None => None,
-        Some(order) => Some(Operand::Truth(asks(op, order))),
+        Some(order) => Some(asks(op, order)),
     }
 }
 
 /// Whether the left text occurs in the right one.
-pub(crate) fn occurrence(left: Operand, right: Operand) -> Option<Operand<'static>>
-    ensures { option_map view result ≡ occurrence (view left.entry) (view right.entry) }
+pub(crate) fn occurrence(left: Operand, right: Operand) -> Option<bool>
+    ensures { option_map (λ t. Truth t) result ≡ occurrence (view left.entry) (view right.entry) }
 {
     match (left, right) {
-        (Operand::Text(part), Operand::Text(text)) => Some(Operand::Truth(occurs_in(part, text))),
+        (Operand::Text(part), Operand::Text(text)) => Some(occurs_in(part, text)),
         _ => None,
     }
 }

@@ -2,11 +2,9 @@
 //! Language").
 
 ghost use Rattle.std.specs.Prelude.{◌≡◌, Ok};
-ghost use Rattle.td_eval.specs.Operands.{view};
 ghost use Rattle.td_eval.specs.Values.{matching};
 
-use crate::evaluation::evaluate;
-use crate::simple::Operand;
+use crate::evaluation::truth_of;
 use td_cdr::{List, Memory};
 use td_lang::Constraint;
 use td_value::Property;
@@ -22,14 +20,12 @@ pub fn matches(constraint: &Constraint, map: &List<Property>) -> Result<bool, Me
     Ok(is_matching(constraint, map.as_slice()))
 }
 
+#[tactic(auto, using(crate::proofs::Truths::is_matching))]
 fn is_matching(constraint: &Constraint, map: &[Property]) -> bool
     ensures { result ≡ matching map.now constraint.now }
 {
     match constraint {
         Constraint::Empty => true,
-        Constraint::Is(asked) => match evaluate(asked, map) {
-            Some(Operand::Truth(truth)) => truth,
-            _ => false,
-        },
+        Constraint::Is(asked) => truth_of(asked, map).unwrap_or(false),
     }
 }

@@ -9,7 +9,7 @@ ghost use Rattle.td_eval.specs.Ranking.{shuffle_of, draw_count, IsRanked};
 ghost use Rattle.td_eval.specs.Values.{simple_value};
 
 use crate::arithmetic::times;
-use crate::evaluation::evaluate;
+use crate::evaluation::{self, operand_of};
 use crate::simple::Operand;
 use std::cmp::Ordering;
 use td_cdr::{List, Memory};
@@ -29,7 +29,7 @@ pub(crate) struct Key {
 fn number_of(e: &Expr, map: &[Property]) -> Option<Key>
     ensures { option_map pair result ≡ number_of (simple_value map.now e.now) }
 {
-    match evaluate(e, map) {
+    match operand_of(e, map) {
         Some(Operand::Number(numerator, denominator)) => positive(numerator, denominator),
         _ => None,
     }
@@ -53,16 +53,16 @@ fn positive(numerator: i64, denominator: i64) -> Option<Key>
 fn truth_of(e: &Expr, map: &[Property]) -> Option<Key>
     ensures { option_map pair result ≡ truth_of (simple_value map.now e.now) }
 {
-    match evaluate(e, map) {
-        Some(Operand::Truth(true)) => Some(Key {
+    match evaluation::truth_of(e, map) {
+        Some(true) => Some(Key {
             numerator: 1,
             denominator: 1,
         }),
-        Some(Operand::Truth(false)) => Some(Key {
+        Some(false) => Some(Key {
             numerator: 0,
             denominator: 1,
         }),
-        _ => None,
+        None => None,
     }
 }
 
