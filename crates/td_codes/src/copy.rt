@@ -199,7 +199,7 @@ fn copy_arms(alloc: Global, arms: &[Arm]) -> Result<List<Arm>, Memory>
 fn copy_values(alloc: Global, values: &[Value]) -> Result<List<Value>, Memory>
     ensures { IfOk result (λ twin. twin ≡ values.now) }
 {
-    let mut twin = List::new(alloc);
+    let mut twin = List::with_room(alloc, values.len())?;
     for value in values {
         twin.push(value.copy(alloc)?)?;
     }
