@@ -3,7 +3,7 @@ use Rattle.std.proofs.Common.{◌≡◌, ℕ, ◌+◌, ◌*◌, ◌%◌, ◌≤�
 use Rattle.std.proofs.Common.{map, take, drop, refl, sym, ap, subst, ◌∙◌, arith, length-append, append_assoc}
 use Rattle.std.specs.List.{AllByRecursion}
 use Rattle.td_cdr.specs.declared.order.Order.{Order}
-use Rattle.td_cdr.specs.declared.order.Order.TheVariants.{Big}
+use Rattle.td_cdr.specs.declared.order.Order.TheVariants.{Big, Little}
 use Rattle.td_cdr.specs.Format.{Piece, ◌then◌, row}
 use Rattle.td_cdr.specs.Gap.{gap}
 use Rattle.td_cdr.specs.Sound.{◌&◌, sequence, text}
@@ -11,7 +11,7 @@ use Rattle.td_cdr.specs.Writing.{Draft}
 use Rattle.td_codes.specs.declared.reference.Ior.{Ior}
 use Rattle.td_codes.specs.Formats.{is_some}
 use Rattle.td_codes.specs.References.{reference}
-use Rattle.td_iter.specs.declared.limits.TheConstants.{LARGEST_MESSAGE}
+use Rattle.td_iter.specs.declared.limits.TheConstants.{LARGEST_MESSAGE, REPLY_START}
 use Rattle.td_iter.specs.declared.filling.Tail.{Tail}
 use Rattle.td_iter.specs.Batches.{PutsBatch, batch}
 use Rattle.td_iter.specs.Filling.{behind, reach, end_of, Fills, counted, first_piece}
@@ -131,3 +131,12 @@ pub picked : (b : Bool) (r iterator other : Ior) → r ≡ (if b then iterator e
     → r ≡ given_or_nil iterator b
 picked true r iterator other e o = e
 picked false r iterator other e o = e ∙ o
+
+-- the nil reference and no limits, where a reply's result begins
+without-limits-at : (o : Order) → 16 ≡ length ((reference & sequence text).format.writes (nil, []) o REPLY_START)
+without-limits-at Big = refl
+without-limits-at Little = refl
+
+pub without_limits : (o : Order) (place : ℕ) (r : Ior) (limits : List (List ℕ)) → place ≡ REPLY_START → r ≡ nil
+    → limits ≡ [] → 16 ≡ length ((reference & sequence text).format.writes (r, limits) o place)
+without_limits o place r limits p e l = rw (p, e, l) (without-limits-at o)

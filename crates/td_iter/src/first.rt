@@ -13,6 +13,10 @@ use std::alloc::Global;
 use td_cdr::{List, Memory, Spelled, Text, Writer, put_two};
 use td_value::{Ior, Offer};
 
+/// How many bytes the nil reference and no limits come to: an empty string with its NUL and padding, and two
+/// counts of 0.
+const NOTHING_SIZE: usize = 16;
+
 /// The nil reference, which takes no memory.
 fn nil(alloc: Global) -> Ior
     ensures { result ≡ nil }
@@ -139,7 +143,7 @@ fn append_ended(
     ensures order { w.new.order ≡ w.old.order }
 {
     let none = nil(alloc);
-    let size = found_size(alloc, w, &none, limits)?;
+    let size = ended_size(alloc, w, &none, limits)?;
     let tail = Tail {
         more: size,
         done: size,
@@ -147,6 +151,33 @@ fn append_ended(
     let count = put_counted(alloc, w, offers, n, tail)?;
     put_two(alloc, w, &none, limits)?;
     Ok(count)
+}
+
+/// How many bytes the nil reference and limits come to behind what the writer holds, which is as before. Mostly no
+/// limit was met, and nothing is written to be measured.
+///
+/// # Errors
+///
+/// `Memory` for want of memory alone.
+#[tactic(auto, using(crate::proofs::Endings::without_limits))]
+fn ended_size(
+    alloc: Global,
+    w: &mut Writer,
+    none: &Ior,
+    limits: &List<Text>,
+) -> Result<usize, Memory>
+    requires start { length w.old.bytes ≡ REPLY_START }
+    requires none { none.now ≡ nil }
+    ensures size { IfOk result (λ n. n ≡
+        length ((reference & sequence text).format.writes (none.now, limits.now)
+        w.old.order (length w.old.bytes))) }
+    ensures same { w.new.bytes ≡ w.old.bytes }
+    ensures order { w.new.order ≡ w.old.order }
+{
+    if limits.is_empty() {
+        return Ok(NOTHING_SIZE);
+    }
+    found_size(alloc, w, none, limits)
 }
 
 /// How many bytes a reference and limits come to behind what the writer holds, which is as before.

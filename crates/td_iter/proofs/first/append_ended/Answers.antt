@@ -33,7 +33,7 @@ returns-clause-puts c =
     ∙ ap (λ r. length (ending limits r old.order (length old.bytes))) c.nil-none.ensures in
     first-puts offer.format.writes (λ (b : Bool). ending limits (given b)) (λ (b : Bool). ending-aligned limits
     (given b)) c.args.offers.now (record { more = c.in_ok-size.size; done = c.in_ok-size.size })
-    old c.found_size.new.w now c.put_two.new.w c.args.n c.in_ok-count.count old.order old.order (length old.bytes)
+    old c.ended_size.new.w now c.put_two.new.w c.args.n c.in_ok-count.count old.order old.order (length old.bytes)
     (length old.bytes) aligned aligned size size c.in_ok-size.ensures.same c.in_ok-size.ensures.order
     c.in_ok-count.ensures.fills c.in_ok-count.ensures.order
     (c.in_ok-put_two.ensures.done ∙ ap (λ r. now.bytes ++ ending limits r now.order (length now.bytes))
