@@ -34,7 +34,7 @@ pub use names::{is_identifier, is_trader_name, is_word, is_word_name};
 pub use order::Order;
 pub use reader::Reader;
 pub use row::{put_five, put_four, put_six, put_three, put_two};
-pub use seen::{nothing_seen, see};
+pub use seen::{Seen, nothing_seen, see};
 pub use shared::{Shared, share_four, share_owned_three, share_owned_two, share_three, share_two};
 pub use spelled::Spelled;
 pub use text::Text;

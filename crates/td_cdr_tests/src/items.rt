@@ -5,8 +5,8 @@ ghost use Rattle.td_cdr.specs.Writing.{BeginsWithOrder};
 use std::alloc::Global;
 use std::process::Abort;
 use td_cdr::{
-    Boxed, CdrFault, List, Memory, Octets, Order, Reader, Text, Twin, Writer, is_identifier,
-    is_trader_name, is_word_name,
+    Boxed, CdrFault, List, Memory, Octets, Order, Reader, Seen, Text, Twin, Writer, is_identifier,
+    is_trader_name, is_word_name, nothing_seen, see,
 };
 
 const BIG: Order = Order::Big;
@@ -383,4 +383,28 @@ fn is_boxed(alloc: Global) -> Result<bool, Memory> {
 fn octets_and_boxes(rt: HostRuntime) {
     let alloc = rt.alloc();
     assert!(rt; are_popped(alloc) == Ok(true) && is_boxed(alloc) == Ok(true));
+}
+
+/// More names than are compared one by one.
+const MANY_NAMES: &str = "a b c d e f g h i j k l m n o p q r s t";
+
+/// Whether each of these names is met for the first time, or each again.
+fn are_met(seen: &mut Seen<'static>, fresh: bool) -> Result<bool, Memory> {
+    for name in MANY_NAMES.split(' ') {
+        if see(seen, name.as_bytes())? != fresh {
+            return Ok(false);
+        }
+    }
+    Ok(true)
+}
+
+fn are_seen(alloc: Global) -> Result<bool, Memory> {
+    let mut seen = nothing_seen(alloc);
+    Ok(are_met(&mut seen, true)? && are_met(&mut seen, false)?)
+}
+
+#[test]
+fn names_that_were_met(rt: HostRuntime) {
+    let alloc = rt.alloc();
+    assert!(rt; are_seen(alloc) == Ok(true));
 }

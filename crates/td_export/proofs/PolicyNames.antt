@@ -1,7 +1,6 @@
 -- Policies whose names are judged one by one.
 use Rattle.std.proofs.Common.{◌≡◌, ℕ, ◌+◌, ◌<◌, ◌||◌, Bool, false, List, [], length, get_or, take, drop, map}
-use Rattle.std.proofs.Common.{Bor, reverse, refl, sym, ap, subst}
-use Rattle.std.specs.BTreeSet.{BTreeSet}
+use Rattle.std.proofs.Common.{reverse, refl, sym, ap, subst}
 use Rattle.std.specs.Str.{bytes_eq}
 use Rattle.td_cdr.specs.Seen.{HaveSeen, has_seen}
 use Rattle.td_exceptions.specs.declared.exception.UserException.TheVariants.{DuplicatePolicyName}
@@ -23,7 +22,7 @@ met ps i = reverse (map (λ (p : Policy). p.name) (take i ps))
 abbrev pub policy_cause : List (List ℕ) → Policy → Cause
 policy_cause before p = raise_if (is_among p.name before) (DuplicatePolicyName p.name)
 
-pub seen_more : (seen new : BTreeSet (Bor (List ℕ))) (ps : List Policy) (i : ℕ) (p : Policy) → i < length ps →
+pub seen_more : (seen new : List (List ℕ)) (ps : List Policy) (i : ℕ) (p : Policy) → i < length ps →
     p ≡ get_or ps i p → HaveSeen seen (met ps i) →
     ((other : List ℕ) → has_seen new other ≡ (bytes_eq p.name other || has_seen seen other)) →
     HaveSeen new (met ps (i + 1))

@@ -1,10 +1,9 @@
 -- An offer that is modified.
 use Rattle.std.proofs.Common.{◌≡◌, ℕ, ◌+◌, ◌<◌, Bool, List, [], ◌∷◌, ◌++◌, None, length, get_or}
-use Rattle.std.proofs.Common.{take, drop, reverse, Bor, refl, sym, ap, subst, ◌∙◌, add-one}
+use Rattle.std.proofs.Common.{take, drop, reverse, refl, sym, ap, subst, ◌∙◌, add-one}
 use Rattle.std.proofs.Math.Seq.{take-suc}
 use Rattle.std.proofs.lemmas.List.{reverse-append}
 use Rattle.std.proofs.lemmas.List.Sorted.{IsPermutation-reverse, list_any-IsPermutation}
-use Rattle.std.specs.BTreeSet.{BTreeSet}
 use Rattle.std.specs.Str.{bytes_eq}
 use Rattle.td_cdr.specs.Seen.{HaveSeen}
 use Rattle.td_store.specs.declared.record.OfferRecord.{OfferRecord}
@@ -29,11 +28,11 @@ one_name_more : (names : List (List ℕ)) (i : ℕ) (n : List ℕ) → i < lengt
     met_names names (i + 1) ≡ n ∷ met_names names i
 one_name_more names i n lt is = rw (add-one, take-suc names i n lt, ← is, reverse-append) refl
 
-pub seen_name : (new : BTreeSet (Bor (List ℕ))) (names : List (List ℕ)) (i : ℕ) (n : List ℕ) → i < length names →
+pub seen_name : (new : List (List ℕ)) (names : List (List ℕ)) (i : ℕ) (n : List ℕ) → i < length names →
     n ≡ get_or names i n → HaveSeen new (n ∷ met_names names i) → HaveSeen new (met_names names (i + 1))
 seen_name new names i n lt is h = subst (HaveSeen new) (sym (one_name_more names i n lt is)) h
 
-pub seen_turned : (seen : BTreeSet (Bor (List ℕ))) (names : List (List ℕ)) → HaveSeen seen (reverse names) →
+pub seen_turned : (seen : List (List ℕ)) (names : List (List ℕ)) → HaveSeen seen (reverse names) →
     HaveSeen seen names
 seen_turned seen names h name =
     h name ∙ sym (list_any-IsPermutation (bytes_eq name) names (reverse names) (IsPermutation-reverse names))
@@ -91,7 +90,7 @@ by_change supported demanded o before p ps =
     let d = changes_cause supported demanded o (p.name ∷ before) ps in
     sym (grouped a (b otherwise c) d ∙ ap (λ (x : Cause). a otherwise x) (grouped b c d))
 
-pub seen_change : (new : BTreeSet (Bor (List ℕ))) (deleted : List (List ℕ)) (ps : List Property) (i : ℕ)
+pub seen_change : (new : List (List ℕ)) (deleted : List (List ℕ)) (ps : List Property) (i : ℕ)
     (p : Property) → i < length ps → p ≡ get_or ps i p → HaveSeen new (p.name ∷ met_with deleted ps i) →
     HaveSeen new (met_with deleted ps (i + 1))
 seen_change new deleted ps i p lt is h =

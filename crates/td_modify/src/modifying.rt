@@ -13,8 +13,7 @@ ghost use Rattle.td_register.specs.Registers.{changes_cause, deletion_cause, del
 ghost use Rattle.td_register.specs.Registers.{offer_changes_cause, readonly_cause, renewed, with_modified};
 
 use std::alloc::Global;
-use std::collections::BTreeSet;
-use td_cdr::{List, Memory, Shared, Text, Twin, copy_two, nothing_seen};
+use td_cdr::{List, Memory, Seen, Shared, Text, Twin, copy_two, nothing_seen};
 use td_exceptions::UserException;
 use td_ops::{Change, is_among};
 use td_register::{
@@ -56,7 +55,7 @@ fn check_deletions<'a>(
     alloc: Global,
     demanded: &[PropStruct],
     offer: &OfferRecord,
-    seen: &mut BTreeSet<&'a [u8]>,
+    seen: &mut Seen<'a>,
     names: &'a [Text],
 ) -> Result<(), Fault>
     requires { HaveSeen seen.old [] }
@@ -94,7 +93,7 @@ fn check_changes<'a>(
     supported: bool,
     demanded: &[PropStruct],
     offer: &OfferRecord,
-    seen: &mut BTreeSet<&'a [u8]>,
+    seen: &mut Seen<'a>,
     changed: &'a [Property],
 ) -> Result<(), Fault>
     ensures { (deleted : List (List ℕ)) → HaveSeen seen.old deleted →

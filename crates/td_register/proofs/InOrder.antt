@@ -1,9 +1,8 @@
 -- Items that are judged one by one, each beside the names of those before it.
 use Rattle.std.proofs.Common.{◌≡◌, ℕ, ◌+◌, ◌<◌, List, ◌∷◌, None, length, get_or, take, drop, map, reverse}
-use Rattle.std.proofs.Common.{Bor, Bool, true, false, not, ◌||◌, add-one, refl, sym, ap, subst, ◌∙◌}
+use Rattle.std.proofs.Common.{Bool, true, false, not, ◌||◌, add-one, refl, sym, ap, subst, ◌∙◌}
 use Rattle.std.proofs.Math.Seq.{take-suc}
 use Rattle.std.proofs.lemmas.List.{map-append, reverse-append}
-use Rattle.std.specs.BTreeSet.{BTreeSet}
 use Rattle.std.specs.Str.{bytes_eq}
 use Rattle.td_cdr.specs.Seen.{HaveSeen, has_seen}
 use Rattle.td_types.proofs.Equal.{bytes_eq-sym}
@@ -47,7 +46,7 @@ at_item f xs i x total lt is so_far = sym (ap f (rest xs i x lt is)) ∙ so_far
 -- ---- names that were met
 
 -- the set has one name more
-pub notes : (seen new : BTreeSet (Bor (List ℕ))) (before : List (List ℕ)) (n : List ℕ) → HaveSeen seen before →
+pub notes : (seen new : List (List ℕ)) (before : List (List ℕ)) (n : List ℕ) → HaveSeen seen before →
     ((other : List ℕ) → has_seen new other ≡ (bytes_eq n other || has_seen seen other)) → HaveSeen new (n ∷ before)
 notes seen new before n h added other = added other ∙ (rw (h other, bytes_eq-sym n other) refl)
 

@@ -1,7 +1,6 @@
 -- Properties and names that are judged one by one.
 use Rattle.std.proofs.Common.{◌≡◌, ℕ, ◌+◌, ◌<◌, Bool, List, [], ◌∷◌, None, length, get_or, take, drop, map, reverse}
-use Rattle.std.proofs.Common.{Bor, sym, subst}
-use Rattle.std.specs.BTreeSet.{BTreeSet}
+use Rattle.std.proofs.Common.{sym, subst}
 use Rattle.td_cdr.specs.Seen.{HaveSeen}
 use Rattle.td_value.specs.declared.structures.PropStruct.{PropStruct}
 use Rattle.td_value.specs.declared.structures.Property.{Property}
@@ -19,7 +18,7 @@ name_of p = p.name
 abbrev pub met : List Property → ℕ → List (List ℕ)
 met ps i = reverse (map (λ (p : Property). p.name) (take i ps))
 
-pub seen_more : (new : BTreeSet (Bor (List ℕ))) (ps : List Property) (i : ℕ) (p : Property) → i < length ps →
+pub seen_more : (new : List (List ℕ)) (ps : List Property) (i : ℕ) (p : Property) → i < length ps →
     p ≡ get_or ps i p → HaveSeen new (p.name ∷ met ps i) → HaveSeen new (met ps (i + 1))
 seen_more new ps i p lt is h = subst (HaveSeen new) (sym (behind name_of ps i p lt is)) h
 

@@ -10,8 +10,7 @@ ghost use Rattle.td_register.specs.Properties.{properties_cause, value_cause};
 use crate::refusal::{Fault, Refusal, raised};
 use crate::typing::{is_typed, mode_of, property_named};
 use std::alloc::Global;
-use std::collections::BTreeSet;
-use td_cdr::{Boxed, List, Memory, Text, Twin, copy_two, is_identifier, nothing_seen, see};
+use td_cdr::{Boxed, List, Memory, Seen, Text, Twin, copy_two, is_identifier, nothing_seen, see};
 use td_exceptions::UserException;
 use td_types::{MOST_BYTES, MOST_PROPERTIES, is_mandatory, is_readonly};
 use td_value::{Ior, PropStruct, Property, is_dynamic, offer_size};
@@ -49,11 +48,7 @@ pub fn push_copy(
 /// # Errors
 ///
 /// `IllegalPropertyName`; `DuplicatePropertyName`; `Memory` for want of memory.
-pub fn check_name<'a>(
-    alloc: Global,
-    seen: &mut BTreeSet<&'a [u8]>,
-    name: &'a Text,
-) -> Result<(), Fault>
+pub fn check_name<'a>(alloc: Global, seen: &mut Seen<'a>, name: &'a Text) -> Result<(), Fault>
     ensures judged { (before : List (List ℕ)) → HaveSeen seen.old before
         → Judges (name_cause before name.now) result }
     ensures noted { (before : List (List ℕ)) → HaveSeen seen.old before →

@@ -2,7 +2,6 @@
 use Rattle.std.proofs.Common.{◌≡◌, ℕ, ◌+◌, ◌<◌, ◌≤◌, Bool, true, false, ◌||◌, cond, List, [], ◌∷◌, ◌++◌, length, drop}
 use Rattle.std.proofs.Common.{get_or, map, refl, sym, ap, ◌∙◌, append_assoc, arith, length-append, Bor, Result, Err}
 use Rattle.std.proofs.lemmas.List.Folds.{list_any-append}
-use Rattle.std.specs.BTreeSet.{BTreeSet}
 use Rattle.std.specs.Str.{bytes_eq}
 use Rattle.td_value.specs.declared.enumerations.PropertyMode.{PropertyMode}
 use Rattle.td_value.specs.declared.enumerations.PropertyMode.TheVariants.{Normal, Readonly, Mandatory}
@@ -146,7 +145,7 @@ already : (b old new m : Bool) → new ≡ (b || old) → old ≡ m → (b ≡ t
 already true old new m e h k = e ∙ (sym (k refl) ∙ h)
 already false old new m e h k = e ∙ h
 
-pub met_anew : (seen new : BTreeSet (Bor (List ℕ))) (met : List (List ℕ)) (name : List ℕ) → HaveSeen seen met
+pub met_anew : (seen new : List (List ℕ)) (met : List (List ℕ)) (name : List ℕ) → HaveSeen seen met
     → ((other : List ℕ) → has_seen new other ≡ (bytes_eq name other || has_seen seen other))
     → HaveSeen new (met ++ name ∷ [])
 met_anew seen new met name h added other =

@@ -5,7 +5,6 @@ use Rattle.std.proofs.Common.{◌||◌, Bor}
 use Rattle.td_types.proofs.Equal.{bytes_eq-sym}
 use Rattle.std.proofs.lemmas.List.{reverse-append, map-append}
 use Rattle.std.proofs.Math.Seq.{take-suc}
-use Rattle.std.specs.BTreeSet.{BTreeSet}
 use Rattle.std.specs.Option.{option_map}
 use Rattle.std.specs.Str.{bytes_eq}
 use Rattle.td_cdr.specs.Names.{word_name}
@@ -132,7 +131,7 @@ goes_on r name if_name supers i s total lt is h so_far =
     rw (rest supers i s lt is, h, one_more supers i s lt is) refl in
     sym one ∙ so_far
 
-pub sees : (seen new : BTreeSet (Bor (List ℕ))) (supers : List (List ℕ)) (i : ℕ) (s : List ℕ) → i < length supers
+pub sees : (seen new : List (List ℕ)) (supers : List (List ℕ)) (i : ℕ) (s : List ℕ) → i < length supers
     → s ≡ get_or supers i s → HaveSeen seen (met supers i)
     → ((other : List ℕ) → has_seen new other ≡ (bytes_eq s other || has_seen seen other))
     → HaveSeen new (met supers (i + 1))

@@ -16,8 +16,7 @@ use crate::fault::TypesFault;
 use crate::limits::MOST_PROPERTIES;
 use crate::modes::join;
 use std::alloc::Global;
-use std::collections::BTreeSet;
-use td_cdr::{List, Memory, Text, Twin, nothing_seen, see};
+use td_cdr::{List, Memory, Seen, Text, Twin, nothing_seen, see};
 use td_value::{PropStruct, PropertyMode};
 
 /// The full properties: its own in order, then its supertypes'.
@@ -152,7 +151,7 @@ pub(crate) fn ancestors(alloc: Global, bases: &[&Entry]) -> Result<List<Text>, M
 fn meet_all<'a>(
     alloc: Global,
     met: &mut List<Text>,
-    seen: &mut BTreeSet<&'a [u8]>,
+    seen: &mut Seen<'a>,
     names: &'a [Text],
 ) -> Result<(), Memory>
     ensures { HaveSeen seen.old met.old → OnOk result ((met.new ≡ once met.old names.now)
@@ -168,7 +167,7 @@ fn meet_all<'a>(
 fn meet<'a>(
     alloc: Global,
     met: &mut List<Text>,
-    seen: &mut BTreeSet<&'a [u8]>,
+    seen: &mut Seen<'a>,
     name: &'a Text,
 ) -> Result<(), Memory>
     ensures { HaveSeen seen.old met.old → OnOk result ((met.new ≡ add_once met.old name.now)
