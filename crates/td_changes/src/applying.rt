@@ -9,6 +9,7 @@ ghost use Rattle.td_register.specs.Needs.{NeedsNone};
 ghost use Rattle.td_changes.specs.Numbering.{AreNumbered};
 ghost use Rattle.td_changes.specs.Outcomes.{Ends};
 
+use itoa::Buffer;
 use std::alloc::Global;
 use td_admin::{
     add_link, add_type, follow_of, mask_type, modify_link, number_of, remove_link, remove_type,
@@ -26,11 +27,8 @@ use td_types::halves;
 fn next_id(alloc: Global, last: u32) -> Result<Text, Memory>
     ensures { IfOk result (λ id. id ≡ id_of (last + 1)) }
 {
-    let number = u64::from(last) + 1;
-    match format!(in alloc; "{number}") {
-        Ok(text) => Ok(Text::from_vec(text.into_bytes())),
-        Err(_) => Err(Memory),
-    }
+    let mut digits = Buffer::new();
+    Text::from_slice(alloc, digits.format(u64::from(last) + 1).as_bytes())
 }
 
 fn next_incarnation(last: u64) -> u64
