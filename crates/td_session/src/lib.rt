@@ -12,6 +12,6 @@ mod session;
 
 pub use laws::all_messages_are_served;
 pub use room::Room;
-pub use sending::answer_holding;
+pub use servant::TraderServant;
 pub use session::serve_connection;
 pub use td_stream::{Cause, End};

@@ -8,7 +8,7 @@ ghost use Rattle.td_session.specs.Stages.{stage_in};
 ghost use Rattle.td_stream.specs.Heads.{HasHead, IsMessage};
 
 use crate::room::Room;
-use crate::servant::{answer_lent, give_back};
+use crate::servant::answer_lent;
 use std::alloc::Global;
 use td_cdr::Memory;
 use td_giop::Raw;
@@ -21,51 +21,13 @@ use td_walk::Peers;
 
 // What a borrow lends to a generic `&mut B` may hold no further borrow whose lifetime the caller
 // names. So each wrapper (`SendingPeers`, `BackendRef`) is made in a function that is generic in
-// what it wraps: `answer_holding`, `answer_sending` and `answer_lent` are one step.
-/// Answers a message while replies are held. Its own reply stands in the room then.
+// what it wraps: `answer` of `TraderServant`, `answer_sending` and `answer_lent` are one step.
+/// Answers a message with peers whose calls send what is held first. Its own reply stands in the room then.
 ///
 /// # Errors
 ///
 /// `Memory` where there is no room to note a Request; nothing was done then.
-pub fn answer_holding<T: Traders, P: Peers, G: SendsHeld, W: Words, J: Journal>(
-    alloc: Global,
-    traders: &mut T,
-    room: &mut Room<J>,
-    peers: &mut P,
-    held: &mut G,
-    words: &mut W,
-    message: &Raw<'_>,
-    head: &Head<'_>,
-) -> Result<(), Memory>
-    requires whole { IsMessage message.now }
-    requires head { HasHead message.now head.now }
-    requires numbers { room.old.desk.1 < 2 ^ 63 }
-    ensures same { T.same traders.old traders.new }
-    ensures same_peers { P.same peers.old peers.new }
-    ensures held { G.reaches held.old held.new }
-    ensures same_words { W.same words.old words.new }
-    ensures ok { OnOk result (ServesMessage T.others T.later
-        (stage_in (backend_seen (T.world traders.old)
-        (peers_seen (P.calls peers.old) (P.faults peers.old)) (W.word words.old)) room.old)
-        message.now.bytes.now room.new.replies
-        (stage_in (backend_seen (T.world traders.new)
-        (peers_seen (P.calls peers.new) (P.faults peers.new)) (W.word words.new)) room.new)) }
-    ensures err { OnErr result (Stays
-        (stage_in (backend_seen (T.world traders.old)
-        (peers_seen (P.calls peers.old) (P.faults peers.old)) (W.word words.old)) room.old)
-        (stage_in (backend_seen (T.world traders.new)
-        (peers_seen (P.calls peers.new) (P.faults peers.new)) (W.word words.new)) room.new)) }
-{
-    let mut sending = SendingPeers { peers, held };
-    let answered = answer_sending(alloc, traders, room, &mut sending, words, message, head);
-    let SendingPeers { peers, held } = sending;
-    give_back(peers);
-    give_back(held);
-    answered
-}
-
-/// The same, with peers whose calls send what is held first.
-fn answer_sending<'p, 'h, T: Traders, P: Peers, G: SendsHeld, W: Words, J: Journal>(
+pub(crate) fn answer_sending<'p, 'h, T: Traders, P: Peers, G: SendsHeld, W: Words, J: Journal>(
     alloc: Global,
     traders: &mut T,
     room: &mut Room<J>,

@@ -11,23 +11,24 @@ ghost use Rattle.td_stream.specs.Heads.{HasHead, IsMessage};
 
 use crate::answering::answer_message;
 use crate::room::Room;
-use crate::sending::answer_holding;
+use crate::sending::answer_sending;
 use std::alloc::Global;
 use td_cdr::Memory;
 use td_giop::Raw;
 use td_journal::Journal;
 use td_out::Words;
+use td_sending::SendingPeers;
 use td_serve::BackendRef;
 use td_stream::{Head, SendsHeld, Servant};
 use td_trader::Traders;
 use td_walk::Peers;
 
 /// Answers the messages of a connection with what its session is lent.
-pub(crate) struct TraderServant<'t, 'r, 'p, 'w, T, J: Journal, P, W> {
-    pub(crate) traders: &'t mut T,
-    pub(crate) room: &'r mut Room<J>,
-    pub(crate) peers: &'p mut P,
-    pub(crate) words: &'w mut W,
+pub struct TraderServant<'t, 'r, 'p, 'w, T, J: Journal, P, W> {
+    pub traders: &'t mut T,
+    pub room: &'r mut Room<J>,
+    pub peers: &'p mut P,
+    pub words: &'w mut W,
 }
 
 impl<'t, 'r, 'p, 'w, T: Traders, J: Journal, P: Peers, W: Words> Servant
@@ -92,16 +93,24 @@ impl<'t, 'r, 'p, 'w, T: Traders, J: Journal, P: Peers, W: Words> Servant
         head: &Head<'_>,
         held: &mut G,
     ) -> Result<(), Memory> {
-        answer_holding(
+        // Replies that are held go out before a peer is called.
+        let mut sending = SendingPeers {
+            peers: &mut *self.peers,
+            held,
+        };
+        let answered = answer_sending(
             alloc,
             self.traders,
             self.room,
-            self.peers,
-            held,
+            &mut sending,
             self.words,
             message,
             head,
-        )
+        );
+        let SendingPeers { peers, held } = sending;
+        give_back(peers);
+        give_back(held);
+        answered
     }
 
     fn reply(&self) -> &[u8] {

@@ -20,8 +20,8 @@ use td_desk::{DeskPass, SharedDesk};
 use td_giop::Raw;
 use td_journal::KeptJournal;
 use td_out::Words;
-use td_session::{Room, answer_holding};
-use td_stream::{Head, SendsHeld};
+use td_session::{Room, TraderServant};
+use td_stream::{Head, SendsHeld, Servant};
 use td_trader::Traders;
 use td_walk::Peers;
 
@@ -35,6 +35,10 @@ pub(crate) fn answer_other<
     'd,
     's,
     'j,
+    't,
+    'r,
+    'p,
+    'w,
     R: Wait,
     J: SharedJournal,
     T: Traders,
@@ -44,18 +48,15 @@ pub(crate) fn answer_other<
 >(
     alloc: Global,
     sharing: &mut Sharing<'d, 's, 'j, R, J>,
-    traders: &mut T,
-    room: &mut Room<KeptJournal>,
-    peers: &mut P,
+    other: &mut TraderServant<'t, 'r, 'p, 'w, T, KeptJournal, P, W>,
     held: &mut G,
-    words: &mut W,
     message: &Raw<'_>,
     head: &Head<'_>,
 ) -> Result<(), Memory>
     requires whole { IsMessage message.now }
     requires head { HasHead message.now head.now }
     requires unkeyed { IsUnkeyed message.now.bytes.now }
-    requires nothing_noted { room.old.journal ≡ [] }
+    requires nothing_noted { other.old.room.now.journal ≡ [] }
     requires room { J.has_room sharing.old.journal.now }
     ensures pass { sharing.new.pass.ghost_name ≡ sharing.old.pass.ghost_name }
     ensures journal { sharing.new.journal.ghost_name ≡ sharing.old.journal.ghost_name }
@@ -63,26 +64,34 @@ pub(crate) fn answer_other<
     ensures cell { SameCell sharing.new.pass.now sharing.old.pass.now }
     ensures numbers { SameNumbers (knowledge sharing.old.pass.now)
         (knowledge sharing.new.pass.now) }
-    ensures same { T.same traders.old traders.new }
-    ensures same_peers { P.same peers.old peers.new }
+    ensures named_traders { other.new.traders.ghost_name ≡ other.old.traders.ghost_name }
+    ensures named_room { other.new.room.ghost_name ≡ other.old.room.ghost_name }
+    ensures named_peers { other.new.peers.ghost_name ≡ other.old.peers.ghost_name }
+    ensures named_words { other.new.words.ghost_name ≡ other.old.words.ghost_name }
+    ensures same { T.same other.old.traders.now other.new.traders.now }
+    ensures same_peers { P.same other.old.peers.now other.new.peers.now }
     ensures held { G.reaches held.old held.new }
-    ensures same_words { W.same words.old words.new }
-    ensures unnoted { room.new.journal ≡ [] }
+    ensures same_words { W.same other.old.words.now other.new.words.now }
+    ensures unnoted { other.new.room.now.journal ≡ [] }
     ensures full { OnOk result (sharing.new.full ≡ sharing.old.full) }
     ensures other { OnOk result (ServesOther T.others T.later
-        (shared_in (backend_seen (T.world traders.old)
-        (peers_seen (P.calls peers.old) (P.faults peers.old)) (W.word words.old)) room.old
+        (shared_in (backend_seen (T.world other.old.traders.now)
+        (peers_seen (P.calls other.old.peers.now) (P.faults other.old.peers.now))
+        (W.word other.old.words.now)) other.old.room.now
         (knowledge sharing.old.pass.now) (J.entries sharing.old.journal.now))
-        message.now.bytes.now room.new.replies
-        (shared_in (backend_seen (T.world traders.new)
-        (peers_seen (P.calls peers.new) (P.faults peers.new)) (W.word words.new)) room.new
+        message.now.bytes.now other.new.room.now.replies
+        (shared_in (backend_seen (T.world other.new.traders.now)
+        (peers_seen (P.calls other.new.peers.now) (P.faults other.new.peers.now))
+        (W.word other.new.words.now)) other.new.room.now
         (knowledge sharing.new.pass.now) (J.entries sharing.new.journal.now))) }
     ensures stays { OnErr result (StaysWith sharing.old.full sharing.new.full
-        (shared_in (backend_seen (T.world traders.old)
-        (peers_seen (P.calls peers.old) (P.faults peers.old)) (W.word words.old)) room.old
+        (shared_in (backend_seen (T.world other.old.traders.now)
+        (peers_seen (P.calls other.old.peers.now) (P.faults other.old.peers.now))
+        (W.word other.old.words.now)) other.old.room.now
         (knowledge sharing.old.pass.now) (J.entries sharing.old.journal.now))
-        (shared_in (backend_seen (T.world traders.new)
-        (peers_seen (P.calls peers.new) (P.faults peers.new)) (W.word words.new)) room.new
+        (shared_in (backend_seen (T.world other.new.traders.now)
+        (peers_seen (P.calls other.new.peers.now) (P.faults other.new.peers.now))
+        (W.word other.new.words.now)) other.new.room.now
         (knowledge sharing.new.pass.now) (J.entries sharing.new.journal.now))) }
 {
     match sharing.desk.draw(sharing.rt, sharing.pass) {
@@ -91,12 +100,12 @@ pub(crate) fn answer_other<
             Err(Memory)
         }
         Ok(number) => {
-            room.restart(number);
-            match answer_holding(alloc, traders, room, peers, held, words, message, head) {
+            other.room.restart(number);
+            match other.answer(alloc, message, head, held) {
                 Err(memory) => Err(memory),
                 Ok(()) => {
-                    put_kept(sharing.rt, sharing.desk, sharing.pass, number, room);
-                    note_session(sharing.journal, room);
+                    put_kept(sharing.rt, sharing.desk, sharing.pass, number, other.room);
+                    note_session(sharing.journal, other.room);
                     Ok(())
                 }
             }

@@ -18,7 +18,7 @@ use td_giop::Raw;
 use td_journal::KeptJournal;
 use td_out::Words;
 use td_serve::Replies;
-use td_session::Room;
+use td_session::TraderServant;
 use td_stream::{Head, SendsHeld, Servant};
 use td_trader::Traders;
 use td_walk::Peers;
@@ -27,47 +27,45 @@ use td_walk::Peers;
 #[derive(Drop)]
 pub(crate) struct SharedServant<'d, 't, 's, 'r, 'j, 'p, 'w, R, J, T, P, W> {
     pub(crate) sharing: Sharing<'d, 's, 'j, R, J>,
-    pub(crate) traders: &'t mut T,
-    pub(crate) room: &'r mut Room<KeptJournal>,
-    pub(crate) peers: &'p mut P,
-    pub(crate) words: &'w mut W,
+    /// Answers the messages that are for no iterator.
+    pub(crate) other: TraderServant<'t, 'r, 'p, 'w, T, KeptJournal, P, W>,
     /// The replies to messages for iterators.
     pub(crate) replies: Replies,
     /// Whether the last message was for an iterator.
     pub(crate) keyed: bool,
-    ghost nothing_noted: { length room.now.journal ≡ 0 },
+    ghost nothing_noted: { length other.room.now.journal ≡ 0 },
 }
 
 impl<'d, 't, 's, 'r, 'j, 'p, 'w, R: Wait, J: SharedJournal, T: Traders, P: Peers, W: Words> Servant
     for SharedServant<'d, 't, 's, 'r, 'j, 'p, 'w, R, J, T, P, W> {
     ghost serves = { λ s message reply u. ServesWith T.others T.later s.sharing.full u.sharing.full
-        (shared_in (backend_seen (T.world s.traders.now)
-        (peers_seen (P.calls s.peers.now) (P.faults s.peers.now)) (W.word s.words.now)) s.room.now
+        (shared_in (backend_seen (T.world s.other.traders.now)
+        (peers_seen (P.calls s.other.peers.now) (P.faults s.other.peers.now)) (W.word s.other.words.now)) s.other.room.now
         (knowledge s.sharing.pass.now) (J.entries s.sharing.journal.now)) message reply
-        (shared_in (backend_seen (T.world u.traders.now)
-        (peers_seen (P.calls u.peers.now) (P.faults u.peers.now)) (W.word u.words.now)) u.room.now
+        (shared_in (backend_seen (T.world u.other.traders.now)
+        (peers_seen (P.calls u.other.peers.now) (P.faults u.other.peers.now)) (W.word u.other.words.now)) u.other.room.now
         (knowledge u.sharing.pass.now) (J.entries u.sharing.journal.now)) };
 
     ghost stays = { λ s u. StaysWith s.sharing.full u.sharing.full
-        (shared_in (backend_seen (T.world s.traders.now)
-        (peers_seen (P.calls s.peers.now) (P.faults s.peers.now)) (W.word s.words.now)) s.room.now
+        (shared_in (backend_seen (T.world s.other.traders.now)
+        (peers_seen (P.calls s.other.peers.now) (P.faults s.other.peers.now)) (W.word s.other.words.now)) s.other.room.now
         (knowledge s.sharing.pass.now) (J.entries s.sharing.journal.now))
-        (shared_in (backend_seen (T.world u.traders.now)
-        (peers_seen (P.calls u.peers.now) (P.faults u.peers.now)) (W.word u.words.now)) u.room.now
+        (shared_in (backend_seen (T.world u.other.traders.now)
+        (peers_seen (P.calls u.other.peers.now) (P.faults u.other.peers.now)) (W.word u.other.words.now)) u.other.room.now
         (knowledge u.sharing.pass.now) (J.entries u.sharing.journal.now)) };
 
-    ghost same = { λ a b. (a.traders.ghost_name ≡ b.traders.ghost_name)
+    ghost same = { λ a b. (a.other.traders.ghost_name ≡ b.other.traders.ghost_name)
         × (a.sharing.pass.ghost_name ≡ b.sharing.pass.ghost_name)
-        × (a.room.ghost_name ≡ b.room.ghost_name)
+        × (a.other.room.ghost_name ≡ b.other.room.ghost_name)
         × (a.sharing.journal.ghost_name ≡ b.sharing.journal.ghost_name)
-        × (a.peers.ghost_name ≡ b.peers.ghost_name)
-        × (a.words.ghost_name ≡ b.words.ghost_name) × (b.sharing.desk ≡ a.sharing.desk)
+        × (a.other.peers.ghost_name ≡ b.other.peers.ghost_name)
+        × (a.other.words.ghost_name ≡ b.other.words.ghost_name) × (b.sharing.desk ≡ a.sharing.desk)
         × SameCell b.sharing.pass.now a.sharing.pass.now
         × SameNumbers (knowledge a.sharing.pass.now) (knowledge b.sharing.pass.now)
-        × T.same a.traders.now b.traders.now × P.same a.peers.now b.peers.now
-        × W.same a.words.now b.words.now };
+        × T.same a.other.traders.now b.other.traders.now × P.same a.other.peers.now b.other.peers.now
+        × W.same a.other.words.now b.other.words.now };
 
-    ghost told = { λ s. if s.keyed then s.replies else s.room.now.replies };
+    ghost told = { λ s. if s.keyed then s.replies else s.other.room.now.replies };
 
     // Its numbers are the desk's.
     ghost budget = { λ s. 0 };
@@ -78,8 +76,8 @@ impl<'d, 't, 's, 'r, 'j, 'p, 'w, R: Wait, J: SharedJournal, T: Traders, P: Peers
     ghost spends = { λ s message reply u h. least _ };
 
     ghost stays_itself = { λ a. stays_same a.sharing.full
-        (shared_in (backend_seen (T.world a.traders.now)
-        (peers_seen (P.calls a.peers.now) (P.faults a.peers.now)) (W.word a.words.now)) a.room.now
+        (shared_in (backend_seen (T.world a.other.traders.now)
+        (peers_seen (P.calls a.other.peers.now) (P.faults a.other.peers.now)) (W.word a.other.words.now)) a.other.room.now
         (knowledge a.sharing.pass.now) (J.entries a.sharing.journal.now)) };
 
     ghost same_itself = { λ a. (
@@ -92,9 +90,9 @@ impl<'d, 't, 's, 'r, 'j, 'p, 'w, R: Wait, J: SharedJournal, T: Traders, P: Peers
       refl,
       refl,
       numbers_same _,
-      T.same_itself a.traders.now,
-      P.same_self a.peers.now,
-      W.same_self a.words.now,
+      T.same_itself a.other.traders.now,
+      P.same_self a.other.peers.now,
+      W.same_self a.other.words.now,
     ) };
 
     ghost same_on = { λ a b c p q. (
@@ -107,9 +105,9 @@ impl<'d, 't, 's, 'r, 'j, 'p, 'w, R: Wait, J: SharedJournal, T: Traders, P: Peers
       q.6 ∙ p.6,
       q.7 ∙ p.7,
       numbers_on _ _ _ p.8 q.8,
-      T.same_on a.traders.now b.traders.now c.traders.now p.9 q.9,
-      P.same_on a.peers.now b.peers.now c.peers.now p.10 q.10,
-      W.same_on a.words.now b.words.now c.words.now p.11 q.11,
+      T.same_on a.other.traders.now b.other.traders.now c.other.traders.now p.9 q.9,
+      P.same_on a.other.peers.now b.other.peers.now c.other.peers.now p.10 q.10,
+      W.same_on a.other.words.now b.other.words.now c.other.words.now p.11 q.11,
     ) };
 
     fn answer<G: SendsHeld>(
@@ -138,11 +136,8 @@ impl<'d, 't, 's, 'r, 'j, 'p, 'w, R: Wait, J: SharedJournal, T: Traders, P: Peers
                 answer_other(
                     alloc,
                     &mut self.sharing,
-                    self.traders,
-                    self.room,
-                    self.peers,
+                    &mut self.other,
                     held,
-                    self.words,
                     message,
                     head,
                 )
@@ -154,7 +149,7 @@ impl<'d, 't, 's, 'r, 'j, 'p, 'w, R: Wait, J: SharedJournal, T: Traders, P: Peers
         if self.keyed {
             self.replies.bytes()
         } else {
-            self.room.reply()
+            self.other.reply()
         }
     }
 }

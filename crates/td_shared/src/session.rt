@@ -21,7 +21,7 @@ use td_desk::{DeskPass, SharedDesk};
 use td_journal::KeptJournal;
 use td_out::{Sink, Source, Words};
 use td_serve::Replies;
-use td_session::Room;
+use td_session::{Room, TraderServant};
 use td_stream::{End, serve_stream};
 use td_trader::Traders;
 use td_walk::{Address, Peers};
@@ -134,27 +134,33 @@ fn serve_in<R: Wait, J: SharedJournal, T: Traders, S: Source, K: Sink, P: Peers,
         journal,
         full: false,
     };
-    let mut servant = SharedServant {
-        sharing,
+    let other = TraderServant {
         traders,
         room,
         peers,
         words,
+    };
+    let mut servant = SharedServant {
+        sharing,
+        other,
         replies,
         keyed: false,
     };
     let end = serve_lent(alloc, &mut servant, source, sink);
     let SharedServant {
         sharing,
-        traders,
-        room,
-        peers,
-        words,
+        other,
         replies,
         ..
     } = servant;
     drop(replies);
     let Sharing { pass, journal, .. } = sharing;
+    let TraderServant {
+        traders,
+        room,
+        peers,
+        words,
+    } = other;
     give_back(traders);
     give_back(pass);
     give_back(room);
@@ -187,28 +193,28 @@ fn serve_lent<
     sink: &mut K,
 ) -> End
     requires { servant.old.sharing.full ≡ false }
-    ensures named_traders { servant.new.traders.ghost_name ≡ servant.old.traders.ghost_name }
+    ensures named_traders { servant.new.other.traders.ghost_name ≡ servant.old.other.traders.ghost_name }
     ensures named_pass { servant.new.sharing.pass.ghost_name ≡ servant.old.sharing.pass.ghost_name }
-    ensures named_room { servant.new.room.ghost_name ≡ servant.old.room.ghost_name }
+    ensures named_room { servant.new.other.room.ghost_name ≡ servant.old.other.room.ghost_name }
     ensures named_journal { servant.new.sharing.journal.ghost_name
         ≡ servant.old.sharing.journal.ghost_name }
-    ensures named_peers { servant.new.peers.ghost_name ≡ servant.old.peers.ghost_name }
-    ensures named_words { servant.new.words.ghost_name ≡ servant.old.words.ghost_name }
+    ensures named_peers { servant.new.other.peers.ghost_name ≡ servant.old.other.peers.ghost_name }
+    ensures named_words { servant.new.other.words.ghost_name ≡ servant.old.other.words.ghost_name }
     ensures desk { servant.new.sharing.desk ≡ servant.old.sharing.desk }
     ensures cell { SameCell servant.new.sharing.pass.now servant.old.sharing.pass.now }
     ensures numbers { SameNumbers (knowledge servant.old.sharing.pass.now)
         (knowledge servant.new.sharing.pass.now) }
-    ensures same { T.same servant.old.traders.now servant.new.traders.now }
-    ensures same_peers { P.same servant.old.peers.now servant.new.peers.now }
-    ensures same_words { W.same servant.old.words.now servant.new.words.now }
+    ensures same { T.same servant.old.other.traders.now servant.new.other.traders.now }
+    ensures same_peers { P.same servant.old.other.peers.now servant.new.other.peers.now }
+    ensures same_words { W.same servant.old.other.words.now servant.new.other.words.now }
     ensures serves { ServesSharing T.others T.later
-        (shared_in (backend_seen (T.world servant.old.traders.now)
-        (peers_seen (P.calls servant.old.peers.now) (P.faults servant.old.peers.now))
-        (W.word servant.old.words.now)) servant.old.room.now
+        (shared_in (backend_seen (T.world servant.old.other.traders.now)
+        (peers_seen (P.calls servant.old.other.peers.now) (P.faults servant.old.other.peers.now))
+        (W.word servant.old.other.words.now)) servant.old.other.room.now
         (knowledge servant.old.sharing.pass.now) (J.entries servant.old.sharing.journal.now))
-        (shared_in (backend_seen (T.world servant.new.traders.now)
-        (peers_seen (P.calls servant.new.peers.now) (P.faults servant.new.peers.now))
-        (W.word servant.new.words.now)) servant.new.room.now
+        (shared_in (backend_seen (T.world servant.new.other.traders.now)
+        (peers_seen (P.calls servant.new.other.peers.now) (P.faults servant.new.other.peers.now))
+        (W.word servant.new.other.words.now)) servant.new.other.room.now
         (knowledge servant.new.sharing.pass.now) (J.entries servant.new.sharing.journal.now)) result
         (outside (S.left source.old) (S.faults source.old) (K.written sink.old) (K.faults sink.old))
         (outside (S.left source.new) (S.faults source.new) (K.written sink.new)

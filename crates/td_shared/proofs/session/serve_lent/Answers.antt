@@ -13,9 +13,9 @@ returns-clause-serves g c =
     (λ v. (
       v.sharing.full,
       shared_in
-          (backend_seen (g.T.Traders.world v.traders.now)
-          (peers_seen (g.P.Peers.calls v.peers.now) (g.P.Peers.faults v.peers.now)) (g.W.Words.word v.words.now))
-          v.room.now (knowledge v.sharing.pass.now) (g.J.SharedJournal.entries v.sharing.journal.now),
+          (backend_seen (g.T.Traders.world v.other.traders.now)
+          (peers_seen (g.P.Peers.calls v.other.peers.now) (g.P.Peers.faults v.other.peers.now)) (g.W.Words.word v.other.words.now))
+          v.other.room.now (knowledge v.sharing.pass.now) (g.J.SharedJournal.entries v.sharing.journal.now),
     ))
     _ _ (ServesKnown g.T.Traders.others g.T.Traders.later) (StaysKnown g.T.Traders.others g.T.Traders.later)
     (λ s m r t x. x) (λ s t x. x) _ _ _ _ _ c.serve_stream-streamed.ensures.streams)
