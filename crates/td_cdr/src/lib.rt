@@ -37,7 +37,7 @@ pub use row::{put_five, put_four, put_six, put_three, put_two};
 pub use seen::{Seen, nothing_seen, see};
 pub use shared::{Shared, share_four, share_owned_three, share_owned_two, share_three, share_two};
 pub use spelled::Spelled;
-pub use text::Text;
+pub use text::{Text, has_nul};
 pub use twin::Twin;
 pub use twins::{copy_four, copy_three, copy_two};
 pub use value_fault::ValueFault;

@@ -1,6 +1,7 @@
 //! Text as bytes: CORBA 2.0 strings are bytes without NUL, in no stated character set.
 
 ghost use Rattle.std.specs.Prelude.{◌≡◌, [], ◌↔◌, length, IsTrue, IfOk};
+ghost use Rattle.td_cdr.specs.Text.{has_nul};
 
 use crate::memory::Memory;
 use crate::twin::Twin;
@@ -103,4 +104,12 @@ impl Twin for Text {
     fn copy(&self, alloc: Global) -> Result<Text, Memory> {
         Text::from_slice(alloc, self.as_slice())
     }
+}
+
+/// Whether one of the bytes is a NUL, which no string can spell (CORBA, General Inter-ORB
+/// Protocol, "Strings and Wide Strings").
+pub fn has_nul(bytes: &[u8]) -> bool
+    ensures { result ≡ has_nul bytes.now }
+{
+    bytes.contains(&0)
 }

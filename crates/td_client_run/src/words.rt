@@ -9,20 +9,14 @@ ghost use Rattle.td_tool.specs.Wishes.{asked_by};
 
 use std::alloc::Global;
 use td_asking::{AskFault, Asking, asking_of};
+use td_cdr::has_nul;
 use td_tool::{Refusal, Wanted, ask};
-
-/// Whether a word has a NUL.
-fn has_nul(word: &String) -> bool
-    ensures { result ≡ has_nul (string_bytes word.now) }
-{
-    word.as_bytes().contains(&0)
-}
 
 /// Whether one of the words has a NUL.
 fn have_nul(words: &[String]) -> bool
     ensures { result ≡ list_any (λ word. has_nul (string_bytes word)) words.now }
 {
-    words.iter().any(|word| has_nul(word))
+    words.iter().any(|word| has_nul(word.as_bytes()))
 }
 
 /// What is made of the words that clap read.

@@ -1,7 +1,6 @@
 //! What a proxy offer's recipe makes (Trading Object Service, "Proxy").
 
 ghost use Rattle.std.specs.Prelude.{◌≡◌, ◌++◌, vec_len, IfOk, OnOk};
-ghost use Rattle.td_cdr.specs.Text.{has_nul};
 ghost use Rattle.td_lang.specs.Spelling.{needs_backslash, inside_quotes};
 ghost use Rattle.td_eval.specs.Operands.{view};
 ghost use Rattle.td_eval.specs.Expansion.{number_literal, text_literal, truth_literal, literal, importer_text};
@@ -11,7 +10,7 @@ ghost use Rattle.td_eval.specs.Putting.{Puts};
 use crate::property::simple_named;
 use crate::simple::Operand;
 use std::alloc::Global;
-use td_cdr::{List, Memory, Text};
+use td_cdr::{List, Memory, Text, has_nul};
 use td_lang::{Part, Recipe};
 use td_value::Property;
 
@@ -67,12 +66,6 @@ fn truth_literal(truth: bool) -> &'static [u8]
     } else {
         b"FALSE".as_slice()
     }
-}
-
-fn has_nul(text: &[u8]) -> bool
-    ensures { result ≡ has_nul text.now }
-{
-    text.iter().any(|byte| *byte == 0)
 }
 
 /// Puts a value's literal behind the bytes, and answers whether it has one.

@@ -1,7 +1,6 @@
 //! Values, as people write them.
 
 ghost use Rattle.std.specs.Prelude.{◌≡◌, IfOk};
-ghost use Rattle.td_cdr.specs.Text.{has_nul};
 ghost use Rattle.td_forms.specs.Values.{boolean_value, char_value, item_value, long_long_value, long_value};
 ghost use Rattle.td_forms.specs.Values.{octet_value, short_value, string_value, u_long_long_value, u_long_value};
 ghost use Rattle.td_forms.specs.Values.{sequence_value, u_short_value, value_of};
@@ -12,7 +11,7 @@ use crate::sequence::items_of;
 use crate::signed::{long_long_of, long_of, short_of};
 use crate::value_type::ValueType;
 use std::alloc::Global;
-use td_cdr::{Memory, Text};
+use td_cdr::{Memory, Text, has_nul};
 use td_ior::number_up_to;
 use td_value::Value;
 
@@ -95,12 +94,6 @@ fn boolean_value(text: &[u8]) -> Option<Value>
         Some(truth) => Some(Value::Boolean(truth)),
         None => None,
     }
-}
-
-fn has_nul(text: &[u8]) -> bool
-    ensures { result ≡ has_nul text.now }
-{
-    text.contains(&0)
 }
 
 fn string_value(alloc: Global, text: &[u8]) -> Result<Option<Value>, Memory>

@@ -3,7 +3,7 @@
 ghost use Rattle.std.specs.Prelude.{codes, ◌≡◌, ◌<◌, ◌^◌, ◌++◌, length, Some, MatchOption, IfSome, IfOk};
 ghost use Rattle.hex.specs.Hex.{IsBytes, encode_lower};
 ghost use Rattle.std.specs.Option.{option_map, option_copied};
-ghost use Rattle.td_cdr.specs.Text.{has_nul, HasNoNul};
+ghost use Rattle.td_cdr.specs.Text.{HasNoNul};
 ghost use Rattle.td_codes.specs.References.{reference as references};
 ghost use Rattle.td_ior.specs.Enclosed.{enclosed_in, enclosing};
 ghost use Rattle.td_ior.specs.Texts.{cut_last, unmarked, parts_of, hex_form, plain_form, reference_in, ReadsText};
@@ -15,7 +15,7 @@ use crate::number::port_of;
 use crate::profile::make_ior;
 use hex::FromHexError;
 use std::alloc::Global;
-use td_cdr::{Memory, Octets, Order, Text, Writer};
+use td_cdr::{Memory, Octets, Order, Text, Writer, has_nul};
 use td_value::{Ior, ValueFault, read_ior, write_ior};
 
 /// The minor version of IIOP in a reference of the form `ref:ID,HOST,PORT,KEY`.
@@ -100,12 +100,6 @@ fn unmarked(word: &[u8]) -> Option<&[u8]>
     ensures { option_copied result ≡ unmarked word.now }
 {
     word.strip_prefix(b"ref:".as_slice())
-}
-
-fn has_nul(bytes: &[u8]) -> bool
-    ensures { result ≡ has_nul bytes.now }
-{
-    bytes.contains(&0)
 }
 
 /// The parts of a reference in the form `ref:ID,HOST,PORT,KEY`.

@@ -9,12 +9,12 @@ use crate::cause::{LineCause, Misfit};
 use crate::draft::Draft;
 use crate::entry::{Entry, TraderScript};
 use crate::hexadecimal::{octets_told, seed_told};
-use crate::home::{has_nul, have_nul, home_told};
+use crate::home::{have_nul, home_told};
 use crate::setting::setting_told;
 use crate::words::{cut_word, one_word, two_words, words_of};
 use std::alloc::Global;
 use std::mem;
-use td_cdr::{List, Memory, Text, is_trader_name};
+use td_cdr::{List, Memory, Text, has_nul, is_trader_name};
 use td_ior::number_up_to;
 use td_ops::{Change, is_among};
 

@@ -9,14 +9,8 @@ ghost use Rattle.td_lines.specs.Homes.{home_told, is_no_host, with_minor};
 use crate::cause::{LineCause, Misfit};
 use crate::entry::Home;
 use std::alloc::Global;
-use td_cdr::Text;
+use td_cdr::{Text, has_nul};
 use td_ior::number_up_to;
-
-pub(crate) fn has_nul(bytes: &[u8]) -> bool
-    ensures { result ≡ has_nul bytes.now }
-{
-    bytes.contains(&0)
-}
 
 /// Whether one of these texts has a NUL.
 pub(crate) fn have_nul(texts: &[Text]) -> bool

@@ -10,12 +10,11 @@ ghost use Rattle.td_lines.specs.Offered.{with_new_offer, with_offer, with_proxy,
 use crate::cause::{LineCause, Misfit};
 use crate::draft::{Draft, Open, OpenOffer, ProxyWords};
 use crate::dynamic::dynamic_told;
-use crate::home::has_nul;
 use crate::properties::property_told;
 use crate::references::reference_told;
 use crate::words::{three_and_text, three_words, two_and_text, two_words};
 use std::alloc::Global;
-use td_cdr::{List, Memory, Text};
+use td_cdr::{List, Memory, Text, has_nul};
 use td_value::{Ior, Property};
 
 /// Whether a proxy matches all, by the word for it.

@@ -6,11 +6,10 @@ ghost use Rattle.td_lines.specs.Typed.{if_name_of, new_type, with_added_prop, wi
 
 use crate::cause::{LineCause, Misfit};
 use crate::draft::{Draft, Open, OpenType};
-use crate::home::has_nul;
 use crate::properties::prop_told;
 use crate::words::{cut_word, three_words, words_of};
 use std::alloc::Global;
-use td_cdr::{List, Memory, Text};
+use td_cdr::{List, Memory, Text, has_nul};
 use td_value::PropStruct;
 
 /// What a word says for an interface: `-` stands for the empty text.

@@ -2,9 +2,10 @@
 
 ghost use Rattle.std.specs.Prelude.{◌≡◌, ◌≤◌, IfSome, length, map, string_bytes};
 ghost use Rattle.std.specs.Option.{option_map};
-ghost use Rattle.td_cdr.specs.Text.{HasNoNul, has_nul};
+ghost use Rattle.td_cdr.specs.Text.{HasNoNul};
 ghost use Rattle.td_name_command.specs.Words.{fits_host, home, home_named, home_of};
 
+use td_cdr::has_nul;
 use td_ior::number_up_to;
 
 /// The host and the port that the words name: `names HOST PORT`, with a host of at most 1,000 bytes without a NUL, and a
@@ -47,10 +48,4 @@ fn fits_host(host: &[u8]) -> bool
     ensures { result ≡ fits_host host.now }
 {
     host.len() <= 1000 && !has_nul(host)
-}
-
-fn has_nul(bytes: &[u8]) -> bool
-    ensures { result ≡ has_nul bytes.now }
-{
-    bytes.contains(&0)
 }
