@@ -24,6 +24,7 @@ use td_trader::Traders;
 use td_walk::Peers;
 
 /// Answers the messages of a connection with what its session is lent.
+#[derive(Drop)]
 pub struct TraderServant<'t, 'r, 'p, 'w, T, J: Journal, P, W> {
     pub traders: &'t mut T,
     pub room: &'r mut Room<J>,
