@@ -1,7 +1,7 @@
 -- A union's discriminator: its values, which are also the labels of the union's arms.
 use Rattle.std.specs.Prelude.{◌≡◌, ℕ, ℤ, zero, suc, nat_lt, nat_eq, Bool, false, length, Option, Some, None}
 use Rattle.std.specs.Prelude.{refl}
-use Rattle.std.proofs.Common.{ap, subst}
+use Rattle.std.proofs.Common.{ap, subst, sym}
 use Rattle.std.specs.Int.{w16, w32, w64, cast_unsigned, from_bool}
 use Rattle.td_cdr.specs.declared.order.Order.{Order}
 use Rattle.td_cdr.specs.Place.{At}
@@ -70,162 +70,105 @@ plain_piece v = label_piece (label_of v)
 
 -- ---- plain values
 
+abbrev pub plain_layer : Held → Piece
+plain_layer l = label_piece (label_of_layer l)
+
+-- the values of one kind: what each is made of, which is spelled as the value's label is
+module _ {A : Type 0} (make : A → Value) (inside : Held → Option A)
+    (kept : (x : A) → inside (out-Value (make x)) ≡ Some x) (part : Sound ValueFault A)
+    (alike : (x : A) → plain_layer (out-Value (make x)) ≡ part.format.writes x) where
+  abbrev made : Sound ValueFault Value
+  made = variant make (λ v. inside (out-Value v)) kept part
+
+  pub made-plain : (v : Value) (order : Order) (place : ℕ) → made.format.admits v
+      → made.format.writes v order place ≡ plain_piece v order place
+  made-plain v order place ok =
+      subst (λ (v : Value). made.format.writes v order place ≡ plain_piece v order place) ok.1
+      (rw (kept ok.0) (sym (ap (λ (p : Piece). p order place) (alike ok.0))))
+
+  abbrev pub plain_value : Sound ValueFault Value
+  plain_value = other_writing plain_piece made made-plain
+
 abbrev pub short_in : Held → Option ℤ
 short_in (c.Value::Short x) = Some x
 short_in l = None
 
-abbrev pub short_variant : Sound ValueFault Value
-short_variant = variant (λ x. value.Short x) (λ v. short_in (out-Value v))
-    (λ x. ap short_in (value-short x)) short
-
-pub short-plain : (v : Value) (order : Order) (place : ℕ) → short_variant.format.admits v
-    → short_variant.format.writes v order place ≡ plain_piece v order place
-short-plain v order place ok =
-    subst (λ (v : Value). short_variant.format.writes v order place ≡ plain_piece v order place)
-    ok.1 (rw (value-short ok.0) refl)
-
 abbrev pub short_value : Sound ValueFault Value
-short_value = other_writing plain_piece short_variant short-plain
+short_value =
+    plain_value (λ x. value.Short x) short_in (λ x. ap short_in (value-short x)) short
+    (λ x. ap plain_layer (value-short x))
 
 abbrev pub long_in : Held → Option ℤ
 long_in (c.Value::Long x) = Some x
 long_in l = None
 
-abbrev pub long_variant : Sound ValueFault Value
-long_variant = variant (λ x. value.Long x) (λ v. long_in (out-Value v))
-    (λ x. ap long_in (value-long x)) long
-
-pub long-plain : (v : Value) (order : Order) (place : ℕ) → long_variant.format.admits v
-    → long_variant.format.writes v order place ≡ plain_piece v order place
-long-plain v order place ok =
-    subst (λ (v : Value). long_variant.format.writes v order place ≡ plain_piece v order place) ok.1
-    (rw (value-long ok.0) refl)
-
 abbrev pub long_value : Sound ValueFault Value
-long_value = other_writing plain_piece long_variant long-plain
+long_value =
+    plain_value (λ x. value.Long x) long_in (λ x. ap long_in (value-long x)) long
+    (λ x. ap plain_layer (value-long x))
 
 abbrev pub ushort_in : Held → Option ℕ
 ushort_in (c.Value::UShort x) = Some x
 ushort_in l = None
 
-abbrev pub ushort_variant : Sound ValueFault Value
-ushort_variant =
-    variant (λ x. value.UShort x) (λ v. ushort_in (out-Value v))
-    (λ x. ap ushort_in (value-ushort x)) (number 2)
-
-pub ushort-plain : (v : Value) (order : Order) (place : ℕ) → ushort_variant.format.admits v
-    → ushort_variant.format.writes v order place ≡ plain_piece v order place
-ushort-plain v order place ok =
-    subst (λ (v : Value). ushort_variant.format.writes v order place ≡ plain_piece v order place)
-    ok.1 (rw (value-ushort ok.0) refl)
-
 abbrev pub ushort_value : Sound ValueFault Value
-ushort_value = other_writing plain_piece ushort_variant ushort-plain
+ushort_value =
+    plain_value (λ x. value.UShort x) ushort_in (λ x. ap ushort_in (value-ushort x)) (number 2)
+    (λ x. ap plain_layer (value-ushort x))
 
 abbrev pub ulong_in : Held → Option ℕ
 ulong_in (c.Value::ULong x) = Some x
 ulong_in l = None
 
-abbrev pub ulong_variant : Sound ValueFault Value
-ulong_variant = variant (λ x. value.ULong x) (λ v. ulong_in (out-Value v))
-    (λ x. ap ulong_in (value-ulong x)) (number 4)
-
-pub ulong-plain : (v : Value) (order : Order) (place : ℕ) → ulong_variant.format.admits v
-    → ulong_variant.format.writes v order place ≡ plain_piece v order place
-ulong-plain v order place ok =
-    subst (λ (v : Value). ulong_variant.format.writes v order place ≡ plain_piece v order place)
-    ok.1 (rw (value-ulong ok.0) refl)
-
 abbrev pub ulong_value : Sound ValueFault Value
-ulong_value = other_writing plain_piece ulong_variant ulong-plain
+ulong_value =
+    plain_value (λ x. value.ULong x) ulong_in (λ x. ap ulong_in (value-ulong x)) (number 4)
+    (λ x. ap plain_layer (value-ulong x))
 
 abbrev pub longlong_in : Held → Option ℤ
 longlong_in (c.Value::LongLong x) = Some x
 longlong_in l = None
 
-abbrev pub longlong_variant : Sound ValueFault Value
-longlong_variant =
-    variant (λ x. value.LongLong x) (λ v. longlong_in (out-Value v))
-    (λ x. ap longlong_in (value-longlong x)) longlong
-
-pub longlong-plain : (v : Value) (order : Order) (place : ℕ) → longlong_variant.format.admits v
-    → longlong_variant.format.writes v order place ≡ plain_piece v order place
-longlong-plain v order place ok =
-    subst (λ (v : Value). longlong_variant.format.writes v order place ≡ plain_piece v order place)
-    ok.1 (rw (value-longlong ok.0) refl)
-
 abbrev pub longlong_value : Sound ValueFault Value
-longlong_value = other_writing plain_piece longlong_variant longlong-plain
+longlong_value =
+    plain_value (λ x. value.LongLong x) longlong_in (λ x. ap longlong_in (value-longlong x)) longlong
+    (λ x. ap plain_layer (value-longlong x))
 
 abbrev pub ulonglong_in : Held → Option ℕ
 ulonglong_in (c.Value::ULongLong x) = Some x
 ulonglong_in l = None
 
-abbrev pub ulonglong_variant : Sound ValueFault Value
-ulonglong_variant =
-    variant (λ x. value.ULongLong x) (λ v. ulonglong_in (out-Value v))
-    (λ x. ap ulonglong_in (value-ulonglong x)) (number 8)
-
-pub ulonglong-plain : (v : Value) (order : Order) (place : ℕ) → ulonglong_variant.format.admits v
-    → ulonglong_variant.format.writes v order place ≡ plain_piece v order place
-ulonglong-plain v order place ok =
-    subst (λ (v : Value). ulonglong_variant.format.writes v order place ≡ plain_piece v order place)
-    ok.1 (rw (value-ulonglong ok.0) refl)
-
 abbrev pub ulonglong_value : Sound ValueFault Value
-ulonglong_value = other_writing plain_piece ulonglong_variant ulonglong-plain
+ulonglong_value =
+    plain_value (λ x. value.ULongLong x) ulonglong_in (λ x. ap ulonglong_in (value-ulonglong x)) (number 8)
+    (λ x. ap plain_layer (value-ulonglong x))
 
 abbrev pub boolean_in : Held → Option Bool
 boolean_in (c.Value::Boolean x) = Some x
 boolean_in l = None
 
-abbrev pub boolean_variant : Sound ValueFault Value
-boolean_variant =
-    variant (λ x. value.Boolean x) (λ v. boolean_in (out-Value v))
-    (λ x. ap boolean_in (value-boolean x)) boolean
-
-pub boolean-plain : (v : Value) (order : Order) (place : ℕ) → boolean_variant.format.admits v
-    → boolean_variant.format.writes v order place ≡ plain_piece v order place
-boolean-plain v order place ok =
-    subst (λ (v : Value). boolean_variant.format.writes v order place ≡ plain_piece v order place)
-    ok.1 (rw (value-boolean ok.0) refl)
-
 abbrev pub boolean_value : Sound ValueFault Value
-boolean_value = other_writing plain_piece boolean_variant boolean-plain
+boolean_value =
+    plain_value (λ x. value.Boolean x) boolean_in (λ x. ap boolean_in (value-boolean x)) boolean
+    (λ x. ap plain_layer (value-boolean x))
 
 abbrev pub char_in : Held → Option ℕ
 char_in (c.Value::Char x) = Some x
 char_in l = None
 
-abbrev pub char_variant : Sound ValueFault Value
-char_variant = variant (λ x. value.Char x) (λ v. char_in (out-Value v))
-    (λ x. ap char_in (value-char x)) (number 1)
-
-pub char-plain : (v : Value) (order : Order) (place : ℕ) → char_variant.format.admits v
-    → char_variant.format.writes v order place ≡ plain_piece v order place
-char-plain v order place ok =
-    subst (λ (v : Value). char_variant.format.writes v order place ≡ plain_piece v order place) ok.1
-    (rw (value-char ok.0) refl)
-
 abbrev pub char_value : Sound ValueFault Value
-char_value = other_writing plain_piece char_variant char-plain
+char_value =
+    plain_value (λ x. value.Char x) char_in (λ x. ap char_in (value-char x)) (number 1)
+    (λ x. ap plain_layer (value-char x))
 
 abbrev pub octet_in : Held → Option ℕ
 octet_in (c.Value::Octet x) = Some x
 octet_in l = None
 
-abbrev pub octet_variant : Sound ValueFault Value
-octet_variant = variant (λ x. value.Octet x) (λ v. octet_in (out-Value v))
-    (λ x. ap octet_in (value-octet x)) (number 1)
-
-pub octet-plain : (v : Value) (order : Order) (place : ℕ) → octet_variant.format.admits v
-    → octet_variant.format.writes v order place ≡ plain_piece v order place
-octet-plain v order place ok =
-    subst (λ (v : Value). octet_variant.format.writes v order place ≡ plain_piece v order place)
-    ok.1 (rw (value-octet ok.0) refl)
-
 abbrev pub octet_value : Sound ValueFault Value
-octet_value = other_writing plain_piece octet_variant octet-plain
+octet_value =
+    plain_value (λ x. value.Octet x) octet_in (λ x. ap octet_in (value-octet x)) (number 1)
+    (λ x. ap plain_layer (value-octet x))
 
 -- the fault of a number of four bytes that may not stand there
 abbrev pub no_value : At → ValueFault
@@ -239,20 +182,10 @@ enum_in (c.Value::Enum n) = Some n
 enum_in l = None
 
 -- a number below the count of an enumeration's names
-abbrev pub enum_variant : ℕ → Sound ValueFault Value
-enum_variant count =
-    variant (λ n. value.Enum n) (λ v. enum_in (out-Value v)) (λ n. ap enum_in (value-enum n))
-    (restriction (λ n. nat_lt n count) bad_value (number 4))
-
-pub enum-plain : (count : ℕ) (v : Value) (order : Order) (place : ℕ)
-    → (enum_variant count).format.admits v
-    → (enum_variant count).format.writes v order place ≡ plain_piece v order place
-enum-plain count v order place ok =
-    subst (λ (v : Value). (enum_variant count).format.writes v order place
-    ≡ plain_piece v order place) ok.1 (rw (value-enum ok.0) refl)
-
 abbrev pub one_of : ℕ → Sound ValueFault Value
-one_of count = other_writing plain_piece (enum_variant count) (enum-plain count)
+one_of count =
+    plain_value (λ n. value.Enum n) enum_in (λ n. ap enum_in (value-enum n))
+    (restriction (λ n. nat_lt n count) bad_value (number 4)) (λ n. ap plain_layer (value-enum n))
 
 -- ---- a union's discriminator
 
