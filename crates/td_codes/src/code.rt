@@ -89,8 +89,8 @@ pub enum TypeCode {
         name: Text,
         members: List<Member>,
     },
-    /// A type that may hold itself, as a graph. It stands in no other TypeCode, is read from no bytes yet,
-    /// and written as none.
+    /// A type that is spelled with indirections, and so may hold itself, as a graph. It stands in
+    /// no other TypeCode; one that a caller puts there all the same is written as nothing.
     Linked(Whole),
 }
 
