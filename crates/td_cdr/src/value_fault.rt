@@ -26,8 +26,9 @@ pub enum ValueFault {
     /// More than 16 levels of TypeCodes and anys.
     #[error("the TypeCode at byte {0} is too deep in others")]
     Depth(u32),
-    /// A TypeCode that points back to another one.
-    #[error("the TypeCode at byte {0} points back to another")]
+    /// An indirection that leads to no TypeCode which began before it in the same outermost one
+    /// (CORBA, General Inter-ORB Protocol, "TypeCode").
+    #[error("the indirection at byte {0} leads to no TypeCode before it")]
     Indirection(u32),
     /// Want of memory.
     #[error("there is no memory left")]
