@@ -8,11 +8,11 @@ ghost use Rattle.td_register.specs.Properties.{carries, is_too_large, mismatches
 ghost use Rattle.td_register.specs.Properties.{properties_cause, value_cause};
 
 use crate::refusal::{Fault, Refusal, raised};
-use crate::typing::{is_typed, mode_of, property_named};
+use crate::typing::{is_typed, mode_of};
 use std::alloc::Global;
 use td_cdr::{Boxed, List, Memory, Seen, Text, Twin, copy_two, is_identifier, nothing_seen, see};
 use td_exceptions::UserException;
-use td_types::{MOST_BYTES, MOST_PROPERTIES, is_mandatory, is_readonly};
+use td_types::{MOST_BYTES, MOST_PROPERTIES, is_mandatory, is_readonly, property_named};
 use td_value::{Ior, PropStruct, Property, is_dynamic, offer_size};
 
 /// Whether one of these has the name.

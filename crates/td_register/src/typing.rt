@@ -4,13 +4,13 @@
 ghost use Rattle.std.specs.Prelude.{◌≡◌, IfOk, option_copied};
 ghost use Rattle.td_codes.specs.Values.{code_in};
 ghost use Rattle.td_codes.specs.declared.code.Value.{out-Value};
-ghost use Rattle.td_types.specs.Properties.{property_named};
 ghost use Rattle.td_register.specs.Properties.{has_type, is_typed, mode_of, returned_type};
 ghost use Rattle.td_register.specs.Properties.{second_code};
 
 use std::alloc::Global;
 use td_cdr::Memory;
 use td_sameness::same_type;
+use td_types::property_named;
 use td_value::{Any, PropStruct, PropertyMode, TypeCode, Value, is_dynamic};
 
 /// The TypeCode that a value is.
@@ -58,18 +58,6 @@ fn has_type(alloc: Global, declared: &TypeCode, any: &Any) -> Result<bool, Memor
         None => Ok(false),
         Some(code) => same_type(alloc, code, declared),
     }
-}
-
-/// The first property of a name.
-pub(crate) fn property_named<'a>(demanded: &'a [PropStruct], name: &[u8]) -> Option<&'a PropStruct>
-    ensures { option_copied result ≡ property_named demanded.now name.now }
-{
-    for declared in demanded {
-        if declared.name.as_slice() == name {
-            return Some(declared);
-        }
-    }
-    None
 }
 
 /// Whether the any is of the declared type, where one is declared.

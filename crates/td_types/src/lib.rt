@@ -36,6 +36,7 @@ pub use laws::{
     the_oldest_sub_type_is_named, types_conform, types_stay_writable,
 };
 pub use limits::{MOST_BYTES, MOST_PROPERTIES};
+pub use lookup::property_named;
 pub use modes::{is_mandatory, is_readonly};
 pub use reply::TypesReply;
 pub use types::Types;

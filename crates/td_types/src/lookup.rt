@@ -56,8 +56,8 @@ impl Types {
     }
 }
 
-/// The first property of a name.
-fn property_named<'a>(props: &'a [PropStruct], name: &[u8]) -> Option<&'a PropStruct>
+/// The first of these properties that has the name.
+pub fn property_named<'a>(props: &'a [PropStruct], name: &[u8]) -> Option<&'a PropStruct>
     ensures { option_copied result ≡ property_named props.now name.now }
 {
     for property in props {
