@@ -21,7 +21,6 @@ use td_cdr::{Text, Writer};
 use td_desk::{Begun, DeskFault, DeskPass, SharedDesk};
 use td_giop::RequestHead;
 use td_ops::{Outcome, Reply};
-use td_reply::no_memory;
 use td_serve::{Replies, ReplyTo};
 
 /// Answers a Request for an iterator: reads what it asks, makes one call of the desk, and leaves the reply. Where no
@@ -58,7 +57,7 @@ fn refuse(alloc: Global, replies: &mut Replies, to: ReplyTo) -> DeskCall
     ensures call { result ≡ DeskCall.Memory }
     ensures reply { replies.new ≡ reply_for to no_memory }
 {
-    let outcome = no_memory();
+    let outcome = Outcome::no_memory();
     replies.answer(alloc, to, &outcome);
     drop(outcome);
     DeskCall::Memory

@@ -9,15 +9,13 @@ ghost use Rattle.td_fed.specs.Trails.{Goes, IsQuiet};
 ghost use Rattle.td_exceptions.specs.declared.exception.UserException.TheVariants as user;
 ghost use Rattle.td_ops.specs.declared.outcome.Outcome.TheVariants as outcome;
 ghost use Rattle.td_ops.specs.declared.outcome.Reply.TheVariants as reply;
-ghost use Rattle.td_ops.specs.declared.outcome.SystemKind.TheVariants.{NoMemory};
-ghost use Rattle.td_register.specs.Causes.{system};
 ghost use Rattle.td_trader.specs.Worlds.{View, history_at};
 ghost use Rattle.td_walk_laws.specs.Faults.{CountsFaults};
 
 use std::alloc::Global;
 use td_cdr::{List, Memory, Text, Twin, is_word_name};
 use td_exceptions::UserException;
-use td_ops::{COMPLETED_NO, Look, Outcome, Reply, SystemKind};
+use td_ops::{Look, Outcome, Reply};
 use td_places::register_inside;
 use td_policy::MOST_NAMES;
 use td_trader::Traders;
@@ -336,7 +334,7 @@ fn given(alloc: Global, point: u64, reference: Ior) -> NameAnswer
 {
     match reference.copy(alloc) {
         Ok(copy) => with_outcome(point, reference, Outcome::Done(Reply::Reference(copy))),
-        Err(_) => with_outcome(point, reference, no_memory()),
+        Err(_) => with_outcome(point, reference, Outcome::no_memory()),
     }
 }
 
@@ -347,17 +345,6 @@ fn with_outcome(point: u64, reference: Ior, outcome: Outcome) -> NameAnswer
         point,
         asked: Some(Ok(reference)),
         outcome,
-    }
-}
-
-/// NO_MEMORY of a call that wasn't done.
-fn no_memory() -> Outcome
-    ensures { result ≡ system NoMemory }
-{
-    Outcome::System {
-        kind: SystemKind::NoMemory,
-        minor: 0,
-        completion: COMPLETED_NO,
     }
 }
 

@@ -78,6 +78,24 @@ pub enum Outcome {
     },
 }
 
+impl Outcome {
+    ghost use Rattle.std.specs.Prelude.{◌≡◌};
+    ghost use Rattle.td_ops.specs.declared.outcome.Outcome.TheVariants.{System};
+    ghost use Rattle.td_ops.specs.declared.outcome.SystemKind.TheVariants.{NoMemory};
+
+    /// NO_MEMORY of a call that wasn't done: its minor code is 0 (CORBA, chapter "Standard
+    /// Exceptions").
+    pub fn no_memory() -> Outcome
+        ensures { result ≡ System NoMemory 0 1 }
+    {
+        Outcome::System {
+            kind: SystemKind::NoMemory,
+            minor: 0,
+            completion: COMPLETED_NO,
+        }
+    }
+}
+
 /// What a client is told. Of a user exception that is its repository id alone.
 #[derive(Drop)]
 pub enum Answered {

@@ -33,13 +33,6 @@ pub(crate) fn system(kind: SystemKind, minor: u32) -> Outcome
     }
 }
 
-/// NO_MEMORY for a call that wasn't done.
-pub fn no_memory() -> Outcome
-    ensures { result ≡ no_memory }
-{
-    system(SystemKind::NoMemory, 0)
-}
-
 /// The answer for which no trader is called.
 pub fn plain(outcome: Outcome) -> Answer
     ensures { result ≡ plain outcome }
@@ -55,5 +48,5 @@ pub fn plain(outcome: Outcome) -> Answer
 pub fn unserved() -> Answer
     ensures { result ≡ plain no_memory }
 {
-    plain(no_memory())
+    plain(Outcome::no_memory())
 }

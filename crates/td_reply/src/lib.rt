@@ -17,7 +17,7 @@ mod looking;
 mod objects;
 mod target;
 
-pub use answer::{Answer, ReplyBody, no_memory, plain, unserved};
+pub use answer::{Answer, ReplyBody, plain, unserved};
 pub use changing::answer_change;
 pub use class::{RequestClass, class_of};
 pub use desk_label::DeskLabel;

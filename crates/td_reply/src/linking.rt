@@ -16,7 +16,7 @@ ghost use Rattle.td_trader.specs.Admitted.{AdmitsChange, AdmitsRegister};
 ghost use Rattle.td_trader.specs.Worlds.{View, Watches, name_at};
 ghost use Rattle.td_walk.specs.Peering.{IsNoted, Referred, RegisterOf, is_memory};
 
-use crate::answer::{Answer, ReplyBody, no_memory};
+use crate::answer::{Answer, ReplyBody};
 use crate::changing::{answer_change, point_of};
 use crate::entry::Entry;
 use crate::target::{Target, target_of};
@@ -24,7 +24,7 @@ use std::alloc::Global;
 use td_cdr::{Memory, Twin};
 use td_ior::{Kind, is_nil};
 use td_objects::{Interface, own_reference};
-use td_ops::{AddLink, Change};
+use td_ops::{AddLink, Change, Outcome};
 use td_trader::Traders;
 use td_value::Ior;
 use td_walk::{Address, PeerFault, Peers};
@@ -294,7 +294,7 @@ fn asked_in_vain<T: Traders>(traders: &T, trader: usize, gave: Result<Ior, PeerF
 {
     let point = traders.point(trader);
     Answer {
-        body: ReplyBody::Outcome(no_memory()),
+        body: ReplyBody::Outcome(Outcome::no_memory()),
         entry: Entry::Asked {
             trader,
             point,

@@ -16,7 +16,7 @@ use crate::reply_to::ReplyTo;
 use std::alloc::Global;
 use td_cdr::List;
 use td_ops::Outcome;
-use td_reply::{Entry, RequestClass, no_memory};
+use td_reply::{Entry, RequestClass};
 use td_walk::Trace;
 
 /// Serves a Request of a class for which memory was wanted before its call: the reply is NO_MEMORY, which has no bytes
@@ -66,7 +66,7 @@ fn tell_no_memory(alloc: Global, replies: &mut Replies, to: ReplyTo)
     requires version { IsWritable to }
     ensures { replies.new ≡ reply_for to no_memory }
 {
-    let outcome = no_memory();
+    let outcome = Outcome::no_memory();
     replies.answer(alloc, to, &outcome);
     drop(outcome);
 }
