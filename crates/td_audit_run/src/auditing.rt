@@ -16,8 +16,8 @@ use std::alloc::Global;
 use td_audit::{Cause, Verdict, audit};
 use td_cdr::Memory;
 use td_file::{FileFault, Opened, read_file};
+use td_forms::{put, put_counted};
 use td_out::{Sink, TextFault, Texts};
-use td_put::{put, put_counted};
 
 /// Audits the log of one name over the traders of the file of another, and prints the verdict.
 pub(crate) fn audit_file<F: Texts, K: Sink>(

@@ -13,7 +13,7 @@ use Rattle.td_ior.specs.Number.{number_after}
 use Rattle.td_make.specs.Generated.{chord_after, cost, cost_line, first_offers, first_traders, generated, heading}
 use Rattle.td_make.specs.Generated.{link_line, link_lines, next_after, offer_line, offer_lines, offer_type}
 use Rattle.td_make.specs.Generated.{trader_lines}
-use Rattle.td_put.specs.Pieces.{counted}
+use Rattle.td_forms.specs.Counted.{counted}
 
 abbrev is_small : ℕ → Bool
 is_small b = nat_lt b 256

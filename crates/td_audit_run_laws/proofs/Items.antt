@@ -6,7 +6,7 @@ use Rattle.td_codes.specs.declared.reference.Ior.{Ior}
 use Rattle.td_ior.specs.Profiles.{iiop_tag, made_octets}
 use Rattle.td_iter.specs.Heads.{IsSmallReference}
 use Rattle.td_make_laws.specs.Said.{item}
-use Rattle.td_put.specs.Pieces.{counted}
+use Rattle.td_forms.specs.Counted.{counted}
 
 digits-few : (n : ℕ) → n < 2 ^ 64 → length (decimal n) ≤ 20
 digits-few n h = length-decimal-le 20 n (omega arith) (omega (arith, h)) h

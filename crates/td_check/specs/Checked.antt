@@ -6,7 +6,7 @@ use Rattle.td_ior.specs.Texts.{printed}
 use Rattle.td_objects.specs.References.{own_reference}
 use Rattle.td_objects.specs.declared.interface.Interface.TheVariants as interface
 use Rattle.td_objects.specs.declared.interface.Interface.{Interface}
-use Rattle.td_put.specs.Pieces.{counted}
+use Rattle.td_forms.specs.Counted.{counted}
 use Rattle.td_trader.specs.PlainTraders.{PlainTrader, store_of}
 use Rattle.td_value.specs.declared.key.Kind.{Kind}
 use Rattle.td_value.specs.declared.key.Kind.TheVariants as kind

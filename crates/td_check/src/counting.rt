@@ -6,7 +6,7 @@ ghost use Rattle.td_trader.specs.PlainTraders.{store_of};
 
 use std::alloc::Global;
 use td_cdr::Memory;
-use td_put::{put, put_counted};
+use td_forms::{put, put_counted};
 use td_store::Store;
 use td_trader::Trader;
 use td_types::TypesReply;

@@ -7,9 +7,9 @@ ghost use Rattle.td_objects.specs.References.{IsAddress};
 
 use std::alloc::Global;
 use td_cdr::{Memory, Text};
+use td_forms::put;
 use td_ior::{Kind, print_text};
 use td_objects::{Interface, own_reference};
-use td_put::put;
 use td_walk::Address;
 
 /// One of a trader's objects.

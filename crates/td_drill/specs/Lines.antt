@@ -1,6 +1,6 @@
 -- The line of a drill.
 use Rattle.std.specs.Prelude.{ℕ, List, ◌++◌, codes}
-use Rattle.td_put.specs.Pieces.{counted}
+use Rattle.td_forms.specs.Counted.{counted}
 use Rattle.td_drill.specs.declared.tally.Tally.{Tally}
 
 abbrev pub group_part : (traders offers : ℕ) → List ℕ

@@ -10,8 +10,8 @@ use crate::tally::Tally;
 use std::alloc::Global;
 use td_cdr::{Memory, Octets};
 use td_file::Opened;
+use td_forms::{put, put_counted};
 use td_out::Words;
-use td_put::{put, put_counted};
 use td_trader::Solo;
 use td_walk::Address;
 

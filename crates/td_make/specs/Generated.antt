@@ -1,7 +1,7 @@
 -- The text of a generated file: traders in a ring, numbered from 1, each with two types, ten offers and two links. A
 -- line ends with its line feed.
 use Rattle.std.specs.Prelude.{ℕ, zero, suc, ◌+◌, ◌*◌, ◌%◌, nat_eq, List, [], ◌++◌, codes, if◌then◌else◌}
-use Rattle.td_put.specs.Pieces.{counted}
+use Rattle.td_forms.specs.Counted.{counted}
 
 -- ---- an offer, by the numbers of its trader and of itself
 

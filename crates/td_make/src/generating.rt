@@ -7,7 +7,7 @@ ghost use Rattle.td_make.specs.Generated.{offer_type, trader_lines};
 
 use std::alloc::Global;
 use td_cdr::{Memory, Octets};
-use td_put::{put, put_counted};
+use td_forms::{put, put_counted};
 
 /// The type of an offer, by its number.
 fn offer_type(number: u32) -> &'static [u8]

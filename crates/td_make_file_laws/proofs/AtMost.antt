@@ -28,7 +28,7 @@ use Rattle.td_ior.specs.Profiles.{front, made_octets, made_reference}
 use Rattle.td_ior.specs.declared.profile.Iiop.{Iiop}
 use Rattle.td_iter.proofs.Lengths.{number-length, octets-length}
 use Rattle.td_make_laws.specs.Said.{costing, item}
-use Rattle.td_put.specs.Pieces.{counted}
+use Rattle.td_forms.specs.Counted.{counted}
 use Rattle.td_value.specs.Enumerations.{property_mode_number}
 use Rattle.td_value.specs.Structures.{offer, prop_struct, property, type_struct}
 use Rattle.td_value.specs.declared.enumerations.PropertyMode.{PropertyMode}

@@ -4,7 +4,7 @@ use Rattle.std.proofs.Common.{List, [], ◌∷◌, ◌++◌, codes, length, refl
 use Rattle.td_make.specs.Generated.{chord_after, cost, cost_line, first_offers, first_traders, generated, heading}
 use Rattle.td_make.specs.Generated.{link_line, link_lines, next_after, offer_line, offer_lines, offer_type, trader_lines}
 use Rattle.td_make_file_laws.proofs.AtMost.{counted-short}
-use Rattle.td_put.specs.Pieces.{counted}
+use Rattle.td_forms.specs.Counted.{counted}
 
 joined : (m n : ℕ) (xs ys : List ℕ) → length xs ≤ m → length ys ≤ n → length (xs ++ ys) ≤ m + n
 joined m n xs ys a b = omega (arith, a, b, length-append xs ys)

@@ -22,7 +22,7 @@ use Rattle.td_make_laws.proofs.Linking.{IsLinkRead, linked}
 use Rattle.td_make_laws.proofs.Passing.{passed, text-passes}
 use Rattle.td_make_laws.proofs.Tables.{Upto, at}
 use Rattle.td_make_laws.proofs.Types.{Draft}
-use Rattle.td_put.specs.Pieces.{counted}
+use Rattle.td_forms.specs.Counted.{counted}
 use Rattle.td_make_laws.specs.Said.{Asked, SaysRing, asked, entries_in, first_names, head_entries, link_entries}
 use Rattle.td_make_laws.specs.Said.{link_entry, name_of, ring_traders}
 

@@ -13,7 +13,7 @@ use Rattle.td_lines.specs.declared.entry.Script.{Script}
 use Rattle.td_lines.specs.declared.entry.TraderScript.{TraderScript}
 use Rattle.td_make.specs.Generated.{chord_after, cost, generated, next_after, offer_type}
 use Rattle.td_ops.specs.declared.call.Change.TheVariants as change
-use Rattle.td_put.specs.Pieces.{counted}
+use Rattle.td_forms.specs.Counted.{counted}
 use Rattle.td_value.specs.declared.enumerations.FollowOption.TheVariants.{Always}
 use Rattle.td_value.specs.declared.enumerations.PropertyMode.TheVariants.{Mandatory}
 use Rattle.td_value.specs.declared.structures.PropStruct.{PropStruct}

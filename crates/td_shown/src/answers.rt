@@ -7,8 +7,8 @@ use crate::names::{put_exception, put_id, put_limits, put_names, put_total};
 use crate::offers::{put_described, put_offers};
 use std::alloc::Global;
 use td_cdr::{Memory, Text};
+use td_forms::put;
 use td_ops::{Answered, Reply};
-use td_put::put;
 use td_value::Offer;
 
 /// Puts the lines of the offers that a query found behind these bytes, then the line of its limits and that of the

@@ -5,7 +5,7 @@ ghost use Rattle.td_shown.specs.Names.{exception_line, id_line, limit_word, limi
 ghost use Rattle.td_shown.specs.Names.{name_lines, total_line};
 
 use td_cdr::{Memory, Text};
-use td_put::{put, put_decimal};
+use td_forms::{put, put_decimal};
 
 /// Puts a name's line behind these bytes.
 fn put_name(out: &mut Vec<u8>, name: &Text) -> Result<(), Memory>

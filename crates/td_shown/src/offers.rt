@@ -9,9 +9,8 @@ use crate::types::{put_type, type_of};
 use crate::values::put_value;
 use std::alloc::Global;
 use td_cdr::Memory;
-use td_forms::ValueType;
+use td_forms::{ValueType, put};
 use td_ior::print_text;
-use td_put::put;
 use td_value::{Any, Ior, Offer, Property, Value};
 
 /// Puts a space, the word for a value's type, and the value behind these bytes.

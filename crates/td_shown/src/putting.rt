@@ -5,7 +5,7 @@ ghost use Rattle.std.specs.Fmt.{signed_decimal};
 
 use itoa::Buffer;
 use td_cdr::Memory;
-use td_put::put;
+use td_forms::put;
 
 /// Puts a short in decimal behind these bytes.
 pub(crate) fn put_short(out: &mut Vec<u8>, number: &i16) -> Result<(), Memory>

@@ -4,8 +4,7 @@ ghost use Rattle.std.specs.Prelude.{◌≡◌, ◌++◌, OnOk};
 ghost use Rattle.td_shown.specs.Types.{item_of, sequence_of, type_of, type_word, unbounded};
 
 use td_cdr::{Memory, Named};
-use td_forms::{ItemType, ValueType};
-use td_put::put;
+use td_forms::{ItemType, ValueType, put};
 use td_value::TypeCode;
 
 /// This type, where the bound is 0, which is none.

@@ -7,7 +7,7 @@ ghost use Rattle.td_shown.specs.Values.{with_commas};
 use crate::putting::{put_long, put_long_long, put_short};
 use std::slice;
 use td_cdr::Memory;
-use td_put::{put, put_decimal};
+use td_forms::{put, put_decimal};
 use td_value::Value;
 
 /// The word for a truth value.

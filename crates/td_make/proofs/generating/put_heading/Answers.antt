@@ -1,6 +1,6 @@
 use Rattle.std.proofs.Common.{ap, refl}
 use Rattle.std.specs.Prelude.{codes}
-use Rattle.td_put.specs.Pieces.{counted}
+use Rattle.td_forms.specs.Counted.{counted}
 use Rattle.td_make.proofs.Rows.{two-pieces}
 use Rattle.td_make.proofs.generating.put_heading.Goals as goal
 

@@ -1,7 +1,7 @@
 //! Pieces behind a text: a text, a number, and a label with its number.
 
 ghost use Rattle.std.specs.Prelude.{◌≡◌, ◌++◌, decimal, OnOk};
-ghost use Rattle.td_put.specs.Pieces.{counted};
+ghost use Rattle.td_forms.specs.Counted.{counted};
 
 use itoa::Buffer;
 use td_cdr::Memory;
