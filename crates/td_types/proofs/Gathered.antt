@@ -1,6 +1,7 @@
 -- What a type has by its supertypes, gathered in order.
 use Rattle.std.proofs.Common.{◌≡◌, ℕ, ◌+◌, ◌<◌, ◌≤◌, Bool, true, false, ◌||◌, cond, List, [], ◌∷◌, ◌++◌, length, drop}
 use Rattle.std.proofs.Common.{get_or, map, refl, sym, ap, ◌∙◌, append_assoc, arith, length-append, Bor, Result, Err}
+use Rattle.std.proofs.lemmas.List.{drop_all}
 use Rattle.std.proofs.lemmas.List.Folds.{list_any-append}
 use Rattle.std.specs.Str.{bytes_eq}
 use Rattle.td_value.specs.declared.enumerations.PropertyMode.{PropertyMode}
@@ -155,6 +156,19 @@ met_anew seen new met name h added other =
 pub added_once : (met new : List (List ℕ)) (name : List ℕ) → is_among name met ≡ false → new ≡ met ++ name ∷ []
     → new ≡ add_once met name
 added_once met new name h e = rw (h, e) refl
+
+pub names_on : (names : List (List ℕ)) (i : ℕ) (x : List ℕ) (met new total : List (List ℕ)) → i < length names
+    → x ≡ get_or names i x → new ≡ add_once met x → once met (drop i names) ≡ total
+    → once new (drop (i + 1) names) ≡ total
+names_on names i x met new total lt is e h =
+    let one : once met (drop i names) ≡ once (add_once met x) (drop (i + 1) names) = rw (rest names i x lt is) refl in
+    rw e (sym one ∙ h)
+
+pub names_all : (names : List (List ℕ)) (i : ℕ) (met total : List (List ℕ)) → length names ≤ i
+    → once met (drop i names) ≡ total → met ≡ total
+names_all names i met total le h =
+    let one : once met (drop i names) ≡ met = rw (drop_all i names le) refl in
+    sym one ∙ h
 
 pub bases_on : (bases : List (Bor Entry)) (i : ℕ) (b : Bor Entry) (met new last total : List (List ℕ))
     → i < length bases → b ≡ get_or bases i b → new ≡ add_once met b.now.service_type.name

@@ -7,13 +7,15 @@ use Rattle.std.proofs.lemmas.List.Folds.{find-append}
 use Rattle.std.proofs.lemmas.Map.Text.{is_eq-slice_cmp}
 use Rattle.std.proofs.Math.Seq.{take-suc}
 use Rattle.std.specs.BTreeMap.{BTreeMap, is_at, get, get_by}
+use Rattle.std.specs.Cmp.Lexicographic.{slice_cmp}
 use Rattle.std.specs.Map.{lookup}
 use Rattle.std.specs.Option.{option_map, option_or}
+use Rattle.std.specs.Ordering.{nat_cmp}
 use Rattle.std.specs.Str.{bytes_eq}
+use Rattle.std.specs.declared.cmp.Ordering.{Ordering}
 use Rattle.td_value.specs.declared.structures.PropStruct.{PropStruct}
 use Rattle.td_types.proofs.Equal.{bytes_same}
 use Rattle.td_types.proofs.Rest.{rest}
-use Rattle.td_cdr.specs.Seen.{slice_order}
 use Rattle.td_types.specs.Adding.{Definition, definitions, conflict, earlier_of, redefinition, or_else}
 use Rattle.td_types.specs.Firsts.{stated, first_at, AreFirsts}
 use Rattle.td_types.specs.Properties.{is_called}
@@ -43,6 +45,9 @@ judged_with fault asked P (Err Full) same p h = absurd h
 judged_with fault asked P (Err Memory) same p h = tt
 
 -- ---- the map of first definitions
+
+abbrev slice_order : Bor (List ℕ) → Bor (List ℕ) → Ordering
+slice_order a b = slice_cmp nat_cmp a.now b.now
 
 same_find : (q : Bor (List ℕ)) (es : List (Bor (List ℕ) × Given))
     → lookup (is_at (slice_order q)) es ≡ lookup (λ k. bytes_eq q.now k.now) es
