@@ -1,7 +1,8 @@
 //! The thread that takes jobs in.
 
-ghost use Rattle.std.specs.Prelude.{◌≡◌, ℕ, ◌+◌, ◌<◌, ◌≤◌, [], ◌∷◌, ◌++◌, map, true, vec_len, IfErr, IfOk, OnOk};
+ghost use Rattle.std.specs.Prelude.{◌≡◌, ℕ, ◌+◌, ◌<◌, ◌≤◌, [], ◌∷◌, ◌++◌, true, vec_len, IfErr, IfOk, OnOk};
 ghost use Rattle.std.specs.Prelude.{MatchOption};
+ghost use Rattle.td_workers.specs.Jobs.{jobs};
 ghost use Rattle.td_workers.specs.Works.{Closed, Moves, OfEach, Placed, Welcomed, Working};
 
 use crate::hall::{Hall, Job, Stop};
@@ -125,17 +126,14 @@ fn welcome<
 ) -> Result<Option<()>, Stop>
     requires few { vec_len working.old ≤ 64 }
     requires ready { H.ready hall.old }
-    requires out { OfEach (H.waits hall.old)
-        (map (λ w. (w.number, w.handle.promise.job.value)) working.old.items) }
+    requires out { OfEach (H.waits hall.old) (jobs working.old.items) }
     ensures few { vec_len working.new ≤ 64 }
     ensures goes { H.goes hall.old hall.new }
     ensures came { IfOk result (λ came. MatchOption came
-        (Closed H.ready H.waits H.closes hall.old hall.new
-        (map (λ w. (w.number, w.handle.promise.job.value)) working.old.items)
-        (map (λ w. (w.number, w.handle.promise.job.value)) working.new.items))
+        (Closed H.ready H.waits H.closes hall.old hall.new (jobs working.old.items)
+        (jobs working.new.items))
         (λ none. Welcomed H.ready H.waits H.admits H.closes J.does J.here H.parts hall.old number
-        (map (λ w. (w.number, w.handle.promise.job.value)) working.old.items) hall.new
-        (map (λ w. (w.number, w.handle.promise.job.value)) working.new.items))) }
+        (jobs working.old.items) hall.new (jobs working.new.items))) }
     ensures stops { IfErr result (λ why. H.stops hall.old why hall.new) }
 {
     match hall.next(number) {
@@ -169,14 +167,12 @@ fn seat<
     requires few { vec_len working.old ≤ 64 }
     requires ready { H.ready hall.old }
     requires came { H.waits hall.old job }
-    requires out { OfEach (H.waits hall.old)
-        (map (λ w. (w.number, w.handle.promise.job.value)) working.old.items) }
+    requires out { OfEach (H.waits hall.old) (jobs working.old.items) }
     ensures few { vec_len working.new ≤ 64 }
     ensures goes { H.goes hall.old hall.new }
     ensures placed { OnOk result
         (Placed H.ready H.waits H.admits H.closes J.does J.here H.parts hall.old
-        (map (λ w. (w.number, w.handle.promise.job.value)) working.old.items ++ (number, job) ∷ [])
-        hall.new (map (λ w. (w.number, w.handle.promise.job.value)) working.new.items)) }
+        (jobs working.old.items ++ (number, job) ∷ []) hall.new (jobs working.new.items)) }
     ensures stops { IfErr result (λ why. H.stops hall.old why hall.new) }
 {
     match reap(rt, ended.swap(0, Ordering::SeqCst), working, hall) {
@@ -197,14 +193,12 @@ fn reap<D: Drop, J: Job<D>, H: Hall<D, J>, R: Threads>(
 ) -> Result<(), Stop>
     requires few { vec_len working.old ≤ 64 }
     requires ready { H.ready hall.old }
-    requires out { OfEach (H.waits hall.old)
-        (map (λ w. (w.number, w.handle.promise.job.value)) working.old.items) }
+    requires out { OfEach (H.waits hall.old) (jobs working.old.items) }
     ensures few { vec_len working.new ≤ 64 }
     ensures goes { H.goes hall.old hall.new }
     ensures moves { OnOk result
         (Moves H.ready H.waits H.admits H.closes J.does J.here H.parts hall.old
-        (map (λ w. (w.number, w.handle.promise.job.value)) working.old.items) hall.new
-        (map (λ w. (w.number, w.handle.promise.job.value)) working.new.items)) }
+        (jobs working.old.items) hall.new (jobs working.new.items)) }
     ensures stops { IfErr result (λ why. H.stops hall.old why hall.new) }
 {
     let mut at = 0;
@@ -229,12 +223,11 @@ fn join_all<D: Drop, J: Job<D>, H: Hall<D, J>, R: Threads>(
 ) -> Result<(), Stop>
     requires few { vec_len working.old ≤ 64 }
     requires ready { H.ready hall.old }
-    requires out { OfEach (H.waits hall.old)
-        (map (λ w. (w.number, w.handle.promise.job.value)) working.old.items) }
+    requires out { OfEach (H.waits hall.old) (jobs working.old.items) }
     ensures goes { H.goes hall.old hall.new }
     ensures moves { OnOk result
         (Moves H.ready H.waits H.admits H.closes J.does J.here H.parts hall.old
-        (map (λ w. (w.number, w.handle.promise.job.value)) working.old.items) hall.new []) }
+        (jobs working.old.items) hall.new []) }
     ensures stops { IfErr result (λ why. H.stops hall.old why hall.new) }
 {
     'joining: while !working.is_empty() {
@@ -256,14 +249,12 @@ fn part_at<D: Drop, J: Job<D>, H: Hall<D, J>, R: Threads>(
     requires within { at < vec_len working.old }
     requires few { vec_len working.old ≤ 64 }
     requires ready { H.ready hall.old }
-    requires out { OfEach (H.waits hall.old)
-        (map (λ w. (w.number, w.handle.promise.job.value)) working.old.items) }
+    requires out { OfEach (H.waits hall.old) (jobs working.old.items) }
     ensures fewer { vec_len working.new + 1 ≡ vec_len working.old }
     ensures goes { H.goes hall.old hall.new }
     ensures moves { OnOk result
         (Moves H.ready H.waits H.admits H.closes J.does J.here H.parts hall.old
-        (map (λ w. (w.number, w.handle.promise.job.value)) working.old.items) hall.new
-        (map (λ w. (w.number, w.handle.promise.job.value)) working.new.items)) }
+        (jobs working.old.items) hall.new (jobs working.new.items)) }
     ensures stops { IfErr result (λ why. H.stops hall.old why hall.new) }
 {
     let worker = working.remove(at);
@@ -282,14 +273,12 @@ fn place<'s, 'b: 's, E, D: Send + Drop + 's, J: Job<D> + Send + Drop + 's, H: Ha
     requires few { vec_len working.old ≤ 64 }
     requires ready { H.ready hall.old }
     requires came { H.waits hall.old job }
-    requires out { OfEach (H.waits hall.old)
-        (map (λ w. (w.number, w.handle.promise.job.value)) working.old.items) }
+    requires out { OfEach (H.waits hall.old) (jobs working.old.items) }
     ensures few { vec_len working.new ≤ 64 }
     ensures goes { H.goes hall.old hall.new }
     ensures placed { OnOk result
         (Placed H.ready H.waits H.admits H.closes J.does J.here H.parts hall.old
-        (map (λ w. (w.number, w.handle.promise.job.value)) working.old.items ++ (number, job) ∷ [])
-        hall.new (map (λ w. (w.number, w.handle.promise.job.value)) working.new.items)) }
+        (jobs working.old.items ++ (number, job) ∷ []) hall.new (jobs working.new.items)) }
     ensures stops { IfErr result (λ why. H.stops hall.old why hall.new) }
 {
     if working.reserve(1).is_err() {

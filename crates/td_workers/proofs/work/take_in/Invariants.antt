@@ -1,4 +1,5 @@
-use Rattle.std.proofs.Common.{◌≤◌, map, vec_len}
+use Rattle.std.proofs.Common.{◌≤◌, vec_len}
+use Rattle.td_workers.specs.Jobs.{jobs}
 use Rattle.td_workers.proofs.Moving.{Stands}
 use Rattle.td_workers.proofs.work.take_in.Given as goal
 
@@ -7,4 +8,4 @@ abbrev pub invariant-accepting : goal.invariant-accepting
 invariant-accepting g l =
     vec_len l.working ≤ 64 × g.H.Hall.goes l.fn.hall l.hall
     × Stands g.H.Hall.ready g.H.Hall.waits g.H.Hall.admits g.H.Hall.closes g.J.Job.does g.J.Job.here g.H.Hall.parts l.fn.hall l.hall
-    l.count (map (λ w. (w.number, w.handle.promise.job.value)) l.working.items)
+    l.count (jobs l.working.items)
