@@ -1,6 +1,7 @@
 pub mod Answering
 pub mod Beginning
 pub mod Carrying
+pub mod Choosing
 pub mod Counting
 pub mod Fields
 pub mod Full

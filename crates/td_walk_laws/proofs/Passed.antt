@@ -3,7 +3,7 @@ use Rattle.std.proofs.Common.{◌≡◌, ℕ, ◌-◌, ◌≤◌, Bool, true, fa
 use Rattle.std.proofs.Common.{is_some, refl, sym, ap, ◌∙◌, subst, arith, codes, if◌then◌else◌}
 use Rattle.std.specs.Str.{bytes_eq}
 use Rattle.std.proofs.lemmas.Bool.{ltb-false}
-use Rattle.td_policy.proofs.ReadBack.{number_back}
+use Rattle.td_policy.proofs.ReadBack.{number_back, rule_back}
 use Rattle.td_policy.specs.Rules.{pass_on}
 use Rattle.td_policy.specs.Stated.{stated}
 use Rattle.td_policy.specs.Values.{Kind, number, octets, policy, rule}
@@ -14,19 +14,19 @@ use Rattle.td_store.specs.declared.record.ProxyPart.{ProxyPart}
 use Rattle.td_value.specs.declared.enumerations.FollowOption.{FollowOption}
 use Rattle.td_value.specs.declared.structures.Policy.{Policy}
 use Rattle.td_walk.proofs.Held.{held}
-use Rattle.td_walk.specs.Passing.{is_named, policy_named, with_policy, replaced, along_path, start_policy}
-use Rattle.td_walk.specs.Passing.{number_in, is_less, states_less, stands, with_passed, with_all_passed}
+use Rattle.td_walk.specs.Passing.{policy_named, replaced, along_path, start_policy, number_in, is_less}
+use Rattle.td_walk.specs.Passing.{with_all_passed}
 use Rattle.td_walk.specs.SubQueries.{link_query, proxy_query, stated_rule}
 use Rattle.td_policy.specs.Fields as field
 use Rattle.td_policy.specs.Fields.{Field}
 use Rattle.td_walk_laws.proofs.Fields.{is-stated}
 use Rattle.td_walk_laws.specs.SubQueryLaws.{KeepsOthers, OverALink, ToAProxy, AlongAPath, in_its_place, is_replaced}
 use Rattle.td_walk_laws.specs.SubQueryLaws.{some_left}
-use Rattle.td_walk_laws.proofs.Named.{same-name, put-is-named, others-stay, taken-is-gone}
+use Rattle.td_walk_laws.proofs.Choosing.{ChoosesBy, all-keep, least_by, leaves-identifier, fewer-hops, fewer-offers}
+use Rattle.td_walk_laws.proofs.Named.{put-is-named, taken-is-gone}
 use Rattle.td_walk_laws.proofs.Replaced.{hops-there, start-gone, replaced-stays, identifier-there, follow-there}
-use Rattle.td_walk_laws.proofs.Replaced.{path-stays, card-there, card-untouched, states-card}
-use Rattle.td_walk_laws.proofs.Replaced.{there, states-hops, states-follow, states-no-start, states-identifier}
-use Rattle.td_walk_laws.proofs.Replaced.{states-start}
+use Rattle.td_walk_laws.proofs.Replaced.{path-stays, card-there, card-untouched, there, states-written}
+use Rattle.td_walk_laws.proofs.Replaced.{states-no-start, states-identifier, states-start}
 use Rattle.td_walk_laws.proofs.Stating.{IsStatedBy, some-is, same-stated}
 
 -- ---- what stays
@@ -90,7 +90,8 @@ card-in-its-place None l r s e d =
     (card-untouched l.effective.hops r l.identifier l.query.policies)
     (is-stated field.return_card l.query.policies l.stated d) (is-stated field.return_card qs s e)
 card-in-its-place (Some n) l r s e d =
-    states-card n (replaced l.effective.hops r l.identifier (Some n) l.query.policies) s
+    states-written field.return_card (policy number (codes "return_card") n) n
+    (replaced l.effective.hops r l.identifier (Some n) l.query.policies) s (number_back (codes "return_card") n)
     (card-there l.effective.hops r l.identifier n l.query.policies) e
 
 pub over_a_link : (l : Local) (wanted : Option ℕ) (link : LinkRecord) (s : Stated)
@@ -101,9 +102,12 @@ over_a_link l wanted link s e =
     let ps = replaced l.effective.hops (Some r) l.identifier wanted l.query.policies in
     record {
       hops =
-          states-hops (l.effective.hops - 1) ps s
+          states-written field.hops (policy number (codes "hop_count") (l.effective.hops - 1)) (l.effective.hops - 1) ps s
+          (number_back (codes "hop_count") (l.effective.hops - 1))
           (hops-there l.effective.hops (Some r) l.identifier wanted l.query.policies) e;
-      rule = states-follow r ps s (follow-there l.effective.hops r l.identifier wanted l.query.policies) e;
+      rule =
+          states-written field.follow (policy rule (codes "link_follow_rule") r) r ps s (rule_back (codes "link_follow_rule") r)
+          (follow-there l.effective.hops r l.identifier wanted l.query.policies) e;
       start = states-no-start ps s (start-gone l.effective.hops (Some r) l.identifier wanted l.query.policies) e;
       identifier =
           λ id is. states-identifier id ps s
@@ -117,131 +121,74 @@ over_a_link l wanted link s e =
 
 -- ---- to a proxy offer's trader
 
-kept-by-one : (limited : Bool) (ps : List Policy) (p : Policy)
-    → policy_named (with_passed limited ps p) (codes "request_id") ≡ policy_named ps (codes "request_id")
-kept-by-one limited ps p = by_name (is_named (codes "request_id") p) refl
-  where
-    by_rest : (b : Bool) → is_named (codes "request_id") p ≡ false
-        → policy_named (if b then ps else with_policy p ps) (codes "request_id") ≡ policy_named ps (codes "request_id")
-    by_rest true other = refl
-    by_rest false other = others-stay (codes "request_id") p ps other
-
-    by_name : (b : Bool) → is_named (codes "request_id") p ≡ b
-        → policy_named (with_passed limited ps p) (codes "request_id") ≡ policy_named ps (codes "request_id")
-    by_name true is = rw is refl
-    by_name false is = by_rest (stands limited ps p) is
-
 pub identifier-kept : (limited : Bool) (passed ps : List Policy)
     → policy_named (with_all_passed limited passed ps) (codes "request_id") ≡ policy_named ps (codes "request_id")
-identifier-kept limited [] ps = refl
-identifier-kept limited (p ∷ passed) ps =
-    identifier-kept limited passed (with_passed limited ps p) ∙ kept-by-one limited ps p
+identifier-kept limited passed ps =
+    all-keep limited (codes "request_id") (λ (o : Option Policy). o ≡ policy_named ps (codes "request_id"))
+    (λ qs p is h. leaves-identifier limited qs p is ∙ h) passed ps refl
 
-pub apart : (name other : List ℕ) (p : Policy) → is_named name p ≡ true → bytes_eq name other ≡ false
-    → is_named other p ≡ false
-apart name other p is differs = ap (λ (n : List ℕ). bytes_eq n other) (same-name p.name name is) ∙ differs
-
--- of two policies of this name the one that states less stands
-abbrev pub LessStands : (limited : Bool) → (name : List ℕ) → Type 0
-LessStands limited name =
-    (ps : List Policy) (p : Policy) → is_named name p ≡ true
-    → stands limited ps p ≡ states_less number_in (policy_named ps name) p
-
-pub hops-stand : (limited : Bool) → LessStands limited (codes "hop_count")
-hops-stand limited ps p is = rw (apart (codes "hop_count") (codes "request_id") p is refl, is) refl
-
-pub card-stands : LessStands true (codes "return_card")
-card-stands ps p is =
-    rw (
-      apart (codes "return_card") (codes "request_id") p is refl,
-      apart (codes "return_card") (codes "hop_count") p is refl,
-      apart (codes "return_card") (codes "link_follow_rule") p is refl,
-      is,
-    ) refl
-
--- a policy of this name is there, and it states no more than so many, or can't be read
-pub record HasAtMost (name : List ℕ) (most : ℕ) (ps : List Policy) : Type 0 where
-  pub policy : Policy
-  pub there : policy_named ps name ≡ Some policy
-  pub bounded : (n : ℕ) → number_in policy ≡ Some n → n ≤ most
+-- a policy is there, and it states no more than so many, or can't be read
+record HasAtMost (most : ℕ) (o : Option Policy) : Type 0 where
+  policy : Policy
+  there : o ≡ Some policy
+  bounded : (n : ℕ) → number_in policy ≡ Some n → n ≤ most
 
 less-bounds : (o : Option ℕ) (m n : ℕ) → is_less o (Some n) ≡ false → ((k : ℕ) → o ≡ Some k → k ≤ m) → n ≤ m
 less-bounds None m n e h = absurd cc
 less-bounds (Some k) m n e h = omega (arith, ltb-false k n e, h k refl)
 
-bounded-by-one : (limited : Bool) (name : List ℕ) → LessStands limited name → (most : ℕ) (ps : List Policy)
-    (p : Policy) → HasAtMost name most ps → HasAtMost name most (with_passed limited ps p)
-bounded-by-one limited name keeps most ps p h = by_name (is_named name p) refl
+least-has : (most : ℕ) (p : Policy) (o : Option Policy) → HasAtMost most o → HasAtMost most (least_by number_in p o)
+least-has most p o h =
+    subst (λ (o : Option Policy). HasAtMost most (least_by number_in p o)) (sym h.there)
+    (by_less (is_less (number_in h.policy) (number_in p)) refl)
   where
-    replaces : is_named name p ≡ true → is_less (number_in h.policy) (number_in p) ≡ false
-        → HasAtMost name most (with_policy p ps)
-    replaces is less = record {
+    by_less : (b : Bool) → is_less (number_in h.policy) (number_in p) ≡ b
+        → HasAtMost most (if b then Some h.policy else Some p)
+    by_less true less = record { policy = h.policy; there = refl; bounded = h.bounded }
+    by_less false less = record {
       policy = p;
-      there =
-          subst (λ (n : List ℕ). policy_named (with_policy p ps) n ≡ Some p) (same-name p.name name is)
-          (put-is-named p ps);
+      there = refl;
       bounded =
           λ n e. less-bounds (number_in h.policy) most n (ap (is_less (number_in h.policy)) (sym e) ∙ less) h.bounded;
     }
 
-    by_less : (b : Bool) → is_named name p ≡ true → is_less (number_in h.policy) (number_in p) ≡ b
-        → HasAtMost name most (if b then ps else with_policy p ps)
-    by_less true is less = h
-    by_less false is less = replaces is less
+written-has : (name : List ℕ) (n : ℕ) (o : Option Policy) → o ≡ Some (policy number name n) → HasAtMost n o
+written-has name n o is = record { policy = policy number name n; there = is; bounded = bounds }
+  where
+    bounds : (k : ℕ) → number_in (policy number name n) ≡ Some k → k ≤ n
+    bounds k e =
+        let h = held number (policy number name n) (Some n) (number_back name n) in
+        let before : n ≡ h.0 = some-is n h.0 h.1 in
+        let after : h.0 ≡ k = some-is h.0 k (sym h.2 ∙ e) in
+        omega (arith, before, after)
 
-    other : (b : Bool) → is_named name p ≡ false → HasAtMost name most (if b then ps else with_policy p ps)
-    other true is = h
-    other false is = record {
-      policy = h.policy;
-      there = others-stay name p ps is ∙ h.there;
-      bounded = h.bounded;
-    }
-
-    by_name : (b : Bool) → is_named name p ≡ b → HasAtMost name most (with_passed limited ps p)
-    by_name true is =
-        let test : stands limited ps p ≡ is_less (number_in h.policy) (number_in p) =
-        keeps ps p is ∙ ap (λ (o : Option Policy). states_less number_in o p) h.there in
-        subst (λ (t : Bool). HasAtMost name most (if t then ps else with_policy p ps)) (sym test)
-        (by_less (is_less (number_in h.policy) (number_in p)) is refl)
-    by_name false is = other (stands limited ps p) is
-
-few-kept : (limited : Bool) (name : List ℕ) → LessStands limited name → (most : ℕ) (passed ps : List Policy)
-    → HasAtMost name most ps → HasAtMost name most (with_all_passed limited passed ps)
-few-kept limited name keeps most [] ps h = h
-few-kept limited name keeps most (p ∷ passed) ps h =
-    few-kept limited name keeps most passed (with_passed limited ps p) (bounded-by-one limited name keeps most ps p h)
-
--- what can be read is a number, and no more than so many
-states-few : (name : List ℕ) (most : ℕ) (ps : List Policy) (x : Option ℕ) → HasAtMost name most ps
-    → IsStatedBy number (policy_named ps name) None x → (n : ℕ) × (x ≡ Some n) × (n ≤ most)
-states-few name most ps x h by =
-    let value = there number (policy_named ps name) h.policy None x h.there by in
+-- of what a sub-query states under a name and what is passed on the least can be read as a number, and no more than so
+-- many
+states-few : (limited : Bool) (name : List ℕ) → ChoosesBy limited name (least_by number_in) → (most : ℕ)
+    (passed ps : List Policy) (x : Option ℕ) → policy_named ps name ≡ Some (policy number name most)
+    → IsStatedBy number (policy_named (with_all_passed limited passed ps) name) None x
+    → (n : ℕ) × (x ≡ Some n) × (n ≤ most)
+states-few limited name least most passed ps x written by =
+    let h =
+    all-keep limited name (HasAtMost most)
+    (λ qs p is h. subst (HasAtMost most) (sym (least qs p is)) (least-has most p (policy_named qs name) h)) passed ps
+    (written-has name most (policy_named ps name) written) in
+    let value = there number (policy_named (with_all_passed limited passed ps) name) h.policy None x h.there by in
     let is = held number h.policy x value in
     (is.0, is.1, h.bounded is.0 is.2)
 
-written-bounds : (name : List ℕ) (n k : ℕ) → number_in (policy number name n) ≡ Some k → k ≤ n
-written-bounds name n k e =
-    let back = number_back name n in
-    let h = held number (policy number name n) (Some n) back in
-    let before : n ≡ h.0 = some-is n h.0 h.1 in
-    let after : h.0 ≡ k = some-is h.0 k (sym h.2 ∙ e) in
-    omega (arith, before, after)
-
-replaced-has-hops : (hops : ℕ) (follow : Option FollowOption) (identifier : Option (List ℕ)) (wanted : Option ℕ)
-    (ps : List Policy) → HasAtMost (codes "hop_count") (hops - 1) (replaced hops follow identifier wanted ps)
-replaced-has-hops hops follow identifier wanted ps = record {
-  policy = policy number (codes "hop_count") (hops - 1);
-  there = hops-there hops follow identifier wanted ps;
-  bounded = written-bounds (codes "hop_count") (hops - 1);
-}
-
-replaced-has-card : (hops : ℕ) (follow : Option FollowOption) (identifier : Option (List ℕ)) (n : ℕ)
-    (ps : List Policy) → HasAtMost (codes "return_card") n (replaced hops follow identifier (Some n) ps)
-replaced-has-card hops follow identifier n ps = record {
-  policy = policy number (codes "return_card") n;
-  there = card-there hops follow identifier n ps;
-  bounded = written-bounds (codes "return_card") n;
-}
+card-is-few : (l : Local) (wanted : Option ℕ) (part : ProxyPart) (n : ℕ) (s : Stated) → wanted ≡ Some n
+    → stated (with_all_passed (is_some wanted) part.policies (replaced l.effective.hops
+    (stated_rule l.stated.follow l.attributes.max_follow_policy) l.identifier wanted l.query.policies)) ≡ Ok s
+    → (m : ℕ) × (s.return_card ≡ Some m) × (m ≤ n)
+card-is-few l None part n s is e = absurd cc
+card-is-few l (Some k) part n s is e =
+    let r = stated_rule l.stated.follow l.attributes.max_follow_policy in
+    let ps = replaced l.effective.hops r l.identifier (Some k) l.query.policies in
+    subst (λ (n : ℕ). (m : ℕ) × (s.return_card ≡ Some m) × (m ≤ n)) (some-is k n is)
+    (states-few true (codes "return_card") fewer-offers k part.policies ps s.return_card
+    (card-there l.effective.hops r l.identifier k l.query.policies)
+    (is-stated field.return_card (with_all_passed true part.policies ps) s e))
 
 pub to_a_proxy : (l : Local) (wanted : Option ℕ) (part : ProxyPart) (constraint : List ℕ) (s : Stated)
     → stated (proxy_query l wanted part constraint).policies ≡ Ok s → ToAProxy l wanted s
@@ -252,23 +199,14 @@ to_a_proxy l wanted part constraint s e =
     let all = with_all_passed (is_some wanted) part.policies ps in
     record {
       hops =
-          states-few (codes "hop_count") (l.effective.hops - 1) all s.hops
-          (few-kept (is_some wanted) (codes "hop_count") (hops-stand (is_some wanted)) (l.effective.hops - 1)
-          part.policies ps (replaced-has-hops l.effective.hops r l.identifier wanted l.query.policies))
+          states-few (is_some wanted) (codes "hop_count") (fewer-hops (is_some wanted)) (l.effective.hops - 1)
+          part.policies ps s.hops (hops-there l.effective.hops r l.identifier wanted l.query.policies)
           (is-stated field.hops all s e);
       identifier =
           λ id is. states-identifier id all s
           (identifier-kept (is_some wanted) part.policies ps
           ∙ rw is (identifier-there l.effective.hops r id wanted l.query.policies)) e;
-      card =
-          λ n is. states-few (codes "return_card") n all s.return_card
-          (subst (λ (w : Option ℕ). HasAtMost (codes "return_card") n
-          (with_all_passed (is_some w) part.policies (replaced l.effective.hops r l.identifier w l.query.policies)))
-          (sym is)
-          (few-kept true (codes "return_card") card-stands n part.policies
-          (replaced l.effective.hops r l.identifier (Some n) l.query.policies)
-          (replaced-has-card l.effective.hops r l.identifier n l.query.policies)))
-          (is-stated field.return_card all s e);
+      card = λ n is. card-is-few l wanted part n s is e;
     }
 
 -- ---- along a path

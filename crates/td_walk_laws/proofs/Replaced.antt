@@ -10,9 +10,9 @@ use Rattle.td_codes.specs.Layers.{value-items}
 use Rattle.td_codes.specs.declared.code.Value.{Value}
 use Rattle.td_codes.specs.declared.code.Value.TheVariants as value
 use Rattle.td_policy.proofs.Alone.{octets_alone, texts_alone}
-use Rattle.td_policy.proofs.ReadBack.{number_back, rule_back, octets_back, texts_back}
+use Rattle.td_policy.proofs.ReadBack.{octets_back, texts_back}
 use Rattle.td_policy.specs.Stated.{stated, stated_value, valid}
-use Rattle.td_policy.specs.Values.{Kind, number, rule, octets, texts, octet_of, text_of, items_in, items_of}
+use Rattle.td_policy.specs.Values.{Kind, octets, texts, octet_of, text_of, items_in, items_of}
 use Rattle.td_policy.specs.declared.fault.PolicyFault.TheVariants as fault
 use Rattle.td_policy.specs.declared.stated.Stated.{Stated}
 use Rattle.td_value.specs.declared.enumerations.FollowOption.{FollowOption}
@@ -20,6 +20,7 @@ use Rattle.td_value.specs.declared.structures.Policy.{Policy}
 use Rattle.td_walk.specs.Passing.{policy_named, with_policy, with_optional, without_policy, hop_policy, follow_policy}
 use Rattle.td_walk.specs.Passing.{identifier_policy, start_policy, card_policy, replaced, along_path}
 use Rattle.td_policy.specs.Fields as field
+use Rattle.td_policy.specs.Fields.{Field, Held}
 use Rattle.td_walk_laws.proofs.Fields.{is-stated}
 use Rattle.td_walk_laws.proofs.Named.{put-is-named, others-stay, taken-is-gone, others-are-left}
 use Rattle.td_walk_laws.proofs.Stating.{IsStatedBy, ok-is}
@@ -139,26 +140,14 @@ pub gone : {A : Type 0} (kind : Kind A) (o : Option Policy) (before now : Option
     → IsStatedBy kind o before now → now ≡ before
 gone kind o before now is h = subst (λ (q : Option Policy). IsStatedBy kind q before now) is h
 
-pub states-hops : (n : ℕ) (ps : List Policy) (s : Stated)
-    → policy_named ps (codes "hop_count") ≡ Some (hop_policy n) → stated ps ≡ Ok s → s.hops ≡ Some n
-states-hops n ps s is e =
-    let h = there number (policy_named ps (codes "hop_count")) (hop_policy n) None s.hops is (is-stated field.hops ps s e) in
-    ok-is s.hops (Some n) (sym h ∙ number_back (codes "hop_count") n)
-
-pub states-card : (n : ℕ) (ps : List Policy) (s : Stated)
-    → policy_named ps (codes "return_card") ≡ Some (card_policy n) → stated ps ≡ Ok s → s.return_card ≡ Some n
-states-card n ps s is e =
+-- the policy that was written for a field states what was written
+pub states-written : (f : Field) (p : Policy) (x : Held f) (ps : List Policy) (s : Stated)
+    → stated_value (field.kind_of f) p ≡ Ok (Some x) → policy_named ps (field.name_of f) ≡ Some p → stated ps ≡ Ok s
+    → field.value_in f s ≡ Some x
+states-written f p x ps s back is e =
     let h =
-    there number (policy_named ps (codes "return_card")) (card_policy n) None s.return_card is
-    (is-stated field.return_card ps s e) in
-    ok-is s.return_card (Some n) (sym h ∙ number_back (codes "return_card") n)
-
-pub states-follow : (r : FollowOption) (ps : List Policy) (s : Stated)
-    → policy_named ps (codes "link_follow_rule") ≡ Some (follow_policy r) → stated ps ≡ Ok s → s.follow ≡ Some r
-states-follow r ps s is e =
-    let h =
-    there rule (policy_named ps (codes "link_follow_rule")) (follow_policy r) None s.follow is (is-stated field.follow ps s e) in
-    ok-is s.follow (Some r) (sym h ∙ rule_back (codes "link_follow_rule") r)
+    there (field.kind_of f) (policy_named ps (field.name_of f)) p None (field.value_in f s) is (is-stated f ps s e) in
+    ok-is (field.value_in f s) (Some x) (sym h ∙ back)
 
 pub states-no-start : (ps : List Policy) (s : Stated) → policy_named ps (codes "starting_trader") ≡ None
     → stated ps ≡ Ok s → s.start ≡ None
