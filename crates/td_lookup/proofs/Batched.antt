@@ -15,7 +15,7 @@ use Rattle.td_iter.specs.Heads.{offers_found}
 use Rattle.td_iter.specs.declared.item.Item.TheVariants.{Offers}
 use Rattle.td_objects.specs.References.{offer_iterator}
 use Rattle.td_lookup.specs.Querying.{first_offers, offers_kept}
-use Rattle.td_lookup.specs.Telling.{PutsBatched, PutsFirst}
+use Rattle.td_lookup.specs.Telling.{PutsFirst}
 use Rattle.td_ops.specs.Outcomes.{outcome_piece}
 use Rattle.td_value.specs.declared.structures.Offer.{Offer}
 use Rattle.td_walk.specs.declared.trace.Address.{Address}
@@ -34,17 +34,22 @@ dropped-some zero left rest e less =
     let same = ap length e in absurd (let no : ⊥ = omega (arith, same, less) in no)
 dropped-some (suc k) left rest e less = omega arith
 
--- the first batch was given, and the rest is kept
-pub batched : (reference : Ior) (limits : List (List ℕ)) (name : List ℕ) (n : ℕ) (left rest : List Offer)
-    (old new : Draft) (d e : Live) (more : Bool) → GivesBatch (offers_found reference limits) left n rest old new more
+-- the first batch was given, with the reference of the next iterator, and the rest is kept
+pub batched : (home : Address) (name : List ℕ) (n : ℕ) (limits : List (List ℕ)) (left rest : List Offer)
+    (reference : Ior) (old new : Draft) (d e : Live) (more : Bool) → reference ≡ offer_iterator home name d.1
+    → GivesBatch (offers_found reference limits) left n rest old new more
     → (0 < n → 0 < length left → length rest < length left)
-    → e ≡ (if more then added name (Offers rest) d else d) → PutsBatched reference limits name n left old new d e
-batched reference limits name n left rest old new d e more g some made = record {
-  count = g.count;
-  puts = g.puts;
-  kept = rest_kept name (drop g.count left) rest more d e made g.rest_is g.more_is;
-  some = λ asked there. dropped-some g.count left rest g.rest_is (some asked there);
-}
+    → e ≡ (if more then added name (Offers rest) d else d) → PutsFirst home name n limits left old new d e
+batched home name n limits left rest reference old new d e more own gives some made =
+    let g : GivesBatch (offers_found (offer_iterator home name d.1) limits) left n rest old new more =
+    subst (λ (x : Ior). GivesBatch (offers_found x limits) left n rest old new more) own gives in
+    record {
+      count = g.count;
+      batch = g.puts.is_batch;
+      bytes = g.puts.bytes;
+      kept = rest_kept name (drop g.count left) rest more d e made g.rest_is g.more_is;
+      some = λ asked there. dropped-some g.count left rest g.rest_is (some asked there);
+    }
 
 -- where a batch hasn't all that is left, nothing was written and all is left
 pub nothing_written : (head : List Offer → Bool → Piece) (left rest : List Offer) (n : ℕ) (old new : Draft)
@@ -59,22 +64,15 @@ unchanged_after old mid new d e (Ok b) same u = tt
 unchanged_after old mid new d e (Err m) same u = (u.0, u.1 ∙ same)
 
 module _ (home : Address) (name : List ℕ) (n : ℕ) (limits : List (List ℕ)) (offers : List Offer) where
-  puts_first : (trader : List ℕ) (reference : Ior) (old new : Draft) (d e : Live) → trader ≡ name
-      → reference ≡ offer_iterator home name d.1 → PutsBatched reference limits trader n offers old new d e
-      → PutsFirst home name n limits offers old new d e
-  puts_first trader reference old new d e t r p =
-      let q : PutsBatched (offer_iterator home name d.1) limits name n offers old new d e =
-      subst (λ (x : Ior). PutsBatched x limits name n offers old new d e) r
-      (subst (λ (x : List ℕ). PutsBatched reference limits x n offers old new d e) t p) in
-      record { count = q.count; batch = q.puts.is_batch; bytes = q.puts.bytes; kept = q.kept; some = q.some }
-
+  -- told of the trader that the label names
   pub tell_first : (trader : List ℕ) (number : ℕ) (reference : Ior) (old new : Draft) (d e : Live)
       (r : Result (Unit {0}) Wanting) → trader ≡ name → reference ≡ offer_iterator home name number → number ≡ d.1
-      → OnOk r (PutsBatched reference limits trader n offers old new d e)
-      → OnOk r (PutsFirst home name n limits offers old new d e)
-  tell_first trader number reference old new d e (Ok b) t made next p =
-      puts_first trader reference old new d e t (made ∙ ap (λ (x : ℕ). offer_iterator home name x) next) p
-  tell_first trader number reference old new d e (Err m) t made next p = tt
+      → ((h : Address) → reference ≡ offer_iterator h trader d.1
+      → OnOk r (PutsFirst h trader n limits offers old new d e)) → OnOk r (PutsFirst home name n limits offers old new d e)
+  tell_first trader number reference old new d e r t made next p =
+      let own : reference ≡ offer_iterator home trader d.1 =
+      made ∙ ap (λ (x : ℕ). offer_iterator home name x) next ∙ ap (λ (x : List ℕ). offer_iterator home x d.1) (sym t) in
+      subst (λ (x : List ℕ). OnOk r (PutsFirst home x n limits offers old new d e)) t (p home own)
 
   -- a batch that has all offers, behind which nothing is kept
   pub tell_whole : (left rest : List Offer) (old new : Draft) (d : Live) (whole : Bool) → left ≡ offers → whole ≡ true

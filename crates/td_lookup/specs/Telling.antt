@@ -4,9 +4,8 @@ use Rattle.std.specs.Prelude.{Result, Ok, Err}
 use Rattle.td_cdr.specs.Marks.{Marks}
 use Rattle.td_cdr.specs.Writing.{Draft}
 use Rattle.td_cdr.specs.declared.memory.Memory.{Memory as Wanting}
-use Rattle.td_codes.specs.declared.reference.Ior.{Ior}
 use Rattle.td_fed.specs.declared.resolving.NameAnswer.{NameAnswer}
-use Rattle.td_iter.specs.Batches.{IsBatch, PutsBatch}
+use Rattle.td_iter.specs.Batches.{IsBatch}
 use Rattle.td_iter.specs.Desks.{Live}
 use Rattle.td_iter.specs.Heads.{AreLimits, AreSmallOffers, offers_found}
 use Rattle.td_objects.specs.References.{offer_iterator}
@@ -50,17 +49,8 @@ abbrev pub GivesSmall : Query → Visit → Type 0
 GivesSmall q (visit.Answered a max_list) = AreSmallOffers (map (chosen q.desired) a.offers)
 GivesSmall q (visit.Refused o) = Unit {0}
 
--- the first batch for n of these offers was written, with this reference where any are left, and those are kept; where
--- n is at least 1 and there are offers, it isn't empty
-pub record PutsBatched (reference : Ior) (limits : List (List ℕ)) (name : List ℕ) (n : ℕ)
-    (offers : List Offer) (old new : Draft) (d e : Live) : Type 0 where
-  pub count : ℕ
-  pub puts : PutsBatch (offers_found reference limits) offers n old new count
-  pub kept : e ≡ offers_kept name (drop count offers) d
-  pub some : 0 < n → 0 < length offers → 0 < count
-
 -- the first batch for n of the offers was written, with the reference of the desk's next iterator, and the others are
--- kept
+-- kept; where n is at least 1 and there are offers, it isn't empty
 pub record PutsFirst (home : Address) (name : List ℕ) (n : ℕ) (limits : List (List ℕ))
     (offers : List Offer) (old new : Draft) (d e : Live) : Type 0 where
   pub count : ℕ

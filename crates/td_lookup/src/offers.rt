@@ -6,8 +6,9 @@ ghost use Rattle.td_iter.specs.Desks.{added};
 ghost use Rattle.td_iter.specs.Heads.{AreLimits, AreSmallOffers, IsSmallReference};
 ghost use Rattle.td_iter.specs.declared.item.Item.TheVariants.{Offers};
 ghost use Rattle.td_iter.specs.declared.limits.TheConstants.{REPLY_START};
-ghost use Rattle.td_lookup.specs.Telling.{PutsBatched, PutsFirst};
+ghost use Rattle.td_lookup.specs.Telling.{PutsFirst};
 ghost use Rattle.td_objects.specs.References.{IsAddress, offer_iterator};
+ghost use Rattle.td_walk.specs.declared.trace.Address.{Address as TheAddress};
 
 use std::alloc::Global;
 use td_cdr::{List, Memory, Text, Writer};
@@ -116,8 +117,9 @@ fn put_first(
     requires limits { AreLimits limits }
     requires start { length w.old.bytes ≡ REPLY_START }
     requires numbers { desk.old.1 < 2 ^ 63 }
-    ensures puts { OnOk result
-        (PutsBatched label.reference limits label.trader n left w.old w.new desk.old desk.new) }
+    ensures puts { (home : TheAddress)
+        → label.reference ≡ offer_iterator home label.trader desk.old.1 → OnOk result
+        (PutsFirst home label.trader n limits left w.old w.new desk.old desk.new) }
     ensures err { OnErr result ((desk.new ≡ desk.old) × (w.new.bytes ≡ w.old.bytes)) }
     ensures order { w.new.order ≡ w.old.order }
 {

@@ -1,5 +1,5 @@
 -- Lists of ids, and their first batch.
-use Rattle.std.proofs.Common.{◌≡◌, ℕ, Bool, true, if◌then◌else◌, List, [], ◌∷◌, length}
+use Rattle.std.proofs.Common.{◌≡◌, ℕ, Bool, true, if◌then◌else◌, List, [], ◌∷◌, drop, length}
 use Rattle.std.proofs.Common.{refl, sym, ap, subst, ◌∙◌, Option, Some, None, IfOk, OnOk}
 use Rattle.std.proofs.lemmas.Bool.{leb-true}
 use Rattle.std.specs.List.{list_all}
@@ -9,13 +9,14 @@ use Rattle.td_cdr.specs.declared.memory.Memory.{Memory}
 use Rattle.td_codes.specs.Formats.{is_some}
 use Rattle.td_codes.specs.declared.reference.Ior.{Ior}
 use Rattle.td_ior.proofs.Numbers.{and-left, and-right}
+use Rattle.td_iter.specs.Batches.{GivesBatch}
 use Rattle.td_iter.specs.Desks.{Live, added}
-use Rattle.td_iter.specs.Heads.{AreSmallIds}
+use Rattle.td_iter.specs.Heads.{AreSmallIds, ids_found}
 use Rattle.td_iter.specs.declared.item.Item.TheVariants.{Ids}
 use Rattle.td_objects.specs.References.{iterator_reference}
 use Rattle.td_ops.specs.declared.outcome.Outcome.{Outcome}
 use Rattle.td_walk.specs.declared.trace.Address.{Address}
-use Rattle.td_reply.specs.Listing.{PutsBatched, has_small_size}
+use Rattle.td_reply.specs.Listing.{has_small_size}
 use Rattle.td_reply.specs.Looking.{Cuts, CutsList, PutsFirst, first_ids, ids_in, kept_for}
 use Rattle.td_reply.specs.declared.answer.ReplyBody.{ReplyBody}
 use Rattle.td_reply.specs.declared.answer.ReplyBody.TheVariants.{Written}
@@ -38,24 +39,33 @@ rest_kept name left rest more d e made same told =
     subst (λ (xs : List (List ℕ)). e ≡ kept_for name xs d) same
     (subst (λ (b : Bool). e ≡ (if b then added name (Ids rest) d else d)) told made)
 
-pub puts_first : (home : Address) (name trader : List ℕ) (n : ℕ) (ids left : List (List ℕ)) (reference : Ior)
-    (old new : Draft) (d e : Live) → trader ≡ name → left ≡ ids → reference ≡ iterator_reference home name d.1
-    → PutsBatched reference trader n left old new d e → PutsFirst home name n ids old new d e
-puts_first home name trader n ids left reference old new d e t l r p =
-    let q : PutsBatched (iterator_reference home name d.1) name n ids old new d e =
-    subst (λ (x : Ior). PutsBatched x name n ids old new d e) r
-    (subst (λ (xs : List (List ℕ)). PutsBatched reference name n xs old new d e) l
-    (subst (λ (x : List ℕ). PutsBatched reference x n left old new d e) t p)) in
-    record { count = q.count; batch = q.puts.is_batch; bytes = q.puts.bytes; kept = q.kept }
+-- the first batch was given, with the reference of the next iterator, and the rest is kept
+pub batched : (home : Address) (name : List ℕ) (n : ℕ) (left rest : List (List ℕ)) (reference : Ior) (old new : Draft)
+    (d e : Live) (more : Bool) → reference ≡ iterator_reference home name d.1
+    → GivesBatch (ids_found reference) left n rest old new more
+    → e ≡ (if more then added name (Ids rest) d else d) → PutsFirst home name n left old new d e
+batched home name n left rest reference old new d e more own gives made =
+    let g : GivesBatch (ids_found (iterator_reference home name d.1)) left n rest old new more =
+    subst (λ (x : Ior). GivesBatch (ids_found x) left n rest old new more) own gives in
+    record {
+      count = g.count;
+      batch = g.puts.is_batch;
+      bytes = g.puts.bytes;
+      kept = rest_kept name (drop g.count left) rest more d e made g.rest_is g.more_is;
+    }
 
+-- told of the trader that the label names, and of the ids that the iterator is over
 pub tell_first : (home : Address) (name trader : List ℕ) (n number : ℕ) (ids left : List (List ℕ)) (reference : Ior)
     (old new : Draft) (d e : Live) (r : Result ReplyBody Memory) → trader ≡ name → left ≡ ids
     → reference ≡ iterator_reference home name number → number ≡ d.1
-    → OnOk r (PutsBatched reference trader n left old new d e) → OnOk r (PutsFirst home name n ids old new d e)
-tell_first home name trader n number ids left reference old new d e (Ok b) t l made next p =
-    puts_first home name trader n ids left reference old new d e t l
-    (made ∙ ap (λ (x : ℕ). iterator_reference home name x) next) p
-tell_first home name trader n number ids left reference old new d e (Err m) t l made next p = tt
+    → ((h : Address) → reference ≡ iterator_reference h trader d.1 → OnOk r (PutsFirst h trader n left old new d e))
+    → OnOk r (PutsFirst home name n ids old new d e)
+tell_first home name trader n number ids left reference old new d e r t l made next p =
+    let own : reference ≡ iterator_reference home trader d.1 =
+    made ∙ ap (λ (x : ℕ). iterator_reference home name x) next
+    ∙ ap (λ (x : List ℕ). iterator_reference home x d.1) (sym t) in
+    subst (λ (x : List ℕ). OnOk r (PutsFirst home x n ids old new d e)) t
+    (subst (λ (xs : List (List ℕ)). OnOk r (PutsFirst home trader n xs old new d e)) l (p home own))
 
 module _ (home : Address) (name : List ℕ) (n : ℕ) (found : Outcome) (old new : Draft) (d e : Live) where
   cut_first : (ids : List (List ℕ)) → ids_in found ≡ Some ids → PutsFirst home name n ids old new d e

@@ -10,8 +10,9 @@ ghost use Rattle.td_iter.specs.declared.limits.TheConstants.{REPLY_START};
 ghost use Rattle.td_objects.specs.References.{IsAddress, iterator_reference};
 ghost use Rattle.td_ops.specs.declared.outcome.Outcome.TheVariants.{Done};
 ghost use Rattle.td_reply.specs.Answers.{IfLong};
-ghost use Rattle.td_reply.specs.Listing.{IsListed, PutsBatched, has_small_size};
+ghost use Rattle.td_reply.specs.Listing.{IsListed, has_small_size};
 ghost use Rattle.td_reply.specs.Looking.{Cuts, PutsFirst};
+ghost use Rattle.td_walk.specs.declared.trace.Address.{Address as TheAddress};
 
 use crate::answer::ReplyBody;
 use crate::desk_label::DeskLabel;
@@ -205,8 +206,9 @@ fn put_first(
     requires start { length w.old.bytes ≡ REPLY_START }
     requires numbers { desk.old.1 < 2 ^ 63 }
     ensures written { IfOk result (λ b. b ≡ ReplyBody.Written) }
-    ensures puts { OnOk result
-        (PutsBatched label.reference label.trader n left w.old w.new desk.old desk.new) }
+    ensures puts { (home : TheAddress)
+        → label.reference ≡ iterator_reference home label.trader desk.old.1 → OnOk result
+        (PutsFirst home label.trader n left w.old w.new desk.old desk.new) }
     ensures err { OnErr result ((desk.new ≡ desk.old) × (w.new.bytes ≡ w.old.bytes)) }
     ensures order { w.new.order ≡ w.old.order }
 {

@@ -2,7 +2,7 @@ use Rattle.td_lookup.proofs.Batched.{batched}
 use Rattle.td_lookup.proofs.offers.put_first.Goals as goal
 
 pub returns-in-Ok-clause-puts : goal.returns-in-Ok-clause-puts
-returns-in-Ok-clause-puts c =
-    batched c.args.label.reference c.args.limits c.args.label.trader c.args.n c.args.left c.first_batch.new.self
-    c.args.w.now c.first_batch.new.w c.args.desk.now c.keep.new.desk c.in-Ok.more c.in-Ok.ensures.batch
+returns-in-Ok-clause-puts c = λ home own.
+    batched home c.args.label.trader c.args.n c.args.limits c.args.left c.first_batch.new.self c.args.label.reference
+    c.args.w.now c.first_batch.new.w c.args.desk.now c.keep.new.desk c.in-Ok.more own c.in-Ok.ensures.batch
     c.in-Ok.ensures.some c.keep.ensures
