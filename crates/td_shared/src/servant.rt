@@ -40,18 +40,22 @@ impl<'d, 't, 's, 'r, 'j, 'p, 'w, R: Wait, J: SharedJournal, T: Traders, P: Peers
     for SharedServant<'d, 't, 's, 'r, 'j, 'p, 'w, R, J, T, P, W> {
     ghost serves = { λ s message reply u. ServesWith T.others T.later s.sharing.full u.sharing.full
         (shared_in (backend_seen (T.world s.other.traders.now)
-        (peers_seen (P.calls s.other.peers.now) (P.faults s.other.peers.now)) (W.word s.other.words.now)) s.other.room.now
+        (peers_seen (P.calls s.other.peers.now) (P.faults s.other.peers.now))
+        (W.word s.other.words.now)) s.other.room.now
         (knowledge s.sharing.pass.now) (J.entries s.sharing.journal.now)) message reply
         (shared_in (backend_seen (T.world u.other.traders.now)
-        (peers_seen (P.calls u.other.peers.now) (P.faults u.other.peers.now)) (W.word u.other.words.now)) u.other.room.now
+        (peers_seen (P.calls u.other.peers.now) (P.faults u.other.peers.now))
+        (W.word u.other.words.now)) u.other.room.now
         (knowledge u.sharing.pass.now) (J.entries u.sharing.journal.now)) };
 
     ghost stays = { λ s u. StaysWith s.sharing.full u.sharing.full
         (shared_in (backend_seen (T.world s.other.traders.now)
-        (peers_seen (P.calls s.other.peers.now) (P.faults s.other.peers.now)) (W.word s.other.words.now)) s.other.room.now
+        (peers_seen (P.calls s.other.peers.now) (P.faults s.other.peers.now))
+        (W.word s.other.words.now)) s.other.room.now
         (knowledge s.sharing.pass.now) (J.entries s.sharing.journal.now))
         (shared_in (backend_seen (T.world u.other.traders.now)
-        (peers_seen (P.calls u.other.peers.now) (P.faults u.other.peers.now)) (W.word u.other.words.now)) u.other.room.now
+        (peers_seen (P.calls u.other.peers.now) (P.faults u.other.peers.now))
+        (W.word u.other.words.now)) u.other.room.now
         (knowledge u.sharing.pass.now) (J.entries u.sharing.journal.now)) };
 
     ghost same = { λ a b. (a.other.traders.ghost_name ≡ b.other.traders.ghost_name)
@@ -62,7 +66,8 @@ impl<'d, 't, 's, 'r, 'j, 'p, 'w, R: Wait, J: SharedJournal, T: Traders, P: Peers
         × (a.other.words.ghost_name ≡ b.other.words.ghost_name) × (b.sharing.desk ≡ a.sharing.desk)
         × SameCell b.sharing.pass.now a.sharing.pass.now
         × SameNumbers (knowledge a.sharing.pass.now) (knowledge b.sharing.pass.now)
-        × T.same a.other.traders.now b.other.traders.now × P.same a.other.peers.now b.other.peers.now
+        × T.same a.other.traders.now b.other.traders.now
+        × P.same a.other.peers.now b.other.peers.now
         × W.same a.other.words.now b.other.words.now };
 
     ghost told = { λ s. if s.keyed then s.replies else s.other.room.now.replies };
@@ -77,7 +82,8 @@ impl<'d, 't, 's, 'r, 'j, 'p, 'w, R: Wait, J: SharedJournal, T: Traders, P: Peers
 
     ghost stays_itself = { λ a. stays_same a.sharing.full
         (shared_in (backend_seen (T.world a.other.traders.now)
-        (peers_seen (P.calls a.other.peers.now) (P.faults a.other.peers.now)) (W.word a.other.words.now)) a.other.room.now
+        (peers_seen (P.calls a.other.peers.now) (P.faults a.other.peers.now))
+        (W.word a.other.words.now)) a.other.room.now
         (knowledge a.sharing.pass.now) (J.entries a.sharing.journal.now)) };
 
     ghost same_itself = { λ a. (
