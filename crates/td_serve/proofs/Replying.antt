@@ -1,14 +1,16 @@
 -- A Request that was performed and whose reply was settled is served.
-use Rattle.std.proofs.Common.{◌≡◌, ◌⊎◌, inl, inr, ℕ, cond, List, [], ◌++◌, length, refl, sym}
+use Rattle.std.proofs.Common.{◌≡◌, ◌⊎◌, ◌<◌, ◌^◌, inl, inr, ℕ, cond, List, [], ◌++◌, length, refl, sym}
 use Rattle.std.proofs.Common.{ap, subst, ◌∙◌, arith, length-append}
 use Rattle.td_cdr.specs.Marks.{Marks}
 use Rattle.td_cdr.specs.Writing.{Draft}
 use Rattle.td_cdr.specs.declared.order.Order.{Order}
 use Rattle.td_giop.proofs.Lengths.{reply_start_length}
 use Rattle.td_giop.specs.Written.{reply_start, sealed}
+use Rattle.td_iter.specs.Desks.{Live}
 use Rattle.td_lookup.specs.Scenes.{Scene}
 use Rattle.td_lookup.specs.Telling.{in_vain}
 use Rattle.td_lookup.specs.Unserved.{Unserved, unbegun_entry, wanting}
+use Rattle.td_ops.specs.declared.call.Call.{Call as Asked}
 use Rattle.td_ops.specs.Outcomes.{outcome_piece, outcome_status}
 use Rattle.td_ops.specs.declared.outcome.Outcome.{Outcome}
 use Rattle.td_register.specs.declared.history.Accepted.{Accepted}
@@ -21,10 +23,12 @@ use Rattle.td_reply.specs.declared.class.RequestClass.TheVariants.{Other}
 use Rattle.td_reply.specs.declared.entry.Entry.{Entry}
 use Rattle.td_reply.specs.declared.entry.Entry.TheVariants.{Plain}
 use Rattle.td_reply.specs.declared.judging.Judged.{Judged}
-use Rattle.td_reply.specs.declared.judging.Judged.TheVariants.{Refused}
+use Rattle.td_reply.specs.declared.judging.Judged.TheVariants.{Call, Refused}
+use Rattle.td_reply.specs.declared.objects.Object.{Object}
 use Rattle.td_serve.proofs.Wanting.{not_begun}
+use Rattle.td_serve.specs.Backends.{BackendSeen, scene_of}
 use Rattle.td_serve.specs.ReplyBytes.{BeginsReply, outcome_reply, reply_for}
-use Rattle.td_serve.specs.Requests.{Answers, Served}
+use Rattle.td_serve.specs.Requests.{Answers, FitsCode, NotesNoCall, Served, minor_code}
 use Rattle.td_serve.specs.Serving.{HasHead, IsBodyOf, MayBeRefused, Performs, Settles}
 use Rattle.td_serve.specs.declared.reply_to.ReplyTo.{ReplyTo}
 use Rattle.td_walk.specs.declared.trace.Address.{Address}
@@ -61,46 +65,53 @@ written_bytes to o draft written begun done bytes same =
     ap (λ (x : Order). sealed x written.bytes) in_order
     ∙ result_bytes order minor id (outcome_status o) o written.bytes done whole
 
-module _ (others : List Accepted → Type 0) (later : Marks → Marks → Type 0) (home : Address) (to : ReplyTo) where
-  serves : (j : Judged) (s t : Scene) (o : Outcome) (e settled : Entry) (draft : Draft) (bytes : List ℕ)
-      → BeginsReply to draft → Answers others later home j draft s o e t → settled ≡ e
-      → bytes ≡ reply_for to o → Served others later home to j s o settled bytes t
-  serves j s t o e settled draft bytes begun answers same is = record {
+-- ---- a call
+
+module _ (others : List Accepted → Type 0) (later : Marks → Marks → Type 0) (home : Address) (to : ReplyTo)
+    (x : Object) (c : Asked) where
+  abbrev Serves : Scene → Outcome → Entry → List ℕ → Scene → Type 0
+  Serves s o e bytes t = Served others later home to (Call x c) s o e bytes t
+
+  serves : (s t : Scene) (o : Outcome) (e settled : Entry) (draft : Draft) (bytes : List ℕ) → BeginsReply to draft
+      → Answers others later home (Call x c) draft s o e t → settled ≡ e → bytes ≡ reply_for to o
+      → Serves s o settled bytes t
+  serves s t o e settled draft bytes begun answers same is = record {
     draft = draft;
     begun = begun;
-    answers = subst (λ (n : Entry). Answers others later home j draft s o n t) (sym same) answers;
+    answers = subst (λ (n : Entry). Answers others later home (Call x c) draft s o n t) (sym same) answers;
     reply = is;
+    code = tt;
   }
 
   -- NO_MEMORY, with what is noted then
-  serves_in_vain : (j : Judged) (k : ℕ) (s t : Scene) (e settled : Entry) (draft : Draft) (bytes : List ℕ)
-      → BeginsReply to draft → MayBeRefused others later home j k s e t → settled ≡ in_vain t.world k e
-      → bytes ≡ reply_for to (wanting settled)
-      → Served others later home to j s (wanting settled) settled bytes t
-  serves_in_vain j k s t e settled draft bytes begun back same is = record {
+  serves_in_vain : (k : ℕ) (s t : Scene) (e settled : Entry) (draft : Draft) (bytes : List ℕ) → BeginsReply to draft
+      → MayBeRefused others later home (Call x c) k s e t → settled ≡ in_vain t.world k e
+      → bytes ≡ reply_for to (wanting settled) → Serves s (wanting settled) settled bytes t
+  serves_in_vain k s t e settled draft bytes begun back same is = record {
     draft = draft;
     begun = begun;
     answers = inr
-        (subst (λ (n : Entry). Unserved others later home j s (wanting n) n t) (sym same) back.unserved);
+        (subst (λ (n : Entry). Unserved others later home (Call x c) s (wanting n) n t) (sym same) back.unserved);
     reply = is;
+    code = tt;
   }
 
   -- the call was performed with a writer that was begun for the Reply, and its answer was settled
-  pub served : (j : Judged) (k : ℕ) (s t : Scene) (b : ReplyBody) (e settled : Entry) (draft written : Draft)
-      (bytes : List ℕ) → BeginsReply to draft → Performs others later home j k draft s b e written t
+  pub call_served : (k : ℕ) (s t : Scene) (b : ReplyBody) (e settled : Entry) (draft written : Draft)
+      (bytes : List ℕ) → BeginsReply to draft → Performs others later home (Call x c) k draft s b e written t
       → Settles t.world k to b e written settled bytes
-      → (o : Outcome) × Served others later home to j s o settled bytes t
-  served j k s t (reply_body.Outcome told) e settled draft written bytes begun q (inl whole) = (
+      → (o : Outcome) × Serves s o settled bytes t
+  call_served k s t (reply_body.Outcome told) e settled draft written bytes begun q (inl whole) = (
     q.outcome,
-    serves j s t q.outcome e settled draft bytes begun q.answers whole.0 (whole.1 ∙ ap (reply_for to) q.body),
+    serves s t q.outcome e settled draft bytes begun q.answers whole.0 (whole.1 ∙ ap (reply_for to) q.body),
   )
-  served j k s t (reply_body.Outcome told) e settled draft written bytes begun q (inr vain) = (
+  call_served k s t (reply_body.Outcome told) e settled draft written bytes begun q (inr vain) = (
     wanting settled,
-    serves_in_vain j k s t e settled draft bytes begun (q.taken_back vain.0) vain.1 vain.2,
+    serves_in_vain k s t e settled draft bytes begun (q.taken_back vain.0) vain.1 vain.2,
   )
-  served j k s t reply_body.Written e settled draft written bytes begun q h = (
+  call_served k s t reply_body.Written e settled draft written bytes begun q h = (
     q.outcome,
-    serves j s t q.outcome e settled draft bytes begun q.answers h.0
+    serves s t q.outcome e settled draft bytes begun q.answers h.0
         (h.1
         ∙ ap (λ (xs : List ℕ). cond to.answered xs [])
         (written_bytes to q.outcome draft written begun q.body.0 q.body.1 q.body.2)),
@@ -129,15 +140,20 @@ module _ (others : List Accepted → Type 0) (later : Marks → Marks → Type 0
   begun_draft = record { bytes = reply_start to.order to.minor to.id 0; order = to.order; room = 0 }
 
   -- a Request that is refused
-  pub refusal_served : (o : Outcome) (e : Entry) (bytes : List ℕ) → e ≡ Plain
-      → bytes ≡ reply_for to o
-      → Served others later home to (Refused o) s o e bytes s
-  refusal_served o e bytes noted is = record {
+  refusal_served : (o : Outcome) (bytes : List ℕ) → minor_code o < 2 ^ 32 → bytes ≡ reply_for to o
+      → Served others later home to (Refused o) s o Plain bytes s
+  refusal_served o bytes code is = record {
     draft = begun_draft;
     begun = record { bytes = refl; is_in = refl };
-    answers = inl (refl, noted, refl);
+    answers = inl (refl, refl, refl);
     reply = is;
+    code = code;
   }
+
+  -- the minor code of NO_MEMORY is 0
+  no_memory_fits : (j : Judged) → FitsCode j no_memory
+  no_memory_fits (Refused r) = omega arith
+  no_memory_fits (Call x c) = tt
 
   -- memory was wanted for a Request of a class, and nothing was called
   pub memory_served : (c : RequestClass) (j : Judged) (e : Entry) (bytes : List ℕ) → IsOfClass c j
@@ -149,11 +165,44 @@ module _ (others : List Accepted → Type 0) (later : Marks → Marks → Type 0
     answers = inr (subst (λ (n : Entry). Unserved others later home j s no_memory n s) (sym noted)
         (not_begun others later home c j s of_class));
     reply = is;
+    code = no_memory_fits j;
   }
 
   -- a refusal is told as it is, or NO_MEMORY is
-  pub either_served : (o : Outcome) (e : Entry) (bytes : List ℕ) → e ≡ Plain
+  pub either_served : (o : Outcome) (bytes : List ℕ) → minor_code o < 2 ^ 32
       → (bytes ≡ reply_for to o) ⊎ (bytes ≡ reply_for to no_memory)
-      → (told : Outcome) × Served others later home to (Refused o) s told e bytes s
-  either_served o e bytes noted (inl is) = (o, refusal_served o e bytes noted is)
-  either_served o e bytes noted (inr is) = (no_memory, memory_served Other (Refused o) e bytes refl noted is)
+      → (told : Outcome) × Served others later home to (Refused o) s told Plain bytes s
+  either_served o bytes code (inl is) = (o, refusal_served o bytes code is)
+  either_served o bytes code (inr is) = (no_memory, memory_served Other (Refused o) Plain bytes refl refl is)
+
+-- ---- judging
+
+-- what is noted of a Request that spells a call, and of one for which nothing was done
+pub call_notes : (class : RequestClass) (x : Object) (c : Asked) (j : Judged) (e : Entry) → Call x c ≡ j
+    → NotesNoCall class j e
+call_notes class x c j e is = subst (λ (y : Judged). NotesNoCall class y e) is tt
+
+pub refusal_notes : (class : RequestClass) (o : Outcome) (j : Judged) → Refused o ≡ j → NotesNoCall class j Plain
+refusal_notes class o j is = subst (λ (y : Judged). NotesNoCall class y Plain) is (inl refl)
+
+pub unread_notes : (class unread : RequestClass) (j : Judged) (e : Entry) → unread ≡ class → e ≡ unbegun_entry unread
+    → NotesNoCall class j e
+unread_notes class unread (Refused o) e same is = inr (is ∙ ap unbegun_entry same)
+unread_notes class unread (Call x c) e same is = tt
+
+module _ (others : List Accepted → Type 0) (later : Marks → Marks → Type 0) (home : Address) (to : ReplyTo)
+    (b : BackendSeen) (d m : Live) where
+  -- it leaves the iterators as they were
+  pub judged_served : (j k : Judged) (e : Entry) (bytes : List ℕ) (t : Scene) → m ≡ d → k ≡ j
+      → ((o : Outcome) × Served others later home to k (scene_of b m) o e bytes t)
+      → (o : Outcome) × Served others later home to j (scene_of b d) o e bytes t
+  judged_served j k e bytes t same is h =
+      subst (λ (y : Judged). (o : Outcome) × Served others later home to y (scene_of b d) o e bytes t) is
+      (subst (λ (x : Live). (o : Outcome) × Served others later home to k (scene_of b x) o e bytes t) same h)
+
+  -- memory was wanted for it
+  pub unread_served : (j : Judged) (e : Entry) (bytes : List ℕ) → m ≡ d
+      → Served others later home to j (scene_of b m) no_memory e bytes (scene_of b m)
+      → (o : Outcome) × Served others later home to j (scene_of b d) o e bytes (scene_of b m)
+  unread_served j e bytes same h =
+      (no_memory, subst (λ (x : Live). Served others later home to j (scene_of b x) no_memory e bytes (scene_of b m)) same h)

@@ -14,7 +14,6 @@ mod writing;
 pub use backend::Backend;
 pub use backend_ref::BackendRef;
 pub use laws::worked_replies;
-pub use refusing::refuse_memory;
 pub use replies::Replies;
 pub use reply_to::ReplyTo;
 pub use serving::serve_request;

@@ -21,7 +21,7 @@ use td_walk::Trace;
 
 /// Serves a Request of a class for which memory was wanted before its call: the reply is NO_MEMORY, which has no bytes
 /// where none is expected. Answers what the journal notes: an empty trace of a query, and nothing of any other call.
-pub fn refuse_memory<B: Backend>(
+pub(crate) fn refuse_memory<B: Backend>(
     alloc: Global,
     replies: &mut Replies,
     to: ReplyTo,

@@ -1,13 +1,13 @@
-//! One Request, from its judged call to its reply and the journal's entry.
+//! One Request, from its head to its reply and the journal's entry.
 
 ghost use Rattle.std.specs.Prelude.{◌<◌, ◌^◌};
 ghost use Rattle.td_objects.specs.References.{IsAddress};
 ghost use Rattle.td_ops.specs.declared.outcome.Outcome.{Outcome as Told};
-ghost use Rattle.td_reply.specs.Judging.{IsServable};
-ghost use Rattle.td_reply.specs.declared.class.RequestClass.{RequestClass};
+ghost use Rattle.td_reply.specs.Classes.{request_class};
+ghost use Rattle.td_reply.specs.Judging.{judged};
 ghost use Rattle.td_serve.specs.Backends.{scene_of};
 ghost use Rattle.td_serve.specs.ReplyBytes.{IsWritable};
-ghost use Rattle.td_serve.specs.Requests.{NotesNoCall, Served};
+ghost use Rattle.td_serve.specs.Requests.{NotesNoCall, Served, minor_code};
 
 use crate::backend::Backend;
 use crate::refusing::{refuse_memory, tell_refusal};
@@ -15,12 +15,15 @@ use crate::replies::Replies;
 use crate::reply_to::ReplyTo;
 use crate::settling::settle;
 use std::alloc::Global;
+use td_giop::RequestHead;
 use td_iter::Desk;
+use td_ops::Outcome;
 use td_reply::{Entry, Judged, class_of};
 use td_walk::Address;
 
-/// Serves a Request: performs its call, leaves the reply, which has no bytes where none is expected, and answers what
-/// the journal notes. Where memory is wanted the reply is NO_MEMORY, and no change was made then.
+/// Serves a Request: reads what it asks for, has its call answered, leaves the reply, which has no bytes where none is
+/// expected, and answers what the journal notes. Where memory is wanted the reply is NO_MEMORY, and no change was made
+/// then.
 pub fn serve_request<B: Backend>(
     alloc: Global,
     backend: &mut B,
@@ -28,33 +31,50 @@ pub fn serve_request<B: Backend>(
     desk: &mut Desk,
     replies: &mut Replies,
     to: ReplyTo,
-    judged: Judged,
+    head: &RequestHead<'_>,
 ) -> Entry
     requires version { IsWritable to }
-    requires servable { IsServable (B.seen backend.old).world judged }
     requires home { IsAddress home.now }
     requires numbers { desk.old.1 < 2 ^ 63 }
     ensures same { B.same backend.old backend.new }
-    ensures served { (o : Told) × Served B.others B.later home.now to judged
-        (scene_of (B.seen backend.old) desk.old) o result replies.new
+    ensures served { (o : Told) × Served B.others B.later home.now to
+        (judged (B.seen backend.old).world desk.old head.now.key.now head.now.operation.now
+        head.now.body) (scene_of (B.seen backend.old) desk.old) o result replies.new
         (scene_of (B.seen backend.new) desk.new) }
-    ensures no_call { (c : RequestClass) → NotesNoCall c judged result }
+    ensures no_call { NotesNoCall (request_class (B.seen backend.old).world desk.old
+        head.now.key.now head.now.operation.now)
+        (judged (B.seen backend.old).world desk.old head.now.key.now head.now.operation.now
+        head.now.body) result }
 {
-    match judged {
-        Judged::Call { object, call } => match replies.begin(alloc, to) {
-            Ok(mut w) => {
-                let answer = backend.answer_call(alloc, home, desk, &mut w, object, call);
-                settle(alloc, backend, object.trader, replies, to, w, answer)
-            }
+    match backend.judge(alloc, desk, head.key, head.operation, &head.body) {
+        Err(class) => refuse_memory::<B>(alloc, replies, to, class),
+        Ok(Judged::Refused(outcome)) => {
+            code_bound(&outcome);
+            tell_refusal(alloc, replies, to, outcome);
+            Entry::Plain
+        }
+        Ok(Judged::Call { object, call }) => match replies.begin(alloc, to) {
             Err(_) => {
                 let class = class_of(&call);
                 drop(call);
                 refuse_memory::<B>(alloc, replies, to, class)
             }
+            Ok(mut w) => {
+                let answer = backend.answer_call(alloc, home, desk, &mut w, object, call);
+                settle(alloc, backend, object.trader, replies, to, w, answer)
+            }
         },
-        Judged::Refused(outcome) => {
-            tell_refusal(alloc, replies, to, outcome);
-            Entry::Plain
+    }
+}
+
+/// What the type of an outcome's minor code says: it is a ulong.
+fn code_bound(outcome: &Outcome)
+    ensures { minor_code outcome.now < 2 ^ 32 }
+{
+    match outcome {
+        Outcome::System { minor, .. } => {
+            let _minor = *minor;
         }
+        Outcome::Done(_) | Outcome::User(_) => {}
     }
 }

@@ -20,9 +20,9 @@ use Rattle.td_walk.specs.Peering.{AdmitsExchanges}
 use Rattle.td_walk.specs.declared.trace.Address.{Address}
 use Rattle.td_session.specs.Serving.{ServesMessage, Stays}
 use Rattle.td_session.specs.Sessions.{Serves}
-use Rattle.td_session.specs.Stages.{Leads, Stage, stage, turn_of}
+use Rattle.td_session.specs.Stages.{Stage, stage, turn_of}
 use Rattle.td_session.proofs.Headlined.{headlined}
-use Rattle.td_session.proofs.Leading.{journal-append, leads-kept, leads-then}
+use Rattle.td_session.proofs.Leading.{Leads, journal-append, leads-kept, leads-then}
 
 -- ---- the step of a message that is served
 
@@ -62,7 +62,9 @@ module _ (others : List Accepted → Type 0) (later : Marks → Marks → Type 0
       let t = turn_of x.message first.noted x.reply r.0.scene in
       record {
         turns = t ∷ rest.turns;
-        leads = leads-then others later s r.0 u (t ∷ []) rest.turns first.leads rest.leads;
+        leads =
+            leads-then others later s r.0 u (t ∷ []) rest.turns
+            (record { run = (first.turn, refl); noted = first.journal; home = first.home }) rest.leads;
         are = ap (λ (l : List Exchange). x ∷ l) rest.are;
       }
 
@@ -100,7 +102,7 @@ module _ (others : List Accepted → Type 0) (later : Marks → Marks → Type 0
         record {
           step = turn_answers s.home s.scene t r.0;
           served =
-              record { noted = t.request; leads = record { run = (r.0, refl); noted = refl; home = refl } };
+              record { noted = t.request; turn = r.0; journal = refl; home = refl };
         },
         subst
             (λ (j : List Entry). StreamRun (ServesMessage others later) m (exchanges_of ts) (stage s.home u j)) journal

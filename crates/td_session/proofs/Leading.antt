@@ -8,7 +8,7 @@ use Rattle.td_register.specs.declared.history.Accepted.{Accepted}
 use Rattle.td_reply.specs.declared.entry.Entry.{Entry}
 use Rattle.td_turns.specs.Turns.{Noted, Turn, Run, journal_of, noted_in, noted_of}
 use Rattle.td_walk.specs.declared.trace.Address.{Address}
-use Rattle.td_session.specs.Stages.{Stage, Leads}
+use Rattle.td_session.specs.Stages.{Stage}
 
 -- ---- journals
 
@@ -22,6 +22,13 @@ pub journal-append : (ts us : List Turn) → journal_of (ts ++ us) ≡ journal_o
 journal-append ts us =
     ap (λ (x : List Noted). map (λ (n : Noted). n.entry) x) (noted-append ts us)
     ∙ map-append (λ (n : Noted). n.entry) (noted_of ts) (noted_of us)
+
+module _ (others : List Accepted → Type 0) (later : Marks → Marks → Type 0) where
+  -- These turns lead from one stage to the other: the journal grew by what is noted of them, and the address stays.
+  pub record Leads (turns : List Turn) (s u : Stage) : Type 0 where
+    pub run : Run others later s.home s.scene turns u.scene
+    pub noted : u.journal ≡ s.journal ++ journal_of turns
+    pub home : u.home ≡ s.home
 
 module _ (others : List Accepted → Type 0) (later : Marks → Marks → Type 0) where
   run-then : (home : Address) (s m u : Scene) (ts us : List Turn) → Run others later home s ts m

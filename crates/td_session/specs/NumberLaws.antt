@@ -22,7 +22,7 @@ use Rattle.td_reply.specs.declared.entry.Entry.{Entry}
 use Rattle.td_reply.specs.declared.judging.Judged.{Judged}
 use Rattle.td_reply.specs.declared.judging.Judged.TheVariants.{Call, Refused}
 use Rattle.td_reply.specs.declared.objects.Object.{Object}
-use Rattle.td_serve.specs.Requests.{Answers, CallComes, Comes}
+use Rattle.td_serve.specs.Requests.{Answers, Comes}
 use Rattle.td_stream.specs.Messages.{is_request, kind_of}
 use Rattle.td_turns.specs.Turns.{IsTurn, Turn, request, locate, cancel}
 use Rattle.td_value.specs.declared.structures.Offer.{Offer}
@@ -90,7 +90,7 @@ not_request m k e some = rw (e, ne_eqb k 0 (omega (arith, some))) refl
 module _ (others : List Accepted → Type 0) (later : Marks → Marks → Type 0) (home : Address) where
   call_rises : (x : Object) (c : Asking) (draft : Draft) (s : Scene) (o : Outcome) (e : Entry)
       (t : Scene)
-      → CallComes others later home x c draft s o e t → Rises s.desk t.desk
+      → Comes others later home (Call x c) draft s o e t → Rises s.desk t.desk
   call_rises x (call.Change c) draft s o e t h = same s.desk t.desk (ap desk_of h.1)
   call_rises x (call.Look l) draft s o e t h = look_rises home _ _ _ h.0.found draft s.desk o t.desk
       h.0.cuts
@@ -140,4 +140,4 @@ module _ (others : List Accepted → Type 0) (later : Marks → Marks → Type 0
       → ServesMessage others later s message reply u
       → number u.scene.desk ≤ number s.scene.desk + cond (is_request message) 1 0
   message-spends s message reply u h =
-      turn_rises others later s.home s.scene (turn_of message h.noted reply u.scene) h.leads.run.0
+      turn_rises others later s.home s.scene (turn_of message h.noted reply u.scene) h.turn

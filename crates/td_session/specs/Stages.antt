@@ -1,11 +1,9 @@
--- How a session stands between two messages, and what turns make of it.
-use Rattle.std.specs.Prelude.{◌≡◌, ℕ, List, ◌++◌, Option}
-use Rattle.td_cdr.specs.Marks.{Marks}
+-- How a session stands between two messages.
+use Rattle.std.specs.Prelude.{ℕ, List, Option}
 use Rattle.td_lookup.specs.Scenes.{Scene}
-use Rattle.td_register.specs.declared.history.Accepted.{Accepted}
 use Rattle.td_reply.specs.declared.entry.Entry.{Entry}
 use Rattle.td_serve.specs.Backends.{BackendSeen, scene_of}
-use Rattle.td_turns.specs.Turns.{Noted, Turn, Run, journal_of}
+use Rattle.td_turns.specs.Turns.{Noted, Turn}
 use Rattle.td_walk.specs.declared.trace.Address.{Address}
 use Rattle.td_session.specs.Rooms.{Room}
 
@@ -33,10 +31,3 @@ turn_of message noted reply after = record {
   reply = reply;
   after = after;
 }
-
-module _ (others : List Accepted → Type 0) (later : Marks → Marks → Type 0) where
-  -- These turns lead from one stage to the other: the journal grew by what is noted of them, and the address stays.
-  pub record Leads (turns : List Turn) (s u : Stage) : Type 0 where
-    pub run : Run others later s.home s.scene turns u.scene
-    pub noted : u.journal ≡ s.journal ++ journal_of turns
-    pub home : u.home ≡ s.home

@@ -41,14 +41,7 @@ pub(crate) fn answer_message<B: Backend, J: Journal>(
         (Stays (stage_in (B.seen backend.old) room.old) (stage_in (B.seen backend.new) room.new)) }
 {
     match head {
-        Head::Request(request) => answer_request(
-            alloc,
-            backend,
-            room,
-            message.order,
-            message.minor,
-            request,
-        ),
+        Head::Request(request) => answer_request(alloc, backend, room, message, request),
         Head::Locate(id, key) => {
             answer_locate(
                 backend,

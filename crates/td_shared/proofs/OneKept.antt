@@ -22,7 +22,7 @@ use Rattle.td_reply.specs.declared.entry.Entry.{Entry}
 use Rattle.td_reply.specs.declared.judging.Judged.{Judged}
 use Rattle.td_reply.specs.declared.judging.Judged.TheVariants.{Call, Refused}
 use Rattle.td_reply.specs.declared.objects.Object.{Object}
-use Rattle.td_serve.specs.Requests.{Answers, CallComes, Comes}
+use Rattle.td_serve.specs.Requests.{Answers, Comes}
 use Rattle.td_turns.specs.Turns.{IsTurn, Turn, request, locate, cancel}
 use Rattle.td_walk.specs.declared.trace.Address.{Address}
 use Rattle.td_walk.specs.declared.trace.Visit.{Visit}
@@ -78,7 +78,7 @@ module _ (others : List Accepted → Type 0) (later : Marks → Marks → Type 0
     as_before : t.desk ≡ s.desk → KeepsOne n t.desk
     as_before h = keeps_none (h ∙ bare)
 
-    call_keeps : (x : Object) (c : Asking) (draft : Draft) → CallComes others later home x c draft s o e t
+    call_keeps : (x : Object) (c : Asking) (draft : Draft) → Comes others later home (Call x c) draft s o e t
         → KeepsOne n t.desk
     call_keeps x (call.Change c) draft h = as_before (ap desk_of h.1)
     call_keeps x (call.Look l) draft h =
@@ -109,4 +109,4 @@ pub message_keeps : (others : List Accepted → Type 0) (later : Marks → Marks
     (message reply : List ℕ) (u : Stage) → s.scene.desk ≡ none_kept n → ServesMessage others later s message reply u
     → KeepsOne n u.scene.desk
 message_keeps others later n s message reply u bare h =
-    turn_keeps others later s.home n s.scene (turn_of message h.noted reply u.scene) bare h.leads.run.0
+    turn_keeps others later s.home n s.scene (turn_of message h.noted reply u.scene) bare h.turn

@@ -105,7 +105,7 @@ module _ (others : List Accepted → Type 0) (later : Marks → Marks → Type 0
       → ServesMessage others later s message reply u → length u.journal ≤ 1
   message_notes s message reply u none h =
       let noted : List Entry = map (λ (x : Noted). x.entry) (noted_in h.noted ++ []) in
-      let is : u.journal ≡ noted = h.leads.noted ∙ ap (λ (j : List Entry). j ++ noted) none in
+      let is : u.journal ≡ noted = h.journal ∙ ap (λ (j : List Entry). j ++ noted) none in
       subst (λ (j : List Entry). length j ≤ 1) (sym is) (one_noted h.noted)
 
 only_one : {X : Type 0} (j k : List X) (x : X) → j ≡ k ++ x ∷ [] → length j ≤ 1 → k ≡ []

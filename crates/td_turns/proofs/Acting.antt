@@ -34,7 +34,7 @@ use Rattle.td_reply.specs.declared.judging.Judged.{Judged}
 use Rattle.td_reply.specs.declared.objects.Object.{Object}
 use Rattle.td_reply.specs.declared.target.Target.TheVariants.{Inside, Outside, Unreachable}
 use Rattle.td_reply.specs.declared.target.Target.{Target}
-use Rattle.td_serve.specs.Requests.{Answers, CallComes, Comes}
+use Rattle.td_serve.specs.Requests.{Answers, Comes}
 use Rattle.td_trader.specs.Worlds.{View, history_at}
 use Rattle.td_turns.proofs.Moving.{Moves, changes-move, moves-as, moves-none, no-more, none}
 use Rattle.td_turns.proofs.Moving.{seen-length, seen-moves}
@@ -356,7 +356,7 @@ module _ (others : List Accepted → Type 0) (later : Marks → Marks → Type 0
 
 module _ (others : List Accepted → Type 0) (later : Marks → Marks → Type 0) (home : Address) where
   call-does : (x : Object) (c : Asking) (draft : Draft) (s t : Scene) (o : Outcome) (e : Entry)
-      → CallComes others later home x c draft s o e t → Does (Call x c) o e s t
+      → Comes others later home (Call x c) draft s o e t → Does (Call x c) o e s t
   call-does x (call.Change c) draft s t o e h =
       change-does others later home x c s t o e h.0 (ap (λ (y : Scene). y.peers) h.1) (ap (λ (y : Scene). y.words) h.1)
   call-does x (call.Look l) draft s t o e h = look-does others later home x l draft s t o e h.0 h.1 h.2

@@ -39,7 +39,7 @@ use Rattle.td_reply.specs.declared.judging.Judged.{Judged}
 use Rattle.td_reply.specs.declared.objects.Object.{Object}
 use Rattle.td_reply.specs.declared.target.Target.TheVariants.{Inside, Outside, Unreachable}
 use Rattle.td_reply.specs.declared.target.Target.{Target}
-use Rattle.td_serve.specs.Requests.{Answers, CallComes, Comes, number_in}
+use Rattle.td_serve.specs.Requests.{Answers, Comes, number_in}
 use Rattle.td_trader.specs.Worlds.{Changes, View, name_at}
 use Rattle.td_turns.proofs.Acting.{Does, note}
 use Rattle.td_turns.proofs.Resting.{resolves-goes}
@@ -208,7 +208,7 @@ module _ (others : List Accepted → Type 0) (later : Marks → Marks → Type 0
   }
 
   call-still : (x : Object) (c : Asking) (draft : Draft) (s t : Scene) (o : Outcome) (e : Entry)
-      → CallComes others later home x c draft s o e t → is_done o ≡ false → Still others later s e t
+      → Comes others later home (Call x c) draft s o e t → is_done o ≡ false → Still others later s e t
   call-still x (call.Change c) draft s t o e h other =
       change-still others later s x.trader c o e t h.0 other (ap (λ (y : Scene). y.desk) h.1)
   call-still x (call.Look l) draft s t o e h other =

@@ -23,7 +23,7 @@ use Rattle.td_reply.specs.declared.judging.Judged.{Judged}
 use Rattle.td_reply.specs.declared.objects.Object.{Object}
 use Rattle.td_reply.specs.declared.target.Target.TheVariants.{Inside, Outside, Unreachable}
 use Rattle.td_reply.specs.declared.target.Target.{Target}
-use Rattle.td_serve.specs.Requests.{Answers, CallComes, Comes}
+use Rattle.td_serve.specs.Requests.{Answers, Comes}
 use Rattle.td_trader.specs.Worlds.{View, history_at}
 use Rattle.td_turns.proofs.Acting.{note}
 use Rattle.td_turns.proofs.Moving.{changes-stand}
@@ -104,7 +104,7 @@ module _ (others : List Accepted → Type 0) (later : Marks → Marks → Type 0
       }
 
   call-stands : (x : Object) (c : Asking) (draft : Draft) (s t : Scene) (o : Outcome) (e : Entry)
-      → CallComes others later home x c draft s o e t → is_accepted (note (Call x c) o e) ≡ true
+      → Comes others later home (Call x c) draft s o e t → is_accepted (note (Call x c) o e) ≡ true
       → StandsHere t.world (Call x c) o e
   call-stands x (call.Change c) draft s t o e h is = change-stands x c s.world t.world o e h.0 is
   call-stands x (call.AddLink l) draft s t o e h is =

@@ -11,14 +11,12 @@ use Rattle.td_giop.specs.declared.message_type.TheConstants.{REQUEST, CANCEL_REQ
 use Rattle.td_iter.specs.Desks.{Live}
 use Rattle.td_lookup.specs.Scenes.{Scene}
 use Rattle.td_ops.specs.declared.outcome.Outcome.{Outcome}
-use Rattle.td_ops.specs.declared.outcome.Outcome.TheVariants.{System}
 use Rattle.td_register.specs.declared.history.Accepted.{Accepted}
 use Rattle.td_reply.specs.Classes.{request_class}
 use Rattle.td_reply.specs.Judging.{judged}
 use Rattle.td_reply.specs.Objects.{object_at}
 use Rattle.td_reply.specs.declared.entry.Entry.{Entry}
 use Rattle.td_reply.specs.declared.judging.Judged.{Judged}
-use Rattle.td_reply.specs.declared.judging.Judged.TheVariants.{Call, Refused}
 use Rattle.td_serve.specs.ReplyBytes.{locate_reply, reply_to}
 use Rattle.td_serve.specs.Requests.{NotesNoCall, Served}
 use Rattle.td_stream.specs.Exchanges.{Exchange, exchange}
@@ -31,16 +29,6 @@ pub record Noted : Type 0 where
   pub judged : Judged
   pub outcome : Outcome
   pub entry : Entry
-
--- the minor code of a system exception (CORBA, chapter "Standard Exceptions"); nothing else has one
-abbrev pub minor_code : Outcome → ℕ
-minor_code (System kind minor completion) = minor
-minor_code other = 0
-
--- Of a Request that spells no call it is a ulong.
-abbrev pub FitsCode : Judged → Outcome → Type 0
-FitsCode (Refused r) o = minor_code o < 2 ^ 32
-FitsCode (Call x c) o = Unit {0}
 
 -- a served message: what is noted of a Request, the bytes that it is answered with, and how everything stands then
 pub record Turn : Type 0 where
@@ -73,8 +61,8 @@ pub record ServesCancel (s : Scene) (t : Turn) : Type 0 where
   pub told : t.reply ≡ []
   pub kept : t.after ≡ s
 
--- A Request is judged at how everything stands, and served as it asks. Its body is octets, its reply has fewer than 2^32
--- of them, and where it spells no call, the minor code that it is told is a ulong.
+-- A Request is judged at how everything stands, and served as it asks. Its body is octets, and its reply has fewer than
+-- 2^32 of them.
 pub record ServesRequest (others : List Accepted → Type 0) (later : Marks → Marks → Type 0)
     (home : Address) (s : Scene) (t : Turn) : Type 0 where
   pub head : Request
@@ -90,7 +78,6 @@ pub record ServesRequest (others : List Accepted → Type 0) (later : Marks → 
       noted.judged noted.entry
   pub octets : AreOctets body.rest
   pub short : length t.reply < 2 ^ 32
-  pub code : FitsCode noted.judged noted.outcome
 
 -- the message is served
 pub data IsTurn (others : List Accepted → Type 0) (later : Marks → Marks → Type 0) (home : Address)

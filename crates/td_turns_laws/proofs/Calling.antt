@@ -22,7 +22,7 @@ use Rattle.td_reply.specs.declared.entry.Entry.{Entry}
 use Rattle.td_reply.specs.declared.judging.Judged.{Judged}
 use Rattle.td_reply.specs.declared.judging.Judged.TheVariants.{Call, Refused}
 use Rattle.td_reply.specs.declared.objects.Object.{Object}
-use Rattle.td_serve.specs.Requests.{CallComes, number_in}
+use Rattle.td_serve.specs.Requests.{Comes, number_in}
 use Rattle.td_trader.specs.Worlds.{name_at}
 use Rattle.td_trader.proofs.ReadAdmitted.{read_admitted}
 use Rattle.td_trader_laws.proofs.WritingWorlds.{worlds-change}
@@ -76,7 +76,7 @@ unserved-writes others later home j s t o e admitted w u = (
 module _ (others : List Accepted → Type 0) (later : Marks → Marks → Type 0) (home : Address) (x : Object) where
   pub calls-write : (c : Asked) (draft : Draft) (s t : Scene) (o : Outcome) (e : Entry) → OthersAreAdmitted others
       → IsWritableScene s → AdmitsCall c → FitsCall s.world s.desk x c
-      → CallComes others later home x c draft s o e t → AdmitsGifts (gave_in e)
+      → Comes others later home (Call x c) draft s o e t → AdmitsGifts (gave_in e)
       → AdmitsAnswer (Call x c) o × IsWritableScene t
   calls-write (call.Change c) draft s t o e admitted w a fits r g =
       let changed =

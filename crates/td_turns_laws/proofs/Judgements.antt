@@ -35,9 +35,8 @@ use Rattle.td_reply.specs.declared.entry.Entry.{Entry}
 use Rattle.td_reply.specs.declared.judging.Judged.{Judged}
 use Rattle.td_reply.specs.declared.judging.Judged.TheVariants.{Call, Refused}
 use Rattle.td_reply.specs.declared.objects.Object.{Object}
-use Rattle.td_serve.specs.Requests.{Comes, number_in}
+use Rattle.td_serve.specs.Requests.{Comes, FitsCode, number_in}
 use Rattle.td_trader.specs.Worlds.{View, name_at}
-use Rattle.td_turns.specs.Turns.{FitsCode}
 use Rattle.td_turns_laws.proofs.Iterated.{FitsLeft}
 use Rattle.td_turns_laws.specs.Spelled.{AdmitsAnswer}
 use Rattle.td_turns_laws.specs.Writable.{IsWritableScene}

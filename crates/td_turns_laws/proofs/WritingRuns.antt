@@ -13,12 +13,12 @@ use Rattle.td_reply.specs.Judging.{judged}
 use Rattle.td_reply.specs.declared.entry.Entry.{Entry}
 use Rattle.td_reply.specs.declared.judging.Judged.TheVariants.{Call, Refused}
 use Rattle.td_reply.specs.declared.judging.Judged.{Judged}
-use Rattle.td_serve.specs.Requests.{Answers, Comes}
+use Rattle.td_serve.specs.Requests.{Answers, Comes, FitsCode}
 use Rattle.td_trader_laws.specs.WritableWorlds.{OthersAreAdmitted}
 use Rattle.td_turns.specs.Journals.{all_gave}
 use Rattle.td_serve.specs.ReplyBytes.{reply_to}
 use Rattle.td_stream.specs.Messages.{minor_of, order_of}
-use Rattle.td_turns.specs.Turns.{FitsCode, IsTurn, Noted, Run, ServesRequest, Turn, cancel, locate, noted_in, noted_of}
+use Rattle.td_turns.specs.Turns.{IsTurn, Noted, Run, ServesRequest, Turn, cancel, locate, noted_in, noted_of}
 use Rattle.td_turns.specs.Turns.{request}
 use Rattle.td_turns_laws.proofs.Calling.{calls-write, unserved-writes}
 use Rattle.td_turns_laws.proofs.Judgements.{judged-fits, refused-writes}
@@ -91,7 +91,7 @@ module _ (others : List Accepted → Type 0) (later : Marks → Marks → Type 0
       let body = request-body t.message h.head h.body h.octets h.read in
       let here =
       answers-write h.head.key h.head.operation h.body body admitted n.judged h.served.draft s t.after
-      n.outcome n.entry h.asks h.code scene (subst AdmitsGifts (append-nil (gave_in n.entry)) gifts) h.served.answers in
+      n.outcome n.entry h.asks h.served.code scene (subst AdmitsGifts (append-nil (gave_in n.entry)) gifts) h.served.answers in
       record {
         answered = (here.0, tt);
         told = record {

@@ -11,8 +11,9 @@ use Rattle.td_ops.specs.declared.shape.Shape.TheVariants as shape
 use Rattle.td_reply.specs.declared.entry.Entry.TheVariants.{Plain}
 use Rattle.td_reply.specs.declared.judging.Judged.TheVariants.{Call, Refused}
 use Rattle.td_reply.specs.declared.objects.Object.{Object}
+use Rattle.td_serve.specs.Requests.{FitsCode}
 use Rattle.td_serve.specs.declared.reply_to.ReplyTo.{ReplyTo}
-use Rattle.td_turns.specs.Turns.{FitsCode, Noted}
+use Rattle.td_turns.specs.Turns.{Noted}
 use Rattle.td_turns_laws.specs.Spelled.{IsTold, SpellsAnswer, SpellsOutcome}
 
 -- BAD_OPERATION with the minor code 0, of a call that wasn't done

@@ -1,11 +1,13 @@
-use Rattle.std.proofs.Common.{inl, refl}
-use Rattle.td_ops.specs.declared.outcome.Outcome.{Outcome}
+use Rattle.std.proofs.Common.{◌∙◌, sym}
 use Rattle.td_reply.proofs.Classes.{of_its_class}
 use Rattle.td_reply.specs.Answers.{no_memory}
+use Rattle.td_reply.specs.Classes.{request_class}
+use Rattle.td_reply.specs.Judging.{judged}
 use Rattle.td_reply.specs.declared.entry.Entry.TheVariants.{Plain}
-use Rattle.td_reply.specs.declared.judging.Judged.TheVariants.{Call}
+use Rattle.td_reply.specs.declared.judging.Judged.TheVariants.{Call, Refused}
 use Rattle.td_serve.proofs.Performing.{begun_length}
-use Rattle.td_serve.proofs.Replying.{either_served, head_before, served}
+use Rattle.td_serve.proofs.Replying.{call_notes, call_served, either_served, head_before, judged_served, refusal_notes}
+use Rattle.td_serve.proofs.Replying.{unread_notes, unread_served}
 use Rattle.td_serve.proofs.serving.serve_request.Goals as goal
 use Rattle.td_serve.specs.Backends.{scene_of}
 
@@ -18,41 +20,94 @@ settle-requires-clause-head g c =
     head_before c.answer_call-answer.result.body performs.outcome c.args.to c.in-Ok.w c.answer_call-answer.new.w
     c.in-Ok.ensures.begun performs.body
 
-pub returns-in-Ok-clause-served : goal.returns-in-Ok-clause-served
-returns-in-Ok-clause-served g c =
-    rw c.in-Call.is
-    (served g.B.Backend.others g.B.Backend.later c.args.home.now c.args.to
-    (Call c.in-Call.object c.in-Call.call) c.in-Call.object.trader
-    (scene_of (g.B.Backend.seen c.args.backend.now) c.args.desk.now)
-    (scene_of (g.B.Backend.seen c.answer_call-answer.new.self) c.answer_call-answer.new.desk)
-    c.answer_call-answer.result.body c.answer_call-answer.result.entry c.settle.result c.in-Ok.w
-    c.answer_call-answer.new.w c.settle.new.replies c.in-Ok.ensures.begun
-    c.answer_call-answer.ensures.performs c.settle.ensures)
-
-pub returns-in-Ok-clause-no_call : goal.returns-in-Ok-clause-no_call
-returns-in-Ok-clause-no_call g c = rw c.in-Call.is (λ k. tt)
+-- ---- memory was wanted to read it
 
 pub returns-in-Err-clause-served : goal.returns-in-Err-clause-served
 returns-in-Err-clause-served g c =
-    let x = c.in-Call.object in
-    let call = c.in-Call.call in
-    let class = c.class_of-class.result in
-    rw c.in-Call.is (
-      no_memory,
-      c.refuse_memory.ensures.served c.args.home.now (Call x call)
-          (scene_of (g.B.Backend.seen c.args.backend.now) c.args.desk.now)
-          (of_its_class class x call c.class_of-class.ensures),
-    )
+    let b = g.B.Backend.seen c.args.backend.now in
+    let h = c.args.head.now in
+    let j = judged b.world c.args.desk.now h.key.now h.operation.now h.body in
+    unread_served g.B.Backend.others g.B.Backend.later c.args.home.now c.args.to b c.args.desk.now c.judge.new.desk
+    j c.refuse_memory.result c.refuse_memory.new.replies c.judge.ensures.desk
+    (c.refuse_memory.ensures.served c.args.home.now j (scene_of b c.judge.new.desk) c.in-Err.ensures.unread)
 
 pub returns-in-Err-clause-no_call : goal.returns-in-Err-clause-no_call
-returns-in-Err-clause-no_call g c = rw c.in-Call.is (λ k. tt)
+returns-in-Err-clause-no_call g c =
+    let b = g.B.Backend.seen c.args.backend.now in
+    let h = c.args.head.now in
+    unread_notes (request_class b.world c.args.desk.now h.key.now h.operation.now) c.in-Err.class
+    (judged b.world c.args.desk.now h.key.now h.operation.now h.body) c.refuse_memory.result c.in-Err.ensures.class
+    c.refuse_memory.ensures.entry
 
-pub returns-in-Refused-clause-served : goal.returns-in-Refused-clause-served
-returns-in-Refused-clause-served g c =
-    rw c.in-Refused.is
-    (either_served g.B.Backend.others g.B.Backend.later c.args.home.now c.args.to
-    (scene_of (g.B.Backend.seen c.args.backend.now) c.args.desk.now) c.in-Refused.outcome Plain
-    c.tell_refusal.new.replies refl c.tell_refusal.ensures)
+-- ---- it spells no call
 
-pub returns-in-Refused-clause-no_call : goal.returns-in-Refused-clause-no_call
-returns-in-Refused-clause-no_call g c = rw c.in-Refused.is (λ k. inl refl)
+pub returns-in-Ok-Refused-clause-served : goal.returns-in-Ok-Refused-clause-served
+returns-in-Ok-Refused-clause-served g c =
+    let b = g.B.Backend.seen c.args.backend.now in
+    let h = c.args.head.now in
+    let s = scene_of b c.judge.new.desk in
+    let o = c.in-Ok-Refused.outcome in
+    judged_served g.B.Backend.others g.B.Backend.later c.args.home.now c.args.to b c.args.desk.now c.judge.new.desk
+    (judged b.world c.args.desk.now h.key.now h.operation.now h.body) (Refused o) Plain c.tell_refusal.new.replies s
+    c.judge.ensures.desk (sym c.in-Ok-Refused.field-0-is ∙ c.in-Ok-Refused.ensures.judged)
+    (either_served g.B.Backend.others g.B.Backend.later c.args.home.now c.args.to s o c.tell_refusal.new.replies
+    c.code_bound.ensures c.tell_refusal.ensures)
+
+pub returns-in-Ok-Refused-clause-no_call : goal.returns-in-Ok-Refused-clause-no_call
+returns-in-Ok-Refused-clause-no_call g c =
+    let b = g.B.Backend.seen c.args.backend.now in
+    let h = c.args.head.now in
+    refusal_notes (request_class b.world c.args.desk.now h.key.now h.operation.now) c.in-Ok-Refused.outcome
+    (judged b.world c.args.desk.now h.key.now h.operation.now h.body)
+    (sym c.in-Ok-Refused.field-0-is ∙ c.in-Ok-Refused.ensures.judged)
+
+-- ---- memory was wanted to begin its Reply
+
+pub returns-in-Err-begin-clause-served : goal.returns-in-Err-begin-clause-served
+returns-in-Err-begin-clause-served g c =
+    let b = g.B.Backend.seen c.args.backend.now in
+    let h = c.args.head.now in
+    let s = scene_of b c.judge.new.desk in
+    let x = c.in-Ok-Call.object in
+    let call = c.in-Ok-Call.call in
+    judged_served g.B.Backend.others g.B.Backend.later c.args.home.now c.args.to b c.args.desk.now c.judge.new.desk
+    (judged b.world c.args.desk.now h.key.now h.operation.now h.body) (Call x call)
+    c.refuse_memory-in-Err-begin.result c.refuse_memory-in-Err-begin.new.replies s c.judge.ensures.desk
+    (sym c.in-Ok-Call.field-0-is ∙ c.in-Ok-Call.ensures.judged) (
+      no_memory,
+      c.refuse_memory-in-Err-begin.ensures.served c.args.home.now (Call x call) s
+          (of_its_class c.class_of-class.result x call c.class_of-class.ensures),
+    )
+
+pub returns-in-Err-begin-clause-no_call : goal.returns-in-Err-begin-clause-no_call
+returns-in-Err-begin-clause-no_call g c =
+    let b = g.B.Backend.seen c.args.backend.now in
+    let h = c.args.head.now in
+    call_notes (request_class b.world c.args.desk.now h.key.now h.operation.now) c.in-Ok-Call.object
+    c.in-Ok-Call.call (judged b.world c.args.desk.now h.key.now h.operation.now h.body)
+    c.refuse_memory-in-Err-begin.result (sym c.in-Ok-Call.field-0-is ∙ c.in-Ok-Call.ensures.judged)
+
+-- ---- its call is answered
+
+pub returns-in-Ok-clause-served : goal.returns-in-Ok-clause-served
+returns-in-Ok-clause-served g c =
+    let b = g.B.Backend.seen c.args.backend.now in
+    let h = c.args.head.now in
+    let x = c.in-Ok-Call.object in
+    let call = c.in-Ok-Call.call in
+    let answer = c.answer_call-answer in
+    let t = scene_of (g.B.Backend.seen answer.new.self) answer.new.desk in
+    judged_served g.B.Backend.others g.B.Backend.later c.args.home.now c.args.to b c.args.desk.now c.judge.new.desk
+    (judged b.world c.args.desk.now h.key.now h.operation.now h.body) (Call x call) c.settle.result
+    c.settle.new.replies t c.judge.ensures.desk (sym c.in-Ok-Call.field-0-is ∙ c.in-Ok-Call.ensures.judged)
+    (call_served g.B.Backend.others g.B.Backend.later c.args.home.now c.args.to x call x.trader
+    (scene_of b c.judge.new.desk) t answer.result.body answer.result.entry c.settle.result c.in-Ok.w answer.new.w
+    c.settle.new.replies c.in-Ok.ensures.begun answer.ensures.performs c.settle.ensures)
+
+pub returns-in-Ok-clause-no_call : goal.returns-in-Ok-clause-no_call
+returns-in-Ok-clause-no_call g c =
+    let b = g.B.Backend.seen c.args.backend.now in
+    let h = c.args.head.now in
+    call_notes (request_class b.world c.args.desk.now h.key.now h.operation.now) c.in-Ok-Call.object
+    c.in-Ok-Call.call (judged b.world c.args.desk.now h.key.now h.operation.now h.body) c.settle.result
+    (sym c.in-Ok-Call.field-0-is ∙ c.in-Ok-Call.ensures.judged)

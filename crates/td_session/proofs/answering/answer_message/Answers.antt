@@ -1,15 +1,10 @@
 use Rattle.td_session.specs.Stages.{stage}
-use Rattle.td_session.proofs.Messages.{cancel_served, locate_served, request_served}
+use Rattle.td_session.proofs.Messages.{cancel_served, locate_served}
 use Rattle.td_session.proofs.answering.answer_message.Goals as goal
 use Rattle.td_serve.specs.Backends.{scene_of}
-use Rattle.td_stream.specs.Heads.{asked_of}
 
-pub returns-in-Request-clause-ok : goal.returns-in-Request-clause-ok
-returns-in-Request-clause-ok g c =
-    let has = rw c.in-Request.is at c.requires.head in
-    request_served g.B.Backend.others g.B.Backend.later c.answer_request.result _ _ c.args.message.now _
-    (asked_of c.in-Request.request) c.in-Request.request.body c.requires.whole has.0 has.1
-    c.answer_request.ensures.ok
+pub answer_request-requires-clause-head : goal.answer_request-requires-clause-head
+answer_request-requires-clause-head g c = rw c.in-Request.is at c.requires.head
 
 pub returns-in-Locate-clause-ok : goal.returns-in-Locate-clause-ok
 returns-in-Locate-clause-ok g c =
