@@ -1,5 +1,5 @@
 -- A Request that was performed and whose reply was settled is served.
-use Rattle.std.proofs.Common.{◌≡◌, ◌⊎◌, ◌<◌, ◌^◌, inl, inr, ℕ, cond, List, [], ◌++◌, length, refl, sym}
+use Rattle.std.proofs.Common.{◌≡◌, ◌⊎◌, ◌<◌, ◌^◌, inl, inr, ℕ, false, cond, List, [], ◌++◌, length, refl, sym}
 use Rattle.std.proofs.Common.{ap, subst, ◌∙◌, arith, length-append}
 use Rattle.td_cdr.specs.Marks.{Marks}
 use Rattle.td_cdr.specs.Writing.{Draft}
@@ -11,7 +11,7 @@ use Rattle.td_lookup.specs.Scenes.{Scene}
 use Rattle.td_lookup.specs.Telling.{in_vain}
 use Rattle.td_lookup.specs.Unserved.{Unserved, unbegun_entry, wanting}
 use Rattle.td_ops.specs.declared.call.Call.{Call as Asked}
-use Rattle.td_ops.specs.Outcomes.{outcome_piece, outcome_status}
+use Rattle.td_ops.specs.Outcomes.{is_short, outcome_piece, outcome_status}
 use Rattle.td_ops.specs.declared.outcome.Outcome.{Outcome}
 use Rattle.td_register.specs.declared.history.Accepted.{Accepted}
 use Rattle.td_reply.specs.Answers.{no_memory}
@@ -29,8 +29,9 @@ use Rattle.td_serve.proofs.Wanting.{not_begun}
 use Rattle.td_serve.specs.Backends.{BackendSeen, scene_of}
 use Rattle.td_serve.specs.ReplyBytes.{BeginsReply, outcome_reply, reply_for}
 use Rattle.td_serve.specs.Requests.{Answers, FitsCode, NotesNoCall, Served, minor_code}
-use Rattle.td_serve.specs.Serving.{HasHead, IsBodyOf, MayBeRefused, Performs, Settles}
+use Rattle.td_serve.specs.Serving.{HasHead, IsBodyOf, MayBeRefused, Performs}
 use Rattle.td_serve.specs.declared.reply_to.ReplyTo.{ReplyTo}
+use Rattle.td_trader.specs.Worlds.{View}
 use Rattle.td_walk.specs.declared.trace.Address.{Address}
 
 -- ---- the bytes
@@ -96,26 +97,40 @@ module _ (others : List Accepted → Type 0) (later : Marks → Marks → Type 0
     code = tt;
   }
 
-  -- the call was performed with a writer that was begun for the Reply, and its answer was settled
-  pub call_served : (k : ℕ) (s t : Scene) (b : ReplyBody) (e settled : Entry) (draft written : Draft)
-      (bytes : List ℕ) → BeginsReply to draft → Performs others later home (Call x c) k draft s b e written t
-      → Settles t.world k to b e written settled bytes
-      → (o : Outcome) × Serves s o settled bytes t
-  call_served k s t (reply_body.Outcome told) e settled draft written bytes begun q (inl whole) = (
-    q.outcome,
-    serves s t q.outcome e settled draft bytes begun q.answers whole.0 (whole.1 ∙ ap (reply_for to) q.body),
-  )
-  call_served k s t (reply_body.Outcome told) e settled draft written bytes begun q (inr vain) = (
-    wanting settled,
-    serves_in_vain k s t e settled draft bytes begun (q.taken_back vain.0) vain.1 vain.2,
-  )
-  call_served k s t reply_body.Written e settled draft written bytes begun q h = (
-    q.outcome,
-    serves s t q.outcome e settled draft bytes begun q.answers h.0
-        (h.1
-        ∙ ap (λ (xs : List ℕ). cond to.answered xs [])
-        (written_bytes to q.outcome draft written begun q.body.0 q.body.1 q.body.2)),
-  )
+  -- The call was performed with a writer that was begun for the Reply.
+  module _ (k : ℕ) (s t : Scene) (e : Entry) (draft written : Draft) (bytes : List ℕ) where
+    -- its body stands in the writer, and is sent
+    pub written_served : BeginsReply to draft
+        → Performs others later home (Call x c) k draft s reply_body.Written e written t
+        → bytes ≡ cond to.answered (sealed written.order written.bytes) []
+        → (o : Outcome) × Serves s o e bytes t
+    written_served begun q is = (
+      q.outcome,
+      serves s t q.outcome e e draft bytes begun q.answers refl
+          (is
+          ∙ ap (λ (xs : List ℕ). cond to.answered xs [])
+          (written_bytes to q.outcome draft written begun q.body.0 q.body.1 q.body.2)),
+    )
+
+    -- its outcome is told
+    pub told_served : (told : Outcome) → BeginsReply to draft
+        → Performs others later home (Call x c) k draft s (reply_body.Outcome told) e written t
+        → bytes ≡ reply_for to told → (o : Outcome) × Serves s o e bytes t
+    told_served told begun q is = (
+      q.outcome,
+      serves s t q.outcome e e draft bytes begun q.answers refl (is ∙ ap (reply_for to) q.body),
+    )
+
+    -- NO_MEMORY is told in its place, since memory was wanted
+    pub in_vain_served : (told : Outcome) (settled : Entry) (w : List View) → BeginsReply to draft → t.world ≡ w
+        → Performs others later home (Call x c) k draft s (reply_body.Outcome told) e written t
+        → is_short told ≡ false → settled ≡ in_vain w k e → bytes ≡ reply_for to (wanting settled)
+        → (o : Outcome) × Serves s o settled bytes t
+    in_vain_served told settled w begun seen q long in_place is = (
+      wanting settled,
+      serves_in_vain k s t e settled draft bytes begun (q.taken_back long)
+          (in_place ∙ ap (λ (v : List View). in_vain v k e) (sym seen)) is,
+    )
 
 -- ---- what settling asks for
 

@@ -1,13 +1,12 @@
--- How an answer becomes a reply.
-use Rattle.std.specs.Prelude.{◌≡◌, ◌⊎◌, ℕ, ◌<◌, ◌≤◌, ◌++◌, false, if◌then◌else◌, List, [], length, Result, Ok, Err}
+-- What a call is answered with, before it is a reply.
+use Rattle.std.specs.Prelude.{◌≡◌, ℕ, ◌<◌, ◌≤◌, ◌++◌, List, length, Result, Ok, Err}
 use Rattle.td_cdr.specs.Marks.{Marks}
 use Rattle.td_cdr.specs.Writing.{Draft}
 use Rattle.td_cdr.specs.declared.memory.Memory.{Memory as Wanting}
-use Rattle.td_giop.specs.Written.{sealed}
 use Rattle.td_lookup.specs.Scenes.{Scene}
 use Rattle.td_lookup.specs.Telling.{in_vain}
 use Rattle.td_lookup.specs.Unserved.{Unserved, wanting}
-use Rattle.td_ops.specs.Outcomes.{is_short, outcome_piece, outcome_status}
+use Rattle.td_ops.specs.Outcomes.{outcome_piece, outcome_status}
 use Rattle.td_ops.specs.declared.outcome.Outcome.{Outcome}
 use Rattle.td_register.specs.declared.history.Accepted.{Accepted}
 use Rattle.td_reply.specs.Answers.{IfLong, no_memory, plain}
@@ -16,10 +15,7 @@ use Rattle.td_reply.specs.declared.answer.ReplyBody.{ReplyBody}
 use Rattle.td_reply.specs.declared.answer.ReplyBody.TheVariants as reply_body
 use Rattle.td_reply.specs.declared.entry.Entry.{Entry}
 use Rattle.td_reply.specs.declared.judging.Judged.{Judged}
-use Rattle.td_serve.specs.ReplyBytes.{reply_for}
 use Rattle.td_serve.specs.Requests.{Answers}
-use Rattle.td_serve.specs.declared.reply_to.ReplyTo.{ReplyTo}
-use Rattle.td_trader.specs.Worlds.{View}
 use Rattle.td_walk.specs.declared.trace.Address.{Address}
 
 -- ---- answers
@@ -55,22 +51,7 @@ module _ (others : List Accepted → Type 0) (later : Marks → Marks → Type 0
     pub body : IsBodyOf outcome b draft written
     pub taken_back : IfLong b (MayBeRefused home j k s e t)
 
--- ---- replies
-
 -- a written body has a head in front of it
 abbrev pub HasHead : ReplyBody → (written : Draft) → Type 0
 HasHead (reply_body.Outcome o) written = Unit {0}
 HasHead reply_body.Written written = 12 ≤ length written.bytes
-
-module _ (w : List View) (k : ℕ) (to : ReplyTo) where
-  -- The body was sent, or NO_MEMORY in place of one for which memory was wanted; a Request that expects no reply gets no
-  -- bytes.
-  abbrev pub Settles : ReplyBody → Entry → (written : Draft) → (settled : Entry) → (bytes : List ℕ)
-      → Type 0
-  Settles (reply_body.Outcome o) e written settled bytes =
-      ((settled ≡ e) × (bytes ≡ reply_for to o))
-      ⊎ ((is_short o ≡ false) × (settled ≡ in_vain w k e)
-      × (bytes ≡ reply_for to (wanting settled)))
-  Settles reply_body.Written e written settled bytes =
-      (settled ≡ e)
-      × (bytes ≡ (if to.answered then sealed written.order written.bytes else []))

@@ -1,11 +1,19 @@
 //! From an answer to its reply, and what is noted in the end.
 
 ghost use Rattle.std.specs.Prelude.{◌≡◌, ◌<◌, length};
+ghost use Rattle.td_cdr.specs.Writing.{Draft};
+ghost use Rattle.td_lookup.specs.Scenes.{Scene};
 ghost use Rattle.td_lookup.specs.Telling.{in_vain};
 ghost use Rattle.td_lookup.specs.Unserved.{wanting};
+ghost use Rattle.td_ops.specs.declared.call.Call.{Call as Asked};
+ghost use Rattle.td_ops.specs.declared.outcome.Outcome.{Outcome as Told};
 ghost use Rattle.td_reply.specs.Answers.{IfLong};
-ghost use Rattle.td_serve.specs.ReplyBytes.{IsWritable, reply_for};
-ghost use Rattle.td_serve.specs.Serving.{HasHead, Settles};
+ghost use Rattle.td_reply.specs.declared.judging.Judged.TheVariants as spelled;
+ghost use Rattle.td_reply.specs.declared.objects.Object.{Object};
+ghost use Rattle.td_serve.specs.ReplyBytes.{BeginsReply, IsWritable, reply_for};
+ghost use Rattle.td_serve.specs.Requests.{Served};
+ghost use Rattle.td_serve.specs.Serving.{HasHead, Performs};
+ghost use Rattle.td_walk.specs.declared.trace.Address.{Address};
 
 use crate::backend::Backend;
 use crate::replies::Replies;
@@ -30,8 +38,11 @@ pub(crate) fn settle<B: Backend>(
     requires version { IsWritable to }
     requires head { HasHead answer.body w }
     requires within { IfLong answer.body (trader < length (B.seen backend.now).world) }
-    ensures { Settles (B.seen backend.now).world trader to answer.body answer.entry w result
-        replies.new }
+    ensures { (home : Address) (x : Object) (c : Asked) (draft : Draft) (s t : Scene)
+        → BeginsReply to draft → t.world ≡ (B.seen backend.now).world
+        → Performs B.others B.later home (spelled.Call x c) trader draft s answer.body answer.entry
+        w t → (o : Told) × Served B.others B.later home to (spelled.Call x c) s o result replies.new
+        t }
 {
     let Answer { body, entry } = answer;
     match body {

@@ -1,4 +1,4 @@
-use Rattle.std.proofs.Common.{◌∙◌, sym}
+use Rattle.std.proofs.Common.{◌∙◌, refl, sym}
 use Rattle.td_reply.proofs.Classes.{of_its_class}
 use Rattle.td_reply.specs.Answers.{no_memory}
 use Rattle.td_reply.specs.Classes.{request_class}
@@ -6,7 +6,7 @@ use Rattle.td_reply.specs.Judging.{judged}
 use Rattle.td_reply.specs.declared.entry.Entry.TheVariants.{Plain}
 use Rattle.td_reply.specs.declared.judging.Judged.TheVariants.{Call, Refused}
 use Rattle.td_serve.proofs.Performing.{begun_length}
-use Rattle.td_serve.proofs.Replying.{call_notes, call_served, either_served, head_before, judged_served, refusal_notes}
+use Rattle.td_serve.proofs.Replying.{call_notes, either_served, head_before, judged_served, refusal_notes}
 use Rattle.td_serve.proofs.Replying.{unread_notes, unread_served}
 use Rattle.td_serve.proofs.serving.serve_request.Goals as goal
 use Rattle.td_serve.specs.Backends.{scene_of}
@@ -100,9 +100,8 @@ returns-in-Ok-clause-served g c =
     judged_served g.B.Backend.others g.B.Backend.later c.args.home.now c.args.to b c.args.desk.now c.judge.new.desk
     (judged b.world c.args.desk.now h.key.now h.operation.now h.body) (Call x call) c.settle.result
     c.settle.new.replies t c.judge.ensures.desk (sym c.in-Ok-Call.field-0-is ∙ c.in-Ok-Call.ensures.judged)
-    (call_served g.B.Backend.others g.B.Backend.later c.args.home.now c.args.to x call x.trader
-    (scene_of b c.judge.new.desk) t answer.result.body answer.result.entry c.settle.result c.in-Ok.w answer.new.w
-    c.settle.new.replies c.in-Ok.ensures.begun answer.ensures.performs c.settle.ensures)
+    (c.settle.ensures c.args.home.now x call c.in-Ok.w (scene_of b c.judge.new.desk) t c.in-Ok.ensures.begun refl
+    answer.ensures.performs)
 
 pub returns-in-Ok-clause-no_call : goal.returns-in-Ok-clause-no_call
 returns-in-Ok-clause-no_call g c =
