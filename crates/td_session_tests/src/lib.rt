@@ -30,6 +30,8 @@ mod opening;
 #[cfg(test)]
 mod plain;
 #[cfg(test)]
+mod recursive;
+#[cfg(test)]
 mod repository;
 #[cfg(test)]
 mod serving;

@@ -11,6 +11,7 @@ use crate::linking::{HOPS, LINKS, OUTSIDE, RING, RULES};
 use crate::offering::{BATCHES, MODIFIED, PROXIES};
 use crate::opening::{Server, bounded_server, opened_server};
 use crate::plain::{CLOSED, ERROR, NO_OFFERS, PLAIN, RANDOM, UNANSWERED, VALUES};
+use crate::recursive::*;
 use crate::repository::{MASKED, TYPES};
 use crate::serving::{comes_true, is_told};
 use crate::story::Story;
@@ -41,6 +42,30 @@ fn plain_queries(rt: HostRuntime) -> Result<(), Fail> {
 #[test]
 fn types(rt: HostRuntime) -> Result<(), Fail> {
     come_true(&rt, rt.alloc(), &[MASKED, TYPES])
+}
+
+/// Types that hold themselves are kept with the bytes of their TypeCodes.
+#[test]
+fn recursive_types(rt: HostRuntime) -> Result<(), Fail> {
+    come_true(&rt, rt.alloc(), &[RECURSIVE_TYPE])
+}
+
+/// Offers have values of such types, and keep their bytes.
+#[test]
+fn recursive_values(rt: HostRuntime) -> Result<(), Fail> {
+    come_true(&rt, rt.alloc(), &[UNROLLED_VALUE, RECURSIVE_VALUE])
+}
+
+/// A value of another type is refused, and one that goes too deep.
+#[test]
+fn recursive_values_are_refused(rt: HostRuntime) -> Result<(), Fail> {
+    come_true(&rt, rt.alloc(), &[OTHER_BOUND, PASSED_INDIRECTIONS])
+}
+
+/// A struct's second member has the first one's type, by an indirection.
+#[test]
+fn two_members_of_one_struct(rt: HostRuntime) -> Result<(), Fail> {
+    come_true(&rt, rt.alloc(), &[TWO_OF_ONE_STRUCT])
 }
 
 /// Offers are exported, modified, listed in batches and withdrawn.
