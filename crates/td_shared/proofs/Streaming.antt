@@ -1,14 +1,10 @@
 -- A stream whose servant has found the desk full or not.
-use Rattle.std.proofs.Common.{◌≡◌, inl, Bool, false, List, [], ◌∷◌, ℕ, Option, refl, ap, subst, ◌∙◌}
+use Rattle.std.proofs.Common.{◌≡◌, inl, Bool, false, List, [], ◌∷◌, ℕ, Option, refl, ap, ◌∙◌}
 use Rattle.td_cdr.specs.Marks.{Marks}
 use Rattle.td_cell.specs.declared.pass.View.{View}
 use Rattle.td_desk.specs.declared.event.Event.{Event}
-use Rattle.td_iter.specs.Desks.{Live}
 use Rattle.td_register.specs.declared.history.Accepted.{Accepted}
-use Rattle.td_reply.specs.declared.entry.Entry.{Entry}
-use Rattle.td_serve.specs.Backends.{BackendSeen, scene_of}
-use Rattle.td_session.specs.Rooms.{IsNew, Room}
-use Rattle.td_session.specs.Stages.{stage}
+use Rattle.td_serve.specs.Backends.{BackendSeen}
 use Rattle.td_stream.proofs.Leading.{streams-none}
 use Rattle.td_stream.proofs.Runs.{no_stream}
 use Rattle.td_stream.specs.Exchanges.{Exchange, Run}
@@ -19,7 +15,7 @@ use Rattle.td_stream.specs.declared.end.End.TheVariants.{Memory}
 use Rattle.td_walk.specs.declared.trace.Address.{Address}
 use Rattle.td_shared.specs.Serving.{ServesShared, ServesWith, StaysShared, StaysWith}
 use Rattle.td_shared.specs.Sessions.{ServesFrom, ServesSharing, ends_by}
-use Rattle.td_shared.specs.Stages.{SharedStage, shared_in, shared_stage}
+use Rattle.td_shared.specs.Stages.{SharedStage}
 use Rattle.td_shared.specs.declared.entry.SharedEntry.{SharedEntry}
 
 -- whether the desk was full, and how the session stands
@@ -93,26 +89,3 @@ module _ (others : List Accepted → Type 0) (later : Marks → Marks → Type 0
     room = record { home = home; desk = ([], 1); journal = []; replies = [] };
     serves = shares_none _ left written reads writes;
   }
-
-  -- what was served from a new room on
-  pub from_new : (home : Address) (seen : BackendSeen) (view : View (List Event)) (journal : List SharedEntry)
-      (seen_then : BackendSeen) (view_then : View (List Event)) (journal_then : List SharedEntry) (end : End)
-      (before after : Outside) (first last : Room) → IsNew first → first.home ≡ home
-      → ServesSharing others later (shared_in seen first view journal) (shared_in seen_then last view_then journal_then)
-      end before after
-      → ServesFrom others later home seen view journal seen_then view_then journal_then end before after
-  from_new home seen view journal seen_then view_then journal_then end before after first last new at h =
-      let begun = λ (a : Address) (d : Live) (noted : List Entry). shared_stage (stage a (scene_of seen d) noted) view
-      journal in
-      let same : shared_in seen first view journal ≡ begun home ([], 1) [] =
-      ap (λ (a : Address). begun a first.desk first.journal) at
-      ∙ ap (λ (d : Live). begun home d first.journal) new.desk
-      ∙ ap (λ (noted : List Entry). begun home ([], 1) noted) new.journal in
-      record {
-        room = last;
-        serves =
-            subst
-            (λ (s : SharedStage). ServesSharing others later s (shared_in seen_then last view_then journal_then) end before
-            after)
-            same h;
-      }
