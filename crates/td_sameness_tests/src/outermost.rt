@@ -112,7 +112,8 @@ fn is_refused(alloc: Global, line: &str) -> Option<bool> {
 }
 
 /// A struct of so many long members and one that leads to the struct: one node more than members of type long.
-fn many(alloc: Global, longs: u32) -> Option<Vec<u8>> {
+fn many(alloc: Global, longs: u16) -> Option<Vec<u8>> {
+    let longs = u32::from(longs);
     let mut bytes = hex::decode(alloc, b"0000000f").ok()?;
     bytes
         .extend_from_slice(&(longs * 12 + 48).to_be_bytes())
