@@ -8,10 +8,11 @@ ghost use Rattle.td_ops.specs.declared.outcome.Reply.TheVariants as reply;
 ghost use Rattle.td_exceptions.specs.declared.exception.UserException.TheVariants as user;
 ghost use Rattle.td_store.specs.OfferLists.{most_offers};
 ghost use Rattle.td_store.specs.declared.record.OfferRecord.{OfferRecord as Kept};
-ghost use Rattle.td_register.specs.Causes.{limit_if, raise_if, unless_full};
+ghost use Rattle.td_register.specs.Causes.{given, limit_if, raise_if, unless_full};
 ghost use Rattle.td_register.specs.Judged.{Accepts, IsAdded, Judges};
 ghost use Rattle.td_register.specs.Registers.{export_cause, exported, incarnation_now, last_number, next_id};
-ghost use Rattle.td_register.specs.Registers.{offer_cause, passes_limit, with_offer};
+ghost use Rattle.td_register.specs.Named.{open_type};
+ghost use Rattle.td_register.specs.Registers.{interface_cause, offer_cause, passes_limit, with_offer};
 
 use std::alloc::Global;
 use td_cdr::{List, Memory, Shared, Text, Twin, copy_three};
@@ -41,15 +42,26 @@ fn check_reference(alloc: Global, reference: &Ior) -> Result<(), Fault>
     Ok(())
 }
 
+/// Refuses a type that isn't open to new offers, and a reference whose interface doesn't conform to
+/// the type's.
+fn check_type(alloc: Global, store: &Store, type_name: &Text, reference: &Ior) -> Result<(), Fault>
+    ensures { Judges (given (open_type store.now.types.types type_name.now)
+        (interface_cause store.now type_name.now reference.now)) result }
+{
+    check_open(alloc, &store.types, type_name)?;
+    check_interface(alloc, store, type_name, reference)
+}
+
 /// Refuses properties that a new offer of the type can't have.
 pub(crate) fn check_offer(
     alloc: Global,
     store: &Store,
     type_name: &Text,
-    properties: &[Property],
+    properties: &List<Property>,
 ) -> Result<(), Fault>
     ensures { Judges (offer_cause store.now type_name.now properties.now) result }
 {
+    let properties = properties.as_slice();
     let demanded = store.types.full_properties(type_name.as_slice());
     check_properties(
         alloc,
@@ -91,9 +103,8 @@ fn check_export(
     ensures { Judges (export_cause store.now reference.now type_name.now properties.now) result }
 {
     check_reference(alloc, reference)?;
-    check_open(alloc, &store.types, type_name)?;
-    check_interface(alloc, store, type_name, reference)?;
-    check_offer(alloc, store, type_name, properties.as_slice())?;
+    check_type(alloc, store, type_name, reference)?;
+    check_offer(alloc, store, type_name, properties)?;
     check_limits(alloc, store, reference, properties)
 }
 

@@ -123,7 +123,7 @@ fn check_export_proxy(
     check_supported(store.attributes.supports_proxy_offers)?;
     check_open(alloc, &store.types, type_name)?;
     check_target(alloc, target)?;
-    check_offer(alloc, store, type_name, properties.as_slice())?;
+    check_offer(alloc, store, type_name, properties)?;
     check_recipe(alloc, &part.recipe)?;
     check_policies(alloc, part.policies.as_slice())?;
     check_limits(alloc, store, target, properties)

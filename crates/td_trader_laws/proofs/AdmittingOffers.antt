@@ -190,20 +190,15 @@ pub exports : (s : Store) (object : Ior) (type_name : List ℕ) (ps : List Prope
 unfolding comes_to
 exports s object type_name ps w h =
     let each = sequence-each property ps h.1.1 in
-    let nil = raise_if (is_nil object) (user.InvalidObjectRef object) in
-    let typed = given (open_type s.types.types type_name) (interface_cause s type_name object) in
-    let fit = offer_cause s type_name ps in
-    let limit = limit_if (passes_limit s object ps) in
     came-with (Register register.Export) (export_cause s object type_name ps) (reply.Id (id_of (s.last_offer + 1)))
     (with_offer s (exported s object type_name ps))
-    (or-else nil (typed otherwise fit otherwise limit)
-    (raised (is_nil object) (user.InvalidObjectRef object) (object, refl, h.0))
-    (or-else typed (fit otherwise limit)
+    (or-else _ _ (raised (is_nil object) (user.InvalidObjectRef object) (object, refl, h.0))
+    (or-else _ _
     (given-admitted IsAny (open_type s.types.types type_name) (interface_cause s type_name object)
     (open-type s.types.types type_name h.1.0)
     (λ t _. raised (not (interface_conforms s.types.interfaces object.id t.if_name))
     (user.InterfaceTypeMismatch type_name object) ((type_name, object), refl, (h.1.0, h.0))))
-    (or-else fit limit (offer-cause s type_name ps w.store h.1.0 each) (limited (passes_limit s object ps)))))
+    (or-else _ _ (offer-cause s type_name ps w.store h.1.0 each) (limited (passes_limit s object ps)))))
     (λ none.
     let k = (no_export_cause s object type_name ps none).room in
     let small_enough = small object ps k.fits in
@@ -238,26 +233,16 @@ exports-proxy s target type_name ps if_match_all recipe policies w h =
     let passed = sequence-each policy policies h.1.1.1.1.1 in
     let part : ProxyPart = record { if_match_all = if_match_all; recipe = recipe; policies = policies } in
     let o = exported_proxy s target type_name ps part in
-    let can = unless_supported s.attributes.supports_proxy_offers in
-    let typed = given (open_type s.types.types type_name) no_more in
-    let reached = raise_if (not (is_some (iiop_of target))) (user.InvalidLookupRef target) in
-    let fit = offer_cause s type_name ps in
-    let spelled = raise_if (not (is_recipe recipe)) (user.IllegalRecipe recipe) in
-    let named = policies_cause [] policies in
-    let limit = limit_if (passes_limit s target ps) in
     came-with (Proxy proxy_operation.ExportProxy) (export_proxy_cause s target type_name ps recipe policies)
     (reply.Id (id_of (s.last_offer + 1))) (with_offer s o)
-    (or-else can (typed otherwise reached otherwise fit otherwise spelled otherwise named otherwise limit)
-    (supported s.attributes.supports_proxy_offers)
-    (or-else typed (reached otherwise fit otherwise spelled otherwise named otherwise limit)
+    (or-else _ _ (supported s.attributes.supports_proxy_offers)
+    (or-else _ _
     (given-admitted IsAny (open_type s.types.types type_name) no_more (open-type s.types.types type_name h.1.0)
     (λ t _. tt))
-    (or-else reached (fit otherwise spelled otherwise named otherwise limit)
-    (raised (not (is_some (iiop_of target))) (user.InvalidLookupRef target) (target, refl, h.0))
-    (or-else fit (spelled otherwise named otherwise limit) (offer-cause s type_name ps w.store h.1.0 each)
-    (or-else spelled (named otherwise limit)
-    (raised (not (is_recipe recipe)) (user.IllegalRecipe recipe) (recipe, refl, h.1.1.1.1.0))
-    (or-else named limit (policies-cause [] policies passed) (limited (passes_limit s target ps))))))))
+    (or-else _ _ (raised (not (is_some (iiop_of target))) (user.InvalidLookupRef target) (target, refl, h.0))
+    (or-else _ _ (offer-cause s type_name ps w.store h.1.0 each)
+    (or-else _ _ (raised (not (is_recipe recipe)) (user.IllegalRecipe recipe) (recipe, refl, h.1.1.1.1.0))
+    (or-else _ _ (policies-cause [] policies passed) (limited (passes_limit s target ps))))))))
     (λ none.
     let k = (no_proxy_cause s target type_name ps recipe policies none).room in
     let small_enough = small target ps k.fits in

@@ -11,5 +11,13 @@ returns c =
     let demanded = full_properties s.types.types name in
     later (properties_cause s.attributes.supports_dynamic_properties name demanded [] c.args.properties.now)
     (missing_cause name (missing demanded c.args.properties.now)) c.check_missing.result
-    (rw (c.full_properties-demanded.ensures, c.as_slice.ensures) at c.in_ok-check_properties.ensures)
-    (rw (c.full_properties-demanded.ensures, c.as_slice.ensures) at c.check_missing.ensures)
+    (rw (
+      c.full_properties-demanded.ensures,
+      c.as_slice.ensures,
+      c.as_slice-properties.ensures,
+    ) at c.in_ok-check_properties.ensures)
+    (rw (
+      c.full_properties-demanded.ensures,
+      c.as_slice.ensures,
+      c.as_slice-properties.ensures,
+    ) at c.check_missing.ensures)
