@@ -138,15 +138,24 @@ fn many(alloc: Global, longs: u16) -> Option<Vec<u8>> {
     Some(bytes)
 }
 
+/// What a struct of so many long members is read as. Its bytes are fewer than 50,000.
+fn read_many(alloc: Global, longs: u16) -> Option<Result<Boxed<TypeCode>, ValueFault>> {
+    let bytes = many(alloc, longs)?;
+    if bytes.len() >= 50_000 {
+        return None;
+    }
+    let mut reader = Reader::new(bytes.as_slice(), 0, Order::Big);
+    match read_typecode(alloc, &mut reader) {
+        Ok(code) => Boxed::new(alloc, code).ok().map(Ok),
+        Err(fault) => Some(Err(fault)),
+    }
+}
+
 /// Whether 4,096 nodes are read, and 4,097 refused at the kind of the last.
 fn are_many(alloc: Global) -> Option<bool> {
-    let bytes = many(alloc, 4095)?;
-    let mut reader = Reader::new(bytes.as_slice(), 0, Order::Big);
-    let code = Boxed::new(alloc, read_typecode(alloc, &mut reader).ok()?).ok()?;
-    let bytes = many(alloc, 4096)?;
-    let mut reader = Reader::new(bytes.as_slice(), 0, Order::Big);
-    let fault = read_typecode(alloc, &mut reader).err();
-    Some(matches!(code.get(), TypeCode::Linked(_)) && fault == Some(ValueFault::Depth(49188)))
+    let code = read_many(alloc, 4095)?.ok()?;
+    let fault = read_many(alloc, 4096)?.err()?;
+    Some(matches!(code.get(), TypeCode::Linked(_)) && fault == ValueFault::Depth(49188))
 }
 
 #[test]
