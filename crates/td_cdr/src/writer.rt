@@ -117,7 +117,20 @@ impl Writer {
             Order::Little => LittleEndian::write_u32(&mut cell, v),
         }
         self.put_zeros(pad);
-        self.put(&cell);
+        self.put_four(cell);
+    }
+
+    /// Puts four bytes one by one, since `put` looks for room once more. There is room for them.
+    #[inline(always)]
+    fn put_four(&mut self, cell: [u8; 4])
+        requires { length self.old.bytes + 4 ≤ self.old.room }
+        ensures { self.new ≡ record self.old { bytes = self.old.bytes ++ cell } }
+    {
+        let [first, second, third, fourth] = cell;
+        self.bytes.push_reserved(first);
+        self.bytes.push_reserved(second);
+        self.bytes.push_reserved(third);
+        self.bytes.push_reserved(fourth);
     }
 
     /// One byte, which needs no padding.
