@@ -1,8 +1,10 @@
 //! A box that contracts see as the value in it.
 
-ghost use Rattle.std.specs.Prelude.{◌≡◌, IfOk};
+ghost use Rattle.std.specs.Prelude.{◌≡◌, [], ◌↔◌, length, IsTrue, IfOk};
 
+use crate::list::List;
 use crate::memory::Memory;
+use crate::text::Text;
 use crate::twin::Twin;
 use std::alloc::Global;
 use std::marker::Model;
@@ -43,6 +45,49 @@ impl<T> Boxed<T> {
     {
         let Boxed { inner } = self;
         Box::into_inner(inner)
+    }
+}
+
+impl<T> Boxed<List<T>> {
+    /// The items of the list in it, in order.
+    pub fn as_slice(&self) -> &[T]
+        ensures { result.now ≡ self.now }
+    {
+        self.inner.as_slice()
+    }
+
+    /// Whether the list in it has none.
+    pub fn is_empty(&self) -> bool
+        ensures { IsTrue result ↔ (self.now ≡ []) }
+    {
+        self.inner.is_empty()
+    }
+
+    /// How many items the list in it has.
+    pub fn len(&self) -> usize
+        ensures { result ≡ length self.now }
+    {
+        self.inner.len()
+    }
+}
+
+impl Boxed<Text> {
+    /// A block with the text of a slice's bytes.
+    ///
+    /// # Errors
+    ///
+    /// `Memory` for want of memory alone.
+    pub fn from_slice(alloc: Global, bytes: &[u8]) -> Result<Boxed<Text>, Memory>
+        ensures { IfOk result (λ b. b ≡ bytes.now) }
+    {
+        Boxed::new(alloc, Text::from_slice(alloc, bytes)?)
+    }
+
+    /// The bytes of the text in it, in order.
+    pub fn as_slice(&self) -> &[u8]
+        ensures { result.now ≡ self.now }
+    {
+        self.inner.as_slice()
     }
 }
 

@@ -14,6 +14,7 @@ ghost use Rattle.td_cdr.specs.declared.value_fault.ValueFault.{ValueFault};
 ghost use Rattle.td_cdr.specs.declared.value_fault.ValueFault.TheVariants.{Cdr};
 ghost use Rattle.td_cdr.specs.ValueFaults.{is_memory};
 
+use crate::boxed::Boxed;
 use crate::list::Octets;
 use crate::memory::Memory;
 use crate::reader::Reader;
@@ -96,6 +97,25 @@ impl Spelled for bool {
     ghost lawful = { with_fault-lawful Cdr boolean boolean-lawful };
 
     ghost refuses = { with_fault-refuses Cdr boolean BooleanFault boolean-refuses };
+}
+
+impl<T: Spelled + Drop> Spelled for Boxed<T> {
+    ghost format = { T.format };
+
+    ghost faults = { T.faults };
+
+    fn read(alloc: Global, r: &mut Reader) -> Result<Boxed<T>, ValueFault> {
+        let value = T::read(alloc, r)?;
+        Ok(Boxed::new(alloc, value)?)
+    }
+
+    fn write(&self, alloc: Global, w: &mut Writer) -> Result<(), Memory> {
+        self.get().write(alloc, w)
+    }
+
+    ghost lawful = { T.lawful };
+
+    ghost refuses = { T.refuses };
 }
 
 impl<A: Spelled + Drop, B: Spelled + Drop> Spelled for (A, B) {

@@ -1,6 +1,6 @@
 //! Text as bytes: CORBA 2.0 strings are bytes without NUL, in no stated character set.
 
-ghost use Rattle.std.specs.Prelude.{◌≡◌, [], ◌↔◌, length, IsTrue, IfOk};
+ghost use Rattle.std.specs.Prelude.{◌≡◌, ◌≤◌, [], ◌↔◌, length, IsTrue, IfOk};
 ghost use Rattle.td_cdr.specs.Text.{has_nul};
 
 use crate::memory::Memory;
@@ -9,14 +9,37 @@ use std::alloc::Global;
 use std::marker::Model;
 use std::ops::DerefSlice;
 
+/// How many bytes a text has at the most that stands in place.
+const SHORT: usize = 30;
+
 /// A text, as its bytes. It may hold any byte; a call that spells it as a string has the condition
-/// that it holds no NUL.
+/// that it holds no NUL. One of at most 30 bytes takes no memory but its own.
 #[derive(Debug)]
 pub struct Text {
-    bytes: Vec<u8>,
+    bytes: Bytes,
+}
+
+/// Where the bytes stand.
+#[derive(Debug)]
+enum Bytes {
+    /// In place: the first `len`.
+    Short { bytes: [u8; 30], len: u8 },
+    Long(Vec<u8>),
 }
 
 // By hand, since a derived drop is written out at each exit, and proved again in each crate above.
+impl Drop for Bytes {
+    fn drop(self) {
+        match self {
+            Bytes::Short {
+                bytes: _bytes,
+                len: _len,
+            } => (),
+            Bytes::Long(_bytes) => (),
+        }
+    }
+}
+
 impl Drop for Text {
     fn drop(self) {
         let Text { bytes: _bytes } = self;
@@ -25,19 +48,25 @@ impl Drop for Text {
 
 impl Model for Text {
     ghost use Rattle.std.specs.Prelude.{List, ℕ};
+    ghost use Rattle.td_cdr.specs.Bytes.{bytes_in, IsWithin};
 
     ghost Value = { List ℕ };
 
-    ghost view = { λ t. t.bytes.items };
+    ghost view = { λ t. bytes_in t.bytes };
+
+    ghost invariant = { λ t. IsWithin t.bytes };
 }
 
 impl Text {
     /// The empty text, which takes no memory.
-    pub fn new(alloc: Global) -> Text
+    pub fn new(_alloc: Global) -> Text
         ensures { result ≡ [] }
     {
         Text {
-            bytes: Vec::new(alloc),
+            bytes: Bytes::Short {
+                bytes: [0; 30],
+                len: 0,
+            },
         }
     }
 
@@ -45,7 +74,9 @@ impl Text {
     pub fn from_vec(bytes: Vec<u8>) -> Text
         ensures { result ≡ bytes.items }
     {
-        Text { bytes }
+        Text {
+            bytes: Bytes::Long(bytes),
+        }
     }
 
     /// The text of a slice's bytes.
@@ -56,37 +87,62 @@ impl Text {
     pub fn from_slice(alloc: Global, bytes: &[u8]) -> Result<Text, Memory>
         ensures { IfOk result (λ t. t ≡ bytes.now) }
     {
+        if bytes.len() <= SHORT {
+            return Ok(Text::short(bytes));
+        }
         let bytes = Vec::from_slice(alloc, bytes)?;
-        Ok(Text { bytes })
+        Ok(Text::from_vec(bytes))
     }
 
-    /// The `Vec` that holds the bytes.
-    pub fn into_vec(self) -> Vec<u8>
-        ensures { result.items ≡ self }
+    /// The text of so few bytes that they stand in place.
+    fn short(bytes: &[u8]) -> Text
+        requires { length bytes.now ≤ 30 }
+        ensures { result ≡ bytes.now }
     {
-        let Text { bytes } = self;
-        bytes
+        let len = bytes.len();
+        let mut place = [0u8; 30];
+        place[..len].copy_from_slice(bytes);
+        Text {
+            bytes: Bytes::Short {
+                bytes: place,
+                len: len as u8,
+            },
+        }
+    }
+
+    /// A `Vec` of the bytes.
+    ///
+    /// # Errors
+    ///
+    /// `Memory` for want of memory alone.
+    pub fn to_vec(&self, alloc: Global) -> Result<Vec<u8>, Memory>
+        ensures { IfOk result (λ v. v.items ≡ self.now) }
+    {
+        Ok(Vec::from_slice(alloc, self.as_slice())?)
     }
 
     /// How many bytes there are.
     pub fn len(&self) -> usize
         ensures { result ≡ length self.now }
     {
-        self.bytes.len()
+        self.as_slice().len()
     }
 
     /// Whether there are none.
     pub fn is_empty(&self) -> bool
         ensures { IsTrue result ↔ (self.now ≡ []) }
     {
-        self.bytes.is_empty()
+        self.as_slice().is_empty()
     }
 
     /// The bytes in order.
     pub fn as_slice(&self) -> &[u8]
         ensures { result.now ≡ self.now }
     {
-        self.bytes.as_slice()
+        match &self.bytes {
+            Bytes::Short { bytes, len } => &bytes[..usize::from(*len)],
+            Bytes::Long(bytes) => bytes.as_slice(),
+        }
     }
 }
 
@@ -96,7 +152,7 @@ impl DerefSlice for Text {
     ghost deref_gives = { λ t bytes. bytes ≡ t };
 
     fn deref(&self) -> &[u8] {
-        self.bytes.as_slice()
+        self.as_slice()
     }
 }
 

@@ -385,6 +385,34 @@ fn octets_and_boxes(rt: HostRuntime) {
     assert!(rt; are_popped(alloc) == Ok(true) && is_boxed(alloc) == Ok(true));
 }
 
+/// Thirty-one bytes, one more than stand in place.
+const LONG: &[u8] = b"IDL:omg.org/CosTrading/Link:1.0";
+
+/// Whether a text of these bytes has them, however it was made, and a block of its own too.
+fn are_kept(alloc: Global, bytes: &[u8]) -> Result<bool, Memory> {
+    let text = Text::from_slice(alloc, bytes)?;
+    let twin = text.copy(alloc)?;
+    let owned = Text::from_vec(text.to_vec(alloc)?);
+    let boxed = <Boxed<Text>>::from_slice(alloc, bytes)?;
+    Ok(
+        text.as_slice() == bytes
+            && twin.as_slice() == bytes
+            && owned.as_slice() == bytes
+            && boxed.as_slice() == bytes
+            && text.len() == bytes.len()
+            && text.is_empty() == bytes.is_empty(),
+    )
+}
+
+#[test]
+fn texts_of_each_length(rt: HostRuntime) {
+    let alloc = rt.alloc();
+    assert!(rt; LONG.len() == 31 && Text::new(alloc).as_slice() == b"".as_slice());
+    for len in 0..=31 {
+        assert!(rt; are_kept(alloc, &LONG[..len]) == Ok(true), "{len}");
+    }
+}
+
 /// More names than are compared one by one.
 const MANY_NAMES: &str = "a b c d e f g h i j k l m n o p q r s t";
 

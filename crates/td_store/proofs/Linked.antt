@@ -41,10 +41,10 @@ found (p ∷ pairs) name h =
 
 -- ---- adding
 
-pub is_new : (pairs : Pairs) (copied name : List ℕ) (key : Vec ℕ Global) → HaveNames pairs → copied ≡ name
-    → key.items ≡ copied → link_of (values_of pairs) name ≡ None → lookup (λ k. bytes_eq key.items k.items) pairs ≡ None
-is_new pairs copied name key h p q fresh =
-    ap (λ (n : List ℕ). lookup (is_key n) pairs) (q ∙ p) ∙ (found pairs name h ∙ fresh)
+pub is_new : (pairs : Pairs) (name : List ℕ) (key : Vec ℕ Global) → HaveNames pairs → key.items ≡ name
+    → link_of (values_of pairs) name ≡ None → lookup (λ k. bytes_eq key.items k.items) pairs ≡ None
+is_new pairs name key h same fresh =
+    ap (λ (n : List ℕ). lookup (is_key n) pairs) same ∙ (found pairs name h ∙ fresh)
 
 pub names_push : (pairs : Pairs) (key : Vec ℕ Global) (e : LinkRecord) → HaveNames pairs → key.items ≡ e.name
     → HaveNames (pairs ++ (key, e) ∷ [])

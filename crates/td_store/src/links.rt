@@ -68,8 +68,8 @@ impl Links {
         if self.named.len() >= MOST_LINKS {
             return Err(StoreFault::Full);
         }
-        let name = link.name.get().copy(alloc)?;
-        match self.named.insert(name.into_vec(), link) {
+        let name = link.name.get().to_vec(alloc)?;
+        match self.named.insert(name, link) {
             Ok(_) => Ok(()),
             Err(_) => Err(StoreFault::Memory),
         }

@@ -55,11 +55,11 @@ pub not_found : (pairs : Pairs) (name : List ℕ) → HaveNames pairs → has_ty
 not_found pairs name h fresh =
     found pairs name h ∙ none_from (entry_named (values_of pairs) name) (sym (is_found (values_of pairs) name) ∙ fresh)
 
-pub is_new : (pairs : Pairs) (copied name : List ℕ) (key : Vec ℕ Global) → HaveNames pairs → copied ≡ name
-    → key.items ≡ copied → has_type (map kept (values_of pairs)) name ≡ false
+pub is_new : (pairs : Pairs) (name : List ℕ) (key : Vec ℕ Global) → HaveNames pairs → key.items ≡ name
+    → has_type (map kept (values_of pairs)) name ≡ false
     → lookup (λ k. bytes_eq key.items k.items) pairs ≡ None
-is_new pairs copied name key h p q fresh =
-    ap (λ (n : List ℕ). lookup (is_key n) pairs) (q ∙ p) ∙ not_found pairs name h fresh
+is_new pairs name key h same fresh =
+    ap (λ (n : List ℕ). lookup (is_key n) pairs) same ∙ not_found pairs name h fresh
 
 pub names_push : (pairs : Pairs) (key : Vec ℕ Global) (e : Entry) → HaveNames pairs → key.items ≡ e.service_type.name
     → HaveNames (pairs ++ (key, e) ∷ [])

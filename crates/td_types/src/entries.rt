@@ -76,8 +76,8 @@ impl Entries {
         ensures added { OnOk result (self.new ≡ self.old ++ entry ∷ []) }
         ensures kept { OnErr result (self.new ≡ self.old) }
     {
-        let name = entry.service_type.name.copy(alloc)?;
-        match self.named.insert(name.into_vec(), entry) {
+        let name = entry.service_type.name.to_vec(alloc)?;
+        match self.named.insert(name, entry) {
             Ok(_) => Ok(()),
             Err(_) => Err(Memory),
         }

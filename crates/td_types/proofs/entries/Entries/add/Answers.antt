@@ -8,23 +8,23 @@ use Rattle.td_types.proofs.entries.Entries.add.Goals as goal
 pub invariant_of-self : goal.invariant_of-self
 invariant_of-self c =
     let absent =
-    is_new c.self.inside.named.entries c.in_ok-name.name c.args.entry.service_type.name c.into_vec.result
-    c.self.invariant.names c.in_ok-name.ensures c.into_vec.ensures (rw (← c.self.view_is) at c.requires) in
+    is_new c.self.inside.named.entries c.args.entry.service_type.name c.in_ok-name.name c.self.invariant.names
+    c.in_ok-name.ensures (rw (← c.self.view_is) at c.requires) in
     let entries =
-    c.in-Ok.ensures.entries ∙ insert_entry-new same_key c.self.inside.named c.into_vec.result c.args.entry absent in
+    c.in-Ok.ensures.entries ∙ insert_entry-new same_key c.self.inside.named c.in_ok-name.name c.args.entry absent in
     record {
       names =
-          rw entries (names_push c.self.inside.named.entries c.into_vec.result c.args.entry c.self.invariant.names
-          (c.into_vec.ensures ∙ c.in_ok-name.ensures));
+          rw entries (names_push c.self.inside.named.entries c.in_ok-name.name c.args.entry c.self.invariant.names
+          c.in_ok-name.ensures);
       unique = c.insert.ensures.unique;
     }
 
 pub returns-in-Ok-clause-added : goal.returns-in-Ok-clause-added
 returns-in-Ok-clause-added c =
     let absent =
-    is_new c.self.inside.named.entries c.in_ok-name.name c.args.entry.service_type.name c.into_vec.result
-    c.self.invariant.names c.in_ok-name.ensures c.into_vec.ensures (rw (← c.self.view_is) at c.requires) in
+    is_new c.self.inside.named.entries c.args.entry.service_type.name c.in_ok-name.name c.self.invariant.names
+    c.in_ok-name.ensures (rw (← c.self.view_is) at c.requires) in
     let entries =
-    c.in-Ok.ensures.entries ∙ insert_entry-new same_key c.self.inside.named c.into_vec.result c.args.entry absent in
+    c.in-Ok.ensures.entries ∙ insert_entry-new same_key c.self.inside.named c.in_ok-name.name c.args.entry absent in
     rw (← c.self.view_is) (ap (λ (es : Pairs). values_of es) entries
-    ∙ values_push c.self.inside.named.entries c.into_vec.result c.args.entry)
+    ∙ values_push c.self.inside.named.entries c.in_ok-name.name c.args.entry)
