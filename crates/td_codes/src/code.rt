@@ -20,7 +20,8 @@ pub struct Arm {
     pub code: TypeCode,
 }
 
-/// The type of a value.
+/// The type of a value. Most are of a kind that has few parameters or none, so the others have theirs in
+/// blocks of their own, which keeps an any small.
 #[cycle(code)]
 pub enum TypeCode {
     Null,
@@ -44,28 +45,28 @@ pub enum TypeCode {
     },
     /// An object reference to an interface of this repository id.
     ObjRef {
-        id: Text,
-        name: Text,
+        id: Boxed<Text>,
+        name: Boxed<Text>,
     },
     Struct {
-        id: Text,
-        name: Text,
-        members: List<Member>,
+        id: Boxed<Text>,
+        name: Boxed<Text>,
+        members: Boxed<List<Member>>,
     },
     Union {
-        id: Text,
-        name: Text,
+        id: Boxed<Text>,
+        name: Boxed<Text>,
         /// The type of the discriminator.
         switch: Boxed<TypeCode>,
         /// The index of the default arm, or -1.
         default: i32,
-        arms: List<Arm>,
+        arms: Boxed<List<Arm>>,
     },
     Enum {
-        id: Text,
-        name: Text,
+        id: Boxed<Text>,
+        name: Boxed<Text>,
         /// The names of the values, which are numbered from 0.
-        labels: List<Text>,
+        labels: Boxed<List<Text>>,
     },
     /// A sequence of at most `bound` items; 0 is no bound.
     Sequence {
@@ -79,15 +80,15 @@ pub enum TypeCode {
     },
     /// Another name for a type.
     Alias {
-        id: Text,
-        name: Text,
+        id: Boxed<Text>,
+        name: Boxed<Text>,
         item: Boxed<TypeCode>,
     },
     /// The type of an exception.
     Except {
-        id: Text,
-        name: Text,
-        members: List<Member>,
+        id: Boxed<Text>,
+        name: Boxed<Text>,
+        members: Boxed<List<Member>>,
     },
     /// A type that is spelled with indirections, and so may hold itself, as a graph. It stands in
     /// no other TypeCode; one that a caller puts there all the same is written as nothing.
@@ -111,7 +112,7 @@ pub enum Value {
     Str(Text),
     AnyValue(Boxed<Any>),
     Code(Boxed<TypeCode>),
-    ObjRef(Ior),
+    ObjRef(Boxed<Ior>),
     /// The members' values in order.
     Struct(List<Value>),
     Union {

@@ -92,7 +92,7 @@ fn copy_boxed(alloc: Global, code: &TypeCode) -> Result<Boxed<TypeCode>, Memory>
     Boxed::new(alloc, twin)
 }
 
-fn copy_object(alloc: Global, id: &Text, name: &Text) -> Result<TypeCode, Memory>
+fn copy_object(alloc: Global, id: &Boxed<Text>, name: &Boxed<Text>) -> Result<TypeCode, Memory>
     ensures { IfOk result (λ twin. twin ≡ code.ObjRef id.now name.now) }
 {
     let (id, name) = copy_two(alloc, id, name)?;
@@ -108,7 +108,12 @@ fn copy_graph(alloc: Global, graph: &Whole) -> Result<TypeCode, Memory>
     }
 }
 
-fn copy_enum(alloc: Global, id: &Text, name: &Text, labels: &List<Text>) -> Result<TypeCode, Memory>
+fn copy_enum(
+    alloc: Global,
+    id: &Boxed<Text>,
+    name: &Boxed<Text>,
+    labels: &Boxed<List<Text>>,
+) -> Result<TypeCode, Memory>
     ensures { IfOk result (λ twin. twin ≡ code.Enum id.now name.now labels.now) }
 {
     let (id, (name, labels)) = copy_three(alloc, id, name, labels)?;
@@ -118,11 +123,11 @@ fn copy_enum(alloc: Global, id: &Text, name: &Text, labels: &List<Text>) -> Resu
 /// A union's TypeCode, of the copies of its discriminator's type and of its arms.
 fn copy_union(
     alloc: Global,
-    id: &Text,
-    name: &Text,
+    id: &Boxed<Text>,
+    name: &Boxed<Text>,
     switch: Boxed<TypeCode>,
     default: i32,
-    arms: List<Arm>,
+    arms: Boxed<List<Arm>>,
 ) -> Result<TypeCode, Memory>
     ensures { IfOk result (λ twin. twin ≡ code.Union id.now name.now switch default arms) }
 {
@@ -139,8 +144,8 @@ fn copy_union(
 #[cycle(copy)]
 fn copy_struct(
     alloc: Global,
-    id: &Text,
-    name: &Text,
+    id: &Boxed<Text>,
+    name: &Boxed<Text>,
     members: &[Member],
 ) -> Result<TypeCode, Memory>
     ensures { IfOk result (λ twin. twin ≡ code.Struct id.now name.now members.now) }
@@ -153,8 +158,8 @@ fn copy_struct(
 #[cycle(copy)]
 fn copy_except(
     alloc: Global,
-    id: &Text,
-    name: &Text,
+    id: &Boxed<Text>,
+    name: &Boxed<Text>,
     members: &[Member],
 ) -> Result<TypeCode, Memory>
     ensures { IfOk result (λ twin. twin ≡ code.Except id.now name.now members.now) }
@@ -165,7 +170,12 @@ fn copy_except(
 }
 
 #[cycle(copy)]
-fn copy_alias(alloc: Global, id: &Text, name: &Text, item: &TypeCode) -> Result<TypeCode, Memory>
+fn copy_alias(
+    alloc: Global,
+    id: &Boxed<Text>,
+    name: &Boxed<Text>,
+    item: &TypeCode,
+) -> Result<TypeCode, Memory>
     ensures { IfOk result (λ twin. twin ≡ code.Alias id.now name.now item.now) }
 {
     let item = copy_boxed(alloc, item)?;
@@ -174,25 +184,25 @@ fn copy_alias(alloc: Global, id: &Text, name: &Text, item: &TypeCode) -> Result<
 }
 
 #[cycle(copy)]
-fn copy_members(alloc: Global, members: &[Member]) -> Result<List<Member>, Memory>
+fn copy_members(alloc: Global, members: &[Member]) -> Result<Boxed<List<Member>>, Memory>
     ensures { IfOk result (λ twin. twin ≡ members.now) }
 {
     let mut twin = List::new(alloc);
     for member in members {
         twin.push(member.copy(alloc)?)?;
     }
-    Ok(twin)
+    Boxed::new(alloc, twin)
 }
 
 #[cycle(copy)]
-fn copy_arms(alloc: Global, arms: &[Arm]) -> Result<List<Arm>, Memory>
+fn copy_arms(alloc: Global, arms: &[Arm]) -> Result<Boxed<List<Arm>>, Memory>
     ensures { IfOk result (λ twin. twin ≡ arms.now) }
 {
     let mut twin = List::new(alloc);
     for arm in arms {
         twin.push(arm.copy(alloc)?)?;
     }
-    Ok(twin)
+    Boxed::new(alloc, twin)
 }
 
 #[cycle(copy)]

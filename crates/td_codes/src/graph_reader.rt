@@ -32,7 +32,7 @@ use crate::node_layer::{BegunNode, Discriminator, NodeLayer};
 use crate::plain::{
     boolean_at, char_at, long_at, longlong_at, short_at, ulong_at, ulonglong_at, ushort_at,
 };
-use crate::reading::{count_of, head_of, header_of, names_of};
+use crate::reading::{count_of, head_of, names_of};
 use std::alloc::Global;
 use std::marker::Model;
 use td_cdr::{List, Memory, Reader, Spelled, Text, ValueFault};
@@ -164,7 +164,7 @@ impl<'a> GraphReader<'a> {
             ((lift header).format.reads self.old.state self.old.at) }
     {
         let mut next = self.reader();
-        let header = header_of(alloc, &mut next)?;
+        let header = <(Text, Text)>::read(alloc, &mut next)?;
         self.advance(next);
         Ok(header)
     }

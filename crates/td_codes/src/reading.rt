@@ -115,10 +115,10 @@ fn enclosed_of(
 }
 
 /// The repository id and the name.
-pub(crate) fn header_of(alloc: Global, r: &mut Reader) -> Result<(Text, Text), ValueFault>
+fn header_of(alloc: Global, r: &mut Reader) -> Result<(Boxed<Text>, Boxed<Text>), ValueFault>
     ensures { Gives is_memory r.new result (header.format.reads r.old) }
 {
-    <(Text, Text)>::read(alloc, r)
+    <(Boxed<Text>, Boxed<Text>)>::read(alloc, r)
 }
 
 /// A count that is not 0.
@@ -147,7 +147,7 @@ fn enum_of(alloc: Global, r: &mut Reader) -> Result<TypeCode, ValueFault>
     ensures { Gives is_memory r.new result (enum_code.format.reads r.old) }
 {
     let header = header_of(alloc, r)?;
-    let labels = names_of(alloc, r)?;
+    let labels = boxed_names_of(alloc, r)?;
     Ok(TypeCode::Enum {
         id: header.0,
         name: header.1,
@@ -167,6 +167,14 @@ pub(crate) fn names_of(alloc: Global, r: &mut Reader) -> Result<List<Text>, Valu
     Ok(names)
 }
 
+/// The same, in a block of their own.
+fn boxed_names_of(alloc: Global, r: &mut Reader) -> Result<Boxed<List<Text>>, ValueFault>
+    ensures { Gives is_memory r.new result ((nonempty_sequence text).format.reads r.old) }
+{
+    let names = names_of(alloc, r)?;
+    Ok(Boxed::new(alloc, names)?)
+}
+
 #[cycle(reading)]
 fn struct_of(alloc: Global, r: &mut Reader, levels: u32) -> Result<TypeCode, ValueFault>
     ensures { Gives is_memory r.new result ((struct_code (codes levels Inner)).format.reads r.old) }
@@ -182,7 +190,7 @@ fn struct_of(alloc: Global, r: &mut Reader, levels: u32) -> Result<TypeCode, Val
 
 /// One member at least.
 #[cycle(reading)]
-fn fields_of(alloc: Global, r: &mut Reader, levels: u32) -> Result<List<Member>, ValueFault>
+fn fields_of(alloc: Global, r: &mut Reader, levels: u32) -> Result<Boxed<List<Member>>, ValueFault>
     ensures { Gives is_memory r.new result
         ((nonempty_sequence (member (codes levels Inner))).format.reads r.old) }
 {
@@ -245,7 +253,7 @@ fn front_of(
     r: &mut Reader,
     levels: u32,
     mode: Mode,
-) -> Result<((Text, Text), Boxed<TypeCode>), ValueFault>
+) -> Result<((Boxed<Text>, Boxed<Text>), Boxed<TypeCode>), ValueFault>
     ensures { Gives is_memory r.new result ((header & codes levels mode).format.reads r.old) }
 {
     let header = header_of(alloc, r)?;
@@ -274,7 +282,7 @@ pub fn boxed_at(
 
 /// A sequence of members.
 #[cycle(reading)]
-fn members_at(alloc: Global, r: &mut Reader, levels: u32) -> Result<List<Member>, ValueFault>
+fn members_at(alloc: Global, r: &mut Reader, levels: u32) -> Result<Boxed<List<Member>>, ValueFault>
     ensures { Gives is_memory r.new result
         ((sequence (member (codes levels Inner))).format.reads r.old) }
 {
@@ -288,7 +296,7 @@ fn members_of(
     r: &mut Reader,
     levels: u32,
     count: u32,
-) -> Result<List<Member>, ValueFault>
+) -> Result<Boxed<List<Member>>, ValueFault>
     ensures { Gives is_memory r.new result
         ((array (member (codes levels Inner)) count).format.reads r.old) }
 {
@@ -297,7 +305,7 @@ fn members_of(
         let member = member_of(alloc, r, levels)?;
         members.push(member)?;
     }
-    Ok(members)
+    Ok(Boxed::new(alloc, members)?)
 }
 
 #[cycle(reading)]
@@ -368,7 +376,7 @@ fn choices_of(
     r: &mut Reader,
     levels: u32,
     switch: &TypeCode,
-) -> Result<(i32, List<Arm>), ValueFault>
+) -> Result<(i32, Boxed<List<Arm>>), ValueFault>
     ensures read { Gives is_memory r.new result
         ((counted_arms (arm_of (labels levels switch.now) (codes levels Inner))).format.reads
         r.old) }
@@ -386,7 +394,7 @@ fn arms_of(
     levels: u32,
     switch: &TypeCode,
     count: u32,
-) -> Result<List<Arm>, ValueFault>
+) -> Result<Boxed<List<Arm>>, ValueFault>
     ensures { Gives is_memory r.new result
         ((array (arm_of (labels levels switch.now) (codes levels Inner)) count).format.reads
         r.old) }
@@ -396,7 +404,7 @@ fn arms_of(
         let arm = arm_at(alloc, r, levels, switch)?;
         arms.push(arm)?;
     }
-    Ok(arms)
+    Ok(Boxed::new(alloc, arms)?)
 }
 
 #[cycle(reading)]

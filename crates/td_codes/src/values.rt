@@ -149,7 +149,7 @@ pub(crate) fn reference_at(alloc: Global, r: &mut Reader) -> Result<Value, Value
         ((variant (λ i. value.ObjRef i) (λ v. reference_in (out-Value v))
         (λ i. ap reference_in (value-object i)) reference).format.reads r.old) }
 {
-    let ior = Ior::read(alloc, r)?;
+    let ior = <Boxed<Ior>>::read(alloc, r)?;
     Ok(Value::ObjRef(ior))
 }
 

@@ -12,7 +12,7 @@ use crate::code::{Arm, Member, TypeCode};
 use crate::kinds::{CodeKind, kind_of};
 use crate::label::{Label, label_of};
 use std::alloc::Global;
-use td_cdr::{Memory, Text, Writer};
+use td_cdr::{Boxed, Memory, Text, Writer};
 
 /// Appends the TypeCode, in the writer's order and with padding 0.
 ///
@@ -88,7 +88,12 @@ fn write_encapsulation(w: &mut Writer, kind: CodeKind, inner: &Writer) -> Result
 }
 
 /// An object reference's TypeCode, or nothing.
-fn write_object(alloc: Global, w: &mut Writer, id: &Text, name: &Text) -> Result<(), Memory>
+fn write_object(
+    alloc: Global,
+    w: &mut Writer,
+    id: &Boxed<Text>,
+    name: &Boxed<Text>,
+) -> Result<(), Memory>
     ensures { Appends (kind_piece kind.ObjRef then encapsulation_piece
         (header_piece id.now name.now)) w.old w.new result }
 {
@@ -119,8 +124,8 @@ fn write_items(
 fn write_alias(
     alloc: Global,
     w: &mut Writer,
-    id: &Text,
-    name: &Text,
+    id: &Boxed<Text>,
+    name: &Boxed<Text>,
     item: &TypeCode,
 ) -> Result<(), Memory>
     ensures { Appends (kind_piece kind.Alias
@@ -136,8 +141,8 @@ fn write_alias(
 fn write_enumeration(
     alloc: Global,
     w: &mut Writer,
-    id: &Text,
-    name: &Text,
+    id: &Boxed<Text>,
+    name: &Boxed<Text>,
     names: &[Text],
 ) -> Result<(), Memory>
     ensures { Appends (kind_piece kind.Enum
@@ -165,7 +170,7 @@ fn write_item_and_size(
     w.u32(bound)
 }
 
-fn write_texts(w: &mut Writer, id: &Text, name: &Text) -> Result<(), Memory>
+fn write_texts(w: &mut Writer, id: &Boxed<Text>, name: &Boxed<Text>) -> Result<(), Memory>
     ensures { Writes (header_piece id.now name.now) w.old w.new result }
 {
     w.string(id.as_slice())?;
@@ -188,7 +193,12 @@ pub fn write_count(w: &mut Writer, count: usize) -> Result<(), Memory>
 }
 
 /// The parameters of an enumeration.
-fn write_enum(w: &mut Writer, id: &Text, name: &Text, names: &[Text]) -> Result<(), Memory>
+fn write_enum(
+    w: &mut Writer,
+    id: &Boxed<Text>,
+    name: &Boxed<Text>,
+    names: &[Text],
+) -> Result<(), Memory>
     ensures { Writes (header_piece id.now name.now then (number 4).writes (length names.now)
         then row (map text.writes names.now))
         w.old w.new result }
@@ -219,8 +229,8 @@ fn write_fields(
     alloc: Global,
     w: &mut Writer,
     kind: CodeKind,
-    id: &Text,
-    name: &Text,
+    id: &Boxed<Text>,
+    name: &Boxed<Text>,
     members: &[Member],
 ) -> Result<(), Memory>
     ensures { Appends (kind_piece kind
@@ -239,8 +249,8 @@ fn write_fields(
 fn write_struct(
     alloc: Global,
     w: &mut Writer,
-    id: &Text,
-    name: &Text,
+    id: &Boxed<Text>,
+    name: &Boxed<Text>,
     members: &[Member],
 ) -> Result<(), Memory>
     ensures { Writes (header_piece id.now name.now then (number 4).writes (length members.now)
@@ -275,8 +285,8 @@ fn write_member(alloc: Global, w: &mut Writer, member: &Member) -> Result<(), Me
 fn write_front(
     alloc: Global,
     w: &mut Writer,
-    id: &Text,
-    name: &Text,
+    id: &Boxed<Text>,
+    name: &Boxed<Text>,
     item: &TypeCode,
 ) -> Result<(), Memory>
     ensures { Writes (header_piece id.now name.now then code_piece item.now) w.old w.new result }

@@ -138,7 +138,7 @@ pub(crate) fn put_reference_in(alloc: Global, w: &mut Writer, value: &Value) -> 
         w.old w.new result }
 {
     match value {
-        Value::ObjRef(reference) => reference.write(alloc, w),
+        Value::ObjRef(reference) => reference.get().write(alloc, w),
         _ => Ok(()),
     }
 }

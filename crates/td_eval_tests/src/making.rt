@@ -45,8 +45,8 @@ fn sequence_of(alloc: Global, item: TypeCode) -> Result<TypeCode, Memory> {
 fn alias_of(alloc: Global, item: TypeCode) -> Result<TypeCode, Memory> {
     let item = Boxed::new(alloc, item)?;
     Ok(TypeCode::Alias {
-        id: Text::new(alloc),
-        name: Text::new(alloc),
+        id: Boxed::new(alloc, Text::new(alloc))?,
+        name: Boxed::new(alloc, Text::new(alloc))?,
         item,
     })
 }

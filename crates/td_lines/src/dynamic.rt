@@ -18,8 +18,11 @@ use td_value::{Any, Ior, Member, Property, TypeCode, Value};
 fn evaluator_code(alloc: Global) -> Result<TypeCode, Memory>
     ensures { IfOk result (λ c. c ≡ evaluator_code) }
 {
-    let id = Text::from_slice(alloc, b"IDL:omg.org/CosTradingDynamic/DynamicPropEval:1.0")?;
-    let name = Text::from_slice(alloc, b"DynamicPropEval")?;
+    let id = <Boxed<Text>>::from_slice(
+        alloc,
+        b"IDL:omg.org/CosTradingDynamic/DynamicPropEval:1.0",
+    )?;
+    let name = <Boxed<Text>>::from_slice(alloc, b"DynamicPropEval")?;
     Ok(TypeCode::ObjRef { id, name })
 }
 
@@ -41,7 +44,7 @@ fn put_member(
     }
 }
 
-fn dynamic_members(alloc: Global) -> Result<List<Member>, Memory>
+fn dynamic_members(alloc: Global) -> Result<Boxed<List<Member>>, Memory>
     ensures { IfOk result (λ m. m ≡ member (codes "eval_if") evaluator_code
         ∷ member (codes "returned_type") code.Code ∷ member (codes "extra_info") code.AnyCode
         ∷ []) }
@@ -50,15 +53,15 @@ fn dynamic_members(alloc: Global) -> Result<List<Member>, Memory>
     put_member(alloc, &mut members, b"eval_if", evaluator_code(alloc)?)?;
     put_member(alloc, &mut members, b"returned_type", TypeCode::Code)?;
     put_member(alloc, &mut members, b"extra_info", TypeCode::AnyCode)?;
-    Ok(members)
+    Boxed::new(alloc, members)
 }
 
 /// The TypeCode of a DynamicProp.
 fn dynamic_code(alloc: Global) -> Result<TypeCode, Memory>
     ensures { IfOk result (λ c. c ≡ dynamic_code) }
 {
-    let id = Text::from_slice(alloc, b"IDL:omg.org/CosTradingDynamic/DynamicProp:1.0")?;
-    let name = Text::from_slice(alloc, b"DynamicProp")?;
+    let id = <Boxed<Text>>::from_slice(alloc, b"IDL:omg.org/CosTradingDynamic/DynamicProp:1.0")?;
+    let name = <Boxed<Text>>::from_slice(alloc, b"DynamicProp")?;
     let members = dynamic_members(alloc)?;
     Ok(TypeCode::Struct { id, name, members })
 }
@@ -90,6 +93,7 @@ fn dynamic_values(
     ensures { IfOk result (λ v. v ≡ value.ObjRef evaluator ∷ value.Code (code_of value_type)
         ∷ value.AnyValue null_any ∷ []) }
 {
+    let evaluator = Boxed::new(alloc, evaluator)?;
     let mut values = List::new(alloc);
     values.push(Value::ObjRef(evaluator))?;
     values.push(code_value(alloc, value_type)?)?;

@@ -18,14 +18,14 @@ pub fn rule_code(alloc: Global) -> Result<TypeCode, Memory>
     ensures { IfOk result (λ c. c ≡ rule.code) }
 {
     Ok(TypeCode::Enum {
-        id: Text::from_slice(alloc, b"IDL:omg.org/CosTrading/FollowOption:1.0")?,
-        name: Text::from_slice(alloc, b"FollowOption")?,
+        id: <Boxed<Text>>::from_slice(alloc, b"IDL:omg.org/CosTrading/FollowOption:1.0")?,
+        name: <Boxed<Text>>::from_slice(alloc, b"FollowOption")?,
         labels: rule_labels(alloc)?,
     })
 }
 
 /// The names of the rules.
-fn rule_labels(alloc: Global) -> Result<List<Text>, Memory>
+fn rule_labels(alloc: Global) -> Result<Boxed<List<Text>>, Memory>
     ensures { IfOk result (λ l. l ≡ codes "local_only" ∷ codes "if_no_local" ∷ codes "always"
         ∷ []) }
 {
@@ -33,7 +33,7 @@ fn rule_labels(alloc: Global) -> Result<List<Text>, Memory>
     labels.push(Text::from_slice(alloc, b"local_only")?)?;
     labels.push(Text::from_slice(alloc, b"if_no_local")?)?;
     labels.push(Text::from_slice(alloc, b"always")?)?;
-    Ok(labels)
+    Boxed::new(alloc, labels)
 }
 
 /// The type of a sequence of strings without bounds.

@@ -14,7 +14,7 @@ use crate::heads::{
     has_arms, has_members, has_none, has_one, is_headed, is_leaf, is_named, is_nameless,
 };
 use tc_graph::{Node, Whole};
-use td_cdr::Text;
+use td_cdr::{Boxed, Text};
 use td_codes::{Arm, CodeKind, Member, TypeCode, kind_of};
 
 /// Whether the TypeCode is the same as what stands at the place, at every depth. A graph is none.
@@ -78,7 +78,7 @@ fn is_str(bound: u32, graph: &Whole, node: &Node) -> bool
         && is_leaf(graph, node)
 }
 
-fn is_object(id: &Text, graph: &Whole, node: &Node) -> bool
+fn is_object(id: &Boxed<Text>, graph: &Whole, node: &Node) -> bool
     ensures { result ≡ alike_node graph.now (object_shape id.now) node.now }
 {
     is_headed(node, CodeKind::ObjRef, id.as_slice())
@@ -87,7 +87,7 @@ fn is_object(id: &Text, graph: &Whole, node: &Node) -> bool
         && is_leaf(graph, node)
 }
 
-fn is_enum(id: &Text, count: usize, graph: &Whole, node: &Node) -> bool
+fn is_enum(id: &Boxed<Text>, count: usize, graph: &Whole, node: &Node) -> bool
     ensures { result ≡ alike_node graph.now (enum_shape id.now count) node.now }
 {
     is_headed(node, CodeKind::Enum, id.as_slice())
@@ -97,7 +97,7 @@ fn is_enum(id: &Text, count: usize, graph: &Whole, node: &Node) -> bool
 }
 
 #[cycle(placed)]
-fn is_struct(id: &Text, members: &[Member], graph: &Whole, node: &Node) -> bool
+fn is_struct(id: &Boxed<Text>, members: &[Member], graph: &Whole, node: &Node) -> bool
     requires within { LeadsWithin graph.now node.now.edges }
     ensures { result ≡ alike_node graph.now
         (fields_shape kind.Struct id.now (map member_entry members.now)) node.now }
@@ -107,7 +107,7 @@ fn is_struct(id: &Text, members: &[Member], graph: &Whole, node: &Node) -> bool
 }
 
 #[cycle(placed)]
-fn is_except(id: &Text, members: &[Member], graph: &Whole, node: &Node) -> bool
+fn is_except(id: &Boxed<Text>, members: &[Member], graph: &Whole, node: &Node) -> bool
     requires within { LeadsWithin graph.now node.now.edges }
     ensures { result ≡ alike_node graph.now
         (fields_shape kind.Except id.now (map member_entry members.now)) node.now }

@@ -8,7 +8,7 @@ ghost use Rattle.td_codes.specs.Same.{is_alias, str_shape, object_shape, fields_
 ghost use Rattle.td_codes.specs.Same.{items_shape};
 
 use crate::heads::ids_agree;
-use td_cdr::Text;
+use td_cdr::{Boxed, Text};
 use td_codes::{Arm, INDIRECTION, Member, TypeCode, bare, kind_of, label_of, same_label};
 
 /// Whether the TypeCodes are the same without their aliases, names not counted, and ids only where
@@ -74,7 +74,7 @@ fn same_str(bound: u32, b: &TypeCode) -> bool
     }
 }
 
-fn same_object(id: &Text, b: &TypeCode) -> bool
+fn same_object(id: &Boxed<Text>, b: &TypeCode) -> bool
     requires { is_alias (out-TypeCode b.now) ≡ false }
     ensures { result ≡ like (object_shape id.now) (shape b.now) }
 {
@@ -85,7 +85,7 @@ fn same_object(id: &Text, b: &TypeCode) -> bool
 }
 
 #[cycle(same)]
-fn same_struct(id: &Text, members: &[Member], b: &TypeCode) -> bool
+fn same_struct(id: &Boxed<Text>, members: &[Member], b: &TypeCode) -> bool
     requires { is_alias (out-TypeCode b.now) ≡ false }
     ensures { result ≡ like (fields_shape kind.Struct id.now (map member_entry members.now))
         (shape b.now) }
@@ -101,7 +101,7 @@ fn same_struct(id: &Text, members: &[Member], b: &TypeCode) -> bool
 }
 
 #[cycle(same)]
-fn same_except(id: &Text, members: &[Member], b: &TypeCode) -> bool
+fn same_except(id: &Boxed<Text>, members: &[Member], b: &TypeCode) -> bool
     requires { is_alias (out-TypeCode b.now) ≡ false }
     ensures { result ≡ like (fields_shape kind.Except id.now (map member_entry members.now))
         (shape b.now) }
@@ -116,7 +116,7 @@ fn same_except(id: &Text, members: &[Member], b: &TypeCode) -> bool
     }
 }
 
-fn same_enum(id: &Text, count: usize, b: &TypeCode) -> bool
+fn same_enum(id: &Boxed<Text>, count: usize, b: &TypeCode) -> bool
     requires { is_alias (out-TypeCode b.now) ≡ false }
     ensures { result ≡ like (enum_shape id.now count) (shape b.now) }
 {

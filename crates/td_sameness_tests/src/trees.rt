@@ -100,9 +100,9 @@ fn around(alloc: Global) -> Option<Boxed<TypeCode>> {
     Boxed::new(
         alloc,
         TypeCode::Struct {
-            id: Text::from_slice(alloc, b"").ok()?,
-            name: Text::from_slice(alloc, b"S").ok()?,
-            members,
+            id: <Boxed<Text>>::from_slice(alloc, b"").ok()?,
+            name: <Boxed<Text>>::from_slice(alloc, b"S").ok()?,
+            members: Boxed::new(alloc, members).ok()?,
         },
     )
     .ok()

@@ -61,8 +61,8 @@ fn aliased(alloc: Global, policy: &Policy) -> Result<Policy, Memory> {
         value: Any {
             value,
             code: TypeCode::Alias {
-                id: Text::new(alloc),
-                name: Text::new(alloc),
+                id: Boxed::new(alloc, Text::new(alloc))?,
+                name: Boxed::new(alloc, Text::new(alloc))?,
                 item: Boxed::new(alloc, policy.value.code.copy(alloc)?)?,
             },
         },

@@ -124,8 +124,8 @@ fn mode_of(word: &str) -> PropertyMode {
 fn value_type(alloc: Global, kind: &str) -> Result<TypeCode, Memory> {
     match kind {
         "alias" => Ok(TypeCode::Alias {
-            id: Text::new(alloc),
-            name: Text::new(alloc),
+            id: Boxed::new(alloc, Text::new(alloc))?,
+            name: Boxed::new(alloc, Text::new(alloc))?,
             item: Boxed::new(alloc, TypeCode::Long)?,
         }),
         "string" => Ok(TypeCode::Str { bound: 0 }),

@@ -31,7 +31,7 @@ fn reference_in(value: &Value) -> Option<&Ior>
     ensures { option_copied result ≡ reference_in (out-Value value.now) }
 {
     match value {
-        Value::ObjRef(reference) => Some(reference),
+        Value::ObjRef(reference) => Some(reference.get()),
         _ => None,
     }
 }

@@ -15,7 +15,8 @@ copy_members-loop-member-preserved t c =
 
 pub copy_members-returns : goal.copy_members-returns
 copy_members-returns t c =
-    c.loop-member.invariant ∙ take_all c.loop-member.member-index c.args.members.now c.loop-member-test.false
+    let all = c.loop-member.invariant ∙ take_all c.loop-member.member-index c.args.members.now c.loop-member-test.false in
+    rw (← all) c.new.ensures
 
 pub copy_arms-loop-arm-preserved : goal.copy_arms-loop-arm-preserved
 copy_arms-loop-arm-preserved t c =
@@ -24,7 +25,9 @@ copy_arms-loop-arm-preserved t c =
     c.loop-arm.invariant c.in_ok-copy.ensures c.in_ok-push.ensures.ok
 
 pub copy_arms-returns : goal.copy_arms-returns
-copy_arms-returns t c = c.loop-arm.invariant ∙ take_all c.loop-arm.arm-index c.args.arms.now c.loop-arm-test.false
+copy_arms-returns t c =
+    let all = c.loop-arm.invariant ∙ take_all c.loop-arm.arm-index c.args.arms.now c.loop-arm-test.false in
+    rw (← all) c.new.ensures
 
 pub copy_values-loop-value-preserved : goal.copy_values-loop-value-preserved
 copy_values-loop-value-preserved t c =

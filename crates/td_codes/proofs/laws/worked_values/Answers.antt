@@ -7,7 +7,7 @@ use Rattle.td_codes.specs.Values.{left}
 use Rattle.td_codes.proofs.laws.worked_values.Goals as goal
 
 pub returns : goal.returns
-unfolding left value_at_node spelled_before cell_at number_at signed_at out-Value denote.Hole.Carrier.out denote.Hole.Carrier.shown denote.Hole.Carrier.hidden Rattle.td_codes.specs.declared.code.TypeCode.TheBlock.shown-the_row-Value-4
+unfolding left value_at_node spelled_before cell_at number_at signed_at out-Value denote.Hole.Carrier.out denote.Hole.Carrier.shown denote.Hole.Carrier.hidden Rattle.td_codes.specs.declared.code.TypeCode.TheBlock.shown-the_row-Value-6
 returns c = record {
   read = refl;
   written = refl;

@@ -34,8 +34,8 @@ members_of-loop-preserved t c =
 pub members_of-returns : goal.members_of-returns
 members_of-returns t c =
     let g = (member (codes c.args.levels Inner)).format in
-    is_done g c.loop.members c.args.count c.loop.counter c.loop.r ((array_format g c.args.count).reads c.args.r.now)
-    c.loop-test.false c.loop.invariant
+    rw c.in_ok-new.ensures (is_done g c.loop.members c.args.count c.loop.counter c.loop.r
+    ((array_format g c.args.count).reads c.args.r.now) c.loop-test.false c.loop.invariant)
 
 pub arms_of-returns-in_err-arm : goal.arms_of-returns-in_err-arm
 arms_of-returns-in_err-arm t c =
@@ -54,8 +54,8 @@ arms_of-loop-preserved t c =
 pub arms_of-returns : goal.arms_of-returns
 arms_of-returns t c =
     let g = (arm_of (labels c.args.levels c.args.switch.now) (codes c.args.levels Inner)).format in
-    is_done g c.loop.arms c.args.count c.loop.counter c.loop.r ((array_format g c.args.count).reads c.args.r.now)
-    c.loop-test.false c.loop.invariant
+    rw c.in_ok-new.ensures (is_done g c.loop.arms c.args.count c.loop.counter c.loop.r
+    ((array_format g c.args.count).reads c.args.r.now) c.loop-test.false c.loop.invariant)
 
 pub code_at-returns-in_err-kind : goal.code_at-returns-in_err-kind
 code_at-returns-in_err-kind t c =

@@ -8,11 +8,11 @@ pub advance-requires : goal.advance-requires
 advance-requires c =
     let a = c.reader-next in
     let inside : a.result.origin ≤ a.result.place = rw a.ensures.same a.ensures.inside in
-    same-origin header a.result c.header_of.new.r c.in_ok-header.header inside c.in_ok-header.ensures
+    same-origin header a.result c.read.new.r c.in_ok-header.header inside c.in_ok-header.ensures
     ∙ ap (λ (z : At). z.origin) a.ensures.same
 
 pub returns : goal.returns
 returns c =
     let s = c.args.self.now.state in
     let f = rw c.reader-next.ensures.same at c.in_ok-header.ensures in
-    rw c.advance.ensures (lifts header s s c.args.self.now.at c.header_of.new.r c.in_ok-header.header f refl)
+    rw c.advance.ensures (lifts header s s c.args.self.now.at c.read.new.r c.in_ok-header.header f refl)
