@@ -12,7 +12,7 @@ ghost use Rattle.td_admin.specs.Links.{add_link_cause, name_cause, permits_more,
 ghost use Rattle.td_register.specs.Needs.{NeedsNone};
 
 use std::alloc::Global;
-use td_cdr::{Memory, Text, Twin, is_word_name, share_three};
+use td_cdr::{Boxed, Memory, Text, Twin, is_word_name, share_three};
 use td_exceptions::UserException;
 use td_ior::{IorFault, iiop_of};
 use td_ops::Change;
@@ -167,7 +167,7 @@ pub fn add_link(
     store: &mut Store,
     full: bool,
     name: Text,
-    target: Ior,
+    target: Boxed<Ior>,
     def_pass_on: FollowOption,
     limiting: FollowOption,
     register: Option<Ior>,
@@ -181,7 +181,7 @@ pub fn add_link(
         alloc,
         store,
         &name,
-        &target,
+        target.get(),
         def_pass_on,
         limiting,
         &register,

@@ -14,7 +14,7 @@ use crate::query::query_told;
 use crate::references::{reference_told, target_told};
 use crate::types::{TypeItems, items_told};
 use std::alloc::Global;
-use td_cdr::{Memory, Text, share_owned_three};
+use td_cdr::{Boxed, Memory, Text, share_owned_three};
 use td_ops::{AddLink, Call, Change, Look};
 use td_tool::{ExportWords, LinkWords, QueryWords, TypeWords, Wanted};
 use td_value::SpecifiedServiceTypes;
@@ -97,7 +97,7 @@ fn by_link(alloc: Global, words: &LinkWords<'_>) -> Result<Asking, AskFault>
     let def_pass_on = rule_told(words.def_pass_on)?;
     let limiting = rule_told(words.limiting)?;
     let name = Text::from_slice(alloc, words.name.as_bytes())?;
-    let target = reference_told(alloc, words.target)?;
+    let target = Boxed::new(alloc, reference_told(alloc, words.target)?)?;
     let link = AddLink {
         name,
         target,

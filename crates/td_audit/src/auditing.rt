@@ -31,7 +31,7 @@ fn linked(alloc: Global, group: &Group, link: Boxed<AddLink>) -> Result<Boxed<Ch
     ensures { IfOk result (λ c. c
         ≡ link_change link (register_of group.now.home group.now.names link.target)) }
 {
-    let register = register_of(alloc, group, &link.get().target)?;
+    let register = register_of(alloc, group, link.get().target.get())?;
     Boxed::new(alloc, link_change(link.into_inner(), register))
 }
 

@@ -10,7 +10,7 @@ ghost use Rattle.td_trader.specs.OfferLimits.{HasLimitedOffers};
 
 use crate::fault::FileFault;
 use std::alloc::Global;
-use td_cdr::{List, Memory, Text};
+use td_cdr::{Boxed, List, Memory, Text};
 use td_changes::apply;
 use td_lines::{Entry, LineCause, Numbered};
 use td_objects::lookup_and_register;
@@ -34,7 +34,7 @@ fn link_to(
     let (target, register) = lookup_and_register(alloc, home, &trader)?;
     Ok(Change::AddLink {
         name,
-        target,
+        target: Boxed::new(alloc, target)?,
         def_pass_on,
         limiting,
         register: Some(register),

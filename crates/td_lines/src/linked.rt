@@ -12,7 +12,7 @@ use crate::entry::Entry;
 use crate::references::{reference_told, register_told};
 use crate::words::{five_words, four_words};
 use std::alloc::Global;
-use td_cdr::{Memory, Text};
+use td_cdr::{Boxed, Memory, Text};
 use td_forms::rule_named;
 use td_ops::Change;
 use td_value::{FollowOption, Ior};
@@ -31,10 +31,14 @@ fn rules_told(def_pass_on: &[u8], limiting: &[u8]) -> Result<(FollowOption, Foll
 }
 
 /// The target of an outside link, and its Register.
-fn ends_told(alloc: Global, target: &[u8], register: &[u8]) -> Result<(Ior, Option<Ior>), Misfit>
+fn ends_told(
+    alloc: Global,
+    target: &[u8],
+    register: &[u8],
+) -> Result<(Boxed<Ior>, Option<Ior>), Misfit>
     ensures { Gives (ends_told target.now register.now) result }
 {
-    let target = reference_told(alloc, target)?;
+    let target = Boxed::new(alloc, reference_told(alloc, target)?)?;
     match register_told(alloc, register) {
         Ok(register) => Ok((target, register)),
         Err(misfit) => {
@@ -68,7 +72,7 @@ fn inside_link(
 fn outside_link(
     alloc: Global,
     name: &[u8],
-    target: Ior,
+    target: Boxed<Ior>,
     register: Option<Ior>,
     def_pass_on: FollowOption,
     limiting: FollowOption,

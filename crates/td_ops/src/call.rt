@@ -7,7 +7,8 @@ ghost use Rattle.td_ops.specs.Parameters.{add_link, query};
 use crate::attribute::{Attribute, FollowAttribute, NumberAttribute, TruthAttribute};
 use std::alloc::Global;
 use td_cdr::{
-    List, Memory, Octets, Reader, Shared, Spelled, Text, ValueFault, Writer, put_four, put_six,
+    Boxed, List, Memory, Octets, Reader, Shared, Spelled, Text, ValueFault, Writer, put_four,
+    put_six,
 };
 use td_value::{
     FollowOption, Ior, Policy, PropStruct, Property, SpecifiedProps, SpecifiedServiceTypes,
@@ -52,7 +53,7 @@ pub enum Change {
     },
     AddLink {
         name: Text,
-        target: Ior,
+        target: Boxed<Ior>,
         def_pass_on: FollowOption,
         limiting: FollowOption,
         register: Option<Ior>,
@@ -164,7 +165,7 @@ impl Drop for Query {
 #[derive(Drop)]
 pub struct AddLink {
     pub name: Text,
-    pub target: Ior,
+    pub target: Boxed<Ior>,
     pub def_pass_on: FollowOption,
     pub limiting: FollowOption,
 }
@@ -215,7 +216,7 @@ impl Spelled for AddLink {
     fn read(alloc: Global, r: &mut Reader) -> Result<AddLink, ValueFault> {
         let (name, (target, (def_pass_on, limiting))) = <(
             Text,
-            (Ior, (FollowOption, FollowOption)),
+            (Boxed<Ior>, (FollowOption, FollowOption)),
         )>::read(alloc, r)?;
         Ok(AddLink {
             name,

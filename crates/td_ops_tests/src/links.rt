@@ -11,7 +11,7 @@ use td_value::{FollowOption, Ior};
 /// The change that adds a link to a register, where it is known.
 fn added_link(alloc: Global, known: bool) -> Result<Boxed<Call>, Memory> {
     let name = Text::from_slice(alloc, b"north")?;
-    let target = lookup(alloc)?;
+    let target = Boxed::new(alloc, lookup(alloc)?)?;
     let register = if known { Some(lookup(alloc)?) } else { None };
     Boxed::new(
         alloc,
@@ -43,9 +43,9 @@ fn is_added_link(call: &Call, known: bool) -> bool {
                 register,
             },
         ) => name.as_slice() == b"north".as_slice()
-            && is_lookup(target)
+            && is_lookup(target.get())
             && register.is_some() == known
-            && is_lookup(register.as_ref().unwrap_or(target)),
+            && is_lookup(register.as_ref().unwrap_or(target.get())),
         _ => false,
     }
 }

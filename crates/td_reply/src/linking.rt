@@ -64,7 +64,7 @@ pub fn answer_add_link<T: Traders, P: Peers>(
     ensures unasked { OnErr result (P.calls peers.new ≡ P.calls peers.old) }
     ensures faults { P.faults peers.old ≤ P.faults peers.new }
 {
-    match target_of(alloc, traders, home, &call.target) {
+    match target_of(alloc, traders, home, call.target.get()) {
         Ok(Target::Inside(inside)) => add_inside(alloc, traders, home, trader, inside, call),
         Ok(Target::Unreachable) => answer_change(traders, trader, link_change(call, None)),
         Ok(Target::Outside) => add_outside(alloc, traders, home, trader, call, peers),
@@ -158,7 +158,7 @@ fn add_outside<T: Traders, P: Peers>(
     ensures unasked { OnErr result (P.calls peers.new ≡ P.calls peers.old) }
     ensures faults { P.faults peers.old ≤ P.faults peers.new }
 {
-    match ask(alloc, peers, &call.target) {
+    match ask(alloc, peers, call.target.get()) {
         Ok(gave) => Ok(add_given(alloc, traders, trader, call, gave)),
         Err(memory) => {
             drop(call);

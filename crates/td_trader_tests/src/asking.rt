@@ -103,7 +103,7 @@ fn link_in(alloc: Global, bytes: &[u8]) -> Result<Change, ValueFault> {
     let mut reader = Reader::new(bytes, 0, Order::Big);
     let (name, (target, (def_pass_on, (limiting, register)))) = <(
         Text,
-        (Ior, (FollowOption, (FollowOption, Ior))),
+        (Boxed<Ior>, (FollowOption, (FollowOption, Ior))),
     )>::read(alloc, &mut reader)?;
     Ok(Change::AddLink {
         name,
