@@ -36,9 +36,12 @@ fn matches_all(proxy: &Option<Shared<ProxyPart>>) -> bool
 fn has_dynamic(properties: &[Property]) -> bool
     ensures { result ≡ has_dynamic properties.now }
 {
-    properties
-        .iter()
-        .any(|property| is_dynamic(&property.value.code))
+    for property in properties {
+        if is_dynamic(&property.value.code) {
+            return true;
+        }
+    }
+    false
 }
 
 /// Whether the constraint holds of the properties after these evaluations. Properties of which none is dynamic
