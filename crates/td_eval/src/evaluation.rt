@@ -94,13 +94,13 @@ pub(crate) fn truth_of(e: &Expr, map: &[Property]) -> Option<bool>
                 }
             }
             _ => {
-                let left = operand_of(first.get(), map)?;
-                let right = operand_of(second.get(), map)?;
+                let left = side_of(first.get(), map)?;
+                let right = side_of(second.get(), map)?;
                 tested(*op, left, right)
             }
         },
         Expr::Within(item, name) => {
-            let item = operand_of(item.get(), map)?;
+            let item = side_of(item.get(), map)?;
             truth_in(within(item, map, name.as_slice()))
         }
         Expr::Not(denied) => Some(!truth_of(denied.get(), map)?),
@@ -109,6 +109,22 @@ pub(crate) fn truth_of(e: &Expr, map: &[Property]) -> Option<bool>
         Expr::Number(_) => None,
         Expr::Str(_) => None,
         Expr::Truth(truth) => Some(*truth),
+    }
+}
+
+/// The same as `operand_of`, of what stands beside an operator. Mostly that is a name, a number or a text,
+/// whose value is taken without a call.
+#[inline(always)]
+#[cycle(evaluating)]
+#[tactic(auto, using(crate::proofs::Evaluating::by_variant, crate::proofs::Truths::of_operands))]
+fn side_of<'a>(e: &'a Expr, map: &'a [Property]) -> Option<Operand<'a>>
+    ensures { option_map view result ≡ simple_value map.now e.now }
+{
+    match e {
+        Expr::Name(name) => simple_named(map, name.as_slice()),
+        Expr::Number(n) => fraction(i128::from(*n), 1),
+        Expr::Str(text) => Some(Operand::Text(text.as_slice())),
+        _ => operand_of(e, map),
     }
 }
 
@@ -127,8 +143,8 @@ pub(crate) fn operand_of<'a>(e: &'a Expr, map: &'a [Property]) -> Option<Operand
             if !is_arithmetic(*op) {
                 return as_operand(truth_of(e, map));
             }
-            let left = operand_of(first.get(), map)?;
-            let right = operand_of(second.get(), map)?;
+            let left = side_of(first.get(), map)?;
+            let right = side_of(second.get(), map)?;
             calculated(*op, left, right)
         }
         Expr::Within(_, _) => as_operand(truth_of(e, map)),
