@@ -8,6 +8,7 @@ ghost use Rattle.td_stream.specs.Outside.{outside};
 
 use crate::ended::Ended;
 use std::alloc::Global;
+use std::mem::forget;
 use td_client::Caller;
 use td_file::{FileFault, Opened, read_file};
 use td_journal::PastJournal;
@@ -90,5 +91,8 @@ fn serve_opened<S: Source, K: Sink, L: Wire, W: Words>(
     };
     let mut peers = Caller::new(wire);
     let end = serve_connection(alloc, &mut solo, &mut room, source, sink, &mut peers, words);
+    // The process ends behind its session, and its memory goes back at once: nothing of what the trader keeps, its
+    // history the most, is gone through to give it back piece by piece.
+    forget(solo);
     Ended::Served(end)
 }
